@@ -1,0 +1,12 @@
+//! Reads a layout file: a TOML document that says which stations and repeaters stand on which segments, and who sends what.
+#![tactic(auto)]
+
+mod fault;
+mod layout;
+
+pub use fault::{Key, LayoutCode, LayoutFault, Place, Table};
+pub use layout::{
+    Layout, Octets, PortLine, PortLines, RepeaterLine, RepeaterLines, SegmentLine, SegmentLines,
+    SendLine, SendLines, StationLine, StationLines,
+};
+pub use lists::{OutOfMemory, Text};
