@@ -1,0 +1,31 @@
+-- Deference (IEEE 802.3, 4.2.3.2.2): the states and the table by which a station waits for its turn.
+use Rattle.std.specs.Prelude.{ℕ, ◌+◌, Bool, true, false, ◌==◌, ◌||◌, ◌&&◌, not, nat_lt, if◌then◌else◌}
+use Rattle.mac_transmit.specs.declared.deference.Defer.{Defer}
+use Rattle.mac_transmit.specs.declared.deference.Defer.TheVariants.{Watch, Busy, Gap}
+
+-- the half bits of the interframe gap that have gone, of 192
+abbrev pub gap_of : Defer → ℕ
+gap_of Watch = 0
+gap_of (Busy was) = 0
+gap_of (Gap k was) = k
+
+-- from Watch: carrier begins a busy time
+abbrev pub watched : Bool → Defer
+watched true = Busy false
+watched false = Watch
+
+-- the state after a half bit with carrier c, own sending x and a frame that waits w. In part 1 of the gap, its
+-- first 128 half bits, carrier begins the busy time again, but not after a sending of the station's own
+abbrev pub deferred : Defer → Bool → Bool → Bool → Defer
+deferred Watch c x w = watched c
+deferred (Busy was) c x w = if c || x then Busy (was || x) else Gap 1 was
+deferred (Gap k was) c x w =
+    if k == 192 then (if w then Watch else watched c)
+    else if nat_lt k 128 && (not was && c) then Busy false
+    else Gap (k + 1) was
+
+-- whether the station is free to start in this half bit
+abbrev pub free_of : Defer → Bool → Bool → Bool
+free_of Watch c w = not c
+free_of (Busy was) c w = false
+free_of (Gap k was) c w = (k == 192) && (w || not c)

@@ -1,0 +1,2 @@
+pub mod Deference
+pub mod Sender

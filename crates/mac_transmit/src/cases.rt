@@ -1,0 +1,99 @@
+//! The cases of a sender's half bit, on plain values.
+ghost use Rattle.std.specs.Prelude.{◌≡◌, ◌<◌, ◌≤◌, ◌^◌, length};
+ghost use Rattle.mac_transmit.specs.Sender.{jam_start, length_of, line_length, line_at, symbol_of, hit_at, is_sending, is_waiting};
+
+use crate::Phase;
+use manchester_line::{Sym, jam_sym, line_sym};
+
+/// The half bits of the header.
+const HEADER: u64 = 128;
+
+/// The half bits of the jam (IEEE 802.3, 4.4.2.1).
+const JAM: u64 = 64;
+
+/// The position at which the jam begins.
+pub fn start_of_jam(hit: u32) -> u64
+    ensures start { result ≡ jam_start hit }
+    ensures small { result < 2 ^ 33 }
+{
+    let hit = u64::from(hit);
+    if hit < HEADER {
+        HEADER
+    } else {
+        2 * (hit / 2 + 1)
+    }
+}
+
+/// The half bits of a frame's line text.
+#[tactic(auto, unfolding(crate::specs::Sender::line_length), using(manchester_line::proofs::Places::length_line))]
+fn whole_length(octets: &[u8]) -> u64
+    requires { length octets.now ≤ 1600 }
+    ensures length { result ≡ line_length octets.now }
+    ensures small { result < 2 ^ 33 }
+{
+    128 + 16 * octets.len() as u64
+}
+
+/// The half bits of a sending.
+pub fn length_with(octets: &[u8], hit: Option<u32>) -> u64
+    requires { length octets.now ≤ 1600 }
+    ensures length { result ≡ length_of octets.now hit }
+    ensures small { result < 2 ^ 34 }
+{
+    match hit {
+        None => whole_length(octets),
+        Some(hit) => start_of_jam(hit) + JAM,
+    }
+}
+
+/// Half bit `p` of the frame's line text.
+#[tactic(auto, unfolding(crate::specs::Sender::line_at))]
+fn line_symbol(octets: &[u8], p: u64) -> Sym
+    requires length { length octets.now ≤ 1600 }
+    requires place { p < 2 ^ 32 }
+    ensures { result ≡ line_at octets.now p }
+{
+    line_sym(octets, p as u32)
+}
+
+/// The symbol at position `p` of a sending.
+pub fn symbol_at(octets: &[u8], hit: Option<u32>, p: u64) -> Sym
+    requires length { length octets.now ≤ 1600 }
+    requires place { p < 2 ^ 32 }
+    ensures { result ≡ symbol_of octets.now hit p }
+{
+    match hit {
+        None => line_symbol(octets, p),
+        Some(hit) => {
+            let jam = start_of_jam(hit);
+            if p < jam {
+                line_symbol(octets, p)
+            } else {
+                jam_sym((p - jam) as u32)
+            }
+        }
+    }
+}
+
+/// The hit of a sending with or without carrier at position `p`.
+pub fn new_hit(hit: Option<u32>, carrier: bool, p: u64) -> Option<u32>
+    requires { p < 2 ^ 32 }
+    ensures { result ≡ hit_at hit carrier p }
+{
+    match (hit, carrier) {
+        (None, true) => Some(p as u32),
+        _ => hit,
+    }
+}
+
+pub fn sending(phase: Phase) -> bool
+    ensures { result ≡ is_sending phase }
+{
+    matches!(phase, Phase::Sending { .. })
+}
+
+pub fn waiting(phase: Phase) -> bool
+    ensures { result ≡ is_waiting phase }
+{
+    matches!(phase, Phase::Waiting)
+}

@@ -1,0 +1,11 @@
+//! A station's sender: deference, collisions, jam and backoff, half bit by half bit.
+#![tactic(auto)]
+
+mod cases;
+mod deference;
+mod phase;
+mod transmitter;
+
+pub use deference::Defer;
+pub use phase::Phase;
+pub use transmitter::{SendStep, Transmitter};
