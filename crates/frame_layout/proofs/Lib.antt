@@ -1,0 +1,4 @@
+pub mod Register
+pub mod Frames
+pub mod Octets
+pub mod Table

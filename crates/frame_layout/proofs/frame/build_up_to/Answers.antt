@@ -1,0 +1,10 @@
+use Rattle.std.proofs.Common.{◌≡◌, arith, rules}
+use Rattle.frame_layout.specs.Frame.{frame_of, fcs_octets}
+use Rattle.frame_layout.proofs.Frames.{frame_fits}
+use Rattle.frame_layout.proofs.frame.build_up_to.Goals as goal
+
+pub invariant_of-result : goal.invariant_of-result
+unfolding frame_of fcs_octets
+invariant_of-result c =
+    let whole : c.extend-2.new.self ≡ frame_of c.args.octets.now = search rules in
+    frame_fits c.args.octets.now c.extend-2.new.self c.args.most c.requires (omega arith) whole

@@ -1,0 +1,4 @@
+pub mod Division
+pub mod Frame
+pub mod Queue
+pub mod Register
