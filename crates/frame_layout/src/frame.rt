@@ -9,10 +9,10 @@ use std::alloc::Global;
 use std::marker::Model;
 
 /// The octets that a frame has at least before its frame check sequence (clause 3.2.8).
-pub const LEAST: usize = 60;
+const LEAST: usize = 60;
 
 /// Destination, source and length or type: the octets that a frame can't do without (clause 3.1.1).
-pub const HEADER: usize = 14;
+const HEADER: usize = 14;
 
 /// The most octets of an untagged frame before its frame check sequence (clause 3.2.7).
 pub const MOST: u32 = 1_514;
