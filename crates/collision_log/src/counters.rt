@@ -117,6 +117,7 @@ pub fn counters_text(counters: &Counters, repeater: bool, name: &str, out: &mut 
     requires name { length name.now ≤ 32 }
     requires room { 800 ≤ length out.old }
     ensures text { take result out.new ≡ counters_line counters.now repeater name.now }
+    ensures fits { result ≤ 800 }
     ensures rest { drop result out.new ≡ drop result out.old }
 {
     let mut line = Line::new();

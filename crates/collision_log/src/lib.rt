@@ -3,9 +3,14 @@
 
 mod counters;
 mod line;
+mod merged;
 mod row;
 mod texts;
 
 pub use counters::{Counters, counters_text};
+pub use merged::merge;
 pub use row::{Body, Row, Rows, RowsList, Why};
 pub use texts::row_text;
+
+#[cfg(test)]
+mod tests;

@@ -11,6 +11,7 @@ pub fn row_text(row: &Row, repeater: bool, name: &str, out: &mut [u8]) -> usize
     requires name { length name.now ≤ 32 }
     requires room { 200 ≤ length out.old }
     ensures text { take result out.new ≡ row_line row.now repeater name.now }
+    ensures fits { result ≤ 200 }
     ensures rest { drop result out.new ≡ drop result out.old }
 {
     let mut line = Line::new();
