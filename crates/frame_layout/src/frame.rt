@@ -1,6 +1,7 @@
 //! A frame as it is sent.
 ghost use Rattle.std.specs.Prelude.{◌≡◌, ◌<◌, ◌≤◌, ◌↔◌, length, IfOk, OnOk, Err};
-ghost use Rattle.frame_layout.specs.Frame.{IsMost, frame_of, padded};
+ghost use Rattle.frame_layout.specs.Frame.{IsMost, frame_of, padded, verdict_of};
+ghost use Rattle.frame_layout.specs.declared.verdict.Verdict.TheVariants.{Good};
 
 use crate::fcs;
 use lists::{List, OutOfMemory};
@@ -8,10 +9,10 @@ use std::alloc::Global;
 use std::marker::Model;
 
 /// The octets that a frame has at least before its frame check sequence (clause 3.2.8).
-pub const LEAST: usize = 60;
+const LEAST: usize = 60;
 
 /// Destination, source and length or type: the octets that a frame can't do without (clause 3.1.1).
-pub const HEADER: usize = 14;
+const HEADER: usize = 14;
 
 /// The most octets of an untagged frame before its frame check sequence (clause 3.2.7).
 pub const MOST: u32 = 1_514;
@@ -41,6 +42,15 @@ impl Frame {
         ensures most { length result.now ≤ 1522 }
     {
         self.octets.as_slice()
+    }
+
+    /// A frame of its own with the same octets.
+    pub fn copy(&self, alloc: Global) -> Result<Frame, OutOfMemory>
+        ensures { IfOk result (λ copy. copy ≡ self.now) }
+    {
+        let mut octets = List::new(alloc);
+        octets.extend(self.octets())?;
+        Ok(Frame { octets })
     }
 }
 
@@ -75,11 +85,13 @@ fn pad(octets: &mut List<u8>) -> Result<(), OutOfMemory>
 }
 
 /// The frame of 14 to `most` octets, counted without pad and frame check sequence. `TooShort` comes
-/// exactly below 14 octets and `TooLong` exactly above `most`; `OutOfMemory` is free.
+/// exactly below 14 octets and `TooLong` exactly above `most`; `OutOfMemory` is free. Received without
+/// spare bits, the frame is good.
 #[tactic(auto, unfolding(crate::specs::Frame::frame_of, crate::specs::Frame::fcs_octets))]
 pub fn build_up_to(alloc: Global, octets: &[u8], most: u32) -> Result<Frame, FrameFault>
     requires { IsMost most }
     ensures frame { IfOk result (λ f. f ≡ frame_of octets.now) }
+    ensures good { IfOk result (λ f. verdict_of f 0 most ≡ Good) }
     ensures too_short { (result ≡ Err FrameFault.TooShort) ↔ (length octets.now < 14) }
     ensures too_long { (result ≡ Err FrameFault.TooLong) ↔ (most < length octets.now) }
 {
@@ -100,6 +112,7 @@ pub fn build_up_to(alloc: Global, octets: &[u8], most: u32) -> Result<Frame, Fra
 /// `build_up_to` with the 1,514 octets of an untagged frame.
 pub fn build(alloc: Global, octets: &[u8]) -> Result<Frame, FrameFault>
     ensures frame { IfOk result (λ f. f ≡ frame_of octets.now) }
+    ensures good { IfOk result (λ f. verdict_of f 0 1514 ≡ Good) }
     ensures too_short { (result ≡ Err FrameFault.TooShort) ↔ (length octets.now < 14) }
     ensures too_long { (result ≡ Err FrameFault.TooLong) ↔ (1514 < length octets.now) }
 {

@@ -1,9 +1,9 @@
 //! Frames that wait to be sent.
 ghost use Rattle.std.specs.Prelude.{◌≡◌, ◌<◌, ◌≤◌, [], ◌∷◌, ◌++◌, length, slice_get, Some, OnOk, OnErr, IfOk};
-ghost use Rattle.frame_layout.specs.Queue.{IsNotBelowLast};
+ghost use Rattle.frame_layout.specs.Queue.{IsNotBelowLast, IsInOrder};
 
 use crate::Frame;
-use lists::{List, OutOfMemory};
+use lists::OutOfMemory;
 use std::alloc::Global;
 use std::marker::Model;
 
@@ -14,21 +14,23 @@ pub struct Ready {
     pub frame: Frame,
 }
 
-/// At most 4,294,967,295 frames in the order in which they are sent, which a contract sees as a list.
+/// At most 4,294,967,295 frames in the order in which they are sent, which is that of their half bits. A
+/// contract sees them as a list.
 #[derive(Debug, Drop)]
 pub struct Queue {
-    items: List<Ready>,
+    items: Vec<Ready>,
 }
 
 impl Model for Queue {
     ghost use Rattle.std.specs.Prelude.{List, ◌≤◌, length};
     ghost use Rattle.frame_layout.specs.declared.queue.Ready.{Ready};
+    ghost use Rattle.frame_layout.specs.Queue.{IsInOrder};
 
     ghost Value = { List Ready };
 
-    ghost view = { λ q. q.items };
+    ghost view = { λ q. q.items.items };
 
-    ghost invariant = { λ q. length q.items ≤ 4294967295 };
+    ghost invariant = { λ q. (length q.items.items ≤ 4294967295) × IsInOrder q.items.items };
 }
 
 impl Queue {
@@ -37,7 +39,7 @@ impl Queue {
         ensures { result ≡ [] }
     {
         Queue {
-            items: List::new(alloc),
+            items: Vec::new(alloc),
         }
     }
 
@@ -49,7 +51,8 @@ impl Queue {
         ensures ok { OnOk result (self.new ≡ self.old ++ record { at = at; frame = frame } ∷ []) }
         ensures err { OnErr result (self.new ≡ self.old) }
     {
-        self.items.push(Ready { at, frame })
+        self.items.push(Ready { at, frame })?;
+        Ok(())
     }
 
     /// The number of frames.
@@ -64,6 +67,33 @@ impl Queue {
         requires { i < length self.now }
         ensures { slice_get self.now i ≡ Some result.now }
     {
-        self.items.get(i as usize)
+        &self.items[i as usize]
     }
+
+    /// A queue of its own with the same frames and half bits.
+    pub fn copy(&self) -> Result<Queue, OutOfMemory>
+        ensures { IfOk result (λ copy. copy ≡ self.now) }
+    {
+        let items = copies(*self.items.allocator(), self.items.as_slice())?;
+        Ok(Queue { items })
+    }
+}
+
+fn copies(alloc: Global, items: &[Ready]) -> Result<Vec<Ready>, OutOfMemory>
+    ensures { IfOk result (λ copies. copies.items ≡ items.now) }
+{
+    let mut copies = Vec::new(alloc);
+    for item in items {
+        copies.push(copy_of(alloc, item)?)?;
+    }
+    Ok(copies)
+}
+
+fn copy_of(alloc: Global, ready: &Ready) -> Result<Ready, OutOfMemory>
+    ensures { IfOk result (λ copy. copy ≡ ready.now) }
+{
+    Ok(Ready {
+        at: ready.at,
+        frame: ready.frame.copy(alloc)?,
+    })
 }
