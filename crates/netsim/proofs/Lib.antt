@@ -1,0 +1,3 @@
+pub mod Wholes
+pub mod Fronts
+pub mod Lines

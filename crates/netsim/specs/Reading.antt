@@ -1,0 +1,52 @@
+-- What is read of a file, and what is written of a text.
+use Rattle.std.specs.Prelude.{◌≡◌, ◌⊎◌, ◌↔◌, ℕ, ◌+◌, ◌-◌, ◌≤◌, List, [], ◌++◌, take, drop, length, Option, None, Some, option_map}
+use Rattle.outside.specs.Files.{Files, file_of, with_file, Rose}
+
+-- the file's octets, up to one past a limit
+unfoldable pub front_of : ℕ → List ℕ → Files → Option (List ℕ)
+front_of limit name files = option_map (take (limit + 1)) (file_of name files)
+
+-- where the store tells its files, these are the octets that are read of one
+abbrev pub IsFront : ℕ → List ℕ → Option Files → List ℕ → Type 0
+IsFront limit name None octets = Unit {0}
+IsFront limit name (Some files) octets = front_of limit name files ≡ Some octets
+
+-- a front of a file that is there, or nothing
+abbrev pub IsFrontSoFar : Option (List ℕ) → List ℕ → Type 0
+IsFrontSoFar None octets = octets ≡ []
+IsFrontSoFar (Some whole) octets = (octets ≡ take (length octets) whole) × (length octets ≤ length whole)
+
+-- so far as the store tells its files
+abbrev pub IsBegun : List ℕ → Option Files → List ℕ → Type 0
+IsBegun name None octets = Unit {0}
+IsBegun name (Some files) octets = IsFrontSoFar (file_of name files) octets
+
+-- n more octets; none exactly at the end
+abbrev pub IsMoreOf : Option (List ℕ) → List ℕ → ℕ → List ℕ → Type 0
+IsMoreOf None old n new = ⊥
+IsMoreOf (Some whole) old n new = (new ≡ old ++ take n (drop (length old) whole)) × (n ≤ length whole - length old) × ((n ≡ 0) ↔ (length whole ≤ length old))
+
+abbrev pub IsMore : List ℕ → Option Files → List ℕ → ℕ → List ℕ → Type 0
+IsMore name None old n new = Unit {0}
+IsMore name (Some files) old n new = IsMoreOf (file_of name files) old n new
+
+-- the store's files, where this one has a text
+abbrev pub put : List ℕ → List ℕ → Option Files → Option Files
+put name text held = option_map (with_file name text) held
+
+-- after a refusal: the file is as it was, or a front of its text
+abbrev pub IsBroken : List ℕ → List ℕ → Option Files → Option Files → Type 0
+IsBroken name text before now = (now ≡ before) ⊎ ((k : ℕ) × (now ≡ put name (take k text) before))
+
+-- a front of a line was written, and less than all of it only where the sink refused
+abbrev pub IsSaid : List ℕ → Option (List ℕ) → Option (List ℕ) → ℕ → ℕ → Type 0
+IsSaid line written now before after =
+    (k : ℕ) × (now ≡ option_map (λ w. w ++ take k line) written) × (before ≤ after) × ((k ≡ length line) ⊎ Rose before after)
+
+-- what was written, with a text after it
+abbrev pub added : List ℕ → Option (List ℕ) → Option (List ℕ)
+added text written = option_map (λ w. w ++ text) written
+
+-- a front of a text was written
+abbrev pub IsCutShort : List ℕ → Option (List ℕ) → Option (List ℕ) → Type 0
+IsCutShort text written now = (k : ℕ) × (now ≡ added (take k text) written)

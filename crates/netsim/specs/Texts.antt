@@ -1,0 +1,23 @@
+-- The lines of faults, and the names of the files that are written (profile).
+use Rattle.std.specs.Prelude.{ℕ, List, ◌++◌, codes, decimal}
+use Rattle.layout_file.specs.declared.fault.LayoutFault.{LayoutFault}
+use Rattle.layout_file.specs.declared.fault.Place.{Place}
+use Rattle.layout_file.specs.Names.{name_of_table, name_of_key, number_of_code, name_of_code}
+
+-- where a fault stands: rows and ports from 1, or 0 for none
+abbrev pub text_of_place : Place → List ℕ
+text_of_place place =
+    codes "table " ++ name_of_table place.table ++ codes " row " ++ decimal place.row ++ codes " port " ++ decimal place.port ++ codes " key " ++ name_of_key place.key
+
+-- the line of a layout with a fault
+unfoldable pub line_of_fault : LayoutFault → List ℕ
+line_of_fault fault =
+    codes "layout fault " ++ decimal (number_of_code fault.code) ++ codes " " ++ name_of_code fault.code ++ codes " " ++ text_of_place fault.place ++ codes "\n"
+
+-- the line of a file that can't be read
+unfoldable pub line_of_read_fault : List ℕ → List ℕ
+line_of_read_fault name = codes "read fault " ++ name ++ codes "\n"
+
+-- the log of a prefix
+unfoldable pub name_of_log : List ℕ → List ℕ
+name_of_log prefix = prefix ++ codes ".log"

@@ -1,0 +1,77 @@
+//! The fixed texts, the lines of faults, and the names of the files that are written.
+ghost use Rattle.std.specs.Prelude.{◌≡◌, ◌++◌, IfOk, OnOk, decimal, string_bytes};
+ghost use Rattle.netsim.specs.Texts.{line_of_fault, line_of_read_fault, name_of_log, text_of_place};
+
+use layout_file::{LayoutFault, Place};
+use lists::{List, OutOfMemory, Text};
+use std::alloc::Global;
+
+/// What is said of words that are none of the forms.
+pub const WORDS_FAULT: &str = "words fault\n";
+
+/// What the program is called with.
+pub const HELP: &str =
+    "netsim plain LAYOUT PREFIX: runs the network of LAYOUT by half bits and writes PREFIX.log\nnetsim --help: writes this text\nnetsim --version: writes the name and the version\n";
+
+/// The program's name and version.
+pub const VERSION: &str = "netsim 0.1.0\n";
+
+/// Puts a number in decimal at the end of a line.
+fn add_number(line: &mut List<u8>, number: u32) -> Result<(), OutOfMemory>
+    ensures ok { OnOk result (line.new ≡ line.old ++ decimal number) }
+{
+    line.extend(itoa::Buffer::new().format(number).as_bytes())
+}
+
+/// Puts the place of a fault at the end of its line.
+fn add_place(line: &mut List<u8>, place: &Place) -> Result<(), OutOfMemory>
+    ensures ok { OnOk result (line.new ≡ line.old ++ text_of_place place.now) }
+{
+    line.extend(b"table ")?;
+    line.extend(place.table.name().as_bytes())?;
+    line.extend(b" row ")?;
+    add_number(line, place.row)?;
+    line.extend(b" port ")?;
+    add_number(line, place.port)?;
+    line.extend(b" key ")?;
+    line.extend(place.key.name().as_bytes())?;
+    Ok(())
+}
+
+/// What is said of a layout with a fault.
+#[tactic(auto, unfolding(crate::specs::Texts::line_of_fault))]
+pub(crate) fn line_of_fault(alloc: Global, fault: &LayoutFault) -> Result<List<u8>, OutOfMemory>
+    ensures { IfOk result (λ line. line ≡ line_of_fault fault.now) }
+{
+    let mut line = List::new(alloc);
+    line.extend(b"layout fault ")?;
+    add_number(&mut line, fault.code.number())?;
+    line.extend(b" ")?;
+    line.extend(fault.code.name().as_bytes())?;
+    line.extend(b" ")?;
+    add_place(&mut line, &fault.place)?;
+    line.extend(b"\n")?;
+    Ok(line)
+}
+
+/// What is said of a file that can't be read.
+#[tactic(auto, unfolding(crate::specs::Texts::line_of_read_fault))]
+pub(crate) fn line_of_read_fault(alloc: Global, name: &str) -> Result<List<u8>, OutOfMemory>
+    ensures { IfOk result (λ line. line ≡ line_of_read_fault name.now) }
+{
+    let mut line = List::new(alloc);
+    line.extend(b"read fault ")?;
+    line.extend(name.as_bytes())?;
+    line.extend(b"\n")?;
+    Ok(line)
+}
+
+/// The name of the log of a prefix.
+#[tactic(auto, unfolding(crate::specs::Texts::name_of_log))]
+pub(crate) fn name_of_log(alloc: Global, prefix: &str) -> Result<String, OutOfMemory>
+    ensures { IfOk result (λ name. string_bytes name ≡ name_of_log prefix.now) }
+{
+    let mut name = String::from_str(alloc, prefix)?;
+    name.push_str(".log")?;
+    Ok(name)
+}

@@ -1,0 +1,5 @@
+pub mod Calls
+pub mod Files
+pub mod Folder
+pub mod Memory
+pub mod Sinks

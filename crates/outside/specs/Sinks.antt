@@ -1,0 +1,20 @@
+-- What a sink in memory shows.
+use Rattle.std.specs.Prelude.{ℕ, List}
+use Rattle.outside.specs.declared.calls.Calls.{Calls}
+use Rattle.outside.specs.declared.sink.MemorySink.{MemorySink}
+
+-- the octets that it got
+abbrev pub octets_of : MemorySink → List ℕ
+octets_of sink = sink.octets
+
+-- its writes, of which some fail
+abbrev pub writes_of : MemorySink → Calls
+writes_of sink = sink.writes
+
+-- how many writes failed
+abbrev pub faults_of : MemorySink → ℕ
+faults_of sink = sink.faults
+
+-- how many writes took nothing of their piece
+abbrev pub refused_of : MemorySink → ℕ
+refused_of sink = sink.refused
