@@ -1,4 +1,4 @@
-use Rattle.std.specs.Prelude.{ℕ, suc, ◌+◌, ◌*◌, ◌/◌, ◌%◌, Bool, true, false, Option, Some, None, List, [], ◌∷◌, length}
+use Rattle.std.specs.Prelude.{ℕ, ◌+◌, ◌*◌, ◌%◌, Bool, true, false, Option, Some, None, List, [], ◌∷◌, length}
 use Rattle.std.specs.Option.{option_map}
 use Rattle.manchester_line.specs.declared.Sym.{Sym}
 use Rattle.manchester_line.specs.declared.Sym.TheVariants.{Hi, Lo}

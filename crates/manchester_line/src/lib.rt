@@ -4,8 +4,10 @@
 ghost use Rattle.std.specs.Prelude.{◌≡◌};
 ghost use Rattle.manchester_line.specs.Line.{mix_of, half_at};
 
+mod decoder;
 mod line;
 
+pub use decoder::{Decoder, Heard};
 pub use line::{encode_into, header_sym, jam_sym, line_sym};
 
 /// What a tap emits or hears in one half bit of 50 ns.
