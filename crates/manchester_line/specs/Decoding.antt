@@ -1,5 +1,6 @@
 use Rattle.std.specs.Prelude.{◌≡◌, ℕ, ◌+◌, ◌*◌, ◌/◌, ◌==◌, ◌&&◌, Bool, true, false, if◌then◌else◌, Option, Some, None, List, [], ◌∷◌, ◌++◌, take}
 use Rattle.manchester_line.specs.declared.Sym.{Sym}
+use Rattle.manchester_line.specs.declared.decoder.TheConstants.{KEPT_OCTETS}
 use Rattle.manchester_line.specs.Reading.{bit_of_pair, bit_value}
 
 -- what a decoder keeps of the half bits that it was given (profile)
@@ -33,7 +34,7 @@ shifted rest b = rest / 2 + 128 * bit_value b
 -- one more bit of the frame
 abbrev pub put_bit : Decoding → Bool → Decoding
 put_bit d b =
-    if d.spare == 7 then record d { count = d.count + 1; octets = take 1523 (d.octets ++ shifted d.rest b ∷ []); spare = 0; rest = 0 }
+    if d.spare == 7 then record d { count = d.count + 1; octets = take KEPT_OCTETS (d.octets ++ shifted d.rest b ∷ []); spare = 0; rest = 0 }
     else record d { spare = d.spare + 1; rest = shifted d.rest b }
 
 -- one more bit of the reception, if it is one

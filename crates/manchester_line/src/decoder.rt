@@ -10,8 +10,8 @@ ghost use Rattle.manchester_line.specs.Reading.{bit_of_pair, octets_of_bits, rea
 use crate::Sym;
 use std::marker::Model;
 
-/// The octets of the longest frame that a decoder keeps whole, and one more.
-const KEPT_OCTETS: usize = 1523;
+/// The octets that a decoder keeps: those of the longest frame with its check sequence, 1,522, and one more.
+pub const KEPT_OCTETS: usize = 1523;
 
 /// What a decoder has heard.
 #[derive(Clone, Copy, Debug, PartialEq, Eq)]
@@ -37,7 +37,7 @@ pub struct Decoder {
     count: u32,
     spare: u32,
     rest: u8,
-    buffer: [u8; 1523],
+    buffer: [u8; KEPT_OCTETS],
 }
 
 impl Model for Decoder {
@@ -71,10 +71,10 @@ fn shift(rest: u8, bit: bool) -> u8
 
 /// Keeps octet number `count`, from 0, where there is room.
 fn keep(buffer: &mut [u8], count: u32, octet: u8)
-    requires { length buffer.old ≡ 1523 }
-    ensures { take (count + 1) buffer.new ≡ take 1523 (take count buffer.old ++ octet ∷ []) }
+    requires { length buffer.old ≡ KEPT_OCTETS }
+    ensures { take (count + 1) buffer.new ≡ take KEPT_OCTETS (take count buffer.old ++ octet ∷ []) }
 {
-    if count < 1523 {
+    if (count as usize) < KEPT_OCTETS {
         buffer[count as usize] = octet;
     }
 }
@@ -94,7 +94,7 @@ impl Decoder {
             count: 0,
             spare: 0,
             rest: 0,
-            buffer: [0; 1523],
+            buffer: [0; KEPT_OCTETS],
         }
     }
 
@@ -121,12 +121,12 @@ impl Decoder {
     /// The whole octets after the delimiter, the first 1,523 at most. Nothing is said of them where the reception is spoiled.
     pub fn octets(&self) -> &[u8]
         ensures first { (halves : List Sym) (bits : List Bool) → Decodes halves self.now → reading halves ≡ Some bits →
-            result.now ≡ take 1523 (octets_of_bits bits) }
+            result.now ≡ take KEPT_OCTETS (octets_of_bits bits) }
         // A line text is read back.
-        ensures line { (octets : List ℕ) → All (λ x. x < 256) octets → length octets ≤ 1523 → Decodes (line octets) self.now →
+        ensures line { (octets : List ℕ) → All (λ x. x < 256) octets → length octets ≤ KEPT_OCTETS → Decodes (line octets) self.now →
             result.now ≡ octets }
     {
-        if self.count < 1523 {
+        if (self.count as usize) < KEPT_OCTETS {
             &self.buffer[..self.count as usize]
         } else {
             &self.buffer

@@ -40,3 +40,6 @@ pub fn half_of(bit: bool, second: bool) -> Sym
 {
     if bit == second { Sym::Hi } else { Sym::Lo }
 }
+
+#[cfg(test)]
+mod tests;
