@@ -106,6 +106,7 @@ impl Decoder {
             result.octets ≡ length (octets_of_bits bits) }
         ensures spare { (halves : List Sym) (bits : List Bool) → Decodes halves self.now → reading halves ≡ Some bits →
             result.spare ≡ spare_of_bits bits }
+        ensures few { result.spare < 8 }
         // A line text is read back.
         ensures line { (octets : List ℕ) → All (λ x. x < 256) octets → Decodes (line octets) self.now →
             result ≡ record { octets = length octets; spare = 0; spoiled = false; halves = 128 + 16 * length octets } }
@@ -120,6 +121,7 @@ impl Decoder {
 
     /// The whole octets after the delimiter, the first 1,523 at most. Nothing is said of them where the reception is spoiled.
     pub fn octets(&self) -> &[u8]
+        ensures kept { result.now ≡ self.now.octets }
         ensures first { (halves : List Sym) (bits : List Bool) → Decodes halves self.now → reading halves ≡ Some bits →
             result.now ≡ take KEPT_OCTETS (octets_of_bits bits) }
         // A line text is read back.
