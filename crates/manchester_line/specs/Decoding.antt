@@ -24,6 +24,7 @@ pub record Decoding : Type 0 where
   -- these bits at the high end of an octet, the latest at the top
   pub rest : ℕ
 
+-- a decoder that was given nothing yet
 abbrev pub new_decoding : Decoding
 new_decoding = record { halves = 0; half = None; spoiled = false; found = false; last = false; count = 0; octets = []; spare = 0; rest = 0 }
 
@@ -34,7 +35,8 @@ shifted rest b = rest / 2 + 128 * bit_value b
 -- one more bit of the frame
 abbrev pub put_bit : Decoding → Bool → Decoding
 put_bit d b =
-    if d.spare == 7 then record d { count = d.count + 1; octets = take KEPT_OCTETS (d.octets ++ shifted d.rest b ∷ []); spare = 0; rest = 0 }
+    if d.spare == 7
+    then record d { count = d.count + 1; octets = take KEPT_OCTETS (d.octets ++ shifted d.rest b ∷ []); spare = 0; rest = 0 }
     else record d { spare = d.spare + 1; rest = shifted d.rest b }
 
 -- one more bit of the reception, if it is one
@@ -42,6 +44,7 @@ abbrev pub take_bit : Decoding → Option Bool → Decoding
 take_bit d None = record d { spoiled = true }
 take_bit d (Some b) = if d.found then put_bit d b else record d { found = d.last && b; last = b }
 
+-- a half bit after the first half of a bit, if that has come
 abbrev pub take_half : Decoding → Option Sym → Sym → Decoding
 take_half d None s = record d { half = Some s }
 take_half d (Some a) s = take_bit (record d { half = None }) (bit_of_pair a s)
@@ -50,6 +53,7 @@ take_half d (Some a) s = take_bit (record d { half = None }) (bit_of_pair a s)
 abbrev pub pushed : Decoding → Sym → Decoding
 pushed d s = take_half (record d { halves = d.halves + 1 }) d.half s
 
+-- more half bits, in this order
 abbrev pub all_pushed : Decoding → List Sym → Decoding
 all_pushed d [] = d
 all_pushed d (s ∷ ss) = all_pushed (pushed d s) ss

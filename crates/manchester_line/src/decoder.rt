@@ -1,16 +1,17 @@
 ghost use Rattle.std.specs.Prelude.{◌≡◌, ◌≢◌, ◌+◌, ◌*◌, ◌<◌, ◌≤◌, ℕ, Bool, false, List, Some, [], ◌∷◌, ◌++◌, length, take};
-ghost use Rattle.manchester_line.specs.declared.Sym.{Sym};
-ghost use Rattle.manchester_line.specs.declared.Sym.TheVariants.{Idle};
-ghost use Rattle.manchester_line.specs.Decoding.{Decodes, new_decoding, put_bit, pushed, shifted, take_bit};
 ghost use Rattle.std.specs.List.{All};
 ghost use Rattle.std.specs.Option.{is_none};
+ghost use Rattle.manchester_line.specs.Decoding.{Decodes, new_decoding, put_bit, pushed, shifted, take_bit};
 ghost use Rattle.manchester_line.specs.Line.{line};
 ghost use Rattle.manchester_line.specs.Reading.{bit_of_pair, octets_of_bits, reading, spare_of_bits};
+ghost use Rattle.manchester_line.specs.declared.Sym.TheVariants.{Idle};
+ghost use Rattle.manchester_line.specs.declared.Sym.{Sym};
 
 use crate::Sym;
 use std::marker::Model;
 
-/// The octets that a decoder keeps: those of the longest frame with its check sequence, 1,522, and one more.
+/// The octets that a decoder keeps: the 1,522 of the longest frame with its check sequence (clause
+/// 3), and one more.
 pub const KEPT_OCTETS: usize = 1523;
 
 /// What a decoder has heard.
@@ -46,7 +47,17 @@ impl Model for Decoder {
 
     ghost Value = { Decoding };
 
-    ghost view = { λ s. record { halves = s.halves; half = s.half; spoiled = s.spoiled; found = s.found; last = s.last; count = s.count; octets = take s.count s.buffer; spare = s.spare; rest = s.rest } };
+    ghost view = { λ s. record {
+      halves = s.halves;
+      half = s.half;
+      spoiled = s.spoiled;
+      found = s.found;
+      last = s.last;
+      count = s.count;
+      octets = take s.count s.buffer;
+      spare = s.spare;
+      rest = s.rest;
+    } };
 
     ghost invariant = { λ s. (s.count ≤ s.halves) × (s.spare ≤ 7) };
 }
@@ -98,18 +109,29 @@ impl Decoder {
         }
     }
 
-    /// What was heard since the decoder was new or cleared. Where the reception is spoiled, nothing is said of octets and spare bits.
+    /// What was heard since the decoder was new or cleared. Where the reception is spoiled, nothing is
+    /// said of octets and spare bits.
     pub fn heard(&self) -> Heard
-        ensures halves { (halves : List Sym) → Decodes halves self.now → result.halves ≡ length halves }
-        ensures spoiled { (halves : List Sym) → Decodes halves self.now → result.spoiled ≡ is_none (reading halves) }
-        ensures octets { (halves : List Sym) (bits : List Bool) → Decodes halves self.now → reading halves ≡ Some bits →
+        ensures halves { (halves : List Sym) → Decodes halves self.now →
+            result.halves ≡ length halves }
+        ensures spoiled { (halves : List Sym) → Decodes halves self.now →
+            result.spoiled ≡ is_none (reading halves) }
+        ensures octets { (halves : List Sym) (bits : List Bool) →
+            Decodes halves self.now → reading halves ≡ Some bits →
             result.octets ≡ length (octets_of_bits bits) }
-        ensures spare { (halves : List Sym) (bits : List Bool) → Decodes halves self.now → reading halves ≡ Some bits →
+        ensures spare { (halves : List Sym) (bits : List Bool) →
+            Decodes halves self.now → reading halves ≡ Some bits →
             result.spare ≡ spare_of_bits bits }
         ensures few { result.spare < 8 }
         // A line text is read back.
-        ensures line { (octets : List ℕ) → All (λ x. x < 256) octets → Decodes (line octets) self.now →
-            result ≡ record { octets = length octets; spare = 0; spoiled = false; halves = 128 + 16 * length octets } }
+        ensures line { (octets : List ℕ) →
+            All (λ x. x < 256) octets → Decodes (line octets) self.now →
+            result ≡ record {
+              octets = length octets;
+              spare = 0;
+              spoiled = false;
+              halves = 128 + 16 * length octets;
+            } }
     {
         Heard {
             octets: self.count,
@@ -119,13 +141,16 @@ impl Decoder {
         }
     }
 
-    /// The whole octets after the delimiter, the first 1,523 at most. Nothing is said of them where the reception is spoiled.
+    /// The whole octets after the delimiter, the first 1,523 at most. Nothing is said of them where the
+    /// reception is spoiled.
     pub fn octets(&self) -> &[u8]
         ensures kept { result.now ≡ self.now.octets }
-        ensures first { (halves : List Sym) (bits : List Bool) → Decodes halves self.now → reading halves ≡ Some bits →
+        ensures first { (halves : List Sym) (bits : List Bool) →
+            Decodes halves self.now → reading halves ≡ Some bits →
             result.now ≡ take KEPT_OCTETS (octets_of_bits bits) }
         // A line text is read back.
-        ensures line { (octets : List ℕ) → All (λ x. x < 256) octets → length octets ≤ KEPT_OCTETS → Decodes (line octets) self.now →
+        ensures line { (octets : List ℕ) →
+            All (λ x. x < 256) octets → length octets ≤ KEPT_OCTETS → Decodes (line octets) self.now →
             result.now ≡ octets }
     {
         if (self.count as usize) < KEPT_OCTETS {
@@ -191,7 +216,8 @@ impl Decoder {
         requires signal { s ≢ Idle }
         requires count { self.old.halves < 2000000000 }
         ensures moved { self.new ≡ pushed self.old s }
-        ensures decodes { (halves : List Sym) → Decodes halves self.old → Decodes (halves ++ s ∷ []) self.new }
+        ensures decodes { (halves : List Sym) → Decodes halves self.old →
+            Decodes (halves ++ s ∷ []) self.new }
     {
         self.halves += 1;
         match self.half {

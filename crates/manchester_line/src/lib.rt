@@ -23,7 +23,8 @@ pub enum Sym {
     Clash,
 }
 
-/// What is heard where two symbols meet on one cable: the one that isn't Idle, or a clash (profile).
+/// What is heard where two symbols meet on one cable: the one that isn't Idle, or a clash
+/// (profile).
 pub fn mix(a: Sym, b: Sym) -> Sym
     ensures { result ≡ mix_of a b }
 {
