@@ -1,4 +1,4 @@
-use Rattle.std.specs.Prelude.{ℕ, suc, ◌+◌, ◌*◌, ◌/◌, ◌%◌, Bool, true, false, Option, Some, None, List, [], ◌∷◌, length}
+use Rattle.std.specs.Prelude.{ℕ, ◌+◌, ◌*◌, ◌%◌, Bool, true, false, Option, Some, None, List, [], ◌∷◌, length}
 use Rattle.std.specs.Option.{option_map}
 use Rattle.manchester_line.specs.declared.Sym.{Sym}
 use Rattle.manchester_line.specs.declared.Sym.TheVariants.{Hi, Lo}
@@ -9,6 +9,7 @@ bit_of_pair Lo Hi = Some true
 bit_of_pair Hi Lo = Some false
 bit_of_pair _ _ = None
 
+-- a bit before others, where each is one
 abbrev pub add_bit : Option Bool → Option (List Bool) → Option (List Bool)
 add_bit (Some b) (Some bs) = Some (b ∷ bs)
 add_bit _ _ = None
@@ -36,7 +37,9 @@ bit_value false = 0
 
 -- the octet whose bits are these eight, the least first (clause 3, order of bit transmission)
 abbrev pub octet_of : Bool → Bool → Bool → Bool → Bool → Bool → Bool → Bool → ℕ
-octet_of a b c d e f g h = bit_value a + 2 * bit_value b + 4 * bit_value c + 8 * bit_value d + 16 * bit_value e + 32 * bit_value f + 64 * bit_value g + 128 * bit_value h
+octet_of a b c d e f g h =
+    bit_value a + 2 * bit_value b + 4 * bit_value c + 8 * bit_value d
+    + 16 * bit_value e + 32 * bit_value f + 64 * bit_value g + 128 * bit_value h
 
 -- the whole octets in a list of bits
 abbrev pub octets_of_bits : List Bool → List ℕ

@@ -4,8 +4,10 @@
 ghost use Rattle.std.specs.Prelude.{◌≡◌};
 ghost use Rattle.manchester_line.specs.Line.{mix_of, half_at};
 
+mod decoder;
 mod line;
 
+pub use decoder::{Decoder, Heard};
 pub use line::{encode_into, header_sym, jam_sym, line_sym};
 
 /// What a tap emits or hears in one half bit of 50 ns.
@@ -21,7 +23,8 @@ pub enum Sym {
     Clash,
 }
 
-/// What is heard where two symbols meet on one cable: the one that isn't Idle, or a clash (profile).
+/// What is heard where two symbols meet on one cable: the one that isn't Idle, or a clash
+/// (profile).
 pub fn mix(a: Sym, b: Sym) -> Sym
     ensures { result ≡ mix_of a b }
 {
@@ -38,3 +41,6 @@ pub fn half_of(bit: bool, second: bool) -> Sym
 {
     if bit == second { Sym::Hi } else { Sym::Lo }
 }
+
+#[cfg(test)]
+mod tests;

@@ -23,7 +23,8 @@ pub fn jam_sym(i: u32) -> Sym
     }
 }
 
-/// Half bit `i`, from 0 to 127, of the header: 62 alternating bits that begin with 1, and then 1, 1 (clause 3).
+/// Half bit `i`, from 0 to 127, of the header: 62 alternating bits that begin with 1, and then 1, 1
+/// (clause 3).
 pub fn header_sym(i: u32) -> Sym
     requires { i < 128 }
     ensures { result ≡ header_at i }
@@ -57,7 +58,8 @@ fn put_octet(out: &mut [Sym], octet: u8)
     }
 }
 
-/// Writes the line text of at most 1,600 octets at the front of `out`, leaves the rest, and answers its length in half bits.
+/// Writes the line text of at most 1,600 octets at the front of `out`, leaves the rest, and answers
+/// its length in half bits.
 pub fn encode_into(octets: &[u8], out: &mut [Sym]) -> usize
     requires few { length octets.now ≤ 1600 }
     requires room { 128 + 16 * length octets.now ≤ length out.old }

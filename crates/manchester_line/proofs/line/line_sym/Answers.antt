@@ -1,4 +1,4 @@
-use Rattle.std.proofs.Common.{◌≡◌, ◌-◌, sym, ◌∙◌, arith}
+use Rattle.std.proofs.Common.{◌-◌, sym, ◌∙◌, arith}
 use Rattle.manchester_line.proofs.Places.{line_at_header, line_at_octet, line_past}
 use Rattle.manchester_line.proofs.line.line_sym.Goals as goal
 

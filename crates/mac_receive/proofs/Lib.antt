@@ -1,0 +1,3 @@
+mod Good
+mod Judged
+pub mod Stands

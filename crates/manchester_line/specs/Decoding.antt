@@ -1,0 +1,63 @@
+use Rattle.std.specs.Prelude.{◌≡◌, ℕ, ◌+◌, ◌*◌, ◌/◌, ◌==◌, ◌&&◌, Bool, true, false, if◌then◌else◌, Option, Some, None, List, [], ◌∷◌, ◌++◌, take}
+use Rattle.manchester_line.specs.declared.Sym.{Sym}
+use Rattle.manchester_line.specs.declared.decoder.TheConstants.{KEPT_OCTETS}
+use Rattle.manchester_line.specs.Reading.{bit_of_pair, bit_value}
+
+-- what a decoder keeps of the half bits that it was given (profile)
+pub record Decoding : Type 0 where
+  -- how many there were
+  pub halves : ℕ
+  -- the first half of a bit whose second half is still to come
+  pub half : Option Sym
+  -- whether a pair was no bit
+  pub spoiled : Bool
+  -- whether two adjacent 1 bits have come
+  pub found : Bool
+  -- the latest bit up to these
+  pub last : Bool
+  -- how many whole octets have come since
+  pub count : ℕ
+  -- the first 1,523 of them
+  pub octets : List ℕ
+  -- how many bits have come since the last whole octet, 0 to 7
+  pub spare : ℕ
+  -- these bits at the high end of an octet, the latest at the top
+  pub rest : ℕ
+
+-- a decoder that was given nothing yet
+abbrev pub new_decoding : Decoding
+new_decoding = record { halves = 0; half = None; spoiled = false; found = false; last = false; count = 0; octets = []; spare = 0; rest = 0 }
+
+-- one more bit at the top of an octet
+abbrev pub shifted : ℕ → Bool → ℕ
+shifted rest b = rest / 2 + 128 * bit_value b
+
+-- one more bit of the frame
+abbrev pub put_bit : Decoding → Bool → Decoding
+put_bit d b =
+    if d.spare == 7
+    then record d { count = d.count + 1; octets = take KEPT_OCTETS (d.octets ++ shifted d.rest b ∷ []); spare = 0; rest = 0 }
+    else record d { spare = d.spare + 1; rest = shifted d.rest b }
+
+-- one more bit of the reception, if it is one
+abbrev pub take_bit : Decoding → Option Bool → Decoding
+take_bit d None = record d { spoiled = true }
+take_bit d (Some b) = if d.found then put_bit d b else record d { found = d.last && b; last = b }
+
+-- a half bit after the first half of a bit, if that has come
+abbrev pub take_half : Decoding → Option Sym → Sym → Decoding
+take_half d None s = record d { half = Some s }
+take_half d (Some a) s = take_bit (record d { half = None }) (bit_of_pair a s)
+
+-- one more half bit
+abbrev pub pushed : Decoding → Sym → Decoding
+pushed d s = take_half (record d { halves = d.halves + 1 }) d.half s
+
+-- more half bits, in this order
+abbrev pub all_pushed : Decoding → List Sym → Decoding
+all_pushed d [] = d
+all_pushed d (s ∷ ss) = all_pushed (pushed d s) ss
+
+-- a decoder that was given these half bits, in this order, since it was new or cleared
+abbrev pub Decodes : List Sym → Decoding → Type 0
+Decodes halves d = d ≡ all_pushed new_decoding halves

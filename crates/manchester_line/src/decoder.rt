@@ -1,0 +1,231 @@
+ghost use Rattle.std.specs.Prelude.{◌≡◌, ◌≢◌, ◌+◌, ◌*◌, ◌<◌, ◌≤◌, ℕ, Bool, false, List, Some, [], ◌∷◌, ◌++◌, length, take};
+ghost use Rattle.std.specs.List.{All};
+ghost use Rattle.std.specs.Option.{is_none};
+ghost use Rattle.manchester_line.specs.Decoding.{Decodes, new_decoding, put_bit, pushed, shifted, take_bit};
+ghost use Rattle.manchester_line.specs.Line.{line};
+ghost use Rattle.manchester_line.specs.Reading.{bit_of_pair, octets_of_bits, reading, spare_of_bits};
+ghost use Rattle.manchester_line.specs.declared.Sym.TheVariants.{Idle};
+ghost use Rattle.manchester_line.specs.declared.Sym.{Sym};
+
+use crate::Sym;
+use std::marker::Model;
+
+/// The octets that a decoder keeps: the 1,522 of the longest frame with its check sequence (clause
+/// 3), and one more.
+pub const KEPT_OCTETS: usize = 1523;
+
+/// What a decoder has heard.
+#[derive(Clone, Copy, Debug, PartialEq, Eq)]
+pub struct Heard {
+    /// The whole octets after the delimiter.
+    pub octets: u32,
+    /// The bits after the last whole octet.
+    pub spare: u32,
+    /// Whether a pair of half bits was no bit, or the last bit lacks its second half.
+    pub spoiled: bool,
+    /// All half bits.
+    pub halves: u32,
+}
+
+/// Reads a reception half bit by half bit.
+#[derive(Drop)]
+pub struct Decoder {
+    halves: u32,
+    half: Option<Sym>,
+    spoiled: bool,
+    found: bool,
+    last: bool,
+    count: u32,
+    spare: u32,
+    rest: u8,
+    buffer: [u8; KEPT_OCTETS],
+}
+
+impl Model for Decoder {
+    ghost use Rattle.std.specs.Prelude.{◌≤◌, take};
+    ghost use Rattle.manchester_line.specs.Decoding.{Decoding};
+
+    ghost Value = { Decoding };
+
+    ghost view = { λ s. record {
+      halves = s.halves;
+      half = s.half;
+      spoiled = s.spoiled;
+      found = s.found;
+      last = s.last;
+      count = s.count;
+      octets = take s.count s.buffer;
+      spare = s.spare;
+      rest = s.rest;
+    } };
+
+    ghost invariant = { λ s. (s.count ≤ s.halves) × (s.spare ≤ 7) };
+}
+
+/// The bit of a pair of half bits, if it is one (clause 7).
+fn bit_of(first: Sym, second: Sym) -> Option<bool>
+    ensures { result ≡ bit_of_pair first second }
+{
+    match (first, second) {
+        (Sym::Lo, Sym::Hi) => Some(true),
+        (Sym::Hi, Sym::Lo) => Some(false),
+        _ => None,
+    }
+}
+
+/// One more bit at the top of an octet.
+fn shift(rest: u8, bit: bool) -> u8
+    ensures { result ≡ shifted rest bit }
+{
+    if bit { rest / 2 + 128 } else { rest / 2 }
+}
+
+/// Keeps octet number `count`, from 0, where there is room.
+fn keep(buffer: &mut [u8], count: u32, octet: u8)
+    requires { length buffer.old ≡ KEPT_OCTETS }
+    ensures { take (count + 1) buffer.new ≡ take KEPT_OCTETS (take count buffer.old ++ octet ∷ []) }
+{
+    if (count as usize) < KEPT_OCTETS {
+        buffer[count as usize] = octet;
+    }
+}
+
+impl Decoder {
+    /// A decoder that was given nothing yet.
+    pub fn new() -> Decoder
+        ensures cleared { result ≡ new_decoding }
+        ensures decodes { Decodes [] result }
+    {
+        Decoder {
+            halves: 0,
+            half: None,
+            spoiled: false,
+            found: false,
+            last: false,
+            count: 0,
+            spare: 0,
+            rest: 0,
+            buffer: [0; KEPT_OCTETS],
+        }
+    }
+
+    /// What was heard since the decoder was new or cleared. Where the reception is spoiled, nothing is
+    /// said of octets and spare bits.
+    pub fn heard(&self) -> Heard
+        ensures halves { (halves : List Sym) → Decodes halves self.now →
+            result.halves ≡ length halves }
+        ensures spoiled { (halves : List Sym) → Decodes halves self.now →
+            result.spoiled ≡ is_none (reading halves) }
+        ensures octets { (halves : List Sym) (bits : List Bool) →
+            Decodes halves self.now → reading halves ≡ Some bits →
+            result.octets ≡ length (octets_of_bits bits) }
+        ensures spare { (halves : List Sym) (bits : List Bool) →
+            Decodes halves self.now → reading halves ≡ Some bits →
+            result.spare ≡ spare_of_bits bits }
+        ensures few { result.spare < 8 }
+        // A line text is read back.
+        ensures line { (octets : List ℕ) →
+            All (λ x. x < 256) octets → Decodes (line octets) self.now →
+            result ≡ record {
+              octets = length octets;
+              spare = 0;
+              spoiled = false;
+              halves = 128 + 16 * length octets;
+            } }
+    {
+        Heard {
+            octets: self.count,
+            spare: self.spare,
+            spoiled: self.spoiled || self.half.is_some(),
+            halves: self.halves,
+        }
+    }
+
+    /// The whole octets after the delimiter, the first 1,523 at most. Nothing is said of them where the
+    /// reception is spoiled.
+    pub fn octets(&self) -> &[u8]
+        ensures kept { result.now ≡ self.now.octets }
+        ensures first { (halves : List Sym) (bits : List Bool) →
+            Decodes halves self.now → reading halves ≡ Some bits →
+            result.now ≡ take KEPT_OCTETS (octets_of_bits bits) }
+        // A line text is read back.
+        ensures line { (octets : List ℕ) →
+            All (λ x. x < 256) octets → length octets ≤ KEPT_OCTETS → Decodes (line octets) self.now →
+            result.now ≡ octets }
+    {
+        if (self.count as usize) < KEPT_OCTETS {
+            &self.buffer[..self.count as usize]
+        } else {
+            &self.buffer
+        }
+    }
+
+    /// Forgets what was heard.
+    pub fn clear(&mut self)
+        ensures cleared { self.new ≡ new_decoding }
+        ensures decodes { Decodes [] self.new }
+    {
+        self.halves = 0;
+        self.half = None;
+        self.spoiled = false;
+        self.found = false;
+        self.last = false;
+        self.count = 0;
+        self.spare = 0;
+        self.rest = 0;
+    }
+
+    /// One more bit of the frame.
+    fn put_bit(&mut self, bit: bool)
+        requires { self.old.count < self.old.halves }
+        ensures { self.new ≡ put_bit self.old bit }
+    {
+        let octet = shift(self.rest, bit);
+        if self.spare == 7 {
+            keep(&mut self.buffer, self.count, octet);
+            self.count += 1;
+            self.spare = 0;
+            self.rest = 0;
+        } else {
+            self.spare += 1;
+            self.rest = octet;
+        }
+    }
+
+    /// One more bit of the reception.
+    fn take_bit(&mut self, bit: Option<bool>)
+        requires { self.old.count < self.old.halves }
+        ensures { self.new ≡ take_bit self.old bit }
+    {
+        match bit {
+            None => self.spoiled = true,
+            Some(b) => {
+                if self.found {
+                    self.put_bit(b);
+                } else {
+                    self.found = self.last && b;
+                    self.last = b;
+                }
+            }
+        }
+    }
+
+    /// Takes one more half bit of the reception.
+    #[tactic(auto, using(crate::proofs::Machine::decodes_next))]
+    pub fn push(&mut self, s: Sym)
+        requires signal { s ≢ Idle }
+        requires count { self.old.halves < 2000000000 }
+        ensures moved { self.new ≡ pushed self.old s }
+        ensures decodes { (halves : List Sym) → Decodes halves self.old →
+            Decodes (halves ++ s ∷ []) self.new }
+    {
+        self.halves += 1;
+        match self.half {
+            None => self.half = Some(s),
+            Some(first) => {
+                self.half = None;
+                self.take_bit(bit_of(first, s));
+            }
+        }
+    }
+}
