@@ -1,1 +1,6 @@
 pub mod Names
+pub mod Rules
+pub mod Texts
+pub mod Tree
+pub mod Spots
+pub mod Sites

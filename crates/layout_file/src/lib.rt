@@ -3,6 +3,10 @@
 
 mod fault;
 mod layout;
+mod rules;
+mod sites;
+mod texts;
+mod tree;
 
 pub use fault::{Key, LayoutCode, LayoutFault, Place, Table};
 pub use layout::{
