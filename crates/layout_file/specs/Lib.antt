@@ -4,3 +4,5 @@ pub mod Texts
 pub mod Tree
 pub mod Spots
 pub mod Sites
+pub mod RowFaults
+pub mod Arounds

@@ -1,5 +1,4 @@
 -- What the code's sites and contexts stand for.
-use Rattle.std.specs.Prelude.{map}
 use Rattle.toml.specs.View.{table_view}
 use Rattle.layout_file.specs.declared.sites.Site.{Site}
 use Rattle.layout_file.specs.Spots.{Spot}

@@ -1,7 +1,7 @@
 -- What a table of a document holds at a key (profile).
-use Rattle.std.specs.Prelude.{ℕ, pos, Bool, true, false, not, List, [], ◌∷◌, length, bytes_eq, Option, None, Some, unwrap_or, option_map, option_and_then}
+use Rattle.std.specs.Prelude.{ℕ, pos, Bool, not, List, [], ◌∷◌, bytes_eq, Option, None, Some, unwrap_or, option_map, option_and_then}
 use Rattle.std.specs.List.{list_any}
-use Rattle.toml.specs.Data.{Data, string, integer, array, Items, no_items, item, Members, no_members, member, get_member, as_str, as_table}
+use Rattle.toml.specs.Data.{Data, integer, array, Items, no_items, item, Members, no_members, member, get_member, as_str, as_table}
 use Rattle.layout_file.specs.declared.fault.Key.{Key}
 use Rattle.layout_file.specs.declared.fault.Key.TheVariants as key
 use Rattle.layout_file.specs.declared.rules.Rule.{Rule}

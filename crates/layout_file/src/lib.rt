@@ -3,6 +3,7 @@
 
 mod fault;
 mod layout;
+mod rows;
 mod rules;
 mod sites;
 mod texts;
