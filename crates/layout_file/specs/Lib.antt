@@ -6,3 +6,4 @@ pub mod Spots
 pub mod Sites
 pub mod RowFaults
 pub mod Arounds
+pub mod JointFaults

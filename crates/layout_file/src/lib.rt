@@ -2,6 +2,7 @@
 #![tactic(auto)]
 
 mod fault;
+mod joint;
 mod layout;
 mod rows;
 mod rules;

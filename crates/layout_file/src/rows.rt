@@ -54,7 +54,8 @@ pub struct Surroundings<'a> {
     pub stations: &'a [&'a str],
 }
 
-fn is_among(name: &str, names: &[&str]) -> bool
+/// One of the names is this one.
+pub fn is_among(name: &str, names: &[&str]) -> bool
     ensures { result ≡ is_among name.now (map (λ s. s.now) names.now) }
 {
     for other in names {
