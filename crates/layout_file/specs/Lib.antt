@@ -7,3 +7,5 @@ pub mod Sites
 pub mod RowFaults
 pub mod Arounds
 pub mod JointFaults
+pub mod Lines
+pub mod Form

@@ -2,8 +2,10 @@
 #![tactic(auto)]
 
 mod fault;
+mod form;
 mod joint;
 mod layout;
+mod lines;
 mod rows;
 mod rules;
 mod sites;

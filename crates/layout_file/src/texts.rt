@@ -20,7 +20,8 @@ fn is_name_octet(octet: u8) -> bool
     matches!(octet, b'a'..=b'z' | b'A'..=b'Z' | b'0'..=b'9' | b'_' | b'-')
 }
 
-fn is_between(least: u64, most: u64, n: u64) -> bool
+/// From the first bound to the second.
+pub fn is_between(least: u64, most: u64, n: u64) -> bool
     ensures { result ≡ is_between least most n }
 {
     least <= n && n <= most
