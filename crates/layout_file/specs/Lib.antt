@@ -9,3 +9,4 @@ pub mod Arounds
 pub mod JointFaults
 pub mod Lines
 pub mod Form
+pub mod Faults

@@ -1,7 +1,6 @@
 -- What the values of a document spell (profile).
 use Rattle.std.specs.Prelude.{ℕ, ◌+◌, if◌then◌else◌, List, [], ◌∷◌, map, bytes_eq, Option, None, Some, unwrap_or, option_and_then}
 use Rattle.toml.specs.Data.{Members, as_str}
-use Rattle.layout_file.specs.declared.fault.Key.{Key}
 use Rattle.layout_file.specs.declared.fault.Key.TheVariants as key
 use Rattle.layout_file.specs.declared.layout.Layout.{Layout}
 use Rattle.layout_file.specs.declared.layout.SegmentLine.{SegmentLine}

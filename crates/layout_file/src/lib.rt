@@ -6,6 +6,7 @@ mod form;
 mod joint;
 mod layout;
 mod lines;
+mod reader;
 mod rows;
 mod rules;
 mod sites;
@@ -18,3 +19,4 @@ pub use layout::{
     SendLine, SendLines, StationLine, StationLines,
 };
 pub use lists::{OutOfMemory, Text};
+pub use reader::read_layout;
