@@ -20,3 +20,6 @@ pub use layout::{
 };
 pub use lists::{OutOfMemory, Text};
 pub use reader::read_layout;
+
+#[cfg(test)]
+mod tests;
