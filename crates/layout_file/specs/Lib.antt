@@ -1,1 +1,12 @@
 pub mod Names
+pub mod Rules
+pub mod Texts
+pub mod Tree
+pub mod Spots
+pub mod Sites
+pub mod RowFaults
+pub mod Arounds
+pub mod JointFaults
+pub mod Lines
+pub mod Form
+pub mod Faults

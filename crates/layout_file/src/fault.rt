@@ -181,3 +181,22 @@ pub struct LayoutFault {
     pub code: LayoutCode,
     pub place: Place,
 }
+
+impl LayoutFault {
+    ghost use Rattle.layout_file.specs.JointFaults.{row_fault};
+
+    /// A fault of a row of a table, counted from 1, or 0 for the file's own keys.
+    pub fn of_row(code: LayoutCode, table: Table, row: u32, key: Key) -> LayoutFault
+        ensures { result ≡ row_fault code table row key }
+    {
+        LayoutFault {
+            code,
+            place: Place {
+                table,
+                row,
+                port: 0,
+                key,
+            },
+        }
+    }
+}

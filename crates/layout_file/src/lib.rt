@@ -2,7 +2,16 @@
 #![tactic(auto)]
 
 mod fault;
+mod form;
+mod joint;
 mod layout;
+mod lines;
+mod reader;
+mod rows;
+mod rules;
+mod sites;
+mod texts;
+mod tree;
 
 pub use fault::{Key, LayoutCode, LayoutFault, Place, Table};
 pub use layout::{
@@ -10,3 +19,7 @@ pub use layout::{
     SendLine, SendLines, StationLine, StationLines,
 };
 pub use lists::{OutOfMemory, Text};
+pub use reader::read_layout;
+
+#[cfg(test)]
+mod tests;

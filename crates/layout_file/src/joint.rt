@@ -1,0 +1,209 @@
+//! The tests that need more than one row.
+ghost use Rattle.std.specs.Prelude.{◌≡◌, ◌++◌, [], IfOk, map, option_map};
+ghost use Rattle.toml.specs.View.{table_view};
+ghost use Rattle.layout_file.specs.JointFaults.{crowd_at, crowd_of_ports, crowd_of_bits, first_crowd, first_same, same_segment_fault, same_device_fault, first_same_name, has_tap, is_tap_at, is_taken, takes_tap, first_taken};
+ghost use Rattle.layout_file.specs.Sites.{seen};
+
+use crate::fault::{Key, LayoutCode, LayoutFault, Table};
+use crate::rows::is_among;
+use crate::rules::Shape;
+use crate::sites::Site;
+use crate::tree::{names, number, rows, text};
+use lists::OutOfMemory;
+use std::alloc::Global;
+use toml::Table as TomlTable;
+
+const MOST_SEGMENTS: usize = 256;
+
+const MOST_STATIONS: usize = 1_024;
+
+const MOST_REPEATERS: usize = 128;
+
+const MOST_PORTS: usize = 32;
+
+const MOST_SENDS: usize = 65_536;
+/// The most bits of a run, over all its devices.
+const MOST_DEVICE_BITS: u64 = 4_000_000_000;
+
+/// An array of the file with more than that many rows.
+fn crowd_at(
+    alloc: Global,
+    document: &TomlTable,
+    key: Key,
+    most: usize,
+) -> Result<Option<LayoutFault>, OutOfMemory>
+    ensures { IfOk result (λ fault. fault ≡ crowd_at (table_view document.now) key most) }
+{
+    if rows(alloc, document, key)?.len() > most {
+        Ok(Some(LayoutFault::of_row(LayoutCode::TooMany, Table::File, 0, key)))
+    } else {
+        Ok(None)
+    }
+}
+
+/// The first repeater with too many ports.
+fn crowd_of_ports(
+    alloc: Global,
+    repeaters: &[&TomlTable],
+) -> Result<Option<LayoutFault>, OutOfMemory>
+    ensures { IfOk result (λ fault. fault ≡ crowd_of_ports 1 (map (λ t. table_view t.now) repeaters.now)) }
+{
+    let mut row = 0u32;
+    for members in repeaters {
+        row = row.checked_add(1).ok_or(OutOfMemory)?;
+        if rows(alloc, *members, Key::Port)?.len() > MOST_PORTS {
+            return Ok(Some(LayoutFault::of_row(
+                LayoutCode::TooMany,
+                Table::Repeater,
+                row,
+                Key::Port,
+            )));
+        }
+    }
+    Ok(None)
+}
+
+/// More bits of the run, over all devices, than are run.
+#[tactic(auto, unfolding(crate::specs::JointFaults::crowd_of_bits))]
+fn crowd_of_bits(alloc: Global, document: &TomlTable) -> Result<Option<LayoutFault>, OutOfMemory>
+    ensures { IfOk result (λ fault. fault ≡ crowd_of_bits (table_view document.now)) }
+{
+    let stations = rows(alloc, document, Key::Station)?.len() as u64;
+    let repeaters = rows(alloc, document, Key::Repeater)?.len() as u64;
+    let devices = stations.checked_add(repeaters).ok_or(OutOfMemory)?;
+    if number(document, Key::UntilBits).saturating_mul(devices) > MOST_DEVICE_BITS {
+        Ok(Some(LayoutFault::of_row(LayoutCode::TooMany, Table::File, 0, Key::UntilBits)))
+    } else {
+        Ok(None)
+    }
+}
+
+/// Too many rows of a kind, or too many bits.
+#[tactic(auto, unfolding(crate::specs::JointFaults::first_crowd))]
+pub fn first_crowd(alloc: Global, document: &TomlTable) -> Result<Option<LayoutFault>, OutOfMemory>
+    ensures { IfOk result (λ fault. fault ≡ first_crowd (table_view document.now)) }
+{
+    if let Some(fault) = crowd_at(alloc, document, Key::Segment, MOST_SEGMENTS)? {
+        return Ok(Some(fault));
+    }
+    if let Some(fault) = crowd_at(alloc, document, Key::Station, MOST_STATIONS)? {
+        return Ok(Some(fault));
+    }
+    if let Some(fault) = crowd_at(alloc, document, Key::Repeater, MOST_REPEATERS)? {
+        return Ok(Some(fault));
+    }
+    if let Some(fault) = crowd_of_ports(alloc, &rows(alloc, document, Key::Repeater)?)? {
+        return Ok(Some(fault));
+    }
+    if let Some(fault) = crowd_at(alloc, document, Key::Send, MOST_SENDS)? {
+        return Ok(Some(fault));
+    }
+    crowd_of_bits(alloc, document)
+}
+
+/// The first name that stands earlier too, counted from 1.
+fn first_same(names: &[&str]) -> Result<Option<u32>, OutOfMemory>
+    ensures { IfOk result (λ row. row ≡ first_same [] 1 (map (λ s. s.now) names.now)) }
+{
+    let mut row = 0u32;
+    for (i, name) in names.iter().enumerate() {
+        row = row.checked_add(1).ok_or(OutOfMemory)?;
+        if is_among(*name, &names[..i]) {
+            return Ok(Some(row));
+        }
+    }
+    Ok(None)
+}
+
+fn same_segment_fault(row: Option<u32>) -> Option<LayoutFault>
+    ensures { result ≡ option_map same_segment_fault row }
+{
+    row.map(|row| LayoutFault::of_row(LayoutCode::SameName, Table::Segment, row, Key::Name))
+}
+
+fn same_device_fault(stations: u32, device: u32) -> LayoutFault
+    ensures { result ≡ same_device_fault stations device }
+{
+    if device <= stations {
+        LayoutFault::of_row(LayoutCode::SameName, Table::Station, device, Key::Name)
+    } else {
+        LayoutFault::of_row(
+            LayoutCode::SameName,
+            Table::Repeater,
+            device - stations,
+            Key::Name,
+        )
+    }
+}
+
+/// A segment has the name of an earlier segment, or a device that of an earlier device.
+#[tactic(auto, unfolding(crate::specs::JointFaults::first_same_name))]
+pub fn first_same_name(
+    alloc: Global,
+    document: &TomlTable,
+) -> Result<Option<LayoutFault>, OutOfMemory>
+    ensures { IfOk result (λ fault. fault ≡ first_same_name (table_view document.now)) }
+{
+    let segments = names(alloc, &rows(alloc, document, Key::Segment)?)?;
+    if let Some(fault) = same_segment_fault(first_same(&segments)?) {
+        return Ok(Some(fault));
+    }
+    let mut devices = names(alloc, &rows(alloc, document, Key::Station)?)?;
+    let stations = match u32::try_from(devices.len()) {
+        Ok(stations) => stations,
+        Err(_) => return Err(OutOfMemory),
+    };
+    devices.extend_from_slice(&names(alloc, &rows(alloc, document, Key::Repeater)?)?)?;
+    match first_same(&devices)? {
+        Some(device) => Ok(Some(same_device_fault(stations, device))),
+        None => Ok(None),
+    }
+}
+
+fn has_tap(shape: Shape) -> bool
+    ensures { result ≡ has_tap shape }
+{
+    matches!(shape, Shape::Station | Shape::Port)
+}
+
+fn is_tap_at(segment: &str, at: u64, site: &Site) -> bool
+    ensures { result ≡ is_tap_at segment.now at (seen site.now) }
+{
+    has_tap(site.shape)
+        && text(site.members, Key::Segment) == segment
+        && number(site.members, Key::At) == at
+}
+
+fn is_taken(segment: &str, at: u64, sites: &[Site]) -> bool
+    ensures { result ≡ is_taken segment.now at (map seen sites.now) }
+{
+    for site in sites {
+        if is_tap_at(segment, at, site) {
+            return true;
+        }
+    }
+    false
+}
+
+fn takes_tap(earlier: &[Site], site: &Site) -> bool
+    ensures { result ≡ takes_tap (map seen earlier.now) (seen site.now) }
+{
+    has_tap(site.shape)
+        && is_taken(
+            text(site.members, Key::Segment),
+            number(site.members, Key::At),
+            earlier,
+        )
+}
+
+/// The first tap that stands where an earlier one does.
+pub fn first_taken(sites: &[Site]) -> Option<LayoutFault>
+    ensures { result ≡ first_taken [] (map seen sites.now) }
+{
+    for (i, site) in sites.iter().enumerate() {
+        if takes_tap(&sites[..i], site) {
+            return Some(site.fault(LayoutCode::TapTaken, Key::At));
+        }
+    }
+    None
+}

@@ -1,0 +1,127 @@
+//! Reads a layout from octets.
+ghost use Rattle.std.specs.Prelude.{◌≡◌, Some, Ok, Err, IfOk, IfErr, IsTrue};
+ghost use Rattle.toml.specs.View.{table_view};
+ghost use Rattle.layout_file.specs.Faults.{first_fault, document, is_too_long, judged_document, judged, IsMemory};
+ghost use Rattle.layout_file.specs.Form.{is_first_form};
+ghost use Rattle.layout_file.specs.JointFaults.{file_fault};
+ghost use Rattle.layout_file.specs.declared.fault.Key.TheVariants as key;
+
+use crate::fault::{Key, LayoutCode, LayoutFault, Table};
+use crate::form::is_first_form;
+use crate::joint::{first_crowd, first_same_name, first_taken};
+use crate::layout::Layout;
+use crate::lines::layout;
+use crate::rows::{RowTest, Surroundings, first_of};
+use crate::sites::sites;
+use crate::tree::{names, number, rows};
+use lists::OutOfMemory;
+use std::alloc::Global;
+use toml::Table as TomlTable;
+
+const MOST_OCTETS: usize = 1_048_576;
+
+/// The tests of what each key by itself holds.
+const KEY_TESTS: [RowTest; 5] = [
+    RowTest::UnknownKey,
+    RowTest::Missing,
+    RowTest::WrongType,
+    RowTest::BadName,
+    RowTest::OutOfRange,
+];
+
+/// The tests of what is named.
+const NAME_TESTS: [RowTest; 2] = [RowTest::NoSuchSegment, RowTest::NoSuchStation];
+
+/// The tests of what is sent.
+const FRAME_TESTS: [RowTest; 1] = [RowTest::BadFrame];
+
+impl From<OutOfMemory> for LayoutFault {
+    ghost use Rattle.layout_file.specs.Faults.{IsMemory};
+
+    ghost from_gives = { λ _ f. IsMemory f };
+
+    fn from(_: OutOfMemory) -> Self {
+        file_fault(LayoutCode::OutOfMemory)
+    }
+}
+
+/// A fault of the file as a whole.
+fn file_fault(code: LayoutCode) -> LayoutFault
+    ensures { result ≡ file_fault code key.None }
+{
+    LayoutFault::of_row(code, Table::File, 0, Key::None)
+}
+
+/// The layout that the octets spell, or their first fault. So far only the least networks are
+/// built: one segment, no repeater, one or two stations of which at most one sends. Every other
+/// document is Unbuilt. Want of memory alone is free.
+#[tactic(auto, unfolding(crate::specs::Faults::judged))]
+pub fn read_layout(alloc: Global, bytes: &[u8]) -> Result<Layout, LayoutFault>
+    ensures layout { IfOk result (λ layout. judged bytes.now ≡ Ok layout) }
+    ensures fault { IfErr result (λ fault. ¬ IsMemory fault → judged bytes.now ≡ Err fault) }
+    ensures first_form { IfOk result (λ layout. IsTrue (is_first_form layout)) }
+{
+    if is_too_long(bytes) {
+        return Err(file_fault(LayoutCode::TooMany));
+    }
+    let document = parse(alloc, bytes)?;
+    if first_fault(alloc, &document)?.is_some() {
+        return Err(file_fault(LayoutCode::Unbuilt));
+    }
+    let layout = layout(alloc, &document)?;
+    if is_first_form(&layout) {
+        Ok(layout)
+    } else {
+        Err(file_fault(LayoutCode::Unbuilt))
+    }
+}
+
+#[tactic(auto, unfolding(crate::specs::Faults::is_too_long))]
+fn is_too_long(bytes: &[u8]) -> bool
+    ensures { result ≡ is_too_long bytes.now }
+{
+    bytes.len() > MOST_OCTETS
+}
+
+/// The document that the octets are.
+fn parse(alloc: Global, bytes: &[u8]) -> Result<TomlTable, LayoutFault>
+    ensures ok { IfOk result (λ table. document bytes.now ≡ Some (table_view table)) }
+    ensures none { IfErr result (λ fault. ¬ IsMemory fault → judged_document (document bytes.now) ≡ Err fault) }
+{
+    match toml::table_from_slice(alloc, bytes) {
+        Ok(table) => Ok(table),
+        Err(error) if error.is_memory() => Err(file_fault(LayoutCode::OutOfMemory)),
+        Err(_) => Err(file_fault(LayoutCode::NotToml)),
+    }
+}
+
+/// The first fault of a document: for each code all places are tried before the next code.
+#[tactic(auto, unfolding(crate::specs::Faults::around_of, crate::specs::Faults::first_fault))]
+fn first_fault(alloc: Global, document: &TomlTable) -> Result<Option<LayoutFault>, OutOfMemory>
+    ensures { IfOk result (λ fault. fault ≡ first_fault (table_view document.now)) }
+{
+    let segments = names(alloc, &rows(alloc, document, Key::Segment)?)?;
+    let stations = names(alloc, &rows(alloc, document, Key::Station)?)?;
+    let surroundings = Surroundings {
+        two: number(document, Key::Format) == 2,
+        segments: &segments,
+        stations: &stations,
+    };
+    let sites = sites(alloc, document)?;
+    if let Some(fault) = first_of(&surroundings, &KEY_TESTS, &sites) {
+        return Ok(Some(fault));
+    }
+    if let Some(fault) = first_crowd(alloc, document)? {
+        return Ok(Some(fault));
+    }
+    if let Some(fault) = first_same_name(alloc, document)? {
+        return Ok(Some(fault));
+    }
+    if let Some(fault) = first_of(&surroundings, &NAME_TESTS, &sites) {
+        return Ok(Some(fault));
+    }
+    if let Some(fault) = first_taken(&sites) {
+        return Ok(Some(fault));
+    }
+    Ok(first_of(&surroundings, &FRAME_TESTS, &sites))
+}

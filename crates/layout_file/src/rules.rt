@@ -1,0 +1,203 @@
+//! The keys of each table: which there are, and what each holds.
+ghost use Rattle.std.specs.Prelude.{◌≡◌};
+ghost use Rattle.layout_file.specs.Rules.{table_of, rules_of};
+
+use crate::fault::{Key, Table};
+
+/// Which keys a table of the document may have.
+#[derive(Clone, Copy, Debug, PartialEq, Eq)]
+pub enum Shape {
+    File,
+    Segment,
+    Station,
+    Repeater,
+    Port,
+    Send,
+}
+
+impl Shape {
+    /// The table that a fault names: a port row is a part of its repeater's row.
+    pub fn table(&self) -> Table
+        ensures { result ≡ table_of self.now }
+    {
+        match self {
+            Shape::File => Table::File,
+            Shape::Segment => Table::Segment,
+            Shape::Station => Table::Station,
+            Shape::Repeater => Table::Repeater,
+            Shape::Port => Table::Repeater,
+            Shape::Send => Table::Send,
+        }
+    }
+}
+
+/// What a key holds.
+#[derive(Clone, Copy, Debug, PartialEq, Eq)]
+pub enum Kind {
+    /// A whole number from the first bound to the second.
+    Whole(u64, u64),
+    /// The name of the row itself.
+    Name,
+    /// The name of a capture.
+    Load,
+    /// The name of a segment's row.
+    SegmentName,
+    /// The name of a station's row.
+    StationName,
+    /// A frame of at most so many octets, in hexadecimal digits.
+    Frame(u64),
+    /// An array of at least so many tables.
+    Rows(u64),
+}
+
+/// A key that a table may have.
+#[derive(Clone, Copy, Debug, PartialEq, Eq)]
+pub struct Rule {
+    pub key: Key,
+    pub required: bool,
+    pub kind: Kind,
+}
+
+const FILE_RULES: [Rule; 7] = [
+    Rule {
+        key: Key::Format,
+        required: true,
+        kind: Kind::Whole(1, 2),
+    },
+    Rule {
+        key: Key::Seed,
+        required: true,
+        kind: Kind::Whole(0, 9_223_372_036_854_775_807),
+    },
+    Rule {
+        key: Key::UntilBits,
+        required: true,
+        kind: Kind::Whole(1, 1_000_000_000),
+    },
+    Rule {
+        key: Key::Segment,
+        required: true,
+        kind: Kind::Rows(1),
+    },
+    Rule {
+        key: Key::Station,
+        required: false,
+        kind: Kind::Rows(0),
+    },
+    Rule {
+        key: Key::Repeater,
+        required: false,
+        kind: Kind::Rows(0),
+    },
+    Rule {
+        key: Key::Send,
+        required: false,
+        kind: Kind::Rows(0),
+    },
+];
+
+const NAME_RULE: Rule = Rule {
+    key: Key::Name,
+    required: true,
+    kind: Kind::Name,
+};
+
+const SEGMENT_NAME_RULE: Rule = Rule {
+    key: Key::Segment,
+    required: true,
+    kind: Kind::SegmentName,
+};
+
+/// The place of a tap, in half bits.
+const AT_RULE: Rule = Rule {
+    key: Key::At,
+    required: true,
+    kind: Kind::Whole(0, 2_000),
+};
+
+const LOAD_RULE: Rule = Rule {
+    key: Key::Load,
+    required: false,
+    kind: Kind::Load,
+};
+
+const SEGMENT_RULES: [Rule; 1] = [NAME_RULE];
+
+const STATION_RULES: [Rule; 4] = [NAME_RULE, SEGMENT_NAME_RULE, AT_RULE, LOAD_RULE];
+
+const STATION_RULES_OF_TWO: [Rule; 5] = [
+    NAME_RULE,
+    SEGMENT_NAME_RULE,
+    AT_RULE,
+    LOAD_RULE,
+    Rule {
+        key: Key::LoseBits,
+        required: false,
+        kind: Kind::Whole(0, 48),
+    },
+];
+
+const REPEATER_RULES: [Rule; 3] = [
+    NAME_RULE,
+    Rule {
+        key: Key::Delay,
+        required: true,
+        kind: Kind::Whole(1, 200),
+    },
+    Rule {
+        key: Key::Port,
+        required: true,
+        kind: Kind::Rows(2),
+    },
+];
+
+const PORT_RULES: [Rule; 2] = [SEGMENT_NAME_RULE, AT_RULE];
+
+const STATION_NAME_RULE: Rule = Rule {
+    key: Key::Station,
+    required: true,
+    kind: Kind::StationName,
+};
+
+/// When a frame becomes ready, in half bits.
+const READY_RULE: Rule = Rule {
+    key: Key::At,
+    required: true,
+    kind: Kind::Whole(0, 2_000_000_000),
+};
+
+const SEND_RULES: [Rule; 3] = [
+    STATION_NAME_RULE,
+    READY_RULE,
+    Rule {
+        key: Key::Octets,
+        required: true,
+        kind: Kind::Frame(1_514),
+    },
+];
+
+const SEND_RULES_OF_TWO: [Rule; 3] = [
+    STATION_NAME_RULE,
+    READY_RULE,
+    Rule {
+        key: Key::Octets,
+        required: true,
+        kind: Kind::Frame(1_518),
+    },
+];
+
+/// The keys of a table in their order. `two` says that the file's format is 2.
+pub fn rules(two: bool, shape: Shape) -> &'static [Rule]
+    ensures { result.now ≡ rules_of two shape }
+{
+    match (shape, two) {
+        (Shape::File, _) => &FILE_RULES,
+        (Shape::Segment, _) => &SEGMENT_RULES,
+        (Shape::Station, false) => &STATION_RULES,
+        (Shape::Station, true) => &STATION_RULES_OF_TWO,
+        (Shape::Repeater, _) => &REPEATER_RULES,
+        (Shape::Port, _) => &PORT_RULES,
+        (Shape::Send, false) => &SEND_RULES,
+        (Shape::Send, true) => &SEND_RULES_OF_TWO,
+    }
+}
