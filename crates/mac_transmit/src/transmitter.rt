@@ -65,7 +65,7 @@ fn is_ready(queue: &Queue, place: u32, t: u64) -> bool
 }
 
 impl Transmitter {
-    ghost use Rattle.std.specs.Prelude.{◌≡◌, ◌<◌, ◌≤◌, ◌&&◌, nat_lt, nat_le, length, IfSome, IsNone, ◌↔◌};
+    ghost use Rattle.std.specs.Prelude.{◌≡◌, ◌<◌, ◌≤◌, ◌+◌, ◌&&◌, nat_lt, nat_le, length, IfSome, IsNone, ◌↔◌};
     ghost use Rattle.mac_transmit.specs.Sender.{new_sender, finished, event_from, promoted, deferring, is_free, started, emitted_from, emitting, before_emission, hears, sent, cut_of, frame_at, ready_at};
 
     /// The sender of a queue before half bit 0, with draws of which none was made yet.
@@ -187,6 +187,7 @@ impl Transmitter {
     fn emit(&mut self, carrier: bool) -> Sym
         requires { self.old.t < 2000000000 }
         ensures state { self.new ≡ emitting self.old carrier }
+        ensures time { self.new.t ≡ self.old.t + 1 }
         ensures emitted { result ≡ emitted_from self.old self.old.phase carrier }
     {
         let t = self.t;
@@ -206,6 +207,7 @@ impl Transmitter {
         requires time { t ≡ self.old.t }
         requires in_time { t < 2000000000 }
         ensures state { self.new ≡ (sent self.old heard).state }
+        ensures time { self.new.t ≡ self.old.t + 1 }
         ensures emitted { result.emitted ≡ (sent self.old heard).emitted }
         ensures event { result.event ≡ (sent self.old heard).event }
     {

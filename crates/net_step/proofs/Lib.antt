@@ -1,0 +1,5 @@
+pub mod Elements
+pub mod Told
+pub mod Hearing
+pub mod Standing
+pub mod Times

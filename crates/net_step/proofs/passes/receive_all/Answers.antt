@@ -1,0 +1,50 @@
+use Rattle.std.proofs.Common.{◌≡◌, ℕ, ◌+◌, List, length, take, get_or, subst, sym, ap, ◌∙◌, arith, rules}
+use Rattle.std.proofs.lemmas.List.{take_all}
+use Rattle.std.proofs.lemmas.Grind.{common_steps}
+use Rattle.manchester_line.specs.declared.Sym.{Sym}
+use Rattle.manchester_line.specs.declared.Sym.TheVariants.{Idle}
+use Rattle.mac_transmit.specs.Sender.{hears}
+use Rattle.mac_receive.specs.Receiver.{Receiving, new_receiving, received}
+use Rattle.mac_receive.specs.Kept.{Kept, Hears}
+use Rattle.net_step.specs.Net.{receptions}
+use Rattle.net_step.specs.Kept.{AllHear, AllGive, Gives}
+use Rattle.net_step.proofs.Elements.{All-take-set, All-drop-set, All-drop-first, get_or-rest, rest-set}
+use Rattle.net_step.proofs.Hearing.{length-AllHear, AllHear-at, AllGive-next, Lends-from}
+use Rattle.net_step.proofs.passes.receive_all.Goals as goal
+
+pub loop-k-preserved : goal.loop-k-preserved
+loop-k-preserved c =
+    let k = c.loop-k.k in
+    let t = c.args.t in
+    let e = c.index-receivers-k.result in
+    let d : Receiving = new_receiving 0 0 in
+    let now : (get_or c.loop-k.receivers k e).steps ≡ t = All-drop-first (λ (s : Kept). s.steps ≡ t) c.loop-k.receivers k e (omega arith) c.loop-k.invariant.waiting in
+    let same : get_or c.loop-k.receivers k e ≡ get_or c.args.receivers.now k e = get_or-rest c.loop-k.receivers c.args.receivers.now k e c.loop-k.invariant.rest in
+    record {
+      len = search rules;
+      len_received = search rules;
+      stepped = All-take-set (λ (s : Kept). s.steps ≡ t + 1) c.loop-k.receivers k c.step.new.self (omega arith) c.loop-k.invariant.stepped (c.step.ensures.steps ∙ ap (λ n. n + 1) now);
+      waiting = All-drop-set (λ (s : Kept). s.steps ≡ t) c.loop-k.receivers k c.step.new.self c.loop-k.invariant.waiting;
+      rest = rest-set c.loop-k.receivers c.args.receivers.now k c.step.new.self c.loop-k.invariant.rest;
+      given = λ rs h.
+          let r = get_or rs k d in
+          let stands : Hears r (get_or c.loop-k.receivers k e) = subst (λ (x : Kept). Hears r x) (sym same) (AllHear-at rs c.args.receivers.now k d e h (omega arith)) in
+          let few : length rs ≡ length c.args.receivers.now = length-AllHear rs c.args.receivers.now h in
+          let signal : c.has_signal.result ≡ hears (get_or c.args.emitted.now k Idle) = c.has_signal.ensures in
+          let gives : Gives (received r (get_or c.args.heard.now k Idle) c.has_signal.result) c.step.new.self c.step.result = record {
+            hears = c.step.ensures.state r stands;
+            event = c.step.ensures.event r stands;
+            lends = Lends-from _ _ _ (c.step.ensures.octets r stands);
+          } in
+          AllGive-next c.args.heard.now c.args.emitted.now rs c.loop-k.receivers c.loop-k.received k Idle Idle d c.step.new.self c.step.result (omega arith) (omega arith) (omega arith) (omega arith) (omega arith)
+          (c.loop-k.invariant.given rs h) (subst (λ x. Gives (received r (get_or c.args.heard.now k Idle) x) c.step.new.self c.step.result) signal gives);
+    }
+
+pub returns-clause-steps : goal.returns-clause-steps
+returns-clause-steps c = rw (take_all c.loop-k.k c.loop-k.receivers (omega arith)) at c.loop-k.invariant.stepped
+
+pub returns-clause-given : goal.returns-clause-given
+returns-clause-given c = λ rs h.
+    let k = c.loop-k.k in
+    let few : length rs ≡ length c.args.receivers.now = length-AllHear rs c.args.receivers.now h in
+    rw (take_all k c.args.heard.now (omega arith), take_all k c.args.emitted.now (omega arith), take_all k rs (omega arith), take_all k c.loop-k.receivers (omega arith), take_all k c.loop-k.received (omega arith)) at (c.loop-k.invariant.given rs h)

@@ -1,0 +1,4 @@
+pub mod Net
+pub mod Times
+pub mod Kept
+pub mod Outputs
