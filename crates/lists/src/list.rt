@@ -81,14 +81,6 @@ impl<T> List<T> {
     }
 }
 
-impl<T> From<Vec<T>> for List<T> {
-    ghost from_gives = { λ items list. list ≡ items.items };
-
-    fn from(items: Vec<T>) -> Self {
-        List { items }
-    }
-}
-
 impl List<u8> {
     /// Puts all the octets at the end, or none of them.
     pub fn extend(&mut self, octets: &[u8]) -> Result<(), OutOfMemory>

@@ -24,11 +24,3 @@ fn octets_and_texts_come_back(rt: HostRuntime) -> Result<(), OutOfMemory> {
     assert_eq!(rt; Text::new(rt.alloc(), "x-1_b")?.as_str(), "x-1_b");
     Ok(())
 }
-
-#[test]
-fn a_vector_becomes_a_list(rt: HostRuntime) -> Result<(), OutOfMemory> {
-    let items = vec![in rt.alloc(); 3u8; 2]?;
-    let list = List::from(items);
-    assert_eq!(rt; list.as_slice(), [3, 3].as_slice());
-    Ok(())
-}
