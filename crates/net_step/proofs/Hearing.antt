@@ -1,6 +1,7 @@
 -- Receivers and what they stand for, one after another.
-use Rattle.std.proofs.Common.{◌≡◌, ℕ, zero, suc, ◌+◌, ◌<◌, List, [], ◌∷◌, ◌++◌, length, map, take, drop, set, get_or, Option, Some, None, refl, sym, ap, ap₂, ◌∙◌, arith}
-use Rattle.std.proofs.lemmas.List.{take_more_set}
+use Rattle.std.proofs.Common.{◌≡◌, ℕ, zero, suc, ◌+◌, ◌<◌, All, List, [], ◌∷◌, ◌++◌, length, map, take, drop, set, get_or, Option, Some, None, refl, sym, subst, ap, ap₂, ◌∙◌, arith}
+use Rattle.std.proofs.lemmas.List.{take_more_set, take_more, map-append}
+use Rattle.layout_file.specs.declared.layout.StationLine.{StationLine}
 use Rattle.manchester_line.specs.declared.Sym.{Sym}
 use Rattle.collision_log.specs.declared.row.Body.{Body}
 use Rattle.collision_log.specs.declared.row.Body.TheVariants.{Sent, Collided, GivenUp, Cut, Received, Dropped, Clash, Closed, Opened, Halted}
@@ -8,7 +9,7 @@ use Rattle.mac_transmit.specs.Sender.{hears}
 use Rattle.mac_receive.specs.Receiver.{Receiving, Reception, received}
 use Rattle.mac_receive.specs.Kept.{Kept, Hears, octets_of}
 use Rattle.net_step.specs.declared.outputs.Taken.{Taken}
-use Rattle.net_step.specs.Net.{receptions, captured, taken_by}
+use Rattle.net_step.specs.Net.{new_receiver, receptions, captured, taken_by}
 use Rattle.net_step.specs.Kept.{AllHear, AllGive, Gives, Lends}
 
 pub length-AllHear : (rs : List Receiving) (ks : List Kept) → AllHear rs ks → length rs ≡ length ks
@@ -110,3 +111,28 @@ captured-given t (z ∷ rs) (y ∷ ks) [] cs h = absurd h
 captured-given t (z ∷ rs) (y ∷ ks) (x ∷ os) [] h = refl
 captured-given t (z ∷ rs) (y ∷ ks) (x ∷ os) (c ∷ cs) h =
     ap₂ (λ (one : List Taken) (rest : List (List Taken)). (c ++ one) ∷ rest) (ap (λ e. taken_by t e (octets_of y)) h.0.event ∙ taken-lent t z.event z.octets (octets_of y) h.0.lends) (captured-given t rs ks os cs h.1)
+
+-- one receiver more that stands for one
+pub AllHear-more : (rs : List Receiving) (ks : List Kept) (r : Receiving) (k : Kept) → AllHear rs ks → Hears r k → AllHear (rs ++ r ∷ []) (ks ++ k ∷ [])
+AllHear-more [] [] r k h g = (g, tt)
+AllHear-more [] (y ∷ ks) r k h g = absurd h
+AllHear-more (z ∷ rs) [] r k h g = absurd h
+AllHear-more (z ∷ rs) (y ∷ ks) r k h g = (h.0, AllHear-more rs ks r k h.1 g)
+
+-- one new receiver more
+pub AllHear-new : (most : ℕ) (stations : List StationLine) (ks : List Kept) (i : ℕ) (d : StationLine) (k : Kept) → i < length stations → AllHear (map (new_receiver most) (take i stations)) ks → Hears (new_receiver most (get_or stations i d)) k →
+    AllHear (map (new_receiver most) (take (i + 1) stations)) (ks ++ k ∷ [])
+AllHear-new most stations ks i d k l h g =
+    rw (take_more stations i d l, map-append (new_receiver most) (take i stations) (get_or stations i d ∷ [])) (AllHear-more _ ks _ k h g)
+
+-- the same with other names for what is heard, emitted and kept
+pub given-alike : (hs hs' es es' : List Sym) (ks ks' kn kn' : List Kept) (os : List (Option Body)) → hs ≡ hs' → es ≡ es' → ks ≡ ks' → kn ≡ kn' →
+    ((rs : List Receiving) → AllHear rs ks → AllGive (receptions hs es rs) kn os) → (rs : List Receiving) → AllHear rs ks' → AllGive (receptions hs' es' rs) kn' os
+given-alike hs hs' es es' ks ks' kn kn' os eh ee ek en given rs h =
+    let first : AllHear rs ks = subst (λ xs. AllHear rs xs) (sym ek) h in
+    subst (λ xs. AllGive (receptions hs' es' rs) xs os) en (subst (λ xs. AllGive (receptions hs' xs rs) kn os) ee (subst (λ xs. AllGive (receptions xs es rs) kn os) eh (given rs first)))
+
+-- one receiver that has made no step
+pub All-one : (k : Kept) → k.steps ≡ 0 → All (λ (r : Kept). r.steps ≡ 0) (k ∷ [])
+All-one k h zero d l = h
+All-one k h (suc i) d l = absurd (omega arith)

@@ -1,18 +1,23 @@
 -- What is kept goes on standing for the network.
-use Rattle.std.proofs.Common.{◌≡◌, ℕ, zero, suc, ◌+◌, ◌-◌, ◌*◌, ◌<◌, ◌≤◌, All, List, [], ◌∷◌, ◌++◌, map, cond, eqb, length, get_or, refl, sym, subst, ap, ap₂, ◌∙◌, arith, mul-le-mul_right}
-use Rattle.std.proofs.lemmas.List.{length-map}
+use Rattle.std.proofs.Common.{◌≡◌, ℕ, zero, suc, ◌+◌, ◌-◌, ◌*◌, ◌<◌, ◌≤◌, All, List, [], ◌∷◌, ◌++◌, map, cond, eqb, length, get_or, replicate, Option, refl, sym, subst, ap, ap₂, ◌∙◌, arith, mul-le-mul_right}
+use Rattle.std.proofs.lemmas.List.{length-map, length-replicate}
 use Rattle.manchester_line.specs.declared.Sym.{Sym}
 use Rattle.manchester_line.specs.declared.Sym.TheVariants.{Idle}
 use Rattle.manchester_line.specs.Line.{mix_of}
 use Rattle.cable_segment.specs.Bus.{distance, heard_among}
-use Rattle.cable_segment.specs.Cable.{told_at, advanced}
+use Rattle.cable_segment.specs.Cable.{told_at, advanced, silent}
+use Rattle.frame_layout.specs.declared.queue.Ready.{Ready}
+use Rattle.layout_file.specs.declared.layout.StationLine.{StationLine}
+use Rattle.load_plan.specs.declared.plan.Plan.{Plan}
+use Rattle.collision_log.specs.declared.row.Body.{Body}
 use Rattle.collision_log.specs.declared.row.Row.{Row}
 use Rattle.mac_transmit.specs.Sender.{Sender, SendOutcome}
 use Rattle.mac_receive.specs.Receiver.{Receiving, Reception}
-use Rattle.mac_receive.specs.Kept.{Kept}
+use Rattle.mac_receive.specs.Kept.{Kept, octets_of}
 use Rattle.net_step.specs.declared.outputs.Taken.{Taken}
-use Rattle.net_step.specs.Net.{Net, next, emitted_before, heard_by, heard_in, sendings, sendings_in, emitted_in, receptions, rows_of, captured}
-use Rattle.net_step.specs.Kept.{KeptNet, heard_kept, sendings_kept, emitted_kept, told_from, AllHear, HearOn, GoesOn, Stands}
+use Rattle.net_step.specs.Net.{Net, next, emitted_before, heard_by, heard_in, sendings, sendings_in, emitted_in, receptions, rows_of, captured, new_net, new_senders, new_receiver, most_octets}
+use Rattle.net_step.specs.Kept.{KeptNet, heard_kept, sendings_kept, emitted_kept, told_from, AllHear, AllGive, HearOn, GoesOn, Stands}
+use Rattle.net_step.proofs.Hearing.{AllHear-given, events-given, captured-given}
 use Rattle.net_step.proofs.Told.{told_at-told_from, told_at-told_from_earlier, told_at-advanced, told_at-advanced_now, positions-told_from, ahead-told_from, length-rows-told_from, length-rows-advanced}
 
 -- the places are near one another
@@ -116,4 +121,65 @@ stands_next n k kn s g =
       rows = on.rows ∙ rows_alike k.rows n.rows k.t n.t _ _ _ _ n.receivers s.rows s.time heard ss;
       captures = on.captures ∙ captures_alike k.captures n.captures k.t n.t _ _ _ _ n.receivers s.captures s.time heard ss;
       told = λ back q h l. ap (λ c. told_at c back q) cable ∙ told_next n k row s (length-map (sendings_in n) (λ (o : SendOutcome). o.emitted) ∙ count) back q h l;
+    }
+
+-- what the passes of a half bit make, put together
+pub goes_on : (k kn : KeptNet) (heard emitted : List Sym) (sent received : List (Option Body)) →
+    heard ≡ heard_kept k → kn.t ≡ k.t + 1 → kn.senders ≡ map (λ s. s.state) (sendings heard k.senders) → emitted ≡ map (λ s. s.emitted) (sendings heard k.senders) → sent ≡ map (λ s. s.event) (sendings heard k.senders) →
+    ((rs : List Receiving) → AllHear rs k.receivers → AllGive (receptions heard emitted rs) kn.receivers received) → kn.cable ≡ advanced (told_from k.cable 0 emitted) →
+    kn.rows ≡ k.rows ++ rows_of k.t 0 sent received → kn.captures ≡ captured k.t received (map octets_of kn.receivers) k.captures → GoesOn k kn
+goes_on k kn heard emitted sent received eh time senders ee es given cable rows captures =
+    let outcomes : sendings heard k.senders ≡ sendings_kept k = ap (λ hs. sendings hs k.senders) eh in
+    let emits : emitted ≡ emitted_kept k = ee ∙ ap (λ (os : List SendOutcome). map (λ o. o.emitted) os) outcomes in
+    let events : sent ≡ map (λ (o : SendOutcome). o.event) (sendings_kept k) = es ∙ ap (λ (os : List SendOutcome). map (λ o. o.event) os) outcomes in
+    record {
+      time = time;
+      senders = senders ∙ ap (λ (os : List SendOutcome). map (λ o. o.state) os) outcomes;
+      cable = cable ∙ ap (λ row. advanced (told_from k.cable 0 row)) emits;
+      hearing = λ rs h.
+          let heard_so : AllGive (receptions (heard_kept k) emitted rs) kn.receivers received = subst (λ hs. AllGive (receptions hs emitted rs) kn.receivers received) eh (given rs h) in
+          let g : AllGive (receptions (heard_kept k) (emitted_kept k) rs) kn.receivers received = subst (λ row. AllGive (receptions (heard_kept k) row rs) kn.receivers received) emits heard_so in
+          record {
+            receivers = AllHear-given _ _ _ g;
+            rows = rows ∙ ap₂ (λ (s r : List (Option Body)). k.rows ++ rows_of k.t 0 s r) events (events-given _ _ _ g);
+            captures = captures ∙ captured-given k.t _ _ _ k.captures g;
+          };
+    }
+
+length-new_senders : (seed k : ℕ) (qs : List (List Ready)) → length (new_senders seed k qs) ≡ length qs
+length-new_senders seed k [] = refl
+length-new_senders seed k (q ∷ qs) = ap suc (length-new_senders seed (k + 1) qs)
+
+silent_rows : (n i : ℕ) → get_or (replicate n Idle) i Idle ≡ Idle
+silent_rows zero i = refl
+silent_rows (suc n) zero = refl
+silent_rows (suc n) (suc i) = silent_rows n i
+
+nothing_before : (back q : ℕ) → Idle ≡ emitted_before [] back q
+nothing_before zero q = refl
+nothing_before (suc b) q = refl
+
+All-places : (xs : List StationLine) → All (λ s. s.at ≤ 2000) xs → All (λ p. p ≤ 2000) (map (λ s. s.at) xs)
+All-places [] h k d l = absurd (omega arith)
+All-places (x ∷ xs) h zero d l = h zero x (omega arith)
+All-places (x ∷ xs) h (suc k) d l = All-places xs (λ i e m. h (suc i) e (omega arith)) k d (omega arith)
+
+-- what is kept of a new network
+pub stands_new : (plan : Plan) (k : KeptNet) → All (λ s. s.at ≤ 2000) plan.layout.stations → length plan.queues ≡ length plan.layout.stations →
+    k.t ≡ 0 → k.senders ≡ new_senders plan.layout.seed 0 plan.queues → AllHear (map (new_receiver (most_octets plan.layout.format)) plan.layout.stations) k.receivers →
+    k.cable ≡ silent (map (λ s. s.at) plan.layout.stations) 0 → k.rows ≡ [] → k.captures ≡ map (λ s. []) plan.layout.stations → Stands (new_net plan) k
+stands_new plan k near queued time senders receivers cable rows captures =
+    let ps = map (λ (s : StationLine). s.at) plan.layout.stations in
+    record {
+      near = All-places plan.layout.stations near;
+      window = ap (λ c. length c.rows) cable ∙ length-replicate ((0 + 2001) * length ps) Idle;
+      ahead = ap (λ c. c.ahead) cable;
+      size = length-new_senders plan.layout.seed 0 plan.queues ∙ queued ∙ sym (length-map plan.layout.stations (λ (s : StationLine). s.at));
+      positions = ap (λ c. c.positions) cable;
+      time = time;
+      senders = senders;
+      receivers = receivers;
+      rows = rows;
+      captures = captures;
+      told = λ back q h l. ap (λ c. told_at c back q) cable ∙ silent_rows ((0 + 2001) * length ps) ((0 + back) * length ps + q) ∙ nothing_before back q;
     }

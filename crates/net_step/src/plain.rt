@@ -12,7 +12,7 @@ use cable_segment::Cable;
 use collision_log::{Body, Rows};
 use frame_layout::Queue;
 use layout_file::StationLine;
-use lists::{List, OutOfMemory};
+use lists::OutOfMemory;
 use load_plan::Plan;
 use mac_receive::Receiver;
 use mac_transmit::Transmitter;
@@ -103,7 +103,9 @@ fn no_captures(alloc: Global, stations: &[StationLine]) -> Result<Vec<TakenList>
 
 /// The places of the stations' taps.
 fn positions_of(alloc: Global, stations: &[StationLine]) -> Result<Vec<u32>, OutOfMemory>
-    ensures { IfOk result (λ positions. positions.items ≡ map (λ s. s.at) stations.now) }
+    requires { All (λ s. s.at ≤ 2000) stations.now }
+    ensures places { IfOk result (λ positions. positions.items ≡ map (λ s. s.at) stations.now) }
+    ensures near { IfOk result (λ positions. All (λ p. p ≤ 2000) positions.items) }
 {
     let mut positions = Vec::new(alloc);
     for station in stations {
@@ -132,6 +134,17 @@ fn log_cut(t: u64, senders: &[Transmitter], rows: &mut Rows) -> Result<(), OutOf
         push_row(rows, t, k as u32, senders[k].cut())?;
     }
     Ok(())
+}
+
+/// The same captures as a list.
+fn listed(alloc: Global, captures: Vec<TakenList>) -> Result<Captures, OutOfMemory>
+    ensures { IfOk result (λ list. list ≡ captures.items) }
+{
+    let mut list = Captures::new(alloc);
+    for taken in captures {
+        list.push(taken)?;
+    }
+    Ok(list)
 }
 
 impl PlainNet {
@@ -218,7 +231,7 @@ impl PlainNet {
         ensures captures { IfOk result (λ outputs. outputs.captures ≡ self.captures) }
     {
         let PlainNet {
-            alloc: _,
+            alloc,
             t,
             senders,
             receivers: _,
@@ -233,7 +246,7 @@ impl PlainNet {
         log_cut(t, &senders, &mut rows)?;
         Ok(Outputs {
             rows,
-            captures: Captures::from(captures),
+            captures: listed(alloc, captures)?,
         })
     }
 }

@@ -34,7 +34,7 @@ loop-k-preserved c =
           let gives : Gives (received r (get_or c.args.heard.now k Idle) c.has_signal.result) c.step.new.self c.step.result = record {
             hears = c.step.ensures.state r stands;
             event = c.step.ensures.event r stands;
-            lends = Lends-from _ _ _ (c.step.ensures.octets r stands);
+            lends = Lends-from _ _ _ (λ n e. c.step.ensures.octets r n stands (c.step.ensures.event r stands ∙ e));
           } in
           AllGive-next c.args.heard.now c.args.emitted.now rs c.loop-k.receivers c.loop-k.received k Idle Idle d c.step.new.self c.step.result (omega arith) (omega arith) (omega arith) (omega arith) (omega arith)
           (c.loop-k.invariant.given rs h) (subst (λ x. Gives (received r (get_or c.args.heard.now k Idle) x) c.step.new.self c.step.result) signal gives);
