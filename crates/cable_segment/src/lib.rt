@@ -128,3 +128,6 @@ impl Cable {
         self.past = (self.past + 1).min(2000);
     }
 }
+
+#[cfg(test)]
+mod tests;

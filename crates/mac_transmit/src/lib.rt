@@ -9,3 +9,6 @@ mod transmitter;
 pub use deference::Defer;
 pub use phase::Phase;
 pub use transmitter::{SendStep, Transmitter};
+
+#[cfg(test)]
+mod tests;

@@ -1,0 +1,173 @@
+//! The measurements.
+ghost use Rattle.std.specs.Prelude.{◌≡◌, ◌≢◌, ◌≤◌, ◌+◌, ◌*◌, All, length, IfOk};
+ghost use Rattle.manchester_line.specs.declared.Sym.TheVariants.{Idle};
+
+use frame_layout::fcs;
+use lists::{OutOfMemory, Text};
+use mac_receive::Receiver;
+use manchester_line::{Decoder, Sym, encode_into, half_of};
+use netsim::{Words, run_words};
+use outside::{MemorySink, MemoryStore};
+use std::alloc::Global;
+
+/// What is measured.
+#[derive(Clone, Copy, Debug, PartialEq, Eq)]
+pub enum Measure {
+    /// The line text of the largest frames of format 1.
+    Encode,
+    /// A decoder, half bit by half bit.
+    Decode,
+    /// A receiver that hears nothing, half bit by half bit.
+    ReceiveIdle,
+    /// A receiver that is given a long piece at once.
+    ReceiveTake,
+    /// The frame check sequence.
+    Fcs,
+    /// The program on a segment of two stations, from the layout to the log.
+    Plain,
+}
+
+impl Measure {
+    pub const ALL: [Measure; 6] = [
+        Measure::Encode,
+        Measure::Decode,
+        Measure::ReceiveIdle,
+        Measure::ReceiveTake,
+        Measure::Fcs,
+        Measure::Plain,
+    ];
+
+    /// The word that asks for it.
+    pub fn name(self) -> &'static str {
+        match self {
+            Measure::Encode => "encode",
+            Measure::Decode => "decode",
+            Measure::ReceiveIdle => "receive-idle",
+            Measure::ReceiveTake => "receive-take",
+            Measure::Fcs => "fcs",
+            Measure::Plain => "plain",
+        }
+    }
+
+    /// What its rate counts.
+    pub fn unit(self) -> &'static str {
+        match self {
+            Measure::Fcs => "octets",
+            Measure::Plain => "device half bits",
+            _ => "half bits",
+        }
+    }
+}
+
+/// The octets of the largest frame of format 1.
+const OCTETS: [u8; 1518] = [0xa5; 1518];
+
+/// The half bits of their line text.
+const LINE_TEXT: usize = 128 + 16 * 1518;
+
+const TIMES: u32 = 20_000;
+
+const STEPS: u32 = 500_000_000;
+
+/// A segment of two stations, of which one sends.
+const LAYOUT: &str = "format = 1\nseed = 1\nuntil_bits = 5000000\n[[segment]]\nname = \"x\"\n[[station]]\nname = \"a\"\nsegment = \"x\"\nat = 0\n[[station]]\nname = \"b\"\nsegment = \"x\"\nat = 10\n[[send]]\nstation = \"a\"\nat = 0\noctets = \"ffffffffffff0200000000010800\"\n";
+
+/// The device half bits of that layout.
+const DEVICE_HALF_BITS: u64 = 2 * 2 * 5_000_000;
+
+/// Runs a measurement and answers how many units it did.
+pub fn run(alloc: Global, measure: Measure) -> Result<u64, OutOfMemory> {
+    match measure {
+        Measure::Encode => encode(alloc),
+        Measure::Decode => Ok(decode(piece(alloc)?.as_slice())),
+        Measure::ReceiveIdle => Ok(receive_idle()),
+        Measure::ReceiveTake => Ok(receive_take(piece(alloc)?.as_slice())),
+        Measure::Fcs => Ok(check_sequences()),
+        Measure::Plain => plain(alloc),
+    }
+}
+
+fn encode_often(out: &mut [Sym])
+    requires { 24416 ≤ length out.old }
+{
+    for _time in 0..TIMES {
+        encode_into(&OCTETS, out);
+    }
+}
+
+fn encode(alloc: Global) -> Result<u64, OutOfMemory> {
+    let mut out = vec![in alloc; Sym::Idle; LINE_TEXT]?;
+    encode_often(&mut out);
+    Ok(u64::from(TIMES) * LINE_TEXT as u64)
+}
+
+fn signal(bit: bool, second: bool) -> Sym
+    ensures { result ≢ Idle }
+{
+    half_of(bit, second)
+}
+
+/// A piece of a line text, without an Idle.
+fn piece(alloc: Global) -> Result<Vec<Sym>, OutOfMemory>
+    ensures signal { IfOk result (λ piece. All (λ s. s ≢ Idle) piece.items) }
+    ensures short { IfOk result (λ piece. length piece.items ≤ 24416) }
+{
+    let mut piece = Vec::new(alloc);
+    for i in 0..LINE_TEXT {
+        piece.push(signal(i % 7 < 3, i % 2 == 1))?;
+    }
+    Ok(piece)
+}
+
+fn decode(piece: &[Sym]) -> u64
+    requires signal { All (λ s. s ≢ Idle) piece.now }
+    requires short { length piece.now ≤ 24416 }
+{
+    let mut decoder = Decoder::new();
+    for _time in 0..TIMES {
+        decoder.clear();
+        for s in piece {
+            decoder.push(*s);
+        }
+    }
+    u64::from(TIMES) * piece.len() as u64
+}
+
+fn receive_idle() -> u64 {
+    let mut receiver = Receiver::new();
+    for _step in 0..STEPS {
+        receiver.step(Sym::Idle, false);
+    }
+    u64::from(STEPS)
+}
+
+fn receive_take(piece: &[Sym]) -> u64
+    requires signal { All (λ s. s ≢ Idle) piece.now }
+    requires short { length piece.now ≤ 24416 }
+{
+    for _time in 0..TIMES {
+        let mut receiver = Receiver::new();
+        receiver.take(piece);
+    }
+    u64::from(TIMES) * piece.len() as u64
+}
+
+fn check_sequences() -> u64 {
+    let mut sum = 0u32;
+    for _time in 0..TIMES {
+        sum ^= fcs(&OCTETS);
+    }
+    u64::from(TIMES) * OCTETS.len() as u64 + u64::from(sum % 2)
+}
+
+fn plain(alloc: Global) -> Result<u64, OutOfMemory> {
+    let mut store = MemoryStore::new(alloc);
+    store.put("l.toml", LAYOUT.as_bytes())?;
+    let mut words = Words::new(alloc);
+    for word in ["plain", "l.toml", "out"] {
+        words.push(Text::new(alloc, word)?)?;
+    }
+    let mut out = MemorySink::new(alloc);
+    run_words(alloc, &words, &mut store, &mut out);
+    Ok(DEVICE_HALF_BITS)
+}

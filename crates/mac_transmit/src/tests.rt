@@ -1,0 +1,143 @@
+ghost use Rattle.std.specs.Prelude.{◌≡◌, ◌≤◌, IfOk};
+
+use crate::{Phase, Transmitter};
+use backoff_draw::Draws;
+use collision_log::Body;
+use frame_layout::{Frame, Queue, build};
+use lists::OutOfMemory;
+use manchester_line::Sym;
+use std::alloc::Global;
+
+/// The 14 octets of a frame of 64 octets with pad and FCS, whose line text has 1,152 half bits.
+const HEADER_ALONE: [u8; 14] = [255, 255, 255, 255, 255, 255, 2, 0, 0, 0, 0, 1, 8, 0];
+
+fn frame(alloc: Global) -> Result<Frame, OutOfMemory> {
+    match build(alloc, &HEADER_ALONE) {
+        Ok(frame) => Ok(frame),
+        Err(_) => Err(OutOfMemory),
+    }
+}
+
+/// A new sender with one frame.
+fn with_one(alloc: Global, at: u64) -> Result<Transmitter, OutOfMemory>
+    ensures { IfOk result (λ s. s.t ≡ 0) }
+{
+    let mut queue = Queue::new(alloc);
+    queue.push(at, frame(alloc)?)?;
+    Ok(Transmitter::new(queue, Draws::new(1, 0)))
+}
+
+/// A new sender with two frames that are ready at once.
+fn with_two(alloc: Global) -> Result<Transmitter, OutOfMemory>
+    ensures { IfOk result (λ s. s.t ≡ 0) }
+{
+    let mut queue = Queue::new(alloc);
+    queue.push(0, frame(alloc)?)?;
+    queue.push(0, frame(alloc)?)?;
+    Ok(Transmitter::new(queue, Draws::new(1, 0)))
+}
+
+/// The first event of a sender that hears Hi at these half bits and else Idle, with its half bit.
+fn first_event(mut sender: Transmitter, loud: &[u64], end: u64) -> Option<(u64, Body)>
+    requires new { sender.t ≡ 0 }
+    requires end { end ≤ 2000000000 }
+{
+    for t in 0..end {
+        let heard = if loud.contains(&t) {
+            Sym::Hi
+        } else {
+            Sym::Idle
+        };
+        if let Some(body) = sender.step(t, heard).event {
+            return Some((t, body));
+        }
+    }
+    None
+}
+
+#[test]
+fn a_hit_ends_a_sending_with_its_jam(rt: HostRuntime) -> Result<(), OutOfMemory> {
+    let collided = |hit| Body::Collided {
+        frame: 1,
+        start: 0,
+        attempt: 1,
+        hit,
+        drawn: Draws::new(1, 0).draw(1),
+    };
+    let sent = Body::Sent {
+        frame: 1,
+        start: 0,
+        attempt: 1,
+    };
+    for (loud, t, body) in [
+        (127, 192, collided(127)),
+        (128, 194, collided(128)),
+        (1151, 1216, collided(1151)),
+        (1152, 1152, sent),
+    ] {
+        let sender = with_one(rt.alloc(), 0)?;
+        assert_eq!(rt;
+            first_event(sender, &[loud], 2000),
+            Some((t, body)),
+            "Hi at {loud}"
+        );
+    }
+    Ok(())
+}
+
+#[test]
+fn carrier_restarts_part_1_of_the_gap_alone(rt: HostRuntime) -> Result<(), OutOfMemory> {
+    for (loud, start) in [(137, 330), (138, 202)] {
+        let sender = with_one(rt.alloc(), 5)?;
+        let event = first_event(sender, &[0, 1, 2, 3, 4, 5, 6, 7, 8, 9, loud], 2000);
+        assert_eq!(rt;
+            event,
+            Some((
+                start + 1152,
+                Body::Sent {
+                    frame: 1,
+                    start,
+                    attempt: 1
+                }
+            )),
+            "Hi at {loud}"
+        );
+    }
+    Ok(())
+}
+
+/// The sender hears Hi at position 1 of each of its first sixteen sendings. Answers the number of collisions before
+/// the frame is given up, the half bit of that, and the start of the next sending.
+fn sixteen_hits(mut sender: Transmitter) -> Option<(u32, u64, u64)>
+    requires { sender.t ≡ 0 }
+{
+    let mut collisions = 0u32;
+    let mut given_up = None;
+    for t in 0..20_000_000 {
+        let second =
+            matches!(sender.phase(), Phase::Sending { start, .. } if start.checked_add(1) == Some(t));
+        let heard = if second && given_up.is_none() {
+            Sym::Hi
+        } else {
+            Sym::Idle
+        };
+        match sender.step(t, heard).event {
+            Some(Body::Collided { hit: 1, .. }) => collisions = collisions.saturating_add(1),
+            Some(Body::GivenUp { hit: 1, .. }) => given_up = Some(t),
+            Some(Body::Sent { start, .. }) => return given_up.map(|end| (collisions, end, start)),
+            _ => {}
+        }
+    }
+    None
+}
+
+#[test]
+fn a_frame_is_given_up_at_its_sixteenth_collision(rt: HostRuntime) -> Result<(), OutOfMemory> {
+    let Some((collisions, end, start)) = sixteen_hits(with_two(rt.alloc())?) else {
+        assert!(rt; false, "no frame was given up");
+        return Ok(());
+    };
+    assert_eq!(rt; collisions, 15);
+    assert_eq!(rt; start.saturating_sub(end), 192);
+    Ok(())
+}
