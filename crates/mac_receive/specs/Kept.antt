@@ -1,5 +1,5 @@
 -- What a receiver keeps, and what it stands for.
-use Rattle.std.specs.Prelude.{◌≡◌, ℕ, ◌+◌, ◌*◌, ◌<◌, ◌==◌, nat_le, Bool, true, false, if◌then◌else◌, List, length}
+use Rattle.std.specs.Prelude.{◌≡◌, ℕ, ◌+◌, ◌*◌, ◌<◌, ◌==◌, nat_le, Bool, true, false, if◌then◌else◌, List, [], ◌∷◌, length}
 use Rattle.manchester_line.specs.declared.Sym.{Sym}
 use Rattle.manchester_line.specs.declared.Sym.TheVariants.{Idle}
 use Rattle.manchester_line.specs.Decoding.{Decoding, Decodes, new_decoding, pushed}
@@ -37,8 +37,19 @@ heard_by lose n d s = if nat_le (2 * lose) n then pushed (fresh n d) s else fres
 abbrev pub kept_more : Kept → Sym → Kept
 kept_more k s = record k { halves = k.halves + 1; decoder = heard_by k.lose k.halves k.decoder s }
 
+-- no reception is under way after n more half bits
+abbrev pub still : Kept → Bool → ℕ → Kept
+still k deaf n = record k { deaf = deaf; halves = 0; steps = k.steps + n }
+
 -- one half bit
 abbrev pub stepped : Kept → Sym → Bool → Kept
-stepped k heard true = record k { deaf = true; halves = 0; steps = k.steps + 1 }
-stepped k Idle false = record k { deaf = false; halves = 0; steps = k.steps + 1 }
-stepped k heard false = if k.deaf then record k { steps = k.steps + 1 } else record (kept_more k heard) { steps = k.steps + 1 }
+stepped k heard true = still k true 1
+stepped k Idle false = still k false 1
+stepped k heard false =
+    if k.deaf then record k { steps = k.steps + 1 }
+    else record (kept_more k heard) { steps = k.steps + 1 }
+
+-- a decoder after more half bits of a reception that has had n so far
+abbrev pub heard_all : ℕ → ℕ → Decoding → List Sym → Decoding
+heard_all lose n d [] = d
+heard_all lose n d (s ∷ ss) = heard_all lose (n + 1) (heard_by lose n d s) ss
