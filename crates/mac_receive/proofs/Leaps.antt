@@ -1,12 +1,10 @@
-use Rattle.std.proofs.Common.{◌≡◌, ℕ, zero, suc, ◌+◌, ◌<◌, ◌≤◌, Bool, true, false, Option, Some, None, List, [], ◌∷◌, ◌++◌, length, replicate, refl, sym, ap, ap₂, subst, ◌∙◌, arith, All}
+use Rattle.std.proofs.Common.{◌≡◌, ℕ, zero, suc, ◌+◌, ◌<◌, Bool, true, false, None, List, [], ◌∷◌, length, replicate, refl, sym, ap, ap₂, subst, ◌∙◌, arith, All}
 use Rattle.std.specs.Prelude.{if◌then◌else◌}
-use Rattle.std.proofs.lemmas.Bool.{false≢true, true≢false}
 use Rattle.std.proofs.lemmas.List.{nil_from_length}
 use Rattle.manchester_line.specs.declared.Sym.{Sym}
 use Rattle.manchester_line.specs.declared.Sym.TheVariants.{Idle, Hi, Lo, Clash}
 use Rattle.manchester_line.specs.Decoding.{Decoding}
-use Rattle.collision_log.specs.declared.row.Body.{Body}
-use Rattle.mac_receive.specs.Receiver.{Receiving, Reception, received, received_all, bodies_of, with_event, quiet, ended, extended}
+use Rattle.mac_receive.specs.Receiver.{Receiving, received, received_all, bodies_of, with_event, quiet, ended, extended}
 use Rattle.mac_receive.specs.Kept.{Kept, Hears, heard_by, heard_all, kept_more, stepped}
 use Rattle.mac_receive.proofs.Stands.{hears_next, idle_state}
 

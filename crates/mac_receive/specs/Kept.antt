@@ -5,7 +5,8 @@ use Rattle.manchester_line.specs.declared.Sym.TheVariants.{Idle}
 use Rattle.manchester_line.specs.Decoding.{Decoding, Decodes, new_decoding, pushed}
 use Rattle.mac_receive.specs.Receiver.{Receiving, left_halves}
 
--- the numbers of a receiver: a decoder in place of the half bits, their number, and the half bits stepped so far
+-- what a receiver keeps: a decoder and a number in place of the half bits of a reception, and the
+-- number of half bits stepped and leapt so far
 pub record Kept : Type 0 where
   pub lose : ℕ
   pub most : ℕ
@@ -14,7 +15,8 @@ pub record Kept : Type 0 where
   pub decoder : Decoding
   pub steps : ℕ
 
--- what is kept stands for this receiver: where a reception is under way, the decoder was given its half bits without the lost ones
+-- what is kept stands for this receiver: where a reception is under way, the decoder was given its
+-- half bits without the lost ones
 pub record Hears (r : Receiving) (k : Kept) : Type 0 where
   pub same_lose : k.lose ≡ r.lose
   pub same_most : k.most ≡ r.most
@@ -26,10 +28,11 @@ pub record Hears (r : Receiving) (k : Kept) : Type 0 where
 abbrev pub octets_of : Kept → List ℕ
 octets_of k = k.decoder.octets
 
--- a decoder after one more half bit of a reception that has had n so far
+-- the decoder that goes on with a reception that has had n half bits so far
 abbrev pub fresh : ℕ → Decoding → Decoding
 fresh n d = if n == 0 then new_decoding else d
 
+-- a decoder after one more half bit of such a reception
 abbrev pub heard_by : ℕ → ℕ → Decoding → Sym → Decoding
 heard_by lose n d s = if nat_le (2 * lose) n then pushed (fresh n d) s else fresh n d
 

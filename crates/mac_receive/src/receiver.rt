@@ -1,4 +1,4 @@
-ghost use Rattle.std.specs.Prelude.{◌≡◌, ◌≢◌, ◌+◌, ◌*◌, ◌<◌, ◌≤◌, ℕ, false, true, List, Some, [], length, replicate};
+ghost use Rattle.std.specs.Prelude.{◌≡◌, ◌≢◌, ◌+◌, ◌*◌, ◌<◌, ◌≤◌, ◌↔◌, ℕ, false, true, IsTrue, List, Some, [], length, replicate};
 ghost use Rattle.std.specs.List.{All};
 ghost use Rattle.manchester_line.specs.declared.Sym.{Sym};
 ghost use Rattle.manchester_line.specs.declared.Sym.TheVariants.{Idle};
@@ -213,6 +213,20 @@ impl Receiver {
         ensures { result.now ≡ octets_of self.now }
     {
         self.decoder.octets()
+    }
+
+    /// Whether the receiver is deaf: its own station has sent, and the line wasn't quiet since.
+    pub fn is_deaf(&self) -> bool
+        ensures { result ≡ self.now.deaf }
+    {
+        self.deaf
+    }
+
+    /// Whether a reception is under way.
+    pub fn is_receiving(&self) -> bool
+        ensures { IsTrue result ↔ (0 < self.now.halves) }
+    {
+        self.halves > 0
     }
 
     /// The receiver after `n` steps that hear Idle without sending.

@@ -1,4 +1,4 @@
-use Rattle.std.proofs.Common.{◌≡◌, ◌<◌, ◌∙◌, length, sym, ap, arith}
+use Rattle.std.proofs.Common.{◌<◌, ◌∙◌, length, sym, ap, arith}
 use Rattle.mac_receive.specs.Kept.{still}
 use Rattle.mac_receive.proofs.Leaps.{leapt_sending, bodies_sending}
 use Rattle.mac_receive.proofs.receiver.Receiver.leap_sending.Goals as goal
