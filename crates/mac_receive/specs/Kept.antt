@@ -24,7 +24,7 @@ pub record Hears (r : Receiving) (k : Kept) : Type 0 where
   pub count : k.halves ≡ length r.halves
   pub decodes : 0 < length r.halves → Decodes (left_halves r.lose r.halves) k.decoder
 
--- the octets of the frame that was received last
+-- the octets of the frame that was received in the last half bit, where one was
 abbrev pub octets_of : Kept → List ℕ
 octets_of k = k.decoder.octets
 
