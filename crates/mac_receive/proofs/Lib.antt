@@ -1,3 +1,4 @@
 mod Good
 mod Judged
+mod Leaps
 pub mod Stands

@@ -34,7 +34,7 @@ decodes_more lose halves d s h =
 same_receiving : (lose most : ℕ) (d d' : Bool) (hs hs' : List Sym) → d ≡ d' → hs ≡ hs' → ◌≡◌ {A = Receiving} (record { lose = lose; most = most; deaf = d; halves = hs }) (record { lose = lose; most = most; deaf = d'; halves = hs' })
 same_receiving lose most d d' hs hs' ed eh = rw (ed, eh)
 
-idle_state : (r : Receiving) (d : Bool) (hs : List Sym) → r.deaf ≡ d → r.halves ≡ hs → (if d then quiet (record r { deaf = false; halves = [] }) else ended r hs).state ≡ record r { deaf = false; halves = [] }
+pub idle_state : (r : Receiving) (d : Bool) (hs : List Sym) → r.deaf ≡ d → r.halves ≡ hs → (if d then quiet (record r { deaf = false; halves = [] }) else ended r hs).state ≡ record r { deaf = false; halves = [] }
 idle_state r true hs ed eh = refl
 idle_state r false [] ed eh = same_receiving r.lose r.most r.deaf false r.halves [] ed eh
 idle_state r false (s ∷ ss) ed eh = same_receiving r.lose r.most r.deaf false [] [] ed refl

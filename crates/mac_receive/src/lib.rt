@@ -4,3 +4,6 @@
 mod receiver;
 
 pub use receiver::Receiver;
+
+#[cfg(test)]
+mod tests;
