@@ -1,1 +1,2 @@
 pub mod LogOrder
+pub mod OneLog

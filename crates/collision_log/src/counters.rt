@@ -62,7 +62,8 @@ impl Counters {
         }
     }
 
-    /// Counts one more row. A collision and the giving up of a frame both count as collided.
+    /// Counts one more row, where no count of rows stands at the type's end. A collision and the giving up
+    /// of a frame both count as collided (profile).
     pub fn count(&mut self, body: &Body)
         requires { RowsAtMost self.old (2 ^ 64 - 2) }
         ensures counts { self.new ≡ with_row self.old body.now }

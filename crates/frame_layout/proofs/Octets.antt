@@ -7,13 +7,13 @@ use Rattle.std.specs.Int.Bits.{xor_block, xor_assoc, xor_comm, xor_zero_r, xor_s
 use Rattle.std.proofs.lemmas.Nat.{div-mul-add, mod-mul-add, div-add-mod', mod_below, div_below, xor_shr}
 use Rattle.std.proofs.Math.Nat.{pow-suc}
 use Rattle.frame_layout.specs.Division.{xor, plus, generator, low_bits, number, dividend, remainder, octet_bits, bits, fcs_of}
-use Rattle.frame_layout.specs.Register.{poly, turned, turned_all}
+use Rattle.frame_layout.specs.Register.{generator_number, turned, turned_all}
 use Rattle.frame_layout.proofs.Register.{fed, fed_all, length-fed, length-generator, divided_is}
 
 abbrev bit : Bool → ℕ
 bit b = cond b 1 0
 
-number-generator : number generator ≡ poly
+number-generator : number generator ≡ generator_number
 unfolding generator
 number-generator = refl
 
@@ -39,9 +39,9 @@ number-plus (x ∷ xs) (y ∷ ys) h =
     ap₂ (λ n k. n * 2 + k) (number-plus xs ys (omega arith)) (bit-xor x y)
     ∙ sym (xor_block 1 (number xs) (number ys) (bit x) (bit y) (bit-lt x) (bit-lt y))
 
-turned_at : (q : ℕ) (x : Bool) → turned (q * 2 + bit x) ≡ cond x (bit_xor q poly) q
-turned_at q true = ap₂ (λ m d. cond (eqb m 1) (bit_xor d poly) d) (mod-mul-add q 2 1 (omega arith)) (div-mul-add q 2 1 (omega arith))
-turned_at q false = ap₂ (λ m d. cond (eqb m 1) (bit_xor d poly) d) (mod-mul-add q 2 0 (omega arith)) (div-mul-add q 2 0 (omega arith))
+turned_at : (q : ℕ) (x : Bool) → turned (q * 2 + bit x) ≡ cond x (bit_xor q generator_number) q
+turned_at q true = ap₂ (λ m d. cond (eqb m 1) (bit_xor d generator_number) d) (mod-mul-add q 2 1 (omega arith)) (div-mul-add q 2 1 (omega arith))
+turned_at q false = ap₂ (λ m d. cond (eqb m 1) (bit_xor d generator_number) d) (mod-mul-add q 2 0 (omega arith)) (div-mul-add q 2 0 (omega arith))
 
 with_bit : (q : ℕ) (x b : Bool) → bit_xor (q * 2 + bit x) (bit b) ≡ q * 2 + bit (xor x b)
 with_bit q x b =
@@ -52,8 +52,8 @@ with_bit q x b =
 number-fed : (r : List Bool) (b : Bool) → length r ≡ 32 → number (fed r b) ≡ turned (bit_xor (number r) (bit b))
 number-fed [] b h = absurd (omega arith)
 number-fed (r ∷ rs) b h =
-    elim (xor r b) as (λ x. number (cond x (plus generator (rs ++ false ∷ [])) (rs ++ false ∷ [])) ≡ cond x (bit_xor (number rs) poly) (number rs)) [
-      | true ↦ number-plus generator (rs ++ false ∷ []) (omega (arith, length-generator, length-append rs (false ∷ []))) ∙ ap₂ bit_xor number-generator (number-push rs) ∙ xor_comm poly (number rs)
+    elim (xor r b) as (λ x. number (cond x (plus generator (rs ++ false ∷ [])) (rs ++ false ∷ [])) ≡ cond x (bit_xor (number rs) generator_number) (number rs)) [
+      | true ↦ number-plus generator (rs ++ false ∷ []) (omega (arith, length-generator, length-append rs (false ∷ []))) ∙ ap₂ bit_xor number-generator (number-push rs) ∙ xor_comm generator_number (number rs)
       | false ↦ number-push rs
     ]
     ∙ sym (ap turned (with_bit (number rs) r b) ∙ turned_at (number rs) (xor r b))
@@ -71,8 +71,8 @@ small (suc (suc r)) h = absurd (omega arith)
 split : (x : ℕ) → x ≡ x / 2 * 2 + bit (eqb (x % 2) 1)
 split x = sym (div-add-mod' x 2) ∙ ap (λ r. x / 2 * 2 + r) (small (x % 2) (mod_below x 2 (omega arith)))
 
-swapped : (q c : ℕ) (b : Bool) → cond b (bit_xor (bit_xor q c) poly) (bit_xor q c) ≡ bit_xor (cond b (bit_xor q poly) q) c
-swapped q c true = xor_assoc q c poly ∙ ap (bit_xor q) (xor_comm c poly) ∙ sym (xor_assoc q poly c)
+swapped : (q c : ℕ) (b : Bool) → cond b (bit_xor (bit_xor q c) generator_number) (bit_xor q c) ≡ bit_xor (cond b (bit_xor q generator_number) q) c
+swapped q c true = xor_assoc q c generator_number ∙ ap (bit_xor q) (xor_comm c generator_number) ∙ sym (xor_assoc q generator_number c)
 swapped q c false = refl
 
 xor-even : (q c : ℕ) (b : Bool) → bit_xor (q * 2 + bit b) (c * 2) ≡ bit_xor q c * 2 + bit b

@@ -1,4 +1,4 @@
--- Queues as lists of frames with their half bits.
+-- Queues as lists of frames with the half bits, from 0, from which on they may be sent (profile).
 use Rattle.std.specs.Prelude.{ℕ, ◌≤◌, ◌-◌, List, length, slice_get}
 use Rattle.std.specs.List.Sorted.{IsNonDecreasingBy}
 use Rattle.std.specs.Option.{ForSome}

@@ -84,7 +84,7 @@ fn pad(octets: &mut List<u8>) -> Result<(), OutOfMemory>
     Ok(())
 }
 
-/// The frame of 14 to `most` octets, counted without pad and frame check sequence. `TooShort` comes
+/// The frame (clause 3) of 14 to `most` octets, counted without pad and check sequence. `TooShort` comes
 /// exactly below 14 octets and `TooLong` exactly above `most`; `OutOfMemory` is free. Received without
 /// spare bits, the frame is good.
 #[tactic(auto, unfolding(crate::specs::Frame::frame_of, crate::specs::Frame::fcs_octets))]
