@@ -1,3 +1,4 @@
 pub mod Digits
 pub mod Arrays
 pub mod Documents
+pub mod Colours
