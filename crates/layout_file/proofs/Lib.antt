@@ -2,3 +2,4 @@ pub mod Digits
 pub mod Arrays
 pub mod Documents
 pub mod Colours
+pub mod FirstForm
