@@ -1,3 +1,5 @@
 pub mod Digits
 pub mod Arrays
 pub mod Documents
+pub mod Colours
+pub mod FirstForm

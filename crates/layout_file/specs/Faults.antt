@@ -10,6 +10,7 @@ use Rattle.layout_file.specs.declared.layout.Layout.{Layout}
 use Rattle.layout_file.specs.declared.rows.RowTest.{RowTest}
 use Rattle.layout_file.specs.declared.rows.RowTest.TheVariants as test
 use Rattle.layout_file.specs.Form.{is_first_form}
+use Rattle.layout_file.specs.GraphFaults.{first_graph_fault}
 use Rattle.layout_file.specs.JointFaults.{file_fault, first_crowd, first_same_name, first_taken}
 use Rattle.layout_file.specs.Lines.{layout_of}
 use Rattle.layout_file.specs.RowFaults.{Around, or_else, first_of}
@@ -44,22 +45,23 @@ first_fault ms =
     (or_else (first_same_name ms)
     (or_else (first_of (around_of ms) name_tests (spots ms))
     (or_else (first_taken [] (spots ms))
-    (first_of (around_of ms) frame_tests (spots ms))))))
+    (or_else (first_graph_fault (length (rows_at ms key.Repeater)) (around_of ms).segments (spots ms))
+    (first_of (around_of ms) frame_tests (spots ms)))))))
 
 -- the document that the octets are
 abbrev pub document : List ℕ → Option Members
 document bytes = if is_utf8 bytes then parse_document bytes else None
 
+-- the layout has no fault, but is not run yet
 abbrev pub unbuilt : LayoutFault
 unbuilt = file_fault code.Unbuilt key.None
 
 abbrev pub judged_layout : Layout → Result Layout LayoutFault
 judged_layout l = if is_first_form l then Ok l else Err unbuilt
 
--- a layout with a fault is not run yet either
 abbrev pub judged_tree : Members → Option LayoutFault → Result Layout LayoutFault
 judged_tree ms None = judged_layout (layout_of ms)
-judged_tree ms (Some f) = Err unbuilt
+judged_tree ms (Some f) = Err f
 
 abbrev pub judged_document : Option Members → Result Layout LayoutFault
 judged_document None = Err (file_fault code.NotToml key.None)

@@ -1,6 +1,6 @@
 -- The least networks, which are those that are run so far (profile).
-use Rattle.std.specs.Prelude.{ℕ, Bool, true, false, not, ◌&&◌, nat_le, nat_lt, ◌==◌, List, [], ◌∷◌, length, is_none}
-use Rattle.std.specs.List.{list_all}
+use Rattle.std.specs.Prelude.{◌≡◌, ◌≢◌, ℕ, ◌<◌, ◌≤◌, Bool, true, false, not, ◌&&◌, nat_le, nat_lt, ◌==◌, List, [], ◌∷◌, length, None, is_none}
+use Rattle.std.specs.List.{All, list_all}
 use Rattle.layout_file.specs.declared.layout.Layout.{Layout}
 use Rattle.layout_file.specs.declared.layout.StationLine.{StationLine}
 use Rattle.layout_file.specs.declared.layout.SendLine.{SendLine}
@@ -39,3 +39,37 @@ is_first_form l =
     && (length l.repeaters == 0)
     && nat_le (length l.sends) 65536
     && are_plain_sends (length l.stations) l.sends
+
+-- the facts of a plain station
+pub record IsPlainStation (s : StationLine) : Type 0 where
+  pub segment : s.segment ≡ 0
+  pub at : s.at ≤ 2000
+  pub lose : s.lose ≡ 0
+  pub load : s.load ≡ None
+  pub name_least : 1 ≤ length s.name
+  pub name_most : length s.name ≤ 32
+
+-- the facts of one plain station, or of two
+abbrev pub ArePlainStations : List StationLine → Type 0
+ArePlainStations [] = ⊥
+ArePlainStations (a ∷ []) = IsPlainStation a
+ArePlainStations (a ∷ b ∷ []) = IsPlainStation a × IsPlainStation b × (a.at ≢ b.at)
+ArePlainStations (a ∷ b ∷ c ∷ rest) = ⊥
+
+-- the facts of a plain send
+pub record IsPlainSend (number : ℕ) (s : SendLine) : Type 0 where
+  pub station : s.station ≡ number
+  pub at : s.at ≤ 2000000000
+  pub least : 14 ≤ length s.octets
+  pub most : length s.octets ≤ 1514
+
+-- the facts of the first form
+pub record IsFirstForm (l : Layout) : Type 0 where
+  pub format : l.format ≡ 1
+  pub bits_least : 1 ≤ l.until_bits
+  pub bits_most : l.until_bits ≤ 1000000000
+  pub segments : length l.segments ≡ 1
+  pub stations : ArePlainStations l.stations
+  pub repeaters : l.repeaters ≡ []
+  pub sends : length l.sends ≤ 65536
+  pub sender : (station : ℕ) × (station < length l.stations) × All (IsPlainSend station) l.sends

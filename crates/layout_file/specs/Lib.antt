@@ -10,3 +10,5 @@ pub mod JointFaults
 pub mod Lines
 pub mod Form
 pub mod Faults
+pub mod Joined
+pub mod GraphFaults

@@ -3,6 +3,7 @@
 
 mod fault;
 mod form;
+mod graph;
 mod joint;
 mod layout;
 mod lines;

@@ -15,7 +15,7 @@ use std::alloc::Global;
 use toml::Table as TomlTable;
 
 /// The number of the first of the names that is this one, from 0, and 0 where there is none.
-fn place_of(names: &[&str], name: &str) -> Result<u32, OutOfMemory>
+pub fn place_of(names: &[&str], name: &str) -> Result<u32, OutOfMemory>
     ensures { IfOk result (λ n. n ≡ place_of (map (λ s. s.now) names.now) name.now) }
 {
     let mut number = 0u32;

@@ -8,6 +8,7 @@ ghost use Rattle.layout_file.specs.declared.fault.Key.TheVariants as key;
 
 use crate::fault::{Key, LayoutCode, LayoutFault, Table};
 use crate::form::is_first_form;
+use crate::graph::first_graph_fault;
 use crate::joint::{first_crowd, first_same_name, first_taken};
 use crate::layout::Layout;
 use crate::lines::layout;
@@ -54,7 +55,7 @@ fn file_fault(code: LayoutCode) -> LayoutFault
 
 /// The layout that the octets spell, or their first fault. So far only the least networks are
 /// built: one segment, no repeater, one or two stations of which at most one sends. Every other
-/// document is Unbuilt. Want of memory alone is free.
+/// layout without fault is Unbuilt. Want of memory alone is free.
 #[tactic(auto, unfolding(crate::specs::Faults::judged))]
 pub fn read_layout(alloc: Global, bytes: &[u8]) -> Result<Layout, LayoutFault>
     ensures layout { IfOk result (λ layout. judged bytes.now ≡ Ok layout) }
@@ -65,8 +66,8 @@ pub fn read_layout(alloc: Global, bytes: &[u8]) -> Result<Layout, LayoutFault>
         return Err(file_fault(LayoutCode::TooMany));
     }
     let document = parse(alloc, bytes)?;
-    if first_fault(alloc, &document)?.is_some() {
-        return Err(file_fault(LayoutCode::Unbuilt));
+    if let Some(fault) = first_fault(alloc, &document)? {
+        return Err(fault);
     }
     let layout = layout(alloc, &document)?;
     if is_first_form(&layout) {
@@ -121,6 +122,10 @@ fn first_fault(alloc: Global, document: &TomlTable) -> Result<Option<LayoutFault
         return Ok(Some(fault));
     }
     if let Some(fault) = first_taken(&sites) {
+        return Ok(Some(fault));
+    }
+    let repeaters = rows(alloc, document, Key::Repeater)?.len();
+    if let Some(fault) = first_graph_fault(alloc, repeaters, &segments, &sites)? {
         return Ok(Some(fault));
     }
     Ok(first_of(&surroundings, &FRAME_TESTS, &sites))

@@ -1,4 +1,4 @@
-use crate::{Key, Layout, LayoutCode, LayoutFault, Place, Table, read_layout};
+use crate::{Key, Layout, LayoutCode, Table, read_layout};
 use std::alloc::Global;
 use std::test::Fail;
 
@@ -129,35 +129,220 @@ fn two_sends_are_read(rt: HostRuntime) -> Result<(), Fail> {
     Ok(())
 }
 
-fn of_file(code: LayoutCode) -> Option<LayoutFault> {
-    Some(LayoutFault {
-        code,
-        place: Place {
-            table: Table::File,
-            row: 0,
-            port: 0,
-            key: Key::None,
-        },
-    })
+fn fault(alloc: Global, octets: &[u8], code: LayoutCode) -> Option<(Table, u32, u32, Key)> {
+    match read_layout(alloc, octets) {
+        Err(fault) if fault.code == code => {
+            let place = fault.place;
+            Some((place.table, place.row, place.port, place.key))
+        }
+        _ => None,
+    }
 }
 
 #[test]
-fn other_files_are_refused(rt: HostRuntime) -> Result<(), Fail> {
+fn whole_files_are_refused(rt: HostRuntime) -> Result<(), Fail> {
+    let alloc = rt.alloc();
+    let file = |key| Some((Table::File, 0, 0, key));
+    let station = |key| Some((Table::Station, 2, 0, key));
+    assert_eq!(rt; fault(alloc, b"\xff", LayoutCode::NotToml), file(Key::None));
+    let long = vec![in alloc; b'#'; 1_048_577]?;
+    assert_eq!(rt; fault(alloc, &long, LayoutCode::TooMany), file(Key::None));
+    let cases = [
+        ("", LayoutCode::Missing, file(Key::Format)),
+        (
+            "format = 1\nseed = 1\n",
+            LayoutCode::Missing,
+            file(Key::UntilBits),
+        ),
+        (
+            "format = 1\n[[segment]]\nname = \"x",
+            LayoutCode::NotToml,
+            file(Key::None),
+        ),
+        (
+            "format = 1\nseed = 1\nuntil_bits = 1000000000\nsegment = [{name = \"x\"}]\nstation = [\
+             {name = \"a\", segment = \"x\", at = 0}, {name = \"b\", segment = \"x\", at = 1},\
+             {name = \"c\", segment = \"x\", at = 2}, {name = \"d\", segment = \"x\", at = 3},\
+             {name = \"e\", segment = \"x\", at = 4}]",
+            LayoutCode::TooMany,
+            file(Key::UntilBits),
+        ),
+        (
+            "format = 1\nseed = 1\nuntil_bits = 700\nsegment = [{name = \"x\"}]\nstation = [\
+             {name = \"a\", segment = \"x\", at = 5}, {name = \"b\", segment = \"x\", at = 5}]",
+            LayoutCode::TapTaken,
+            station(Key::At),
+        ),
+        (
+            "format = 2\nseed = 1\nuntil_bits = 700\nsegment = [{name = \"x\"}]\nstation = [\
+             {name = \"a\", segment = \"x\", at = 0},\
+             {name = \"b\", segment = \"x\", at = 10, lose_bits = 48}]",
+            LayoutCode::Unbuilt,
+            file(Key::None),
+        ),
+        (
+            "format = 1\nseed = 1\nuntil_bits = 700\nsegment = [{name = \"x\"}]\nstation = [\
+             {name = \"a\", segment = \"x\", at = 0},\
+             {name = \"b\", segment = \"x\", at = 10, lose_bits = 4}]",
+            LayoutCode::UnknownKey,
+            station(Key::None),
+        ),
+        (
+            "format = 2\nseed = 1\nuntil_bits = 700\nsegment = [{name = \"x\"}]\nstation = [\
+             {name = \"a\", segment = \"x\", at = 0},\
+             {name = \"b\", segment = \"x\", at = 10, lose_bits = 49}]",
+            LayoutCode::OutOfRange,
+            station(Key::LoseBits),
+        ),
+    ];
+    for (text, code, place) in cases {
+        assert_eq!(rt; fault(alloc, text.as_bytes(), code), place, "{text}");
+    }
+    Ok(())
+}
+
+#[test]
+fn too_many_segments_are_refused(rt: HostRuntime) -> Result<(), Fail> {
+    let alloc = rt.alloc();
+    let mut text = String::from_str(alloc, "format = 1\nseed = 1\nuntil_bits = 130\n")?;
+    for _ in 0..257 {
+        text.push_str("[[segment]]\nname = \"x\"\n")?;
+    }
+    assert_eq!(rt;
+        fault(alloc, text.as_bytes(), LayoutCode::TooMany),
+        Some((Table::File, 0, 0, Key::Segment))
+    );
+    Ok(())
+}
+
+/// The two hops with one piece of the text changed.
+fn changed(alloc: Global, from: &str, to: &str) -> Result<String, Fail> {
+    let (before, after) = TWO_HOP.split_once(from).ok_or("no such text")?;
+    Ok(format!(in alloc; "{before}{to}{after}")?)
+}
+
+const REPEATER: &str = "\
+[[repeater]]
+name = \"r\"
+delay = 16
+[[repeater.port]]
+segment = \"x\"
+at = 20
+[[repeater.port]]
+segment = \"y\"
+at = 0
+";
+
+const OTHER_REPEATER: &str = "\
+[[repeater]]
+name = \"s\"
+delay = 16
+[[repeater.port]]
+segment = \"x\"
+at = 40
+[[repeater.port]]
+segment = \"y\"
+at = 60
+[[send]]
+";
+
+#[test]
+fn changed_files_are_refused(rt: HostRuntime) -> Result<(), Fail> {
     let alloc = rt.alloc();
     assert_eq!(rt;
-        read_layout(alloc, TWO_HOP.as_bytes()).err(),
-        of_file(LayoutCode::Unbuilt)
+        fault(alloc, TWO_HOP.as_bytes(), LayoutCode::Unbuilt),
+        Some((Table::File, 0, 0, Key::None))
     );
-    assert_eq!(rt; read_layout(alloc, b"").err(), of_file(LayoutCode::Unbuilt));
-    assert_eq!(rt;
-        read_layout(alloc, b"\xff").err(),
-        of_file(LayoutCode::NotToml)
-    );
-    let long = vec![in alloc; b'#'; 1_048_577]?;
-    assert_eq!(rt;
-        read_layout(alloc, &long).err(),
-        of_file(LayoutCode::TooMany)
-    );
+    let cases = [
+        (
+            "seed = 1",
+            "seed = 1\nseed = 1",
+            LayoutCode::NotToml,
+            (Table::File, 0, 0, Key::None),
+        ),
+        (
+            "seed = 1",
+            "seed = 1\ncolor = 1",
+            LayoutCode::UnknownKey,
+            (Table::File, 0, 0, Key::None),
+        ),
+        (
+            "at = 30",
+            "at = 1.0",
+            LayoutCode::WrongType,
+            (Table::Station, 2, 0, Key::At),
+        ),
+        (
+            "\"r\"",
+            "\"r r\"",
+            LayoutCode::BadName,
+            (Table::Repeater, 1, 0, Key::Name),
+        ),
+        (
+            "seed = 1",
+            "seed = -1",
+            LayoutCode::OutOfRange,
+            (Table::File, 0, 0, Key::Seed),
+        ),
+        (
+            "format = 1",
+            "format = 3",
+            LayoutCode::OutOfRange,
+            (Table::File, 0, 0, Key::Format),
+        ),
+        (
+            "[[repeater.port]]\nsegment = \"y\"\nat = 0\n",
+            "",
+            LayoutCode::OutOfRange,
+            (Table::Repeater, 1, 0, Key::Port),
+        ),
+        (
+            "name = \"y\"",
+            "name = \"x\"",
+            LayoutCode::SameName,
+            (Table::Segment, 2, 0, Key::Name),
+        ),
+        (
+            "name = \"r\"",
+            "name = \"b\"",
+            LayoutCode::SameName,
+            (Table::Repeater, 1, 0, Key::Name),
+        ),
+        (
+            "segment = \"y\"\nat = 0",
+            "segment = \"z\"\nat = 0",
+            LayoutCode::NoSuchSegment,
+            (Table::Repeater, 1, 2, Key::Segment),
+        ),
+        (
+            "station = \"b\"",
+            "station = \"r\"",
+            LayoutCode::NoSuchStation,
+            (Table::Send, 2, 0, Key::Station),
+        ),
+        (
+            "[[send]]\n",
+            OTHER_REPEATER,
+            LayoutCode::Loop,
+            (Table::Repeater, 2, 2, Key::Segment),
+        ),
+        (
+            REPEATER,
+            "",
+            LayoutCode::Apart,
+            (Table::Segment, 2, 0, Key::Name),
+        ),
+        (
+            "020800",
+            "02080",
+            LayoutCode::BadFrame,
+            (Table::Send, 2, 0, Key::Octets),
+        ),
+    ];
+    for (from, to, code, place) in cases {
+        let text = changed(alloc, from, to)?;
+        assert_eq!(rt; fault(alloc, text.as_bytes(), code), Some(place), "{to}");
+    }
     Ok(())
 }
 
