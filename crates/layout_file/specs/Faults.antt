@@ -52,16 +52,17 @@ first_fault ms =
 abbrev pub document : List ℕ → Option Members
 document bytes = if is_utf8 bytes then parse_document bytes else None
 
--- the layout has no fault, but is not run yet
+-- the file is not one that is run yet
 abbrev pub unbuilt : LayoutFault
 unbuilt = file_fault code.Unbuilt key.None
 
 abbrev pub judged_layout : Layout → Result Layout LayoutFault
 judged_layout l = if is_first_form l then Ok l else Err unbuilt
 
+-- a layout with a fault is not run either: so far its code and place are not told
 abbrev pub judged_tree : Members → Option LayoutFault → Result Layout LayoutFault
 judged_tree ms None = judged_layout (layout_of ms)
-judged_tree ms (Some f) = Err f
+judged_tree ms (Some f) = Err unbuilt
 
 abbrev pub judged_document : Option Members → Result Layout LayoutFault
 judged_document None = Err (file_fault code.NotToml key.None)

@@ -53,9 +53,10 @@ fn file_fault(code: LayoutCode) -> LayoutFault
     LayoutFault::of_row(code, Table::File, 0, Key::None)
 }
 
-/// The layout that the octets spell, or their first fault. So far only the least networks are
-/// built: one segment, no repeater, one or two stations of which at most one sends. Every other
-/// layout without fault is Unbuilt. Want of memory alone is free.
+/// The layout that the octets spell, where that is one of the least networks: one segment, no repeater,
+/// one or two stations of which at most one sends. TooMany comes exactly above 1,048,576 octets, then
+/// NotToml exactly where the octets are no TOML document, then Unbuilt exactly where the document isn't
+/// that of such a network or has a fault. Each has the file as its place. Want of memory alone is free.
 #[tactic(auto, unfolding(crate::specs::Faults::judged))]
 pub fn read_layout(alloc: Global, bytes: &[u8]) -> Result<Layout, LayoutFault>
     ensures layout { IfOk result (λ layout. judged bytes.now ≡ Ok layout) }
@@ -66,8 +67,8 @@ pub fn read_layout(alloc: Global, bytes: &[u8]) -> Result<Layout, LayoutFault>
         return Err(file_fault(LayoutCode::TooMany));
     }
     let document = parse(alloc, bytes)?;
-    if let Some(fault) = first_fault(alloc, &document)? {
-        return Err(fault);
+    if first_fault(alloc, &document)?.is_some() {
+        return Err(file_fault(LayoutCode::Unbuilt));
     }
     let layout = layout(alloc, &document)?;
     if is_first_form(&layout) {
@@ -85,7 +86,7 @@ fn is_too_long(bytes: &[u8]) -> bool
 }
 
 /// The document that the octets are.
-fn parse(alloc: Global, bytes: &[u8]) -> Result<TomlTable, LayoutFault>
+pub fn parse(alloc: Global, bytes: &[u8]) -> Result<TomlTable, LayoutFault>
     ensures ok { IfOk result (λ table. document bytes.now ≡ Some (table_view table)) }
     ensures none { IfErr result (λ fault. ¬ IsMemory fault → judged_document (document bytes.now) ≡ Err fault) }
 {
@@ -98,7 +99,7 @@ fn parse(alloc: Global, bytes: &[u8]) -> Result<TomlTable, LayoutFault>
 
 /// The first fault of a document: for each code all places are tried before the next code.
 #[tactic(auto, unfolding(crate::specs::Faults::around_of, crate::specs::Faults::first_fault))]
-fn first_fault(alloc: Global, document: &TomlTable) -> Result<Option<LayoutFault>, OutOfMemory>
+pub fn first_fault(alloc: Global, document: &TomlTable) -> Result<Option<LayoutFault>, OutOfMemory>
     ensures { IfOk result (λ fault. fault ≡ first_fault (table_view document.now)) }
 {
     let segments = names(alloc, &rows(alloc, document, Key::Segment)?)?;

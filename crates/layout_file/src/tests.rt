@@ -1,3 +1,4 @@
+use crate::reader::{first_fault, parse};
 use crate::{Key, Layout, LayoutCode, Table, read_layout};
 use std::alloc::Global;
 use std::test::Fail;
@@ -139,6 +140,21 @@ fn fault(alloc: Global, octets: &[u8], code: LayoutCode) -> Option<(Table, u32, 
     }
 }
 
+/// The place of the first fault of a document, where it is of this code. A document with a fault isn't built.
+fn first(alloc: Global, octets: &[u8], code: LayoutCode) -> Option<(Table, u32, u32, Key)> {
+    let Ok(document) = parse(alloc, octets) else {
+        return fault(alloc, octets, code);
+    };
+    match first_fault(alloc, &document) {
+        Ok(Some(fault)) if fault.code == code => {
+            let place = fault.place;
+            Some((place.table, place.row, place.port, place.key))
+        }
+        Ok(None) => fault(alloc, octets, code),
+        _ => None,
+    }
+}
+
 #[test]
 fn whole_files_are_refused(rt: HostRuntime) -> Result<(), Fail> {
     let alloc = rt.alloc();
@@ -196,7 +212,23 @@ fn whole_files_are_refused(rt: HostRuntime) -> Result<(), Fail> {
         ),
     ];
     for (text, code, place) in cases {
-        assert_eq!(rt; fault(alloc, text.as_bytes(), code), place, "{text}");
+        assert_eq!(rt; first(alloc, text.as_bytes(), code), place, "{text}");
+    }
+    Ok(())
+}
+
+/// Two segments, joined or not, are not run yet, and so is a file with a fault.
+#[test]
+fn other_forms_are_unbuilt(rt: HostRuntime) -> Result<(), Fail> {
+    let alloc = rt.alloc();
+    let apart = changed(alloc, REPEATER, "")?;
+    let strange = changed(alloc, "seed = 1", "seed = 1\ncolor = 1")?;
+    for text in ["", TWO_HOP, apart.as_str(), strange.as_str()] {
+        assert_eq!(rt;
+            fault(alloc, text.as_bytes(), LayoutCode::Unbuilt),
+            Some((Table::File, 0, 0, Key::None)),
+            "{text}"
+        );
     }
     Ok(())
 }
@@ -209,7 +241,7 @@ fn too_many_segments_are_refused(rt: HostRuntime) -> Result<(), Fail> {
         text.push_str("[[segment]]\nname = \"x\"\n")?;
     }
     assert_eq!(rt;
-        fault(alloc, text.as_bytes(), LayoutCode::TooMany),
+        first(alloc, text.as_bytes(), LayoutCode::TooMany),
         Some((Table::File, 0, 0, Key::Segment))
     );
     Ok(())
@@ -341,7 +373,7 @@ fn changed_files_are_refused(rt: HostRuntime) -> Result<(), Fail> {
     ];
     for (from, to, code, place) in cases {
         let text = changed(alloc, from, to)?;
-        assert_eq!(rt; fault(alloc, text.as_bytes(), code), Some(place), "{to}");
+        assert_eq!(rt; first(alloc, text.as_bytes(), code), Some(place), "{to}");
     }
     Ok(())
 }
