@@ -1,9 +1,8 @@
 -- A plan: a layout and, for each station, the queue of the frames that it has to send.
-use Rattle.std.specs.Prelude.{◌≡◌, ℕ, ◌==◌, max, List, [], ◌∷◌, map, filter, length, replicate}
+use Rattle.std.specs.Prelude.{◌≡◌, ℕ, ◌==◌, max, List, [], ◌∷◌, map, filter, length}
 use Rattle.std.specs.List.{range_with_len}
 use Rattle.frame_layout.specs.declared.queue.Ready.{Ready}
 use Rattle.frame_layout.specs.Frame.{frame_of}
-use Rattle.layout_file.specs.declared.layout.Layout.{Layout}
 use Rattle.layout_file.specs.declared.layout.SendLine.{SendLine}
 use Rattle.load_plan.specs.declared.plan.Skips.{Skips}
 
