@@ -4,6 +4,10 @@ use Rattle.layout_file.specs.declared.fault.LayoutFault.{LayoutFault}
 use Rattle.layout_file.specs.declared.fault.Place.{Place}
 use Rattle.layout_file.specs.Names.{name_of_table, name_of_key, number_of_code, name_of_code}
 
+-- the line of words that are none of the forms
+abbrev pub line_of_words_fault : List ℕ
+line_of_words_fault = codes "words fault\n"
+
 -- where a fault stands: rows and ports from 1, or 0 for none
 abbrev pub text_of_place : Place → List ℕ
 text_of_place place =

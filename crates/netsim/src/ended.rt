@@ -1,0 +1,19 @@
+//! How a call ends.
+ghost use Rattle.std.specs.Prelude.{◌≡◌};
+
+/// How a call ends.
+#[derive(Clone, Copy, Debug, PartialEq, Eq)]
+pub enum Ended {
+    /// All is done.
+    Done,
+    /// The words are none of the forms.
+    Words,
+    /// The layout has a fault.
+    Layout,
+    /// The layout isn't held, or a read failed.
+    Read,
+    /// A write failed.
+    Write,
+    /// An allocation was refused.
+    Memory,
+}

@@ -1,0 +1,120 @@
+//! The top call.
+ghost use Rattle.std.specs.Prelude.{◌≡◌, ◌⊎◌, ◌↔◌, Some, None, Ok, Err, IfSome};
+ghost use Rattle.outside.specs.Files.{IsAbsent, Rose};
+ghost use Rattle.layout_file.specs.declared.fault.LayoutFault.{LayoutFault};
+ghost use Rattle.layout_file.specs.declared.layout.Layout.{Layout};
+ghost use Rattle.netsim.specs.Ended.{IsEnd, IsText, IsJudged, HasFault};
+ghost use Rattle.netsim.specs.Reading.{IsSaid, IsCutShort, added};
+ghost use Rattle.netsim.specs.Requests.{asked};
+ghost use Rattle.netsim.specs.Statuses.{IsPlainWith, IfPlain, IfText, IsRefusal, IsDoneOrMemory, IsFaultStatus, IsLogHeld, IsLogBroken};
+ghost use Rattle.netsim.specs.Texts.{line_of_words_fault, line_of_fault, line_of_read_fault};
+
+use crate::ended::Ended;
+use crate::plain::plain;
+use crate::said::{say, write_text};
+use crate::texts::{HELP, VERSION, WORDS_FAULT};
+use crate::words::{Request, Words, read_words};
+use outside::{Gate, Sink, SinkFail, Store};
+use std::alloc::Global;
+use std::sync::Wait;
+use std::thread::Threads;
+
+/// Writes a fixed text to the sink.
+fn write_fixed<K: Sink>(out: &mut K, text: &str) -> Ended
+    ensures { IsText text.now (K.written out.old) (K.written out.new) (K.faults out.old) (K.faults out.new) result }
+{
+    match write_text(out, text.as_bytes()) {
+        Ok(()) => Ended::Done,
+        Err(SinkFail::Failed) => Ended::Write,
+        Err(SinkFail::OutOfMemory) => Ended::Memory,
+    }
+}
+
+/// What the words ask for, without a thread: this always returns.
+pub fn run_words<S: Store, K: Sink>(
+    alloc: Global,
+    words: &Words,
+    store: &mut S,
+    out: &mut K,
+) -> Ended
+    ensures { IsEnd words.now
+        (record { held = S.held store.old; reads = S.read_faults store.old; writes = S.write_faults store.old; written = K.written out.old; faults = K.faults out.old; refused = K.refused out.old })
+        (record { held = S.held store.new; reads = S.read_faults store.new; writes = S.write_faults store.new; written = K.written out.new; faults = K.faults out.new; refused = K.refused out.new })
+        result }
+{
+    match read_words(words) {
+        Some(Request::Plain { layout, prefix }) => plain(alloc, layout, prefix, store, out),
+        Some(Request::Help) => write_fixed(out, HELP),
+        Some(Request::Version) => write_fixed(out, VERSION),
+        None => {
+            say(out, WORDS_FAULT.as_bytes());
+            Ended::Words
+        }
+    }
+}
+
+/// The top call: does what the words ask for, and answers the program's status.
+///
+/// `plain LAYOUT PREFIX` runs the network of the layout by half bits and writes PREFIX.log. `--help` and
+/// `--version` write a fixed text to the sink. LAYOUT and PREFIX have 1 to 200 octets. The statuses are 0 for
+/// done, 1 for words of no form, 2 for a layout with a fault, 4 for a layout that can't be read, 5 for a failed
+/// write and 6 for want of memory, which alone is free.
+pub fn netsim<R: Threads + Wait + Sync, S: Store, K: Sink, G: Gate>(
+    _rt: &R,
+    alloc: Global,
+    words: &Words,
+    store: &mut S,
+    out: &mut K,
+    _gate: &G,
+) -> u8
+    // Status 1 exactly where the words are none of the forms.
+    ensures words { (result ≡ 1) ↔ (asked words.now ≡ None) }
+    ensures words_line { result ≡ 1 → IsSaid line_of_words_fault (K.written out.old) (K.written out.new) (K.refused out.old) (K.refused out.new) }
+
+    // Status 2 exactly where the layout held at entry has a fault, but for a failed read and want of memory.
+    ensures fault { result ≡ 2 → IsPlainWith (asked words.now) (λ layout prefix. HasFault layout (S.held store.old)) }
+    ensures fault_line { result ≡ 2 → IsPlainWith (asked words.now) (λ layout prefix. (f : LayoutFault) × IsJudged layout (S.held store.old) (Err f)
+        × IsSaid (line_of_fault f) (K.written out.old) (K.written out.new) (K.refused out.old) (K.refused out.new)) }
+    ensures fault_only { IfPlain (asked words.now) (λ layout prefix. IfSome (S.held store.old) (λ files. HasFault layout (Some files)
+        → IsFaultStatus result (S.read_faults store.old) (S.read_faults store.new))) }
+
+    // Status 4 where the layout isn't held, but for want of memory, and else only where a read failed.
+    ensures read { result ≡ 4 → IsPlainWith (asked words.now) (λ layout prefix. IsAbsent layout (S.held store.old) ⊎ Rose (S.read_faults store.old) (S.read_faults store.new)) }
+    ensures read_line { result ≡ 4 → IsPlainWith (asked words.now) (λ layout prefix.
+        IsSaid (line_of_read_fault layout) (K.written out.old) (K.written out.new) (K.refused out.old) (K.refused out.new)) }
+    ensures read_only { IfPlain (asked words.now) (λ layout prefix. IsAbsent layout (S.held store.old) → (result ≡ 4) ⊎ (result ≡ 6)) }
+
+    // With the statuses 1, 2 and 4 every file is as at entry.
+    ensures refusal { IsRefusal result → S.held store.new ≡ S.held store.old }
+
+    // Status 5 only where a write to the store failed, or to the sink for a fixed text.
+    ensures write { result ≡ 5 → IfPlain (asked words.now) (λ layout prefix. Rose (S.write_faults store.old) (S.write_faults store.new)) }
+    ensures text_write { result ≡ 5 → IfText (asked words.now) (λ text. Rose (K.faults out.old) (K.faults out.new)) }
+
+    // Done: the store holds the log of the run of the layout held at entry, and nothing else is changed.
+    ensures done { result ≡ 0 → IfPlain (asked words.now) (λ layout prefix. IsLogHeld layout prefix (S.held store.old) (S.held store.new)) }
+    ensures text_done { result ≡ 0 → IfText (asked words.now) (λ text. K.written out.new ≡ added text (K.written out.old)) }
+
+    // After a failed write or want of memory the log's file is as it was or a front of the log; or nothing was begun.
+    ensures broken { result ≡ 5 → IfPlain (asked words.now) (λ layout prefix. IsLogBroken layout prefix (S.held store.old) (S.held store.new)) }
+    ensures memory { result ≡ 6 → IfPlain (asked words.now) (λ layout prefix. (S.held store.new ≡ S.held store.old) ⊎ IsLogBroken layout prefix (S.held store.old) (S.held store.new)) }
+    ensures text_cut { IfText (asked words.now) (λ text. (result ≡ 0) ⊎ IsCutShort text (K.written out.old) (K.written out.new)) }
+
+    // The sink is as at entry where a log was to be written and no fault of the layout was said, and every file where a text was.
+    ensures silent { IfPlain (asked words.now) (λ layout prefix. IsRefusal result ⊎ (K.written out.new ≡ K.written out.old)) }
+    ensures text_held { IfText (asked words.now) (λ text. S.held store.new ≡ S.held store.old) }
+
+    // Complete: a layout that is held without fault, and no count that rose, give status 0 or 6.
+    ensures complete { IfPlain (asked words.now) (λ layout prefix. IfSome (S.held store.old) (λ files. (network : Layout) → IsJudged layout (Some files) (Ok network)
+        → ¬ Rose (S.read_faults store.old) (S.read_faults store.new) → ¬ Rose (S.write_faults store.old) (S.write_faults store.new) → IsDoneOrMemory result)) }
+    ensures text_complete { IfText (asked words.now) (λ text. ¬ Rose (K.faults out.old) (K.faults out.new) → IsDoneOrMemory result) }
+{
+    match run_words(alloc, words, store, out) {
+        Ended::Done => 0,
+        Ended::Words => 1,
+        Ended::Layout => 2,
+        Ended::Read => 4,
+        Ended::Write => 5,
+        Ended::Memory => 6,
+    }
+}

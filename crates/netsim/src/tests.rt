@@ -1,0 +1,199 @@
+use crate::texts::HELP;
+use crate::{Words, netsim};
+use lists::{OutOfMemory, Text};
+use outside::{MemorySink, MemoryStore, OpenGate};
+use std::sync::Wait;
+use std::thread::Threads;
+
+/// One segment with a station a at 0 and a station b at 10.
+const STATIONS: &str =
+    "format = 1\nseed = 1\n[[segment]]\nname = \"x\"\n[[station]]\nname = \"a\"\nsegment = \"x\"\nat = 0\n[[station]]\nname = \"b\"\nsegment = \"x\"\nat = 10\n";
+
+/// A second segment, joined to the first by a repeater.
+const REPEATER: &str =
+    "[[segment]]\nname = \"y\"\n[[repeater]]\nname = \"r\"\ndelay = 16\n[[repeater.port]]\nsegment = \"x\"\nat = 20\n[[repeater.port]]\nsegment = \"y\"\nat = 0\n";
+
+/// A frame of 14 octets that a sends at 0.
+const SEND: &str = "[[send]]\nstation = \"a\"\nat = 0\noctets = \"ffffffffffff0200000000010800\"\n";
+
+const ONE_FRAME: &str =
+    "1152 station a sent frame 1 start 0 attempt 1\n1162 station b received octets 64\n";
+
+const TWO_FRAMES: &str =
+    "1152 station a sent frame 1 start 0 attempt 1\n1162 station b received octets 64\n2496 station a sent frame 2 start 1344 attempt 1\n2506 station b received octets 64\n";
+
+const UNBUILT: &str = "layout fault 16 Unbuilt table file row 0 port 0 key -\n";
+
+fn layout<R: AllocGlobal>(rt: &R, until_bits: u32, rest: &str) -> Result<String, OutOfMemory> {
+    let layout = format!(in rt.alloc(); "until_bits = {until_bits}\n{STATIONS}{rest}")?;
+    Ok(layout)
+}
+
+fn words_of<R: AllocGlobal>(rt: &R, line: &[&str]) -> Result<Words, OutOfMemory> {
+    let mut words = Words::new(rt.alloc());
+    for word in line {
+        words.push(Text::new(rt.alloc(), word)?)?;
+    }
+    Ok(words)
+}
+
+/// A call over a layout, or none, and over a store and a sink some of whose calls fail, with what it must give.
+/// An empty log is none.
+#[derive(Clone, Copy)]
+struct Case<'a> {
+    words: &'a [&'static str],
+    layout: Option<&'a str>,
+    reads: &'a [u32],
+    starts: &'a [u32],
+    appends: &'a [u32],
+    writes: &'a [u32],
+    status: u8,
+    line: &'a str,
+    log: &'a str,
+}
+
+/// A run of a layout of which no call fails.
+const RUN: Case<'static> = Case {
+    words: &["plain", "l.toml", "out"],
+    layout: None,
+    reads: &[],
+    starts: &[],
+    appends: &[],
+    writes: &[],
+    status: 0,
+    line: "",
+    log: "",
+};
+
+fn store_of<R: AllocGlobal>(rt: &R, case: &Case<'_>) -> Result<MemoryStore, OutOfMemory> {
+    let mut store = MemoryStore::with_failing(rt.alloc(), case.reads, case.starts, case.appends)?;
+    if let Some(layout) = case.layout {
+        store.put("l.toml", layout.as_bytes())?;
+    }
+    Ok(store)
+}
+
+fn is_logged(store: &MemoryStore, log: &str) -> bool {
+    match store.get("out.log") {
+        Some(held) => held == log.as_bytes(),
+        None => log.is_empty(),
+    }
+}
+
+/// Whether a call gives what it must.
+fn is_right<R: Threads + Wait + Sync + AllocGlobal>(
+    rt: &R,
+    case: &Case<'_>,
+) -> Result<bool, OutOfMemory> {
+    let words = words_of(rt, case.words)?;
+    let mut store = store_of(rt, case)?;
+    let mut sink = MemorySink::with_failing(rt.alloc(), case.writes)?;
+    let status = netsim(rt, rt.alloc(), &words, &mut store, &mut sink, &OpenGate);
+    Ok(status == case.status && sink.bytes() == case.line.as_bytes() && is_logged(&store, case.log))
+}
+
+#[test]
+fn words_alone(rt: HostRuntime) -> Result<(), OutOfMemory> {
+    let lines: [&[&'static str]; 5] = [
+        &["run", "l.toml", "out", "0"],
+        &["check"],
+        &["plain", "l.toml", ""],
+        &["--help", "--version"],
+        &[],
+    ];
+    for words in lines {
+        let case = Case {
+            words,
+            status: 1,
+            line: "words fault\n",
+            ..RUN
+        };
+        assert!(rt; is_right(&rt, &case)?);
+    }
+    let case = Case {
+        words: &["--help"],
+        line: HELP,
+        ..RUN
+    };
+    assert!(rt; is_right(&rt, &case)?);
+    Ok(())
+}
+
+#[test]
+fn logs_of_one_segment(rt: HostRuntime) -> Result<(), OutOfMemory> {
+    let two = format!(in rt.alloc(); "{SEND}{SEND}")?;
+    let rows = [
+        (700, SEND, ONE_FRAME),
+        (1300, two.as_str(), TWO_FRAMES),
+        (
+            500,
+            SEND,
+            "1000 station a cut frame 1 start 0 attempt 1 hit none\n",
+        ),
+        (
+            576,
+            SEND,
+            "1152 station a cut frame 1 start 0 attempt 1 hit none\n",
+        ),
+        (577, SEND, "1152 station a sent frame 1 start 0 attempt 1\n"),
+    ];
+    for (until_bits, sends, log) in rows {
+        let layout = layout(&rt, until_bits, sends)?;
+        let case = Case {
+            layout: Some(layout.as_str()),
+            log,
+            ..RUN
+        };
+        assert!(rt; is_right(&rt, &case)?, "at {until_bits}");
+    }
+    Ok(())
+}
+
+#[test]
+fn faults(rt: HostRuntime) -> Result<(), OutOfMemory> {
+    let joined = layout(&rt, 700, REPEATER)?;
+    let good = layout(&rt, 700, SEND)?;
+    let run = Case {
+        layout: Some(good.as_str()),
+        ..RUN
+    };
+    let cases = [
+        Case {
+            layout: Some(joined.as_str()),
+            status: 2,
+            line: UNBUILT,
+            ..RUN
+        },
+        Case {
+            layout: Some(""),
+            writes: &[1],
+            status: 2,
+            ..RUN
+        },
+        Case {
+            status: 4,
+            line: "read fault l.toml\n",
+            ..RUN
+        },
+        Case {
+            reads: &[1],
+            status: 4,
+            line: "read fault l.toml\n",
+            ..run
+        },
+        Case {
+            starts: &[1],
+            status: 5,
+            ..run
+        },
+        Case {
+            appends: &[1],
+            status: 5,
+            ..run
+        },
+    ];
+    for case in cases {
+        assert!(rt; is_right(&rt, &case)?);
+    }
+    Ok(())
+}

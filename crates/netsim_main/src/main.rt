@@ -1,0 +1,37 @@
+//! The program: the words of the command line, over real files and the standard output.
+#![tactic(auto)]
+
+use lists::{OutOfMemory, Text};
+use netsim::{Words, netsim};
+use outside::{FolderStore, OpenGate, OutSink};
+use std::process::ExitCode;
+use std::{env, io};
+
+/// The status for want of memory.
+const MEMORY: u8 = 6;
+
+/// The words after the program's name. A word that is no text makes them none, which is no form of words.
+fn read_words(rt: &HostRuntime) -> Result<Words, OutOfMemory> {
+    let alloc = rt.alloc();
+    let mut words = Words::new(alloc);
+    match env::args(rt) {
+        Ok(args) => {
+            for arg in args.skip(1) {
+                words.push(Text::new(alloc, arg.as_str())?)?;
+            }
+            Ok(words)
+        }
+        Err(error) if error.kind() == io::ErrorKind::OutOfMemory => Err(OutOfMemory),
+        Err(_) => Ok(words),
+    }
+}
+
+fn main(rt: HostRuntime) -> ExitCode {
+    let words = match read_words(&rt) {
+        Ok(words) => words,
+        Err(OutOfMemory) => return ExitCode::from(MEMORY),
+    };
+    let mut store = FolderStore::new(&rt);
+    let mut out = OutSink::new(&rt);
+    ExitCode::from(netsim(&rt, rt.alloc(), &words, &mut store, &mut out, &OpenGate))
+}
