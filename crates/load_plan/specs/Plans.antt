@@ -1,5 +1,5 @@
 -- A plan: a layout and, for each station, the queue of the frames that it has to send.
-use Rattle.std.specs.Prelude.{◌≡◌, ℕ, ◌==◌, max, List, [], ◌∷◌, map, filter, length}
+use Rattle.std.specs.Prelude.{◌≡◌, ℕ, ◌==◌, max, List, [], ◌∷◌, map, filter}
 use Rattle.std.specs.List.{range_with_len}
 use Rattle.frame_layout.specs.declared.queue.Ready.{Ready}
 use Rattle.frame_layout.specs.Frame.{frame_of}
@@ -26,8 +26,3 @@ queues_of sends n = map (queue_of sends) (range_with_len 0 n)
 
 abbrev pub no_skips : Skips
 no_skips = record { short = 0; long = 0; snapped = 0 }
-
--- One queue and one count of skipped records for each station.
-pub record IsPlanned (stations : ℕ) (queues : List (List Ready)) (skips : List Skips) : Type 0 where
-  pub queued : length queues ≡ stations
-  pub counted : length skips ≡ stations

@@ -12,11 +12,11 @@ use Rattle.load_plan.specs.declared.plan.Plan.{Plan}
 use Rattle.collision_log.specs.declared.row.Body.{Body}
 use Rattle.collision_log.specs.declared.row.Row.{Row}
 use Rattle.mac_transmit.specs.Sender.{Sender, SendOutcome}
-use Rattle.mac_receive.specs.Receiver.{Receiving, Reception}
-use Rattle.mac_receive.specs.Kept.{Kept, octets_of}
+use Rattle.mac_receive.specs.Receiver.{Receiving}
+use Rattle.mac_receive.specs.Kept.{octets_of}
 use Rattle.net_step.specs.declared.outputs.Taken.{Taken}
 use Rattle.net_step.specs.Net.{Net, next, emitted_before, heard_by, heard_in, sendings, sendings_in, emitted_in, receptions, rows_of, captured, new_net, new_senders, new_receiver, most_octets}
-use Rattle.net_step.specs.Kept.{KeptNet, heard_kept, sendings_kept, emitted_kept, told_from, AllHear, AllGive, HearOn, GoesOn, Stands}
+use Rattle.net_step.specs.Kept.{KeptNet, heard_kept, sendings_kept, emitted_kept, told_from, AllHear, AllGive, GoesOn, Stands}
 use Rattle.net_step.proofs.Hearing.{AllHear-given, events-given, captured-given}
 use Rattle.net_step.proofs.Told.{told_at-told_from, told_at-told_from_earlier, told_at-advanced, told_at-advanced_now, positions-told_from, ahead-told_from, length-rows-told_from, length-rows-advanced}
 

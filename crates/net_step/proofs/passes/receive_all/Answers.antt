@@ -1,13 +1,10 @@
-use Rattle.std.proofs.Common.{◌≡◌, ℕ, ◌+◌, List, length, take, get_or, subst, sym, ap, ◌∙◌, arith, rules}
+use Rattle.std.proofs.Common.{◌≡◌, ◌+◌, length, get_or, subst, sym, ap, ◌∙◌, arith, rules}
 use Rattle.std.proofs.lemmas.List.{take_all}
-use Rattle.std.proofs.lemmas.Grind.{common_steps}
-use Rattle.manchester_line.specs.declared.Sym.{Sym}
 use Rattle.manchester_line.specs.declared.Sym.TheVariants.{Idle}
 use Rattle.mac_transmit.specs.Sender.{hears}
 use Rattle.mac_receive.specs.Receiver.{Receiving, new_receiving, received}
 use Rattle.mac_receive.specs.Kept.{Kept, Hears}
-use Rattle.net_step.specs.Net.{receptions}
-use Rattle.net_step.specs.Kept.{AllHear, AllGive, Gives}
+use Rattle.net_step.specs.Kept.{Gives}
 use Rattle.net_step.proofs.Elements.{All-take-set, All-drop-set, All-drop-first, get_or-rest, rest-set}
 use Rattle.net_step.proofs.Hearing.{length-AllHear, AllHear-at, AllGive-next, Lends-from}
 use Rattle.net_step.proofs.passes.receive_all.Goals as goal

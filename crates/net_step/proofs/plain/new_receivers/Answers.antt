@@ -1,7 +1,6 @@
-use Rattle.std.proofs.Common.{◌≡◌, ◌+◌, ◌++◌, ◌∷◌, [], All, length, get_or, subst, sym, ap, arith, rules}
+use Rattle.std.proofs.Common.{◌≡◌, ◌++◌, ◌∷◌, [], All, subst, sym, arith}
 use Rattle.std.proofs.lemmas.List.Elements.{All-append}
 use Rattle.std.proofs.lemmas.Grind.{common_steps}
-use Rattle.layout_file.specs.declared.layout.StationLine.{StationLine}
 use Rattle.mac_receive.specs.Kept.{Kept, Hears}
 use Rattle.net_step.specs.Net.{new_receiver}
 use Rattle.net_step.specs.Kept.{AllHear}

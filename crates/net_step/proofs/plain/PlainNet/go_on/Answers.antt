@@ -2,10 +2,9 @@ use Rattle.std.proofs.Common.{◌≡◌, ◌+◌, ◌++◌, List, map, refl, sym
 use Rattle.std.specs.Prelude.{Option}
 use Rattle.std.specs.Vec.{with_items}
 use Rattle.std.proofs.lemmas.List.{with_items_is}
-use Rattle.manchester_line.specs.declared.Sym.{Sym}
 use Rattle.collision_log.specs.declared.row.Body.{Body}
 use Rattle.cable_segment.specs.Cable.{advanced}
-use Rattle.mac_transmit.specs.Sender.{Sender, SendOutcome}
+use Rattle.mac_transmit.specs.Sender.{SendOutcome}
 use Rattle.mac_receive.specs.Kept.{Kept, octets_of}
 use Rattle.net_step.specs.Net.{sendings, rows_of, captured}
 use Rattle.net_step.specs.Kept.{KeptNet, told_from, GoesOn}

@@ -1,4 +1,4 @@
-use Rattle.std.proofs.Common.{◌≡◌, [], length, map, refl, ap, ◌∙◌, rules}
+use Rattle.std.proofs.Common.{◌≡◌, [], map, refl, ap, ◌∙◌, rules}
 use Rattle.cable_segment.specs.Cable.{silent}
 use Rattle.layout_file.specs.declared.layout.StationLine.{StationLine}
 use Rattle.net_step.specs.Net.{new_senders, new_receiver, most_octets}
