@@ -70,7 +70,8 @@ const TIMES: u32 = 20_000;
 const STEPS: u32 = 500_000_000;
 
 /// A segment of two stations, of which one sends.
-const LAYOUT: &str = "format = 1\nseed = 1\nuntil_bits = 5000000\n[[segment]]\nname = \"x\"\n[[station]]\nname = \"a\"\nsegment = \"x\"\nat = 0\n[[station]]\nname = \"b\"\nsegment = \"x\"\nat = 10\n[[send]]\nstation = \"a\"\nat = 0\noctets = \"ffffffffffff0200000000010800\"\n";
+const LAYOUT: &str =
+    "format = 1\nseed = 1\nuntil_bits = 5000000\n[[segment]]\nname = \"x\"\n[[station]]\nname = \"a\"\nsegment = \"x\"\nat = 0\n[[station]]\nname = \"b\"\nsegment = \"x\"\nat = 10\n[[send]]\nstation = \"a\"\nat = 0\noctets = \"ffffffffffff0200000000010800\"\n";
 
 /// The device half bits of that layout.
 const DEVICE_HALF_BITS: u64 = 2 * 2 * 5_000_000;

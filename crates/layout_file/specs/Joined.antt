@@ -1,25 +1,7 @@
--- Paths over edges, and colours that tell them (profile).
-use Rattle.std.specs.Prelude.{◌≡◌, ◌⊎◌, ℕ, zero, suc, ◌<◌, Bool, ◌==◌, if◌then◌else◌, List, [], ◌∷◌, ◌++◌, map, slice_index}
+-- Colours of the parts of a network: where an edge joins two parts they get one colour, so that parts of one colour
+-- are joined by edges (profile).
+use Rattle.std.specs.Prelude.{ℕ, zero, suc, ◌==◌, Bool, if◌then◌else◌, List, [], ◌∷◌, ◌++◌, map, slice_index}
 use Rattle.layout_file.specs.declared.graph.Edge.{Edge}
-
--- the edge goes between the two parts, either way
-abbrev pub Links : Edge → ℕ → ℕ → Type 0
-Links e a b = ((e.from ≡ a) × (e.to ≡ b)) ⊎ ((e.from ≡ b) × (e.to ≡ a))
-
--- some edge does
-abbrev pub Touch : List Edge → ℕ → ℕ → Type 0
-Touch [] a b = ⊥
-Touch (e ∷ es) a b = Links e a b ⊎ Touch es a b
-
--- some path of edges leads from one part to the other
-pub data Joined (edges : List Edge) : ℕ → ℕ → Type 0 where
-  here : {a : ℕ} → Joined edges a a
-  next : {a b c : ℕ} → Touch edges a b → Joined edges b c → Joined edges a c
-
--- all ends are among so many parts
-abbrev pub AreWithin : ℕ → List Edge → Type 0
-AreWithin n [] = Unit {0}
-AreWithin n (e ∷ es) = (e.from < n) × (e.to < n) × AreWithin n es
 
 -- 0, 1, 2 and so on, n of them
 abbrev pub counted_up : ℕ → List ℕ
@@ -37,10 +19,10 @@ abbrev pub painted_all : List ℕ → List Edge → List ℕ
 painted_all cs [] = cs
 painted_all cs (e ∷ es) = painted_all (painted cs e) es
 
--- the colour of each of n parts: two have one colour exactly where some path joins them
+-- the colour of each of n parts, after all edges
 unfoldable pub colours : ℕ → List Edge → List ℕ
 colours n edges = painted_all (counted_up n) edges
 
--- some path joins the two parts
+-- the two parts have one colour
 unfoldable pub is_joined : ℕ → List Edge → ℕ → ℕ → Bool
 is_joined n edges a b = slice_index (colours n edges) a == slice_index (colours n edges) b
