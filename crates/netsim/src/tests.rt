@@ -22,6 +22,12 @@ const ONE_FRAME: &str =
 const TWO_FRAMES: &str =
     "1152 station a sent frame 1 start 0 attempt 1\n1162 station b received octets 64\n2496 station a sent frame 2 start 1344 attempt 1\n2506 station b received octets 64\n";
 
+const CUT_AT_500: &str = "1000 station a cut frame 1 start 0 attempt 1 hit none\n";
+
+const CUT_AT_576: &str = "1152 station a cut frame 1 start 0 attempt 1 hit none\n";
+
+const SENT_AT_577: &str = "1152 station a sent frame 1 start 0 attempt 1\n";
+
 const UNBUILT: &str = "layout fault 16 Unbuilt table file row 0 port 0 key -\n";
 
 fn layout<R: AllocGlobal>(rt: &R, until_bits: u32, rest: &str) -> Result<String, OutOfMemory> {
@@ -38,7 +44,6 @@ fn words_of<R: AllocGlobal>(rt: &R, line: &[&str]) -> Result<Words, OutOfMemory>
 }
 
 /// A call over a layout, or none, and over a store and a sink some of whose calls fail, with what it must give.
-/// An empty log is none.
 #[derive(Clone, Copy)]
 struct Case<'a> {
     words: &'a [&'static str],
@@ -49,7 +54,6 @@ struct Case<'a> {
     writes: &'a [u32],
     status: u8,
     line: &'a str,
-    log: &'a str,
 }
 
 /// A run of a layout of which no call fails.
@@ -62,7 +66,6 @@ const RUN: Case<'static> = Case {
     writes: &[],
     status: 0,
     line: "",
-    log: "",
 };
 
 fn store_of<R: AllocGlobal>(rt: &R, case: &Case<'_>) -> Result<MemoryStore, OutOfMemory> {
@@ -80,16 +83,17 @@ fn is_logged(store: &MemoryStore, log: &str) -> bool {
     }
 }
 
-/// Whether a call gives what it must.
+/// Whether a call gives what it must, and this log; an empty log is none.
 fn is_right<R: Threads + Wait + Sync + AllocGlobal>(
     rt: &R,
     case: &Case<'_>,
+    log: &str,
 ) -> Result<bool, OutOfMemory> {
     let words = words_of(rt, case.words)?;
     let mut store = store_of(rt, case)?;
     let mut sink = MemorySink::with_failing(rt.alloc(), case.writes)?;
     let status = netsim(rt, rt.alloc(), &words, &mut store, &mut sink, &OpenGate);
-    Ok(status == case.status && sink.bytes() == case.line.as_bytes() && is_logged(&store, case.log))
+    Ok(status == case.status && sink.bytes() == case.line.as_bytes() && is_logged(&store, log))
 }
 
 #[test]
@@ -108,44 +112,40 @@ fn words_alone(rt: HostRuntime) -> Result<(), OutOfMemory> {
             line: "words fault\n",
             ..RUN
         };
-        assert!(rt; is_right(&rt, &case)?);
+        assert!(rt; is_right(&rt, &case, "")?);
     }
     let case = Case {
         words: &["--help"],
         line: HELP,
         ..RUN
     };
-    assert!(rt; is_right(&rt, &case)?);
+    assert!(rt; is_right(&rt, &case, "")?);
     Ok(())
+}
+
+/// Whether a run of these sends gives this log.
+fn is_log<R: Threads + Wait + Sync + AllocGlobal>(
+    rt: &R,
+    until_bits: u32,
+    sends: &str,
+    log: &str,
+) -> Result<bool, OutOfMemory> {
+    let layout = layout(rt, until_bits, sends)?;
+    let case = Case {
+        layout: Some(layout.as_str()),
+        ..RUN
+    };
+    is_right(rt, &case, log)
 }
 
 #[test]
 fn logs_of_one_segment(rt: HostRuntime) -> Result<(), OutOfMemory> {
     let two = format!(in rt.alloc(); "{SEND}{SEND}")?;
-    let rows = [
-        (700, SEND, ONE_FRAME),
-        (1300, two.as_str(), TWO_FRAMES),
-        (
-            500,
-            SEND,
-            "1000 station a cut frame 1 start 0 attempt 1 hit none\n",
-        ),
-        (
-            576,
-            SEND,
-            "1152 station a cut frame 1 start 0 attempt 1 hit none\n",
-        ),
-        (577, SEND, "1152 station a sent frame 1 start 0 attempt 1\n"),
-    ];
-    for (until_bits, sends, log) in rows {
-        let layout = layout(&rt, until_bits, sends)?;
-        let case = Case {
-            layout: Some(layout.as_str()),
-            log,
-            ..RUN
-        };
-        assert!(rt; is_right(&rt, &case)?, "at {until_bits}");
-    }
+    assert!(rt; is_log(&rt, 700, SEND, ONE_FRAME)?);
+    assert!(rt; is_log(&rt, 1300, two.as_str(), TWO_FRAMES)?);
+    assert!(rt; is_log(&rt, 500, SEND, CUT_AT_500)?);
+    assert!(rt; is_log(&rt, 576, SEND, CUT_AT_576)?);
+    assert!(rt; is_log(&rt, 577, SEND, SENT_AT_577)?);
     Ok(())
 }
 
@@ -193,7 +193,7 @@ fn faults(rt: HostRuntime) -> Result<(), OutOfMemory> {
         },
     ];
     for case in cases {
-        assert!(rt; is_right(&rt, &case)?);
+        assert!(rt; is_right(&rt, &case, "")?);
     }
     Ok(())
 }
