@@ -1,0 +1,4 @@
+pub mod Modes
+pub mod Counts
+pub mod Delayed
+pub mod Step
