@@ -13,6 +13,7 @@ pub record Count : Type 0 where
   pub rest : ℕ
   pub after_rest : Bool
 
+-- how far the counts go
 pub record IsCount (c : Count) : Type 0 where
   pub run_at_most : c.run ≤ 100000
   pub rest_at_most : c.rest ≤ 191

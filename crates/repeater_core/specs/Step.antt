@@ -9,6 +9,7 @@ use Rattle.repeater_core.specs.declared.modes.Mode.{Mode}
 use Rattle.repeater_core.specs.declared.modes.Mode.TheVariants.{Idle}
 use Rattle.repeater_core.specs.Modes.{is_busy, IsMode, activity_from, mode_after, is_tx_clash}
 use Rattle.repeater_core.specs.Counts.{Count, resting_count, Choice, choices_from}
+use Rattle.repeater_core.specs.Laws.{HasNoClash, AreLong, RestInSilence}
 use Rattle.repeater_core.specs.Delayed.{Delayed, oldest, moved_on}
 
 -- a repeater: its mode, a guard and the counts of each port, and what is decided and not yet emitted
@@ -43,6 +44,9 @@ mode_next hears r = mode_after r.mode (activity_from 0 r.guards hears)
 -- what is decided for each port
 unfoldable pub chosen : List Sym → State → List Choice
 chosen hears r = choices_from (mode_next hears r) hears 0 r.counts
+
+abbrev pub resting_by : List Sym → State → List Bool
+resting_by hears r = map (λ c. c.rests) (chosen hears r)
 
 abbrev pub decided_by : List Sym → State → List Sym
 decided_by hears r = map (λ c. c.symbol) (chosen hears r)
@@ -102,7 +106,8 @@ opened_mask hears r = mask_from 0 (map is_opening (guard_events r.guards hears (
 abbrev pub halted_mask : List Sym → State → ℕ
 halted_mask hears r = mask_from 0 (map (λ c. c.halted) (chosen hears r))
 
--- the ports and the delay of a repeater, how far its mode's counts go, and that its lists are as long as they must be
+-- the ports and the delay of a repeater, how far its mode's counts go, that its lists are as long as they must be, that no
+-- clash is stored, that each output is as long as the mode tells, and that a port that rests has none
 pub record IsState (r : State) : Type 0 where
   pub two_ports : 2 ≤ length r.guards
   pub ports_at_most : length r.guards ≤ 32
@@ -112,3 +117,6 @@ pub record IsState (r : State) : Type 0 where
   pub delay_at_most : r.line.delay ≤ 200
   pub rows_len : length r.line.rows ≡ r.line.delay * length r.guards
   pub mode_counts : IsMode r.mode
+  pub no_clash : HasNoClash r.line.rows
+  pub long : AreLong r.mode r.counts
+  pub silence : RestInSilence r.counts

@@ -1,8 +1,9 @@
 //! A repeater.
-ghost use Rattle.std.specs.Prelude.{◌≡◌, ◌<◌, ◌≤◌, length, slice_get, slice_index_or, Some, IfOk};
+ghost use Rattle.std.specs.Prelude.{◌≡◌, ◌<◌, ◌≤◌, length, map, slice_get, slice_index_or, Some, IfOk};
 ghost use Rattle.std.specs.List.{All};
 ghost use Rattle.repeater_core.specs.Counts.{resting_count};
-ghost use Rattle.repeater_core.specs.Step.{State, new_state, resumed, after, emitted_by, decided_by, clash_begins, closed_mask, opened_mask, halted_mask, mode_next, chosen};
+ghost use Rattle.repeater_core.specs.Step.{State, new_state, resumed, after, emitted_by, decided_by, clash_begins, closed_mask, opened_mask, halted_mask, resting_by};
+ghost use Rattle.repeater_core.specs.Laws.{HasNoClash, Repeats, EndsLong};
 
 use crate::counts::{PortCount, resting_counts};
 use crate::line::DelayLine;
@@ -125,6 +126,10 @@ impl Repeater {
         ensures closed { result.closed ≡ closed_mask hears.now self.old }
         ensures opened { result.opened ≡ opened_mask hears.now self.old }
         ensures halted { result.halted ≡ halted_mask hears.now self.old }
+        ensures repeats { Repeats (map (λ g. g.closed) self.old.guards) hears.now (resting_by hears.now self.old) decided.new }
+        ensures ends_long { EndsLong self.old.counts decided.new }
+        ensures no_clash_emitted { HasNoClash emits.new }
+        ensures no_clash_decided { HasNoClash decided.new }
     {
         let collided = collision(self.mode);
         self.mode = next_mode(self.mode, active_ports(&self.guards, hears));
