@@ -1,0 +1,5 @@
+pub mod Joining
+pub mod Turning
+pub mod Long
+pub mod Wishes
+pub mod Lawful

@@ -1,0 +1,6 @@
+use Rattle.std.proofs.Common.{◌≡◌, map, take}
+use Rattle.repeater_core.specs.Counts.{resting_count}
+use Rattle.repeater_core.proofs.counts.resting_counts.Given as goal
+
+abbrev pub invariant-loop-k : goal.invariant-loop-k
+invariant-loop-k l = l.counts.items ≡ map resting_count (take l.k l.rests)

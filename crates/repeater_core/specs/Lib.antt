@@ -1,0 +1,5 @@
+pub mod Modes
+pub mod Counts
+pub mod Delayed
+pub mod Laws
+pub mod Step

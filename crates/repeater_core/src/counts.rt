@@ -1,0 +1,97 @@
+//! What a port makes of the wishes for it.
+ghost use Rattle.std.specs.Prelude.{◌≡◌, ◌≤◌, map, IfOk};
+ghost use Rattle.std.specs.List.{All};
+ghost use Rattle.repeater_core.specs.Counts.{choice, resting_count};
+
+use lists::OutOfMemory;
+use manchester_line::Sym;
+use std::alloc::Global;
+use std::marker::Model;
+
+/// The half bits of unbroken output after which a port is halted (profile, in the manner of the jabber
+/// lockup protection of clause 9).
+const MOST_OUTPUT: u32 = 100_000;
+
+/// The half bits of rest that follow the one in which a port is halted (profile).
+const REST_LEFT: u32 = 191;
+
+/// A port's counts: the half bits of its unbroken output, 0 to 100,000, the half bits of rest that are left,
+/// 0 to 191, and whether the output comes right after a rest.
+#[derive(Clone, Copy, Debug, PartialEq, Eq)]
+pub struct PortCount {
+    pub run: u32,
+    pub rest: u32,
+    pub after_rest: bool,
+}
+
+/// What is decided for a port in a half bit.
+#[derive(Clone, Copy, Debug, PartialEq, Eq)]
+pub struct Decision {
+    pub symbol: Sym,
+    pub halted: bool,
+}
+
+impl Model for PortCount {
+    ghost use Rattle.repeater_core.specs.Counts.{Count, IsCount};
+
+    ghost Value = { Count };
+
+    ghost view = { λ c. record { run = c.run; rest = c.rest; after_rest = c.after_rest } };
+
+    ghost invariant = { λ c. IsCount (record { run = c.run; rest = c.rest; after_rest = c.after_rest }) };
+
+    ghost inverse = { λ c. record { run = c.run; rest = c.rest; after_rest = c.after_rest } };
+}
+
+impl PortCount {
+    /// The counts of a port without output, with that many half bits of rest left.
+    pub fn resting(rest: u32) -> PortCount
+        requires { rest ≤ 191 }
+        ensures { result ≡ resting_count rest }
+    {
+        PortCount {
+            run: 0,
+            rest,
+            after_rest: false,
+        }
+    }
+
+    /// One half bit, in which this symbol is wished for the port.
+    pub fn decide(&mut self, wished: Sym) -> Decision
+        ensures count { self.new ≡ (choice wished self.old).count }
+        ensures symbol { result.symbol ≡ (choice wished self.old).symbol }
+        ensures halted { result.halted ≡ (choice wished self.old).halted }
+    {
+        let mut symbol = Sym::Idle;
+        let mut halted = false;
+        if self.rest > 0 {
+            self.rest -= 1;
+            self.run = 0;
+            self.after_rest = true;
+        } else if wished == Sym::Idle {
+            self.run = 0;
+            self.after_rest = false;
+        } else if self.run == MOST_OUTPUT {
+            self.rest = REST_LEFT;
+            self.run = 0;
+            self.after_rest = true;
+            halted = true;
+        } else {
+            self.run += 1;
+            symbol = wished;
+        }
+        Decision { symbol, halted }
+    }
+}
+
+/// The counts of ports without output that rest for so many half bits more, each.
+pub fn resting_counts(alloc: Global, rests: &[u32]) -> Result<Vec<PortCount>, OutOfMemory>
+    requires { All (λ rest. rest ≤ 191) rests.now }
+    ensures { IfOk result (λ counts. counts.items ≡ map resting_count rests.now) }
+{
+    let mut counts = Vec::with_capacity(alloc, rests.len())?;
+    for k in 0..rests.len() {
+        counts.push(PortCount::resting(rests[k]))?;
+    }
+    Ok(counts)
+}

@@ -1,0 +1,15 @@
+//! A repeater of 2 to 32 ports, half bit by half bit (clause 9, with our profile's transitions).
+#![tactic(auto)]
+
+mod counts;
+mod line;
+mod masks;
+mod modes;
+mod ports;
+mod repeater;
+
+pub use modes::Mode;
+pub use repeater::{Repeater, RepeaterEvents};
+
+#[cfg(test)]
+mod tests;

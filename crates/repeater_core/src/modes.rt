@@ -1,0 +1,205 @@
+//! The modes of a repeater.
+ghost use Rattle.std.specs.Prelude.{◌≡◌, ◌<◌, ◌≤◌, ◌+◌, length, slice_index_or};
+ghost use Rattle.manchester_line.specs.declared.Sym.TheVariants as sym;
+ghost use Rattle.repeater_core.specs.declared.modes.Activity.TheVariants.{Nobody, One, Several};
+ghost use Rattle.repeater_core.specs.Modes.{is_busy, joined, activity_at, count_of, jams_of, next_count, mode_after, activity_from, is_tx_clash, wish_of};
+
+use manchester_line::{Sym, header_sym, jam_sym};
+use port_partition::PortGuard;
+
+/// The count from which a mode goes round in periods of the jam, and at which output is long enough (profile).
+const LONG_ENOUGH: u32 = 192;
+
+/// The greatest count of a mode.
+const LAST_COUNT: u32 = 195;
+
+/// The half bits of the header (clause 3).
+const HEADER_HALVES: u32 = 128;
+
+/// What a repeater does. `n` is a port, counted from 0, `i` counts the half bits of the output, 0 to 195,
+/// and `j` those of the jam that makes a short reception longer.
+#[derive(Clone, Copy, Debug, PartialEq, Eq)]
+pub enum Mode {
+    /// No port is active.
+    Idle,
+    /// Port `n` is repeated to the others.
+    Repeat { n: u32, i: u32 },
+    /// Port `n` ended early, and the output to the others is made longer.
+    Extend { n: u32, i: u32, j: u32 },
+    /// Port `n` has a collision, and the others get the jam.
+    RxClash { n: u32, i: u32 },
+    /// Several ports are active, and all get the jam.
+    TxClash { i: u32 },
+    /// Port `n` alone is left of a collision, and the others get the jam.
+    OnePort { n: u32, i: u32 },
+}
+
+/// Which ports are active in a half bit.
+#[derive(Clone, Copy, Debug, PartialEq, Eq)]
+pub enum Activity {
+    Nobody,
+    One { n: u32, heard: Sym },
+    Several,
+}
+
+/// Whether a symbol is a signal.
+pub fn busy(s: Sym) -> bool
+    ensures { result ≡ is_busy s }
+{
+    match s {
+        Sym::Idle => false,
+        _ => true,
+    }
+}
+
+/// The active ports with port `n` too, if it is open and hears a signal.
+#[tactic(auto, using(crate::proofs::Joining::joined_nobody))]
+fn with_active(active: Activity, n: u32, guard: &PortGuard, heard: Sym) -> Activity
+    ensures { result ≡ joined active (activity_at n guard.now heard) }
+{
+    if guard.closed || !busy(heard) {
+        return active;
+    }
+    match active {
+        Activity::Nobody => Activity::One { n, heard },
+        _ => Activity::Several,
+    }
+}
+
+/// Which of the ports are active: those that are open and hear a signal.
+#[tactic(auto, using(crate::proofs::Joining::joined_assoc, crate::proofs::Joining::joined_nobody))]
+pub fn active_ports(guards: &[PortGuard], hears: &[Sym]) -> Activity
+    requires few { length guards.now ≤ 32 }
+    requires as_many { length hears.now ≡ length guards.now }
+    ensures { result ≡ activity_from 0 guards.now hears.now }
+{
+    let mut active = Activity::Nobody;
+    for k in 0..hears.len() {
+        active = with_active(active, k as u32, &guards[k], hears[k]);
+    }
+    active
+}
+
+fn next_index(i: u32) -> u32
+    requires { i < 196 }
+    ensures { result ≡ next_count i }
+{
+    if i == LAST_COUNT { LONG_ENOUGH } else { i + 1 }
+}
+
+fn without_activity(mode: Mode) -> Mode
+    requires counts { count_of mode < 196 }
+    requires jams { jams_of mode ≤ count_of mode }
+    ensures { result ≡ mode_after mode Nobody }
+{
+    match mode {
+        Mode::Repeat { n, i } if next_index(i) < LONG_ENOUGH => Mode::Extend {
+            n,
+            i: next_index(i),
+            j: 0,
+        },
+        Mode::Extend { n, i, j } if next_index(i) < LONG_ENOUGH => Mode::Extend {
+            n,
+            i: next_index(i),
+            j: j + 1,
+        },
+        Mode::RxClash { n, i } if next_index(i) < LONG_ENOUGH => Mode::RxClash {
+            n,
+            i: next_index(i),
+        },
+        Mode::TxClash { i } if next_index(i) < LONG_ENOUGH => Mode::TxClash { i: next_index(i) },
+        _ => Mode::Idle,
+    }
+}
+
+fn with_one(mode: Mode, m: u32, heard: Sym) -> Mode
+    requires counts { count_of mode < 196 }
+    ensures { result ≡ mode_after mode (One m heard) }
+{
+    match mode {
+        Mode::Idle if heard == Sym::Clash => Mode::RxClash { n: m, i: 0 },
+        Mode::Idle => Mode::Repeat { n: m, i: 0 },
+        Mode::Repeat { n, .. } if m == n && heard == Sym::Clash => Mode::RxClash { n, i: 0 },
+        Mode::Repeat { n, i } if m == n => Mode::Repeat {
+            n,
+            i: next_index(i),
+        },
+        Mode::Extend { n, .. } if m == n => Mode::RxClash { n, i: 0 },
+        Mode::RxClash { n, i } if m == n => Mode::RxClash {
+            n,
+            i: next_index(i),
+        },
+        Mode::TxClash { i } if next_index(i) < LONG_ENOUGH => Mode::TxClash { i: next_index(i) },
+        Mode::TxClash { .. } => Mode::OnePort { n: m, i: 0 },
+        Mode::OnePort { n, i } if m == n => Mode::OnePort {
+            n,
+            i: next_index(i),
+        },
+        _ => Mode::TxClash { i: 0 },
+    }
+}
+
+fn with_several(mode: Mode) -> Mode
+    requires counts { count_of mode < 196 }
+    ensures { result ≡ mode_after mode Several }
+{
+    match mode {
+        Mode::TxClash { i } => Mode::TxClash { i: next_index(i) },
+        _ => Mode::TxClash { i: 0 },
+    }
+}
+
+/// The mode after a half bit with these active ports.
+pub fn next_mode(mode: Mode, active: Activity) -> Mode
+    requires counts { count_of mode < 196 }
+    requires jams { jams_of mode ≤ count_of mode }
+    ensures { result ≡ mode_after mode active }
+{
+    match active {
+        Activity::Nobody => without_activity(mode),
+        Activity::One { n, heard } => with_one(mode, n, heard),
+        Activity::Several => with_several(mode),
+    }
+}
+
+/// Whether several ports collide.
+pub fn collision(mode: Mode) -> bool
+    ensures { result ≡ is_tx_clash mode }
+{
+    match mode {
+        Mode::TxClash { .. } => true,
+        _ => false,
+    }
+}
+
+fn heard_by(hears: &[Sym], n: u32) -> Sym
+    ensures { result ≡ slice_index_or hears.now n sym.Idle }
+{
+    match hears.get(n as usize) {
+        Some(s) => *s,
+        None => Sym::Idle,
+    }
+}
+
+/// What the mode after a half bit wishes for a port, counted from 0.
+pub fn wish(mode: Mode, hears: &[Sym], port: u32) -> Sym
+    ensures { result ≡ wish_of mode hears.now port }
+{
+    match mode {
+        Mode::Idle => Sym::Idle,
+        Mode::TxClash { i } => jam_sym(i),
+        Mode::Repeat { n, i } => {
+            if n == port {
+                Sym::Idle
+            } else if i < HEADER_HALVES {
+                header_sym(i)
+            } else {
+                heard_by(hears, n)
+            }
+        }
+        Mode::Extend { n, j, .. } => { if n == port { Sym::Idle } else { jam_sym(j) } }
+        Mode::RxClash { n, i } | Mode::OnePort { n, i } => {
+            if n == port { Sym::Idle } else { jam_sym(i) }
+        }
+    }
+}

@@ -1,0 +1,146 @@
+//! A repeater.
+ghost use Rattle.std.specs.Prelude.{◌≡◌, ◌<◌, ◌≤◌, length, map, slice_get, slice_index_or, Some, IfOk};
+ghost use Rattle.std.specs.List.{All};
+ghost use Rattle.repeater_core.specs.Counts.{resting_count};
+ghost use Rattle.repeater_core.specs.Step.{State, new_state, resumed, after, emitted_by, decided_by, clash_begins, closed_mask, opened_mask, halted_mask, resting_by};
+ghost use Rattle.repeater_core.specs.Laws.{HasNoClash, Repeats, EndsLong};
+
+use crate::counts::{PortCount, resting_counts};
+use crate::line::DelayLine;
+use crate::modes::{Mode, active_ports, collision, next_mode};
+use crate::ports::{decide_all, guard_all};
+use lists::OutOfMemory;
+use manchester_line::Sym;
+use port_partition::PortGuard;
+use std::alloc::Global;
+use std::marker::Model;
+
+/// What happened in a half bit: whether a collision of ports began, and the ports whose guards closed or
+/// opened and that were halted, where bit p, counted from 0, stands for port p.
+#[derive(Clone, Copy, Debug, PartialEq, Eq)]
+pub struct RepeaterEvents {
+    pub clash: bool,
+    pub closed: u32,
+    pub opened: u32,
+    pub halted: u32,
+}
+
+/// A repeater of 2 to 32 ports that emits what it decides 1 to 200 half bits later.
+#[derive(Drop)]
+pub struct Repeater {
+    mode: Mode,
+    guards: Vec<PortGuard>,
+    counts: Vec<PortCount>,
+    line: DelayLine,
+}
+
+impl Model for Repeater {
+    ghost use Rattle.repeater_core.specs.Step.{State, IsState};
+
+    ghost Value = { State };
+
+    ghost view = { λ r. record { mode = r.mode; guards = r.guards.items; counts = r.counts.items; line = r.line } };
+
+    ghost invariant = { λ r. IsState (record { mode = r.mode; guards = r.guards.items; counts = r.counts.items; line = r.line }) };
+}
+
+impl Repeater {
+    /// A repeater of `ports` ports, 2 to 32, that emits what it decides `delay` half bits later, 1 to 200. All ports
+    /// are open, and it emits Idle at first.
+    pub fn new(alloc: Global, ports: u32, delay: u32) -> Result<Repeater, OutOfMemory>
+        requires two_ports { 2 ≤ ports }
+        requires ports_at_most { ports ≤ 32 }
+        requires some_delay { 1 ≤ delay }
+        requires delay_at_most { delay ≤ 200 }
+        ensures { IfOk result (λ r. r ≡ new_state ports delay) }
+    {
+        let ports = ports as usize;
+        Ok(Repeater {
+            mode: Mode::Idle,
+            guards: vec![in alloc; PortGuard::new(); ports]?,
+            counts: vec![in alloc; PortCount::resting(0); ports]?,
+            line: DelayLine::new(alloc, ports, delay as usize)?,
+        })
+    }
+
+    /// A repeater of 2 to 32 ports with these guards, whose ports rest for so many half bits more, 0 to 191, each. It
+    /// emits what it decides `delay` half bits later, 1 to 200. It is in mode Idle, and all decisions so far were Idle.
+    pub fn resume(
+        alloc: Global,
+        delay: u32,
+        guards: &[PortGuard],
+        rests: &[u32],
+    ) -> Result<Repeater, OutOfMemory>
+        requires two_ports { 2 ≤ length guards.now }
+        requires ports_at_most { length guards.now ≤ 32 }
+        requires as_many { length rests.now ≡ length guards.now }
+        requires some_delay { 1 ≤ delay }
+        requires delay_at_most { delay ≤ 200 }
+        requires rests { All (λ rest. rest ≤ 191) rests.now }
+        ensures { IfOk result (λ r. r ≡ resumed delay guards.now rests.now) }
+    {
+        Ok(Repeater {
+            mode: Mode::Idle,
+            guards: Vec::from_slice(alloc, guards)?,
+            counts: resting_counts(alloc, rests)?,
+            line: DelayLine::new(alloc, guards.len(), delay as usize)?,
+        })
+    }
+
+    /// The half bits of rest that a port, counted from 0, has left, 0 to 191.
+    pub fn rest(&self, port: u32) -> u32
+        requires { port < length self.now.guards }
+        ensures { result ≡ (slice_index_or self.now.counts port (resting_count 0)).rest }
+    {
+        let count = &self.counts[port as usize];
+        count.rest
+    }
+
+    /// The guard of a port, counted from 0.
+    pub fn guard(&self, port: u32) -> &PortGuard
+        requires { port < length self.now.guards }
+        ensures { slice_get self.now.guards port ≡ Some result.now }
+    {
+        &self.guards[port as usize]
+    }
+
+    /// The mode after the half bits so far.
+    pub fn mode(&self) -> Mode
+        ensures { result ≡ self.now.mode }
+    {
+        self.mode
+    }
+
+    /// One half bit, in which the ports hear these symbols: writes what each port emits, which was decided
+    /// `delay` half bits ago, and what is decided for it now (clause 9, with the profile's transitions).
+    #[tactic(auto, unfolding(crate::specs::Step::mode_next, crate::specs::Step::chosen))]
+    pub fn step(&mut self, hears: &[Sym], emits: &mut [Sym], decided: &mut [Sym]) -> RepeaterEvents
+        requires hears_len { length hears.now ≡ length self.old.guards }
+        requires emits_len { length emits.old ≡ length self.old.guards }
+        requires decided_len { length decided.old ≡ length self.old.guards }
+        ensures state { self.new ≡ after hears.now self.old }
+        ensures ports { length self.new.guards ≡ length self.old.guards }
+        ensures emits { emits.new ≡ emitted_by self.old }
+        ensures decided { decided.new ≡ decided_by hears.now self.old }
+        ensures clash { result.clash ≡ clash_begins hears.now self.old }
+        ensures closed { result.closed ≡ closed_mask hears.now self.old }
+        ensures opened { result.opened ≡ opened_mask hears.now self.old }
+        ensures halted { result.halted ≡ halted_mask hears.now self.old }
+        ensures repeats { Repeats (map (λ g. g.closed) self.old.guards) hears.now (resting_by hears.now self.old) decided.new }
+        ensures ends_long { EndsLong self.old.counts decided.new }
+        ensures no_clash_emitted { HasNoClash emits.new }
+        ensures no_clash_decided { HasNoClash decided.new }
+    {
+        let collided = collision(self.mode);
+        self.mode = next_mode(self.mode, active_ports(&self.guards, hears));
+        let halted = decide_all(self.mode, hears, &mut self.counts, decided);
+        self.line.step(decided, emits);
+        let changes = guard_all(&mut self.guards, hears, emits);
+        RepeaterEvents {
+            clash: collision(self.mode) && !collided,
+            closed: changes.closed,
+            opened: changes.opened,
+            halted,
+        }
+    }
+}
