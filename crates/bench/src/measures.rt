@@ -8,6 +8,7 @@ use mac_receive::Receiver;
 use manchester_line::{Decoder, Sym, encode_into, half_of};
 use netsim::{Words, run_words};
 use outside::{MemorySink, MemoryStore};
+use repeater_core::Repeater;
 use std::alloc::Global;
 
 /// What is measured.
@@ -23,17 +24,26 @@ pub enum Measure {
     ReceiveTake,
     /// The frame check sequence.
     Fcs,
+    /// A repeater of two ports, of which one hears signal all the time.
+    RepeatTwoPorts,
+    /// A repeater of 32 ports, of which one hears signal all the time.
+    RepeatAllPorts,
+    /// A repeater of two ports that hear nothing, half bit by half bit.
+    RepeatQuiet,
     /// The program on a segment of two stations, from the layout to the log.
     Plain,
 }
 
 impl Measure {
-    pub const ALL: [Measure; 6] = [
+    pub const ALL: [Measure; 9] = [
         Measure::Encode,
         Measure::Decode,
         Measure::ReceiveIdle,
         Measure::ReceiveTake,
         Measure::Fcs,
+        Measure::RepeatTwoPorts,
+        Measure::RepeatAllPorts,
+        Measure::RepeatQuiet,
         Measure::Plain,
     ];
 
@@ -45,6 +55,9 @@ impl Measure {
             Measure::ReceiveIdle => "receive-idle",
             Measure::ReceiveTake => "receive-take",
             Measure::Fcs => "fcs",
+            Measure::RepeatTwoPorts => "repeat-2-ports",
+            Measure::RepeatAllPorts => "repeat-32-ports",
+            Measure::RepeatQuiet => "repeat-quiet",
             Measure::Plain => "plain",
         }
     }
@@ -53,6 +66,7 @@ impl Measure {
     pub fn unit(self) -> &'static str {
         match self {
             Measure::Fcs => "octets",
+            Measure::RepeatTwoPorts | Measure::RepeatAllPorts | Measure::RepeatQuiet => "port half bits",
             Measure::Plain => "device half bits",
             _ => "half bits",
         }
@@ -69,6 +83,8 @@ const TIMES: u32 = 20_000;
 
 const STEPS: u32 = 500_000_000;
 
+const REPEATED: u32 = 10_000_000;
+
 /// A segment of two stations, of which one sends.
 const LAYOUT: &str =
     "format = 1\nseed = 1\nuntil_bits = 5000000\n[[segment]]\nname = \"x\"\n[[station]]\nname = \"a\"\nsegment = \"x\"\nat = 0\n[[station]]\nname = \"b\"\nsegment = \"x\"\nat = 10\n[[send]]\nstation = \"a\"\nat = 0\noctets = \"ffffffffffff0200000000010800\"\n";
@@ -84,6 +100,9 @@ pub fn run(alloc: Global, measure: Measure) -> Result<u64, OutOfMemory> {
         Measure::ReceiveIdle => Ok(receive_idle()),
         Measure::ReceiveTake => Ok(receive_take(piece(alloc)?.as_slice())),
         Measure::Fcs => Ok(check_sequences()),
+        Measure::RepeatTwoPorts => repeat(alloc, 2, Sym::Hi),
+        Measure::RepeatAllPorts => repeat(alloc, 32, Sym::Hi),
+        Measure::RepeatQuiet => repeat(alloc, 2, Sym::Idle),
         Measure::Plain => plain(alloc),
     }
 }
@@ -168,6 +187,35 @@ fn check_sequences() -> u64 {
         sum ^= fcs(&OCTETS);
     }
     u64::from(TIMES) * OCTETS.len() as u64 + u64::from(sum % 2)
+}
+
+/// Steps a repeater whose first port hears this symbol and whose other ports hear nothing.
+fn repeat_often(repeater: &mut Repeater, hears: &[Sym], emits: &mut [Sym], decided: &mut [Sym]) -> u32
+    requires hears { length hears.now ≡ length repeater.old.guards }
+    requires emits { length emits.old ≡ length repeater.old.guards }
+    requires decided { length decided.old ≡ length repeater.old.guards }
+{
+    let mut clashes = 0u32;
+    for _step in 0..REPEATED {
+        if repeater.step(hears, emits, decided).clash {
+            clashes = clashes.saturating_add(1);
+        }
+    }
+    clashes
+}
+
+fn repeat(alloc: Global, ports: u32, heard: Sym) -> Result<u64, OutOfMemory>
+    requires least { 2 ≤ ports }
+    requires most { ports ≤ 32 }
+{
+    let count = ports as usize;
+    let mut repeater = Repeater::new(alloc, ports, 16)?;
+    let mut hears = vec![in alloc; Sym::Idle; count]?;
+    hears[0] = heard;
+    let mut emits = vec![in alloc; Sym::Idle; count]?;
+    let mut decided = vec![in alloc; Sym::Idle; count]?;
+    let clashes = repeat_often(&mut repeater, &hears, &mut emits, &mut decided);
+    Ok(u64::from(REPEATED) * u64::from(ports) + u64::from(clashes % 2))
 }
 
 fn plain(alloc: Global) -> Result<u64, OutOfMemory> {
