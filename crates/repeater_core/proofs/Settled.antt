@@ -1,22 +1,20 @@
 -- A repeater that a quiet half bit leaves as it is.
-use Rattle.std.proofs.Common.{◌≡◌, ℕ, zero, suc, ◌+◌, ◌-◌, ◌*◌, ◌<◌, ◌≤◌, Bool, true, false, not, cond, eqb, ◌&&◌, List, [], ◌∷◌, ◌++◌, length, map, take, drop, get_or, replicate, refl, sym, ap, ap₂, subst, ◌∙◌, arith, length-append, length-drop, length-take-le, mul-le-mul_right}
+use Rattle.std.proofs.Common.{◌≡◌, ℕ, zero, suc, ◌+◌, ◌-◌, ◌*◌, ◌<◌, ◌≤◌, Bool, true, false, not, cond, ◌&&◌, List, [], ◌∷◌, ◌++◌, length, map, take, drop, replicate, refl, sym, ap, ap₂, subst, ◌∙◌, arith, length-append, length-drop, length-take-le, mul-le-mul_right}
 use Rattle.std.proofs.lemmas.Bool.Decides.{nat_tests}
-use Rattle.std.proofs.lemmas.List.{length-map, length-replicate}
+use Rattle.std.proofs.lemmas.List.{length-replicate}
 use Rattle.std.proofs.lemmas.List.Elements.{All-head, All-tail, All-append, All-drop, All-take, All-replicate}
 use Rattle.std.specs.List.{All}
 use Rattle.std.specs.Fn.{iterate}
 use Rattle.manchester_line.specs.declared.Sym.{Sym}
 use Rattle.manchester_line.specs.declared.Sym.TheVariants as sy
 use Rattle.port_partition.specs.Guard.{Guard, guard_after}
-use Rattle.repeater_core.specs.declared.modes.Mode.{Mode}
 use Rattle.repeater_core.specs.declared.modes.Mode.TheVariants.{Idle}
-use Rattle.repeater_core.specs.declared.modes.Activity.{Activity}
-use Rattle.repeater_core.specs.declared.modes.Activity.TheVariants.{Nobody, One, Several}
+use Rattle.repeater_core.specs.declared.modes.Activity.TheVariants.{Nobody, One}
 use Rattle.repeater_core.specs.Modes.{is_busy, joined, activity_at, activity_from, mode_after}
-use Rattle.repeater_core.specs.Counts.{Count, Choice, choice, choices_from, resting_count}
-use Rattle.repeater_core.specs.Delayed.{Delayed, moved_on, oldest, rotated}
-use Rattle.repeater_core.specs.Step.{State, IsState, mode_next, chosen, collides, guards_after, after}
-use Rattle.repeater_core.specs.Calm.{silence, silent_step, is_settled}
+use Rattle.repeater_core.specs.Counts.{Count, choice, choices_from, resting_count}
+use Rattle.repeater_core.specs.Delayed.{Delayed, moved_on, rotated}
+use Rattle.repeater_core.specs.Step.{State, IsState, mode_next, chosen, collides, guards_after}
+use Rattle.repeater_core.specs.Calm.{silent_step, is_settled}
 
 idle_at : (n : ℕ) (g : Guard) → activity_at n g sy.Idle ≡ Nobody
 idle_at n g = at n g.closed

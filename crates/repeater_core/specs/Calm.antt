@@ -1,5 +1,5 @@
 -- Half bits in which no port hears anything.
-use Rattle.std.specs.Prelude.{ℕ, ◌≡◌, Bool, true, false, ◌==◌, ◌&&◌, not, length, replicate, List}
+use Rattle.std.specs.Prelude.{◌≡◌, Bool, false, ◌==◌, ◌&&◌, not, length, replicate, List}
 use Rattle.std.specs.List.{All}
 use Rattle.manchester_line.specs.declared.Sym.{Sym}
 use Rattle.manchester_line.specs.declared.Sym.TheVariants as sym

@@ -1,4 +1,4 @@
-use Rattle.std.proofs.Common.{◌≡◌, ◌+◌, ◌-◌, ap, sym, ◌∙◌, rules, arith}
+use Rattle.std.proofs.Common.{◌+◌, ◌-◌, ap, sym, ◌∙◌, rules, arith}
 use Rattle.std.specs.Fn.{iterate}
 use Rattle.repeater_core.specs.Calm.{silent_step}
 use Rattle.repeater_core.proofs.Settled.{iterate_settled, iterate_more}
