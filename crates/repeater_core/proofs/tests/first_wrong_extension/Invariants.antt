@@ -1,5 +1,5 @@
 use Rattle.std.proofs.Common.{◌≡◌, length}
-use Rattle.repeater_core.proofs.tests.a_short_reception_is_made_longer.Given as goal
+use Rattle.repeater_core.proofs.tests.first_wrong_extension.Given as goal
 
 abbrev pub invariant-loop-t : goal.invariant-loop-t
 invariant-loop-t l = length l.repeater.guards ≡ 2
