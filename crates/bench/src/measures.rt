@@ -66,7 +66,8 @@ impl Measure {
     pub fn unit(self) -> &'static str {
         match self {
             Measure::Fcs => "octets",
-            Measure::RepeatTwoPorts | Measure::RepeatAllPorts | Measure::RepeatQuiet => "port half bits",
+            Measure::RepeatTwoPorts | Measure::RepeatAllPorts | Measure::RepeatQuiet =>
+                "port half bits",
             Measure::Plain => "device half bits",
             _ => "half bits",
         }
@@ -190,7 +191,12 @@ fn check_sequences() -> u64 {
 }
 
 /// Steps a repeater whose first port hears this symbol and whose other ports hear nothing.
-fn repeat_often(repeater: &mut Repeater, hears: &[Sym], emits: &mut [Sym], decided: &mut [Sym]) -> u32
+fn repeat_often(
+    repeater: &mut Repeater,
+    hears: &[Sym],
+    emits: &mut [Sym],
+    decided: &mut [Sym],
+) -> u32
     requires hears { length hears.now ≡ length repeater.old.guards }
     requires emits { length emits.old ≡ length repeater.old.guards }
     requires decided { length decided.old ≡ length repeater.old.guards }

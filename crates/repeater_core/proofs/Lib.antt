@@ -3,4 +3,3 @@ pub mod Turning
 pub mod Long
 pub mod Wishes
 pub mod Lawful
-pub mod Settled
