@@ -1,6 +1,5 @@
 -- The active ports of two groups of ports.
-use Rattle.std.proofs.Common.{◌≡◌, ℕ, ◌+◌, ◌<◌, List, length, get_or, drop, refl, sym, ap, ◌∙◌}
-use Rattle.manchester_line.specs.declared.Sym.{Sym}
+use Rattle.std.proofs.Common.{◌≡◌, refl}
 use Rattle.repeater_core.specs.declared.modes.Activity.{Activity}
 use Rattle.repeater_core.specs.declared.modes.Activity.TheVariants.{Nobody, One, Several}
 use Rattle.repeater_core.specs.Modes.{joined}

@@ -3,3 +3,4 @@ pub mod Turning
 pub mod Long
 pub mod Wishes
 pub mod Lawful
+pub mod Settled

@@ -9,7 +9,7 @@ use Rattle.repeater_core.specs.declared.modes.Mode.{Mode}
 use Rattle.repeater_core.specs.declared.modes.Mode.TheVariants.{Idle, Repeat, Extend, RxClash, TxClash, OnePort}
 use Rattle.repeater_core.specs.declared.modes.Activity.{Activity}
 use Rattle.repeater_core.specs.declared.modes.Activity.TheVariants.{Nobody, One, Several}
-use Rattle.repeater_core.specs.Modes.{is_busy, joined, activity_at, activity_from, mode_after, next_count, begun, repeated, wish_of}
+use Rattle.repeater_core.specs.Modes.{is_busy, joined, activity_from, mode_after, next_count, begun, repeated, wish_of}
 use Rattle.repeater_core.specs.Laws.{SendsNothing}
 
 pub choose : {A : Type 0} (P : A → Type 0) (b : Bool) (x y : A) → (b ≡ true → P x) → (b ≡ false → P y) → P (cond b x y)

@@ -1,6 +1,6 @@
 -- What a port makes of the wishes for it: after 100,000 half bits of unbroken output it rests for 192
 -- (profile, in the manner of the jabber lockup protection of clause 9).
-use Rattle.std.specs.Prelude.{ℕ, ◌+◌, ◌-◌, ◌<◌, ◌≤◌, Bool, true, false, ◌==◌, if◌then◌else◌, List, [], ◌∷◌}
+use Rattle.std.specs.Prelude.{ℕ, ◌+◌, ◌-◌, ◌≤◌, Bool, true, false, ◌==◌, if◌then◌else◌, List, [], ◌∷◌}
 use Rattle.manchester_line.specs.declared.Sym.{Sym}
 use Rattle.manchester_line.specs.declared.Sym.TheVariants as sym
 use Rattle.repeater_core.specs.declared.modes.Mode.{Mode}

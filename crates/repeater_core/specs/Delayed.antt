@@ -1,5 +1,5 @@
 -- A repeater's delay: what was decided is emitted `delay` half bits later.
-use Rattle.std.specs.Prelude.{ℕ, ◌+◌, ◌*◌, ◌==◌, if◌then◌else◌, List, ◌++◌, take, drop}
+use Rattle.std.specs.Prelude.{ℕ, ◌+◌, ◌==◌, if◌then◌else◌, List, ◌++◌, take, drop}
 use Rattle.manchester_line.specs.declared.Sym.{Sym}
 
 -- what was decided and not yet emitted: `delay` rows of one symbol a port, the oldest first

@@ -3,3 +3,4 @@ pub mod Counts
 pub mod Delayed
 pub mod Laws
 pub mod Step
+pub mod Calm

@@ -1,6 +1,7 @@
 //! A repeater of 2 to 32 ports, half bit by half bit (clause 9, with our profile's transitions).
 #![tactic(auto)]
 
+mod calm;
 mod counts;
 mod line;
 mod masks;

@@ -1,8 +1,10 @@
 //! A repeater's delay: rows of symbols that come out `delay` half bits after they were put in.
-ghost use Rattle.std.specs.Prelude.{◌≡◌, ◌<◌, ◌≤◌, ◌+◌, ◌*◌, ◌++◌, length, take, drop, replicate, IfOk};
+ghost use Rattle.std.specs.Prelude.{◌≡◌, ◌<◌, ◌≤◌, ◌+◌, ◌*◌, ◌++◌, length, take, drop, replicate, IfOk, IsTrue};
+ghost use Rattle.std.specs.List.{All};
 ghost use Rattle.manchester_line.specs.declared.Sym.TheVariants.{Idle};
 ghost use Rattle.repeater_core.specs.Delayed.{rotated, turn_after, moved_on, oldest};
 
+use crate::calm::all_idle;
 use lists::OutOfMemory;
 use manchester_line::Sym;
 use std::alloc::Global;
@@ -76,5 +78,12 @@ impl DelayLine {
     {
         turn_row(&mut self.slots, self.turn * self.ports, decided, emits);
         self.turn = next_turn(self.turn, self.delay);
+    }
+
+    /// Whether all that was decided and not yet emitted is Idle.
+    pub fn is_idle(&self) -> bool
+        ensures { IsTrue result → All (λ s. s ≡ Idle) self.now.rows }
+    {
+        all_idle(&self.slots)
     }
 }

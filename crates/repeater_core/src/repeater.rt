@@ -1,10 +1,13 @@
 //! A repeater.
-ghost use Rattle.std.specs.Prelude.{◌≡◌, ◌<◌, ◌≤◌, length, map, slice_get, slice_index_or, Some, IfOk};
+ghost use Rattle.std.specs.Prelude.{◌≡◌, ◌<◌, ◌≤◌, length, map, slice_get, slice_index_or, Some, IfOk, IsTrue, ℕ};
+ghost use Rattle.std.specs.Fn.{iterate};
+ghost use Rattle.repeater_core.specs.Calm.{silent_step, IsQuiet};
 ghost use Rattle.std.specs.List.{All};
 ghost use Rattle.repeater_core.specs.Counts.{resting_count};
 ghost use Rattle.repeater_core.specs.Step.{State, new_state, resumed, after, emitted_by, decided_by, clash_begins, closed_mask, opened_mask, halted_mask, resting_by};
 ghost use Rattle.repeater_core.specs.Laws.{HasNoClash, Repeats, EndsLong};
 
+use crate::calm::{counts_settled, guards_settled};
 use crate::counts::{PortCount, resting_counts};
 use crate::line::DelayLine;
 use crate::modes::{Mode, active_ports, collision, next_mode};
@@ -14,6 +17,9 @@ use manchester_line::Sym;
 use port_partition::PortGuard;
 use std::alloc::Global;
 use std::marker::Model;
+
+/// The most ports of a repeater.
+const MOST_PORTS: usize = 32;
 
 /// What happened in a half bit: whether a collision of ports began, and the ports whose guards closed or
 /// opened and that were halted, where bit p, counted from 0, stands for port p.
@@ -141,6 +147,49 @@ impl Repeater {
             closed: changes.closed,
             opened: changes.opened,
             halted,
+        }
+    }
+
+    /// Whether a half bit in which no port hears anything changes nothing.
+    fn is_settled(&self) -> bool
+        ensures { IsTrue result → silent_step self.now ≡ self.now }
+    {
+        if self.mode != Mode::Idle {
+            return false;
+        }
+        if !counts_settled(&self.counts) {
+            return false;
+        }
+        if !guards_settled(&self.guards) {
+            return false;
+        }
+        self.line.is_idle()
+    }
+
+    /// One half bit in which no port hears anything.
+    #[tactic(auto, unfolding(crate::specs::Calm::silent_step))]
+    fn step_silent(&mut self)
+        ensures { self.new ≡ silent_step self.old }
+    {
+        let ports = self.guards.len();
+        let hears = [Sym::Idle; MOST_PORTS];
+        let mut emits = [Sym::Idle; MOST_PORTS];
+        let mut decided = [Sym::Idle; MOST_PORTS];
+        self.step(&hears[..ports], &mut emits[..ports], &mut decided[..ports]);
+    }
+
+    /// The state after `n` half bits in which no port hears anything, at most 4,096, each of which emits only Idle,
+    /// decides only Idle and gives no event.
+    pub fn leap(&mut self, n: u64)
+        requires within { n ≤ 4096 }
+        requires calm { (k : ℕ) → k < n → IsQuiet (iterate silent_step k self.old) }
+        ensures { self.new ≡ iterate silent_step n self.old }
+    {
+        for k in 0..n {
+            if self.is_settled() {
+                return;
+            }
+            self.step_silent();
         }
     }
 }

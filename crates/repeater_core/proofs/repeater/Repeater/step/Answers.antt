@@ -1,6 +1,5 @@
-use Rattle.std.proofs.Common.{◌≡◌, map, sym, subst, rules, arith}
+use Rattle.std.proofs.Common.{map, sym, subst, rules, arith}
 use Rattle.std.proofs.lemmas.Grind.{common_steps}
-use Rattle.manchester_line.specs.declared.Sym.{Sym}
 use Rattle.repeater_core.specs.Laws.{HasNoClash, Repeats, EndsLong}
 use Rattle.repeater_core.specs.Step.{IsState, mode_next, chosen, resting_by}
 use Rattle.repeater_core.proofs.Lawful.{step_state, repeats, ends_long, no_clash}

@@ -1,0 +1,28 @@
+-- Half bits in which no port hears anything.
+use Rattle.std.specs.Prelude.{◌≡◌, Bool, false, ◌==◌, ◌&&◌, not, length, replicate, List}
+use Rattle.std.specs.List.{All}
+use Rattle.manchester_line.specs.declared.Sym.{Sym}
+use Rattle.manchester_line.specs.declared.Sym.TheVariants as sym
+use Rattle.port_partition.specs.Guard.{Guard}
+use Rattle.repeater_core.specs.Step.{State, after, emitted_by, decided_by, clash_begins, closed_mask, opened_mask, halted_mask}
+
+-- every port hears Idle
+abbrev pub silence : State → List Sym
+silence r = replicate (length r.guards) sym.Idle
+
+-- the state after such a half bit
+unfoldable pub silent_step : State → State
+silent_step r = after (silence r) r
+
+-- such a half bit emits only Idle, decides only Idle, and gives no event
+pub record IsQuiet (r : State) : Type 0 where
+  pub emits : All (λ s. s ≡ sym.Idle) (emitted_by r)
+  pub decides : All (λ s. s ≡ sym.Idle) (decided_by (silence r) r)
+  pub no_clash : clash_begins (silence r) r ≡ false
+  pub none_closes : closed_mask (silence r) r ≡ 0
+  pub none_opens : opened_mask (silence r) r ≡ 0
+  pub none_halted : halted_mask (silence r) r ≡ 0
+
+-- a guard that a quiet half bit leaves as it is
+abbrev pub is_settled : Guard → Bool
+is_settled g = not (g.closed && g.mend) && (not g.struck && (g.clash_run == 0 && g.clean_run == 0))
