@@ -1,3 +1,4 @@
+use crate::files::{read_file, write_file};
 use crate::texts::HELP;
 use crate::{Words, netsim};
 use lists::{OutOfMemory, Text};
@@ -15,6 +16,10 @@ const REPEATER: &str =
 
 /// A frame of 14 octets that a sends at 0.
 const SEND: &str = "[[send]]\nstation = \"a\"\nat = 0\noctets = \"ffffffffffff0200000000010800\"\n";
+
+/// The same frame, padded by the writer of the layout to 60 octets.
+const PADDED_SEND: &str =
+    "[[send]]\nstation = \"a\"\nat = 0\noctets = \"ffffffffffff020000000001080000000000000000000000000000000000000000000000000000000000000000000000000000000000000000000000\"\n";
 
 const ONE_FRAME: &str =
     "1152 station a sent frame 1 start 0 attempt 1\n1162 station b received octets 64\n";
@@ -210,5 +215,60 @@ fn faults(rt: HostRuntime) -> Result<(), OutOfMemory> {
     for case in cases {
         assert!(rt; is_right(&rt, &case, "")?);
     }
+    Ok(())
+}
+
+#[test]
+fn a_frame_that_is_padded_already(rt: HostRuntime) -> Result<(), OutOfMemory> {
+    assert!(rt; is_log(&rt, 700, PADDED_SEND, ONE_FRAME)?);
+    Ok(())
+}
+
+/// The second read finds the file's end.
+#[test]
+fn a_later_read_fails(rt: HostRuntime) -> Result<(), OutOfMemory> {
+    let good = layout(&rt, 700, SEND)?;
+    let case = Case {
+        layout: Some(good.as_str()),
+        reads: &[2],
+        status: 4,
+        line: "read fault l.toml\n",
+        ..RUN
+    };
+    assert!(rt; is_right(&rt, &case, "")?);
+    Ok(())
+}
+
+#[test]
+fn help_that_cannot_be_written(rt: HostRuntime) -> Result<(), OutOfMemory> {
+    let case = Case {
+        words: &["--help"],
+        writes: &[1],
+        status: 5,
+        ..RUN
+    };
+    assert!(rt; is_right(&rt, &case, "")?);
+    Ok(())
+}
+
+fn held_length(store: &MemoryStore, name: &str) -> usize {
+    match store.get(name) {
+        Some(held) => held.len(),
+        None => 0,
+    }
+}
+
+/// A text longer than a block is appended in two pieces and read in two.
+#[test]
+fn long_texts_go_in_blocks(rt: HostRuntime) -> Result<(), OutOfMemory> {
+    let text = vec![in rt.alloc(); b'x'; 70_000]?;
+    let mut store = MemoryStore::new(rt.alloc());
+    let written = write_file(&mut store, "long", &text);
+    assert!(rt; written.is_ok());
+    assert_eq!(rt; store.largest(), BLOCK);
+    assert_eq!(rt; held_length(&store, "long"), 70_000);
+    let read = read_file(rt.alloc(), &mut store, "long", 1_000_000);
+    assert!(rt; read.is_ok());
+    assert_eq!(rt; store.largest(), BLOCK);
     Ok(())
 }
