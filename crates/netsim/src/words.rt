@@ -1,6 +1,6 @@
 //! The words of the command line.
 ghost use Rattle.std.specs.Prelude.{◌≡◌, option_map};
-ghost use Rattle.netsim.specs.Requests.{asked, asked_of, is_file_name, asked_plain};
+ghost use Rattle.netsim.specs.Requests.{asked, asked_of, is_file_name, asked_check, asked_plain};
 
 use lists::{List, Text};
 
@@ -13,6 +13,8 @@ const MOST_NAME: usize = 200;
 /// What the words ask for.
 #[derive(Clone, Copy, Debug)]
 pub(crate) enum Request<'a> {
+    /// Says the path verdict of a layout.
+    Check { layout: &'a str },
     /// Runs the network of a layout by half bits and writes the files of a prefix.
     Plain { layout: &'a str, prefix: &'a str },
     /// What the program is called with.
@@ -35,9 +37,20 @@ pub(crate) fn read_words(words: &Words) -> Option<Request<'_>>
         [word, layout, prefix] if word.as_str() == "plain" => {
             read_plain(layout.as_str(), prefix.as_str())
         }
+        [word, layout] if word.as_str() == "check" => read_check(layout.as_str()),
         [word] if word.as_str() == "--help" => Some(Request::Help),
         [word] if word.as_str() == "--version" => Some(Request::Version),
         _ => None,
+    }
+}
+
+fn read_check(layout: &str) -> Option<Request<'_>>
+    ensures { option_map asked_of result ≡ asked_check layout.now }
+{
+    if is_file_name(layout) {
+        Some(Request::Check { layout })
+    } else {
+        None
     }
 }
 
