@@ -2,4 +2,3 @@ pub mod Digits
 pub mod Arrays
 pub mod Documents
 pub mod Colours
-pub mod FirstForm
