@@ -47,12 +47,12 @@ fault_held X (Some Help) before after h = tt
 fault_held X (Some Version) before after h = tt
 fault_held X (Some (Check layout)) before after h =
     λ absent. elim h.1 [
-      | inl early ↦ absurd (absent_unjudged purposes.Check layout before.held (Err early.0) absent early.1.0)
+      | inl early ↦ absurd (absent_unjudged purposes.Check layout before.held (Err early.0) absent early.1)
       | inr checked ↦ absurd (unchecked layout before after ended.Layout absent checked)
     ]
 fault_held X (Some (Plain layout prefix)) before after h =
     λ absent. elim h [
-      | inl early ↦ absurd (absent_unjudged purposes.Run layout before.held (Err early.0.0) absent early.0.1.0)
+      | inl early ↦ absurd (absent_unjudged purposes.Run layout before.held (Err early.0.0) absent early.0.1)
       | inr run ↦ absurd (unrun layout prefix before after ended.Layout absent run)
     ]
 

@@ -14,17 +14,21 @@ pub data Asked : Type 0 where
 abbrev pub is_file_name : List ℕ → Bool
 is_file_name word = nat_le 1 (length word) && nat_le (length word) 200
 
-abbrev pub asked_plain : List ℕ → List ℕ → Option Asked
-asked_plain layout prefix = if is_file_name layout && is_file_name prefix then Some (Plain layout prefix) else None
+-- the forms are: --help; --version; check LAYOUT; plain LAYOUT PREFIX
+abbrev pub asked_text : List ℕ → Option Asked
+asked_text word = if bytes_eq word (codes "--help") then Some Help else if bytes_eq word (codes "--version") then Some Version else None
 
-abbrev pub asked_check : List ℕ → Option Asked
-asked_check layout = if is_file_name layout then Some (Check layout) else None
+abbrev pub asked_check : List ℕ → List ℕ → Option Asked
+asked_check word layout = if bytes_eq word (codes "check") && is_file_name layout then Some (Check layout) else None
 
--- the forms are: check LAYOUT; plain LAYOUT PREFIX; --help; --version
+abbrev pub asked_plain : List ℕ → List ℕ → List ℕ → Option Asked
+asked_plain word layout prefix =
+    if bytes_eq word (codes "plain") && is_file_name layout && is_file_name prefix then Some (Plain layout prefix) else None
+
 abbrev pub asked : List (List ℕ) → Option Asked
-asked (word ∷ layout ∷ prefix ∷ []) = if bytes_eq word (codes "plain") then asked_plain layout prefix else None
-asked (word ∷ layout ∷ []) = if bytes_eq word (codes "check") then asked_check layout else None
-asked (word ∷ []) = if bytes_eq word (codes "--help") then Some Help else if bytes_eq word (codes "--version") then Some Version else None
+asked (word ∷ layout ∷ prefix ∷ []) = asked_plain word layout prefix
+asked (word ∷ layout ∷ []) = asked_check word layout
+asked (word ∷ []) = asked_text word
 asked words = None
 
 -- what a request of the program asks for
