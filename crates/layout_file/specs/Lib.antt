@@ -12,3 +12,5 @@ pub mod Form
 pub mod Faults
 pub mod Joined
 pub mod GraphFaults
+pub mod Networks
+pub mod Paths
