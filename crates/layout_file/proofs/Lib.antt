@@ -3,3 +3,9 @@ pub mod Arrays
 pub mod Documents
 pub mod Colours
 pub mod FirstForm
+pub mod Cuts
+pub mod Joins
+pub mod Separations
+pub mod Sides
+pub mod Reach
+pub mod OneDistance

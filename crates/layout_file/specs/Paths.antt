@@ -3,7 +3,6 @@
 use Rattle.std.specs.Prelude.{◌≡◌, ◌≢◌, ℕ, ◌+◌, ◌-◌, ◌<◌, length, List, [], ◌∷◌, Option, None, Some, slice_get, option_map, option_and_then, unwrap_or}
 use Rattle.layout_file.specs.declared.layout.Layout.{Layout}
 use Rattle.layout_file.specs.declared.layout.PortLine.{PortLine}
-use Rattle.layout_file.specs.declared.layout.RepeaterLine.{RepeaterLine}
 use Rattle.layout_file.specs.declared.layout.StationLine.{StationLine}
 use Rattle.layout_file.specs.declared.taps.Tap.{Tap}
 use Rattle.layout_file.specs.declared.taps.Tap.TheVariants.{Station, Port}
@@ -92,3 +91,8 @@ pub record HasOnePath (l : Layout) : Type 0 where
 -- each tap stands on a segment of the layout
 abbrev pub StandsOnSegments : Layout → Type 0
 StandsOnSegments l = (t : Tap) (p : PortLine) → place l t ≡ Some p → p.segment < length l.segments
+
+-- two different taps have exactly one distance
+pub record HasOneDistance (l : Layout) : Type 0 where
+  pub some : (a b : Tap) → IsTap l a → IsTap l b → a ≢ b → (n : ℕ) × IsDistance l a b n
+  pub same : (a b : Tap) → a ≢ b → (m n : ℕ) → IsDistance l a b m → IsDistance l a b n → m ≡ n
