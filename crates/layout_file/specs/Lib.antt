@@ -11,3 +11,5 @@ pub mod Lines
 pub mod Faults
 pub mod Joined
 pub mod GraphFaults
+pub mod Networks
+pub mod Sound
