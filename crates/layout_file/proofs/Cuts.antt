@@ -50,7 +50,7 @@ abbrev pub HasCuts : Layout → Type 0
 HasCuts l = (f : Tap) → IsTap l f → (c : Way → Tap → Bool) × IsCut l f c
 
 -- none of these taps is e
-abbrev Avoids : Tap → List Tap → Type 0
+abbrev pub Avoids : Tap → List Tap → Type 0
 Avoids e [] = Unit {0}
 Avoids e (t ∷ ts) = (t ≢ e) × Avoids e ts
 
@@ -121,7 +121,7 @@ stays l cuts w a (t ∷ ts) b walk e tap touches head =
     )
 
 -- nor over the tap from which it comes
-leaves : (l : Layout) → HasCuts l → (w : Way) (a : Tap) (ts : List Tap) (b : Tap) → IsTap l a → IsWalk l w a ts b → Avoids a ts
+pub leaves : (l : Layout) → HasCuts l → (w : Way) (a : Tap) (ts : List Tap) (b : Tap) → IsTap l a → IsWalk l w a ts b → Avoids a ts
 leaves l cuts w a ts b tap walk = stays l cuts w a ts b walk a tap (λ f c k. refl) (begins l w a ts b walk)
 
 avoids_end : (l : Layout) (e : Tap) (w : Way) (a t : Tap) (ts : List Tap) (b : Tap) → IsWalk l w a (t ∷ ts) b → Avoids e (t ∷ ts) → b ≢ e

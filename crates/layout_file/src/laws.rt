@@ -1,14 +1,14 @@
 //! Laws of the definitions.
 ghost use Rattle.layout_file.specs.declared.layout.Layout.{Layout};
-ghost use Rattle.layout_file.specs.Networks.{IsTree};
-ghost use Rattle.layout_file.specs.Paths.{HasOneDistance, HasOnePath, StandsOnSegments};
+ghost use Rattle.layout_file.specs.Paths.{HasOneDistance, HasOnePath};
+ghost use Rattle.layout_file.specs.Sound.{IsSound};
 
-/// In a tree there is exactly one path between two different taps.
+/// Between two different taps of a sound layout there is exactly one path over segments and repeaters.
 pub fn one_path()
-    ensures { (l : Layout) → StandsOnSegments l → IsTree l → HasOnePath l }
+    ensures { (l : Layout) → IsSound l → HasOnePath l }
 {}
 
-/// In a tree two different taps have one distance.
+/// Two different taps of a sound layout have exactly one distance.
 pub fn one_distance()
-    ensures { (l : Layout) → StandsOnSegments l → IsTree l → HasOneDistance l }
+    ensures { (l : Layout) → IsSound l → HasOneDistance l }
 {}

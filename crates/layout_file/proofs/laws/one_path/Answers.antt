@@ -1,5 +1,5 @@
-use Rattle.layout_file.proofs.OneDistance.{one_path_of}
+use Rattle.layout_file.proofs.SoundTaps.{sound_one_path}
 use Rattle.layout_file.proofs.laws.one_path.Goals as goal
 
 pub returns : goal.returns
-returns c = one_path_of
+returns c = sound_one_path
