@@ -2,3 +2,10 @@ pub mod Digits
 pub mod Arrays
 pub mod Documents
 pub mod Colours
+pub mod Cuts
+pub mod Joins
+pub mod Separations
+pub mod Sides
+pub mod Reach
+pub mod OneDistance
+pub mod SoundTaps

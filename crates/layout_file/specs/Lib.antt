@@ -11,3 +11,6 @@ pub mod Lines
 pub mod Faults
 pub mod Joined
 pub mod GraphFaults
+pub mod Networks
+pub mod Sound
+pub mod Paths

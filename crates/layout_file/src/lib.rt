@@ -4,12 +4,14 @@
 mod fault;
 mod graph;
 mod joint;
+pub mod laws;
 mod layout;
 mod lines;
 mod reader;
 mod rows;
 mod rules;
 mod sites;
+mod taps;
 mod texts;
 mod tree;
 
@@ -20,6 +22,7 @@ pub use layout::{
 };
 pub use lists::{OutOfMemory, Text};
 pub use reader::read_layout;
+pub use taps::{Tap, Way};
 
 #[cfg(test)]
 mod tests;
