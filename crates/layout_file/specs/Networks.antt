@@ -1,6 +1,6 @@
 -- The network of a layout as parts and edges: the parts are its segments and after them its repeaters, by numbers from 0,
 -- and the edges are its ports, in the file's order (profile).
-use Rattle.std.specs.Prelude.{◌≡◌, ℕ, suc, ◌+◌, ◌<◌, Bool, true, false, List, [], ◌∷◌, ◌++◌, map, length}
+use Rattle.std.specs.Prelude.{◌≡◌, ℕ, suc, ◌+◌, ◌<◌, true, false, List, [], ◌∷◌, ◌++◌, map, length}
 use Rattle.layout_file.specs.declared.graph.Edge.{Edge}
 use Rattle.layout_file.specs.declared.layout.Layout.{Layout}
 use Rattle.layout_file.specs.declared.layout.PortLine.{PortLine}

@@ -3,7 +3,6 @@
 use Rattle.std.specs.Prelude.{◌≡◌, ◌≢◌, ℕ, ◌+◌, ◌*◌, ◌<◌, ◌≤◌, true, ◌==◌, ◌⊎◌, List, [], ◌∷◌, ◌++◌, map, length, All, IfSome}
 use Rattle.std.specs.List.{AllPairs}
 use Rattle.layout_file.specs.declared.layout.Layout.{Layout}
-use Rattle.layout_file.specs.declared.layout.SegmentLine.{SegmentLine}
 use Rattle.layout_file.specs.declared.layout.StationLine.{StationLine}
 use Rattle.layout_file.specs.declared.layout.PortLine.{PortLine}
 use Rattle.layout_file.specs.declared.layout.RepeaterLine.{RepeaterLine}
