@@ -1,7 +1,9 @@
-use Rattle.std.proofs.Common.{map, sym, subst, rules, arith}
+use Rattle.std.proofs.Common.{◌≡◌, map, sym, subst, rules, arith}
 use Rattle.std.proofs.lemmas.Grind.{common_steps}
+use Rattle.repeater_core.specs.declared.modes.Mode.TheVariants.{Idle}
 use Rattle.repeater_core.specs.Laws.{HasNoClash, Repeats, EndsLong}
 use Rattle.repeater_core.specs.Step.{IsState, mode_next, chosen, resting_by}
+use Rattle.repeater_core.proofs.Silent.{idle_decides}
 use Rattle.repeater_core.proofs.Lawful.{step_state, repeats, ends_long, no_clash}
 use Rattle.repeater_core.proofs.repeater.Repeater.step.Goals as goal
 
@@ -33,3 +35,8 @@ unfolding mode_next chosen
 returns-clause-no_clash_decided c =
     let r = c.args.self.now in
     subst HasNoClash (sym (returns-clause-decided c)) (no_clash r.mode r.guards c.args.hears.now r.counts)
+
+pub step-requires-clause-silent : goal.step-requires-clause-silent
+step-requires-clause-silent c = λ yes.
+    let m : c.next_mode-self-inside.result ≡ Idle = grind (arith, common_steps) in
+    idle_decides c.next_mode-self-inside.result c.args.hears.now _ _ m c.decide_all-halted.ensures.decided
