@@ -8,3 +8,4 @@ pub mod Fronts
 pub mod Rings
 pub mod Silent
 pub mod Quiet
+pub mod Still

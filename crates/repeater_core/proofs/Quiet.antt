@@ -70,7 +70,7 @@ stays r l = elim (cases_Bool (any_opens r.guards)) [
       record { shut = shut; ports = omega arith; line = omega arith }
 ]
 
-emits_silent : (r : State) → IsState r → Stays r → emitted_by r ≡ idles r.guards
+pub emits_silent : (r : State) → IsState r → Stays r → emitted_by r ≡ idles r.guards
 emits_silent r h s = front_take r.line.ports r.line.rows (line_quiet r.line (state_line r h) s.line) ∙ ap (λ k. replicate k sy.Idle) h.line_ports
 
 ports_silent : (r : State) → Stays r → AreQuiet r.counts (chosen (silence r) r)
@@ -108,10 +108,10 @@ is_loud r h z q = elim (cases_Bool (any_opens r.guards)) [
       ]
 ]
 
-same_state : (a b : State) → a.mode ≡ b.mode → a.guards ≡ b.guards → a.counts ≡ b.counts → a.line ≡ b.line → a ≡ b
+pub same_state : (a b : State) → a.mode ≡ b.mode → a.guards ≡ b.guards → a.counts ≡ b.counts → a.line ≡ b.line → a ≡ b
 same_state a b m g c l = subst (λ x. record { mode = x; guards = a.guards; counts = a.counts; line = a.line } ≡ b) (sym m) (subst (λ x. record { mode = b.mode; guards = x; counts = a.counts; line = a.line } ≡ b) (sym g) (subst (λ x. record { mode = b.mode; guards = b.guards; counts = x; line = a.line } ≡ b) (sym c) (subst (λ x. record { mode = b.mode; guards = b.guards; counts = b.counts; line = x } ≡ b) (sym l) refl)))
 
-decided_silent : (r : State) → IsState r → Stays r → decided_by (silence r) r ≡ replicate r.line.ports sy.Idle
+pub decided_silent : (r : State) → IsState r → Stays r → decided_by (silence r) r ≡ replicate r.line.ports sy.Idle
 decided_silent r h s =
     let p = ports_silent r s in
     let xs = chosen (silence r) r in

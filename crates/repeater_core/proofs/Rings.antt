@@ -166,6 +166,6 @@ stepped_ring ports delay turn next fading fading' xs ys decided silent h n len r
       delay_at_most = h.delay_at_most;
       fading_at_most = subst (λ k. k ≤ delay) (sym f) (fading_within silent fading delay h.fading_at_most);
       faded = subst (λ k. AllIdle (drop (k * ports) (rotated (next * ports) ys))) (sym f)
-      (subst (λ zs. AllIdle (drop (cond silent (fading - 1) delay * ports) zs)) (sym moved)
-      (fading_kept silent fading delay ports (rotated (turn * ports) xs) decided whole d h.faded));
+          (subst (λ zs. AllIdle (drop (cond silent (fading - 1) delay * ports) zs)) (sym moved)
+          (fading_kept silent fading delay ports (rotated (turn * ports) xs) decided whole d h.faded));
     }

@@ -72,3 +72,7 @@ IsFading (Extend n i j) = i < 192
 IsFading (RxClash n i) = i < 192
 IsFading (TxClash i) = i < 192
 IsFading (OnePort n i) = ⊥
+
+-- a guard that a quiet half bit leaves as it is
+abbrev pub is_settled : Guard → Bool
+is_settled g = not (g.closed && g.mend) && (not g.struck && (g.clash_run == 0 && g.clean_run == 0))

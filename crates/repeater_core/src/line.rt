@@ -53,7 +53,11 @@ fn ring_front(slots: &[Sym], head: usize) -> usize
     ensures { result ≡ idle_front (rotated head slots.now) }
 {
     let front = idle_front(&slots[head..]);
-    if front < slots.len() - head { front } else { front + idle_front(&slots[..head]) }
+    if front < slots.len() - head {
+        front
+    } else {
+        front + idle_front(&slots[..head])
+    }
 }
 
 fn next_turn(turn: usize, delay: usize) -> usize
@@ -68,7 +72,11 @@ fn next_turn(turn: usize, delay: usize) -> usize
 fn fading_after(silent: bool, fading: usize, delay: usize) -> usize
     ensures { result ≡ (if silent then fading - 1 else delay) }
 {
-    if silent { fading.saturating_sub(1) } else { delay }
+    if silent {
+        fading.saturating_sub(1)
+    } else {
+        delay
+    }
 }
 
 impl DelayLine {
@@ -103,6 +111,13 @@ impl DelayLine {
         self.fading = fading_after(silent, self.fading, self.delay);
     }
 
+    /// Whether all that was decided and not yet emitted is known to be Idle.
+    pub fn is_idle(&self) -> bool
+        ensures { IsTrue result → All (λ s. s ≡ Idle) self.now.rows }
+    {
+        self.fading == 0
+    }
+
     /// The rows before the first with a signal, or 4,096 where none has one.
     pub fn calm(&self) -> u64
         requires { 0 < self.now.ports }
@@ -112,7 +127,11 @@ impl DelayLine {
             return MOST_CALM;
         }
         let front = ring_front(&self.slots, self.turn * self.ports);
-        if front == self.slots.len() { MOST_CALM } else { (front / self.ports) as u64 }
+        if front == self.slots.len() {
+            MOST_CALM
+        } else {
+            (front / self.ports) as u64
+        }
     }
 
     /// So many half bits, at most as many as it has calm, in which all that is decided is Idle.

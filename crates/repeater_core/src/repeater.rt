@@ -1,13 +1,17 @@
 //! A repeater.
-ghost use Rattle.std.specs.Prelude.{◌≡◌, ◌<◌, ◌≤◌, length, map, slice_get, slice_index_or, Some, IfOk};
+ghost use Rattle.std.specs.Prelude.{◌≡◌, ◌<◌, ◌≤◌, length, map, slice_get, slice_index_or, Some, IfOk, IsTrue};
 ghost use Rattle.std.specs.Fn.{iterate};
-ghost use Rattle.repeater_core.specs.Calm.{silent_step, IsQuiet, IsCalm};
+ghost use Rattle.repeater_core.specs.Calm.{silent_step, IsQuiet, IsCalm, IsStill};
 ghost use Rattle.std.specs.List.{All};
+ghost use Rattle.repeater_core.specs.declared.modes.Mode.TheVariants.{Idle};
 ghost use Rattle.repeater_core.specs.Counts.{resting_count};
 ghost use Rattle.repeater_core.specs.Step.{State, new_state, resumed, after, emitted_by, decided_by, clash_begins, closed_mask, opened_mask, halted_mask, resting_by};
 ghost use Rattle.repeater_core.specs.Laws.{HasNoClash, Repeats, EndsLong};
 
-use crate::calm::{any_opens, ports_calm, quiet_counts, quiet_guards};
+use crate::calm::{
+    all_idle, any_opens, counts_fresh, fill_idle, guards_settled, ports_calm, quiet_counts,
+    quiet_guards,
+};
 use crate::counts::{PortCount, resting_counts};
 use crate::line::DelayLine;
 use crate::modes::{Mode, active_ports, collision, next_mode, quiet_mode};
@@ -116,7 +120,6 @@ impl Repeater {
 
     /// One half bit, in which the ports hear these symbols: writes what each port emits, which was decided
     /// `delay` half bits ago, and what is decided for it now (clause 9, with the profile's transitions).
-    #[tactic(auto, unfolding(crate::specs::Step::mode_next, crate::specs::Step::chosen))]
     pub fn step(&mut self, hears: &[Sym], emits: &mut [Sym], decided: &mut [Sym]) -> RepeaterEvents
         requires hears_len { length hears.now ≡ length self.old.guards }
         requires emits_len { length emits.old ≡ length self.old.guards }
@@ -133,6 +136,47 @@ impl Repeater {
         ensures ends_long { EndsLong self.old.counts decided.new }
         ensures no_clash_emitted { HasNoClash emits.new }
         ensures no_clash_decided { HasNoClash decided.new }
+    {
+        if self.mode == Mode::Idle && all_idle(hears) && self.is_still() {
+            fill_idle(emits);
+            fill_idle(decided);
+            return RepeaterEvents {
+                clash: false,
+                closed: 0,
+                opened: 0,
+                halted: 0,
+            };
+        }
+        self.step_through(hears, emits, decided)
+    }
+
+    /// Whether, in mode Idle, a half bit in which no port hears anything is known to leave all as it is.
+    fn is_still(&self) -> bool
+        requires { self.now.mode ≡ Idle }
+        ensures { IsTrue result → IsStill self.now }
+    {
+        self.line.is_idle() && counts_fresh(&self.counts) && guards_settled(&self.guards)
+    }
+
+    /// One half bit, by a pass over all ports.
+    #[tactic(auto, unfolding(crate::specs::Step::mode_next, crate::specs::Step::chosen))]
+    fn step_through(
+        &mut self,
+        hears: &[Sym],
+        emits: &mut [Sym],
+        decided: &mut [Sym],
+    ) -> RepeaterEvents
+        requires hears_len { length hears.now ≡ length self.old.guards }
+        requires emits_len { length emits.old ≡ length self.old.guards }
+        requires decided_len { length decided.old ≡ length self.old.guards }
+        ensures state { self.new ≡ after hears.now self.old }
+        ensures ports { length self.new.guards ≡ length self.old.guards }
+        ensures emits { emits.new ≡ emitted_by self.old }
+        ensures decided { decided.new ≡ decided_by hears.now self.old }
+        ensures clash { result.clash ≡ clash_begins hears.now self.old }
+        ensures closed { result.closed ≡ closed_mask hears.now self.old }
+        ensures opened { result.opened ≡ opened_mask hears.now self.old }
+        ensures halted { result.halted ≡ halted_mask hears.now self.old }
     {
         let collided = collision(self.mode);
         self.mode = next_mode(self.mode, active_ports(&self.guards, hears));

@@ -82,9 +82,13 @@ fn walk(repeater: &mut Repeater, hears: &[Sym; 3], times: u32) -> Mode
 type Leg = ([Sym; 3], u32, Mode);
 
 const QUIET: [Sym; 3] = [Sym::Idle, Sym::Idle, Sym::Idle];
+
 const FIRST: [Sym; 3] = [Sym::Hi, Sym::Idle, Sym::Idle];
+
 const SECOND: [Sym; 3] = [Sym::Idle, Sym::Hi, Sym::Idle];
+
 const CLASH: [Sym; 3] = [Sym::Clash, Sym::Idle, Sym::Idle];
+
 const TWO: [Sym; 3] = [Sym::Hi, Sym::Hi, Sym::Idle];
 
 /// The first leg of a walk that leads to another mode.

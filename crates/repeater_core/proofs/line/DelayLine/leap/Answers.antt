@@ -32,7 +32,7 @@ invariant_of-self c =
       delay_at_most = h.delay_at_most;
       fading_at_most = omega arith;
       faded = subst (λ f. AllIdle (drop (f * q.ports) (rotated ((q.turn + c.args.n) % q.delay * q.ports) q.slots.items))) (sym less)
-      (ring_fades c.args.n q.fading q.ports q.delay q.turn q.slots.items round calm h.faded);
+          (ring_fades c.args.n q.fading q.ports q.delay q.turn q.slots.items round calm h.faded);
     }
 
 pub returns : goal.returns

@@ -1,0 +1,17 @@
+use Rattle.std.proofs.Common.{◌≡◌, ◌<◌, ◌≤◌, length, subst, arith}
+use Rattle.std.proofs.lemmas.List.{take_all}
+use Rattle.std.proofs.lemmas.List.Elements.{All-more}
+use Rattle.std.proofs.lemmas.Grind.{common_steps}
+use Rattle.std.specs.List.{All}
+use Rattle.manchester_line.specs.declared.Sym.TheVariants.{Idle}
+use Rattle.repeater_core.proofs.calm.all_idle.Goals as goal
+
+pub loop-k-preserved : goal.loop-k-preserved
+loop-k-preserved c =
+    let within : c.loop-k.k < length c.args.symbols.now = omega arith in
+    All-more (λ s. s ≡ Idle) c.args.symbols.now c.loop-k.k Idle within c.loop-k.invariant (grind (arith, common_steps))
+
+pub returns : goal.returns
+returns c = λ _.
+    let all : length c.args.symbols.now ≤ c.loop-k.k = omega arith in
+    subst (All (λ s. s ≡ Idle)) (take_all c.loop-k.k c.args.symbols.now all) c.loop-k.invariant
