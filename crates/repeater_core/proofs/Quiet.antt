@@ -1,22 +1,19 @@
 -- A repeater in silence: whether a half bit is quiet, what it leaves, and how long that lasts.
-use Rattle.std.proofs.Common.{◌≡◌, ℕ, zero, suc, ◌+◌, ◌-◌, ◌*◌, ◌<◌, ◌≤◌, min, Bool, true, false, not, cond, ◌&&◌, List, [], ◌∷◌, ◌++◌, length, map, take, drop, replicate, inl, inr, refl, sym, ap, ap₂, subst, ◌∙◌, arith, length-take-le}
+use Rattle.std.proofs.Common.{◌≡◌, ℕ, zero, suc, ◌*◌, ◌<◌, ◌≤◌, min, true, false, not, cond, ◌&&◌, List, [], ◌∷◌, length, map, replicate, inl, inr, refl, sym, ap, ap₂, subst, ◌∙◌, arith, length-take-le}
 use Rattle.std.proofs.lemmas.Bool.{cases_eq, cases_Bool, cases_lt, cond_both}
 use Rattle.std.proofs.lemmas.Bool.Decides.{nat_tests}
 use Rattle.std.proofs.lemmas.List.{length-replicate, length-map}
 use Rattle.std.proofs.lemmas.List.Elements.{All-replicate}
 use Rattle.std.specs.List.{All}
 use Rattle.std.specs.Fn.{iterate}
-use Rattle.manchester_line.specs.declared.Sym.{Sym}
 use Rattle.manchester_line.specs.declared.Sym.TheVariants as sy
 use Rattle.port_partition.specs.Guard.{Guard}
 use Rattle.repeater_core.specs.declared.modes.Mode.{Mode}
-use Rattle.repeater_core.specs.declared.modes.Mode.TheVariants.{Idle, Repeat, Extend, RxClash, TxClash, OnePort}
-use Rattle.repeater_core.specs.declared.modes.Activity.TheVariants.{Nobody}
-use Rattle.repeater_core.specs.Modes.{activity_from, mode_after, is_tx_clash, next_count}
+use Rattle.repeater_core.specs.Modes.{mode_after, is_tx_clash}
 use Rattle.repeater_core.specs.Counts.{Count, Choice, choices_from}
-use Rattle.repeater_core.specs.Delayed.{Delayed, moved_on, oldest}
+use Rattle.repeater_core.specs.Delayed.{Delayed, moved_on}
 use Rattle.repeater_core.specs.Silence.{ports_calm, line_calm, any_opens, quiet_guard, quiet_count, quiet_mode, quiet_line}
-use Rattle.repeater_core.specs.Step.{State, IsState, mode_next, chosen, after, emitted_by, decided_by, clash_begins, closed_mask, opened_mask, halted_mask, guards_after, guard_events, is_closing, is_opening, mask_from}
+use Rattle.repeater_core.specs.Step.{State, IsState, mode_next, chosen, after, emitted_by, decided_by, clash_begins, guards_after, guard_events, is_closing, is_opening, mask_from}
 use Rattle.repeater_core.specs.Calm.{silence, silent_step, IsQuiet, IsCalm}
 use Rattle.repeater_core.proofs.Lawful.{step_state, length_guards}
 use Rattle.repeater_core.proofs.Fading.{fallen, fallen_min}

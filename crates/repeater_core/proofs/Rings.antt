@@ -1,9 +1,9 @@
 -- The turns of a ring in silence.
-use Rattle.std.proofs.Common.{◌≡◌, ℕ, zero, suc, ◌+◌, ◌-◌, ◌*◌, ◌/◌, ◌%◌, ◌<◌, ◌≤◌, Bool, true, false, List, ◌++◌, length, take, drop, replicate, refl, sym, ap, ap₂, subst, ◌∙◌, inl, inr, cond, eqb, arith, length-append, length-drop, append_assoc, mul-le-mul_right}
+use Rattle.std.proofs.Common.{◌≡◌, ℕ, zero, suc, ◌+◌, ◌-◌, ◌*◌, ◌%◌, ◌<◌, ◌≤◌, Bool, true, false, List, ◌++◌, length, take, drop, replicate, refl, sym, ap, ap₂, subst, ◌∙◌, inl, inr, cond, arith, length-drop, append_assoc, mul-le-mul_right}
 use Rattle.std.proofs.lemmas.Bool.{cases_eq, cases_lt}
 use Rattle.std.proofs.lemmas.Bool.Decides.{nat_tests}
-use Rattle.std.proofs.lemmas.List.{length-replicate, drop_all, drop-drop, take-append-le, drop-append-le}
-use Rattle.std.proofs.lemmas.List.Elements.{All-nil, All-append, All-drop, All-replicate, All-take}
+use Rattle.std.proofs.lemmas.List.{drop_all, drop-drop, take-append-le, drop-append-le}
+use Rattle.std.proofs.lemmas.List.Elements.{All-nil, All-append, All-drop, All-replicate}
 use Rattle.std.proofs.Math.Seq.{take-add, drop-append-add}
 use Rattle.std.proofs.Math.Nat.{mod-eq_of_lt, mul-add-mod_self_left}
 use Rattle.std.proofs.lemmas.Grind.{common_steps}
@@ -11,7 +11,7 @@ use Rattle.std.specs.List.{All}
 use Rattle.std.specs.Fn.{iterate}
 use Rattle.manchester_line.specs.declared.Sym.{Sym}
 use Rattle.manchester_line.specs.declared.Sym.TheVariants as sy
-use Rattle.repeater_core.specs.Delayed.{Delayed, moved_on, rotated, turn_after, IsRing}
+use Rattle.repeater_core.specs.Delayed.{Delayed, rotated, turn_after, IsRing}
 use Rattle.repeater_core.specs.Silence.{idle_front, line_calm, quiet_line}
 use Rattle.repeater_core.proofs.Fading.{fallen}
 use Rattle.repeater_core.proofs.Fronts.{IsLine, front_take, line_quiet, line_falls}

@@ -1,23 +1,20 @@
 -- What a half bit of silence makes of guards and of ports.
-use Rattle.std.proofs.Common.{◌≡◌, ◌≢◌, ℕ, zero, suc, ◌+◌, ◌-◌, ◌*◌, ◌^◌, ◌<◌, ◌≤◌, min, Bool, true, false, not, cond, ltb, eqb, ◌&&◌, ◌||◌, List, [], ◌∷◌, length, map, replicate, inl, inr, ◌⊎◌, refl, sym, ap, ap₂, subst, ◌∙◌, arith}
+use Rattle.std.proofs.Common.{◌≡◌, ◌≢◌, ℕ, zero, suc, ◌+◌, ◌-◌, ◌^◌, ◌<◌, ◌≤◌, min, Bool, true, false, not, cond, ltb, eqb, ◌&&◌, ◌||◌, List, [], ◌∷◌, length, map, replicate, inl, inr, ◌⊎◌, refl, sym, ap, ap₂, subst, ◌∙◌, arith}
 use Rattle.std.proofs.lemmas.Bool.{cond_both, cases_eq, or_parts, or_cases}
 use Rattle.std.proofs.lemmas.Bool.Decides.{nat_tests}
 use Rattle.std.proofs.lemmas.Nat.{pow_pos}
 use Rattle.std.proofs.lemmas.List.Elements.{All-nil, All-cons, All-head, All-tail}
 use Rattle.std.specs.List.{All}
-use Rattle.std.specs.Fn.{iterate}
 use Rattle.manchester_line.specs.declared.Sym.{Sym}
 use Rattle.manchester_line.specs.declared.Sym.TheVariants as sy
-use Rattle.port_partition.specs.Guard.{Guard, guard_after, event_of}
-use Rattle.port_partition.specs.declared.guard.GuardEvent.{GuardEvent}
+use Rattle.port_partition.specs.Guard.{Guard, event_of}
 use Rattle.port_partition.specs.declared.guard.GuardEvent.TheVariants as event
 use Rattle.repeater_core.specs.declared.modes.Mode.{Mode}
 use Rattle.repeater_core.specs.declared.modes.Mode.TheVariants.{Idle}
 use Rattle.repeater_core.specs.declared.modes.Activity.TheVariants.{Nobody, One}
-use Rattle.repeater_core.specs.Modes.{is_busy, joined, activity_at, activity_from, wish_of}
+use Rattle.repeater_core.specs.Modes.{joined, activity_at, activity_from, wish_of}
 use Rattle.repeater_core.specs.Counts.{Count, Choice, choice, choice_awake, choices_from, resting_count}
 use Rattle.repeater_core.specs.Step.{guards_after, guard_events, is_closing, is_opening, mask_from}
-use Rattle.repeater_core.specs.Laws.{SendsNothing}
 use Rattle.repeater_core.specs.Silence.{port_calm, ports_calm, any_opens, quiet_guard, quiet_count, quiet_mode, sends_to, sends_for}
 use Rattle.repeater_core.proofs.Wishes.{choose, IsWishFor, wish_is, repeatable}
 use Rattle.repeater_core.proofs.Fading.{fallen, fallen_min, port_falls, port_at_most, sends_next, sends_something, sends_nothing}

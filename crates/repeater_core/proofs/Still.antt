@@ -1,5 +1,5 @@
 -- A step's laws from what it decides, and the step of a repeater that silence leaves as it is.
-use Rattle.std.proofs.Common.{◌≡◌, ℕ, zero, suc, ◌+◌, ◌-◌, ◌<◌, ◌≤◌, min, Bool, true, false, not, cond, eqb, ◌&&◌, ◌||◌, List, [], ◌∷◌, ◌++◌, length, map, take, drop, replicate, refl, sym, ap, ap₂, subst, ◌∙◌, arith, length-append, length-drop}
+use Rattle.std.proofs.Common.{◌≡◌, ℕ, ◌+◌, true, false, ◌&&◌, ◌||◌, List, [], ◌∷◌, ◌++◌, length, map, drop, replicate, refl, sym, ap, ap₂, subst, ◌∙◌, arith, length-append, length-drop}
 use Rattle.std.proofs.lemmas.Bool.Decides.{nat_tests}
 use Rattle.std.proofs.lemmas.List.{length-replicate}
 use Rattle.std.proofs.lemmas.List.Elements.{All-head, All-tail, All-append, All-drop, All-replicate}
@@ -8,13 +8,12 @@ use Rattle.manchester_line.specs.declared.Sym.{Sym}
 use Rattle.manchester_line.specs.declared.Sym.TheVariants as sy
 use Rattle.port_partition.specs.Guard.{Guard}
 use Rattle.repeater_core.specs.declared.modes.Mode.TheVariants.{Idle}
-use Rattle.repeater_core.specs.Modes.{activity_from}
 use Rattle.repeater_core.specs.Counts.{Count, resting_count}
-use Rattle.repeater_core.specs.Delayed.{Delayed, moved_on}
+use Rattle.repeater_core.specs.Delayed.{Delayed}
 use Rattle.repeater_core.specs.Laws.{HasNoClash, Repeats, EndsLong}
-use Rattle.repeater_core.specs.Silence.{ports_calm, line_calm, any_opens, quiet_guard, quiet_count, quiet_mode, quiet_line, is_settled}
+use Rattle.repeater_core.specs.Silence.{ports_calm, any_opens, quiet_guard, quiet_count, quiet_mode, quiet_line, is_settled}
 use Rattle.repeater_core.specs.Step.{State, IsState, mode_next, chosen, after, emitted_by, decided_by, resting_by, clash_begins, closed_mask, opened_mask, halted_mask}
-use Rattle.repeater_core.specs.Calm.{silence, silent_step, IsQuiet, IsStill}
+use Rattle.repeater_core.specs.Calm.{silence, silent_step, IsStill}
 use Rattle.repeater_core.proofs.Lawful.{repeats, ends_long, no_clash, no_clash_emitted}
 use Rattle.repeater_core.proofs.Fronts.{IsLine, calm_all, front_of_all, row_within}
 use Rattle.repeater_core.proofs.Silent.{idles, idle_is}

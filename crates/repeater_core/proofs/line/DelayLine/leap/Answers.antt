@@ -1,7 +1,7 @@
-use Rattle.std.proofs.Common.{◌≡◌, ◌≤◌, ◌<◌, ◌+◌, ◌-◌, ◌%◌, ◌*◌, ◌∙◌, sym, ap, subst, drop, arith}
+use Rattle.std.proofs.Common.{◌≤◌, ◌<◌, ◌+◌, ◌%◌, ◌*◌, ◌∙◌, sym, ap, subst, drop, arith}
 use Rattle.std.specs.Fn.{iterate}
 use Rattle.std.proofs.Math.Nat.{mod-lt}
-use Rattle.repeater_core.specs.Delayed.{Delayed, IsRing, rotated}
+use Rattle.repeater_core.specs.Delayed.{Delayed, rotated}
 use Rattle.repeater_core.specs.Silence.{line_calm, quiet_line}
 use Rattle.repeater_core.proofs.Rings.{AllIdle, ring, IsRound, ring_leaps, ring_fades}
 use Rattle.repeater_core.proofs.line.DelayLine.leap.Goals as goal

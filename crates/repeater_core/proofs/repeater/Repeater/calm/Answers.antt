@@ -1,4 +1,4 @@
-use Rattle.std.proofs.Common.{◌≡◌, ◌<◌, ◌∙◌, min, true, false, sym, ap, subst}
+use Rattle.std.proofs.Common.{◌≡◌, ◌<◌, ◌∙◌, true, false, sym, ap, subst}
 use Rattle.std.specs.Fn.{iterate}
 use Rattle.repeater_core.specs.Silence.{any_opens, ports_calm}
 use Rattle.repeater_core.specs.Step.{State}

@@ -1,4 +1,4 @@
-use Rattle.std.proofs.Common.{◌≡◌, ◌≤◌, ◌<◌, ◌∙◌, length, map, sym, ap, subst, rules, arith}
+use Rattle.std.proofs.Common.{◌<◌, ◌∙◌, length, map, sym, ap, subst, rules, arith}
 use Rattle.std.proofs.lemmas.List.{with_items_is, length-map}
 use Rattle.std.specs.Fn.{iterate}
 use Rattle.repeater_core.specs.Silence.{quiet_guard, quiet_count}

@@ -1,4 +1,4 @@
-use Rattle.std.proofs.Common.{◌≡◌, ◌∙◌, length, replicate, ap, sym, subst, refl}
+use Rattle.std.proofs.Common.{◌∙◌, replicate, ap, subst, refl}
 use Rattle.manchester_line.specs.declared.Sym.TheVariants.{Idle}
 use Rattle.repeater_core.specs.Step.{IsState}
 use Rattle.repeater_core.proofs.Still.{still_is, law_repeats, law_ends_long, law_no_clash, law_no_clash_emitted}

@@ -1,10 +1,9 @@
-use Rattle.std.proofs.Common.{◌≡◌, map, sym, subst, rules, arith}
+use Rattle.std.proofs.Common.{◌≡◌, rules, arith}
 use Rattle.std.proofs.lemmas.Grind.{common_steps}
 use Rattle.repeater_core.specs.declared.modes.Mode.TheVariants.{Idle}
-use Rattle.repeater_core.specs.Laws.{HasNoClash, Repeats, EndsLong}
-use Rattle.repeater_core.specs.Step.{IsState, mode_next, chosen, resting_by}
+use Rattle.repeater_core.specs.Step.{mode_next, chosen}
 use Rattle.repeater_core.proofs.Silent.{idle_decides}
-use Rattle.repeater_core.proofs.Lawful.{step_state, repeats, ends_long, no_clash}
+use Rattle.repeater_core.proofs.Lawful.{step_state}
 use Rattle.repeater_core.proofs.repeater.Repeater.step_through.Goals as goal
 
 pub invariant_of-self : goal.invariant_of-self
