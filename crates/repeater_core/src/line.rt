@@ -68,7 +68,7 @@ fn next_turn(turn: usize, delay: usize) -> usize
     if turn + 1 == delay { 0 } else { turn + 1 }
 }
 
-/// The rows of which the last may have a signal, after a half bit in which all that was decided is Idle, if `silent`.
+/// How many of the oldest rows may have a signal after a half bit; if `silent`, all that was decided in it is Idle.
 fn fading_after(silent: bool, fading: usize, delay: usize) -> usize
     ensures { result ≡ (if silent then fading - 1 else delay) }
 {
@@ -97,8 +97,8 @@ impl DelayLine {
         })
     }
 
-    /// One half bit: what the ports emit now, and what is decided for them now. `silent` is only set where all that is
-    /// decided is Idle.
+    /// One half bit: what the ports emit now, and what is decided for them now. Only where all of that is Idle may
+    /// `silent` be set.
     pub fn step(&mut self, silent: bool, decided: &[Sym], emits: &mut [Sym])
         requires decided_len { length decided.now ≡ self.old.ports }
         requires emits_len { length emits.old ≡ self.old.ports }
@@ -134,7 +134,7 @@ impl DelayLine {
         }
     }
 
-    /// So many half bits, at most as many as it has calm, in which all that is decided is Idle.
+    /// So many half bits, at most as many as `calm` tells, in which all that is decided is Idle.
     pub fn leap(&mut self, n: u64)
         requires some_port { 0 < self.old.ports }
         requires few { n ≤ 4096 }

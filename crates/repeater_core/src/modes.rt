@@ -194,7 +194,7 @@ pub fn sends_to(mode: Mode, port: u32) -> bool
     }
 }
 
-/// A mode that silence led to after so many half bits more of it.
+/// A mode that silence led to, after so many half bits more of silence.
 #[tactic(auto, using(crate::proofs::Fading::later_is))]
 fn faded(mode: Mode, n: u32) -> Mode
     requires fading { IsFading mode }

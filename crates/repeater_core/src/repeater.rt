@@ -191,7 +191,7 @@ impl Repeater {
         }
     }
 
-    /// The greatest n up to 4,096 such that n half bits in which no port hears anything emit only Idle, decide only Idle
+    /// The greatest n up to 4,096 such that n half bits in which every port hears Idle emit only Idle, decide only Idle
     /// and give no event.
     pub fn calm(&self) -> u64
         ensures calm { IsCalm self.now result }
@@ -203,7 +203,8 @@ impl Repeater {
         ports_calm(self.mode, &self.counts).min(self.line.calm())
     }
 
-    /// The state after `n` half bits in which no port hears anything, at most as many as `calm` tells.
+    /// The state after `n` half bits in which every port hears Idle, at most as many as `calm` tells. Its time does not
+    /// grow with `n`.
     pub fn leap(&mut self, n: u64)
         requires { IsCalm self.old n }
         ensures state { self.new ≡ iterate silent_step n self.old }
