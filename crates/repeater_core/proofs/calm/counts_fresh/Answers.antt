@@ -4,7 +4,7 @@ use Rattle.std.proofs.lemmas.List.Elements.{All-more}
 use Rattle.std.proofs.lemmas.Grind.{common_steps}
 use Rattle.std.specs.List.{All}
 use Rattle.repeater_core.specs.Counts.{resting_count}
-use Rattle.repeater_core.proofs.calm.counts_settled.Goals as goal
+use Rattle.repeater_core.proofs.calm.counts_fresh.Goals as goal
 
 pub loop-k-preserved : goal.loop-k-preserved
 loop-k-preserved c =
