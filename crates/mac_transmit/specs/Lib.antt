@@ -1,2 +1,3 @@
 pub mod Deference
+pub mod Laws
 pub mod Sender

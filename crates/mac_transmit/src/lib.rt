@@ -5,6 +5,7 @@ mod cases;
 mod deference;
 mod phase;
 mod transmitter;
+mod turn;
 
 pub use deference::Defer;
 pub use phase::Phase;
