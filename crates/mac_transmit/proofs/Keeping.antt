@@ -11,7 +11,7 @@ use Rattle.mac_transmit.specs.Laws.{loud_after, StartsAt, IsAway}
 use Rattle.mac_transmit.specs.Sender.{is_sending, is_waiting, phase_started, defer_started, phase_after, IsWithin, PhaseIsSound, DeferIsSound, Sender, IsSender}
 
 -- the choice of an if has what both branches have
-choose : {A : Type 0} (P : A → Type 0) (b : Bool) (x y : A) → (b ≡ true → P x) → (b ≡ false → P y) → P (if b then x else y)
+pub choose : {A : Type 0} (P : A → Type 0) (b : Bool) (x y : A) → (b ≡ true → P x) → (b ≡ false → P y) → P (if b then x else y)
 choose P b x y f g = cond_both b x y P f g
 
 away : (last : Option ℕ) (g t g' t' : ℕ) → IsAway last g t → g' + t ≤ g + t' → IsAway last g' t'
@@ -22,7 +22,7 @@ watched_gap : (c : Bool) → gap_of (watched c) ≤ 192
 watched_gap true = omega arith
 watched_gap false = omega arith
 
-gap_next : (d : Defer) (c x w : Bool) → gap_of d ≤ 192 → gap_of (deferred d c x w) ≤ 192
+pub gap_next : (d : Defer) (c x w : Bool) → gap_of d ≤ 192 → gap_of (deferred d c x w) ≤ 192
 gap_next Watch c x w h = watched_gap c
 gap_next (Busy was) true x w h = omega arith
 gap_next (Busy was) false true w h = omega arith
@@ -91,7 +91,7 @@ waiting_keeps t made last loud c true d more m few g h f =
 waiting_keeps t made last loud c false d more m few g h f =
     record { gap = g; phase_sound = m; defer_sound = h; within = tt; gap_kept = λ e. absurd e; deaf_kept = λ e. absurd e }
 
-busy_stays : (d : Defer) (c w : Bool) → d ≡ Busy true → deferred d c true w ≡ Busy true
+pub busy_stays : (d : Defer) (c w : Bool) → d ≡ Busy true → deferred d c true w ≡ Busy true
 busy_stays d c w e = ap (λ x. deferred x c true w) e ∙ stays c
   where
     stays : (c : Bool) → deferred (Busy true) c true w ≡ Busy true

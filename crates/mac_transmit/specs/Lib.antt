@@ -1,3 +1,4 @@
+pub mod Calm
 pub mod Deference
 pub mod Laws
 pub mod Sender

@@ -1,5 +1,5 @@
 //! The cases of a sender's half bit, on plain values.
-ghost use Rattle.std.specs.Prelude.{◌≡◌, ◌<◌, ◌≤◌, ◌^◌, length, IfNone};
+ghost use Rattle.std.specs.Prelude.{◌≡◌, ◌<◌, ◌≤◌, ◌+◌, ◌^◌, ◌==◌, ◌||◌, if◌then◌else◌, length, IfNone};
 ghost use Rattle.mac_transmit.specs.Laws.{loud_after};
 ghost use Rattle.mac_transmit.specs.Sender.{jam_start, length_of, line_length, line_at, symbol_of, hit_at, is_sending, is_waiting, phase_started, defer_started, phase_after};
 
@@ -146,4 +146,12 @@ pub fn loud_since(from: u64, t: u64, carrier: bool) -> u64
     ensures { result ≡ loud_after from t carrier }
 {
     if carrier { from } else { t + 1 }
+}
+
+/// The same after `n` half bits from `t` on, in each of which something was heard, or Idle in each.
+pub fn loud_leapt(from: u64, t: u64, n: u64, carrier: bool) -> u64
+    requires { t + n < 2 ^ 32 }
+    ensures { result ≡ (if carrier || n == 0 then from else t + n) }
+{
+    if carrier || n == 0 { from } else { t + n }
 }

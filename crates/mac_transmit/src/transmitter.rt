@@ -3,8 +3,10 @@ ghost use Rattle.std.specs.Prelude.{◌≡◌, ◌<◌, ◌≤◌, ◌^◌, ◌&
 ghost use Rattle.manchester_line.specs.declared.Sym.{Sym};
 ghost use Rattle.manchester_line.specs.declared.Sym.TheVariants.{Idle};
 ghost use Rattle.mac_transmit.specs.Sender.{frame_at, ready_at, IsWithin, symbol_emitted};
+ghost use Rattle.mac_transmit.specs.Calm.{up_to_most};
 
-use crate::cases::{length_with, loud_since, new_hit, phase_with_hit, symbol_at};
+use crate::cases::{length_with, loud_leapt, loud_since, new_hit, phase_with_hit, symbol_at};
+use crate::deference::{defer_leapt, gap_to_wait};
 use crate::turn::take_turn;
 use crate::{Defer, Phase};
 use backoff_draw::Draws;
@@ -15,6 +17,9 @@ use std::marker::Model;
 
 /// The attempts after which a frame is given up (IEEE 802.3, 4.4.2.1).
 const ATTEMPT_LIMIT: u32 = 16;
+
+/// The most half bits of a leap (profile).
+const MOST_CALM: u64 = 4096;
 
 /// The half bits of the slot time (IEEE 802.3, 4.4.2.1).
 const SLOT_TIME: u64 = 1024;
@@ -71,6 +76,16 @@ fn is_ready(queue: &Queue, place: u32, t: u64) -> bool
     place < queue.len() && queue.get(place).at <= t
 }
 
+fn at_most(change: Option<u64>) -> u64
+    ensures number { result ≡ up_to_most change }
+    ensures within { result ≤ 4096 }
+{
+    match change {
+        None => MOST_CALM,
+        Some(n) => n.min(MOST_CALM),
+    }
+}
+
 /// The symbol that a station in this phase emits in half bit `t`.
 #[tactic(auto, unfolding(crate::specs::Sender::symbol_emitted))]
 fn emission(queue: &Queue, place: u32, t: u64, phase: Phase, carrier: bool) -> Sym
@@ -89,7 +104,9 @@ impl Transmitter {
     ghost use Rattle.std.specs.Prelude.{◌≡◌, ◌≢◌, ◌<◌, ◌≤◌, ◌+◌, ◌&&◌, nat_lt, nat_le, true, length, IfSome, IsNone, ◌↔◌};
     ghost use Rattle.manchester_line.specs.declared.Sym.TheVariants.{Clash};
     ghost use Rattle.mac_transmit.specs.Laws.{end_after, loud_after, StartsAt, IsAway, IsLongEnough};
-    ghost use Rattle.mac_transmit.specs.Sender.{new_sender, finished, event_from, promoted, after_turn, emitted_from, emitting, hears, sent, cut_of, frame_at, ready_at};
+    ghost use Rattle.mac_transmit.specs.Calm.{change_in, calm_of, AllHeardAs, AreCalm, after_all, leapt};
+    ghost use Rattle.std.specs.Prelude.{List};
+    ghost use Rattle.mac_transmit.specs.Sender.{new_sender, finished, event_from, promoted, after_turn, emitted_from, emitting, hears, sent, cut_of, frame_at, ready_at, IsSender};
 
     /// The sender of a queue before half bit 0, with draws of which none was made yet.
     pub fn new(queue: Queue, draws: Draws) -> Transmitter
@@ -227,6 +244,75 @@ impl Transmitter {
         self.promote();
         let emitted = self.go_on(carrier);
         SendStep { emitted, event }
+    }
+
+    /// The half bits, from the present one on, until one that gives an event, another phase or a new hit, where the
+    /// station hears something in each, or Idle in each; none where that never comes.
+    #[tactic(auto, unfolding(crate::specs::Calm::change_in, crate::specs::Sender::ready_at))]
+    fn change(&self, carrier: bool) -> Option<u64>
+        ensures change { result ≡ change_in self.now carrier }
+        ensures valid { IsSender self.now }
+    {
+        match self.phase {
+            Phase::Rest => {
+                if self.place < self.queue.len() {
+                    Some(self.queue.get(self.place).at.saturating_sub(self.t))
+                } else {
+                    None
+                }
+            }
+            Phase::Waiting => gap_to_wait(self.defer, carrier),
+            Phase::Sending { start, hit } => {
+                if hit.is_none() && carrier {
+                    return Some(0);
+                }
+                let length = length_with(frame_octets(&self.queue, self.place), hit);
+                Some((start + length).saturating_sub(self.t))
+            }
+            Phase::Backoff { until } => Some(until.saturating_sub(self.t)),
+        }
+    }
+
+    /// The greatest number up to 4,096 of half bits from `t` on, the one after the last that was stepped, that give no
+    /// event, no change of phase and no new hit, where the station hears something in each, or Idle in each.
+
+    pub fn calm(&self, t: u64, carrier: bool) -> u64
+        requires time { t ≡ self.now.t }
+        requires in_time { t < 2000000000 }
+        ensures number { result ≡ calm_of self.now carrier }
+        ensures within { result ≤ 4096 }
+        ensures exact { (hs : List Sym) → AllHeardAs carrier hs → length hs ≤ 4096 → (AreCalm self.now hs ↔ (length hs ≤ result)) }
+    {
+        at_most(self.change(carrier))
+    }
+
+    /// Goes over `n` half bits from `t` on in which nothing happens.
+    #[tactic(auto, unfolding(crate::specs::Calm::leapt))]
+    fn leap_over(&mut self, t: u64, n: u64, carrier: bool)
+        requires calm { n ≤ calm_of self.old carrier }
+        requires time { t ≡ self.old.t }
+        requires in_time { t + n ≤ 2000000000 }
+        ensures state { self.new ≡ leapt self.old carrier n }
+        ensures phase { self.new.phase ≡ self.old.phase }
+        ensures time { self.new.t ≡ self.old.t + n }
+        ensures valid { IsSender self.old }
+    {
+        self.defer = defer_leapt(self.phase, self.defer, n, carrier);
+        self.loud_from = loud_leapt(self.loud_from, t, n, carrier);
+        self.t = t + n;
+    }
+
+    /// The state after `n` half bits from `t` on, the one after the last that was stepped, at most as many as `calm`
+    /// answers, in each of which the station hears something, or Idle in each. It takes as long as one half bit.
+    pub fn leap(&mut self, t: u64, n: u64, carrier: bool)
+        requires calm { n ≤ calm_of self.old carrier }
+        requires time { t ≡ self.old.t }
+        requires in_time { t + n ≤ 2000000000 }
+        ensures state { (hs : List Sym) → AllHeardAs carrier hs → length hs ≡ n → self.new ≡ after_all self.old hs }
+        ensures phase { self.new.phase ≡ self.old.phase }
+        ensures time { self.new.t ≡ self.old.t + n }
+    {
+        self.leap_over(t, n, carrier);
     }
 
     /// The row of the sending that is under way; none exactly where no sending is.
