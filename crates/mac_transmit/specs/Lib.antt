@@ -1,4 +1,5 @@
 pub mod Calm
 pub mod Deference
 pub mod Laws
+pub mod Resuming
 pub mod Sender

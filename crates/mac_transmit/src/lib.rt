@@ -4,11 +4,13 @@
 mod cases;
 mod deference;
 mod phase;
+mod state;
 mod transmitter;
 mod turn;
 
 pub use deference::Defer;
 pub use phase::Phase;
+pub use state::SenderState;
 pub use transmitter::{SendStep, Transmitter};
 
 #[cfg(test)]

@@ -8,7 +8,7 @@ ghost use Rattle.mac_transmit.specs.Calm.{up_to_most};
 use crate::cases::{length_with, loud_leapt, loud_since, new_hit, phase_with_hit, symbol_at};
 use crate::deference::{defer_leapt, gap_to_wait};
 use crate::turn::take_turn;
-use crate::{Defer, Phase};
+use crate::{Defer, Phase, SenderState};
 use backoff_draw::Draws;
 use collision_log::Body;
 use frame_layout::{Frame, Queue};
@@ -106,6 +106,7 @@ impl Transmitter {
     ghost use Rattle.mac_transmit.specs.Laws.{end_after, loud_after, StartsAt, IsAway, IsLongEnough};
     ghost use Rattle.mac_transmit.specs.Calm.{change_in, calm_of, AllHeardAs, AreCalm, after_all, leapt};
     ghost use Rattle.std.specs.Prelude.{List};
+    ghost use Rattle.mac_transmit.specs.Resuming.{state_of, resumed, IsStateOf};
     ghost use Rattle.mac_transmit.specs.Sender.{new_sender, finished, event_from, promoted, after_turn, emitted_from, emitting, hears, sent, cut_of, frame_at, ready_at, IsSender};
 
     /// The sender of a queue before half bit 0, with draws of which none was made yet.
@@ -124,6 +125,43 @@ impl Transmitter {
             attempt: 1,
             last_end: None,
             loud_from: 0,
+        }
+    }
+
+    /// The state from which a sender can go on later, given a half bit, its queue and its draws.
+    #[tactic(auto, unfolding(crate::specs::Resuming::state_of))]
+    pub fn state(&self) -> SenderState
+        ensures { result ≡ state_of self.now }
+    {
+        SenderState {
+            phase: self.phase,
+            defer: self.defer,
+            attempt: self.attempt,
+            place: self.place,
+            drawn: self.drawn,
+        }
+    }
+
+    /// The sender of a queue before half bit `t` that goes on from this state, with draws whose next is the one that the
+    /// state numbers. What its laws say of earlier sendings and of what was heard begins anew.
+    #[tactic(auto, unfolding(crate::specs::Resuming::resumed))]
+    pub fn resume(queue: Queue, draws: Draws, t: u64, state: SenderState) -> Transmitter
+        requires in_time { t ≤ 2000000000 }
+        requires next_draw { draws.made ≡ state.drawn }
+        requires ranges { IsStateOf queue state }
+        ensures { result ≡ resumed queue draws t state }
+    {
+        Transmitter {
+            queue,
+            draws,
+            drawn: state.drawn,
+            t,
+            place: state.place,
+            phase: state.phase,
+            defer: state.defer,
+            attempt: state.attempt,
+            last_end: None,
+            loud_from: t,
         }
     }
 
