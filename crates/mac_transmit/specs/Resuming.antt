@@ -10,11 +10,11 @@ use Rattle.mac_transmit.specs.declared.state.SenderState.{SenderState}
 use Rattle.mac_transmit.specs.Sender.{Sender}
 
 -- the state of a sender, from which it can go on, given a half bit, its queue and its draws
-unfoldable pub state_of : Sender → SenderState
+abbrev pub state_of : Sender → SenderState
 state_of s = record { phase = s.phase; defer = s.defer; attempt = s.attempt; place = s.place; drawn = s.draws.made }
 
 -- a sender before half bit t that goes on from a state: no sending ended yet, and nothing was heard
-unfoldable pub resumed : List Ready → Drawing → ℕ → SenderState → Sender
+abbrev pub resumed : List Ready → Drawing → ℕ → SenderState → Sender
 resumed queue draws t state = record {
   queue = queue;
   draws = draws;

@@ -129,7 +129,6 @@ impl Transmitter {
     }
 
     /// The state from which a sender can go on later, given a half bit, its queue and its draws.
-    #[tactic(auto, unfolding(crate::specs::Resuming::state_of))]
     pub fn state(&self) -> SenderState
         ensures { result ≡ state_of self.now }
     {
@@ -144,7 +143,6 @@ impl Transmitter {
 
     /// The sender of a queue before half bit `t` that goes on from this state, with draws whose next is the one that the
     /// state numbers. What its laws say of earlier sendings and of what was heard begins anew.
-    #[tactic(auto, unfolding(crate::specs::Resuming::resumed))]
     pub fn resume(queue: Queue, draws: Draws, t: u64, state: SenderState) -> Transmitter
         requires in_time { t ≤ 2000000000 }
         requires next_draw { draws.made ≡ state.drawn }
