@@ -1,7 +1,9 @@
 -- What a sender keeps in a half bit, and the laws of its starts.
-use Rattle.std.proofs.Common.{◌≡◌, ℕ, ◌+◌, ◌-◌, ◌*◌, ◌<◌, ◌≤◌, Bool, true, false, ltb, leb, eqb, ◌&&◌, not, Option, Some, None, length, refl, sym, ap, subst, ◌∙◌, arith}
+use Rattle.std.proofs.Common.{◌≡◌, ℕ, ◌+◌, ◌-◌, ◌*◌, ◌%◌, ◌^◌, ◌<◌, ◌≤◌, min, Bool, true, false, ltb, leb, eqb, ◌&&◌, not, Option, Some, None, length, refl, sym, ap, subst, ◌∙◌, arith}
 use Rattle.std.specs.Prelude.{if◌then◌else◌}
 use Rattle.std.proofs.lemmas.Bool.{cond_both, and_parts, eqb-true}
+use Rattle.std.proofs.Math.Nat.{mod-lt, pow-le-pow_right, one-le-pow}
+use Rattle.backoff_draw.specs.Draws.{draw_of, word}
 use Rattle.mac_transmit.specs.declared.deference.Defer.{Defer}
 use Rattle.mac_transmit.specs.declared.deference.Defer.TheVariants.{Watch, Busy, Gap}
 use Rattle.mac_transmit.specs.declared.phase.Phase.{Phase}
@@ -43,7 +45,7 @@ defer_next : (t : ℕ) (last : Option ℕ) (loud : ℕ) (d : Defer) (c x w : Boo
 defer_next t last loud Watch c x w h = watched_next t last loud c h
 defer_next t last loud (Busy was) true x w h = away last 0 t 0 (t + 1) h (omega arith)
 defer_next t last loud (Busy was) false true w h = away last 0 t 0 (t + 1) h (omega arith)
-defer_next t last loud (Busy was) false false w h = (away last 0 t 1 (t + 1) h (omega arith), omega arith)
+defer_next t last loud (Busy was) false false w h = (away last 0 t 1 (t + 1) h (omega arith), omega arith, omega arith)
 defer_next t last loud (Gap k was) c x w h =
     choose (DeferIsSound (t + 1) last (loud_after loud t c)) (eqb k 192) (if w then Watch else watched c) (if ltb k 128 && (not was && c) then Busy false else Gap (k + 1) was)
     (λ e. let full : k ≡ 192 = eqb-true k 192 e in
@@ -52,7 +54,7 @@ defer_next t last loud (Gap k was) c x w h =
     (λ _. watched_next t last loud c (away last k t 192 t h.0 (omega arith))))
     (λ _. choose (DeferIsSound (t + 1) last (loud_after loud t c)) (ltb k 128 && (not was && c)) (Busy false) (Gap (k + 1) was)
     (λ _. away last k t 0 (t + 1) h.0 (omega arith))
-    (λ _. (away last k t (k + 1) (t + 1) h.0 (omega arith), later t loud k c h.1)))
+    (λ _. (away last k t (k + 1) (t + 1) h.0 (omega arith), later t loud k c h.1, omega arith)))
   where
     later : (t loud k : ℕ) (c : Bool) → t < loud + k → t + 1 < loud_after loud t c + (k + 1)
     later t loud k true h = omega arith
@@ -145,3 +147,11 @@ goes_on s c p d loud h l ep ed el =
       phase_sound = subst (λ x. PhaseIsSound (s.t + 1) s.draws.made (ltb s.place (length s.queue)) x p) (sym ed) (subst (λ x. PhaseIsSound (s.t + 1) s.draws.made (ltb s.place (length s.queue)) (turn_defer s c) x) (sym ep) k.phase_sound);
       defer_sound = subst (λ x. DeferIsSound (s.t + 1) s.last_end loud x) (sym ed) (subst (λ x. DeferIsSound (s.t + 1) s.last_end x (turn_defer s c)) (sym el) k.defer_sound);
     }
+
+-- a draw is below 1,024
+pub draw_below : (seed station j n : ℕ) → draw_of seed station j n < 1024
+draw_below seed station j n =
+    let some : 0 < 2 ^ min n 10 = one-le-pow (min n 10) 2 (omega arith) in
+    let few : 2 ^ min n 10 ≤ 2 ^ 10 = pow-le-pow_right {n = 2} (omega arith) {i = min n 10} {j = 10} (omega arith) in
+    let below : word seed station j % 2 ^ min n 10 < 2 ^ min n 10 = mod-lt (word seed station j) some in
+    omega arith

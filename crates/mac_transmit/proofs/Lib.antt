@@ -1,3 +1,4 @@
 pub mod Symbols
 pub mod Keeping
 pub mod Calming
+pub mod Resumes

@@ -196,18 +196,18 @@ IsWithin more (Sending start hit) = more ≡ true
 IsWithin more _ = Unit {0}
 
 -- Where a frame waits or is under way there is one. A sending under way began in an earlier half bit, and since then the
--- station made no draw and is busy with it.
+-- station made no draw and is busy with it. A backoff ends by half bit 2,100,000,000.
 abbrev pub PhaseIsSound : ℕ → ℕ → Bool → Defer → Phase → Type 0
 PhaseIsSound t made more defer Rest = Unit {0}
 PhaseIsSound t made more defer Waiting = more ≡ true
 PhaseIsSound t made more defer (Sending start hit) = (more ≡ true) × (start < t) × (made ≤ start + 2000000000) × (defer ≡ Busy true)
-PhaseIsSound t made more defer (Backoff until) = more ≡ true
+PhaseIsSound t made more defer (Backoff until) = (more ≡ true) × (until ≤ 2100000000)
 
 -- The gap did not begin before the last sending had ended, nor before the station had heard Idle.
 abbrev pub DeferIsSound : ℕ → Option ℕ → ℕ → Defer → Type 0
 DeferIsSound t last_end loud_from Watch = IsAway last_end 192 t
 DeferIsSound t last_end loud_from (Busy was) = IsAway last_end 0 t
-DeferIsSound t last_end loud_from (Gap k was) = IsAway last_end k t × (t < loud_from + k)
+DeferIsSound t last_end loud_from (Gap k was) = IsAway last_end k t × (t < loud_from + k) × (1 ≤ k)
 
 -- what the states of a sender keep
 pub record IsSender (s : Sender) : Type 0 where

@@ -101,13 +101,13 @@ fn emission(queue: &Queue, place: u32, t: u64, phase: Phase, carrier: bool) -> S
 }
 
 impl Transmitter {
-    ghost use Rattle.std.specs.Prelude.{◌≡◌, ◌≢◌, ◌<◌, ◌≤◌, ◌+◌, ◌&&◌, nat_lt, nat_le, true, length, IfSome, IsNone, ◌↔◌};
+    ghost use Rattle.std.specs.Prelude.{◌≡◌, ◌≢◌, ◌<◌, ◌≤◌, ◌+◌, ◌&&◌, nat_lt, nat_le, true, false, length, IfSome, IsNone, ◌↔◌};
     ghost use Rattle.manchester_line.specs.declared.Sym.TheVariants.{Clash};
     ghost use Rattle.mac_transmit.specs.Laws.{end_after, loud_after, StartsAt, IsAway, IsLongEnough};
     ghost use Rattle.mac_transmit.specs.Calm.{change_in, calm_of, AllHeardAs, AreCalm, after_all, leapt};
     ghost use Rattle.std.specs.Prelude.{List};
     ghost use Rattle.mac_transmit.specs.Resuming.{state_of, resumed, IsStateOf};
-    ghost use Rattle.mac_transmit.specs.Sender.{new_sender, finished, event_from, promoted, after_turn, emitted_from, emitting, hears, sent, cut_of, frame_at, ready_at, IsSender};
+    ghost use Rattle.mac_transmit.specs.Sender.{new_sender, finished, event_from, promoted, after_turn, emitted_from, emitting, hears, sent, cut_of, frame_at, ready_at, is_sending, IsSender};
 
     /// The sender of a queue before half bit 0, with draws of which none was made yet.
     pub fn new(queue: Queue, draws: Draws) -> Transmitter
@@ -130,7 +130,8 @@ impl Transmitter {
 
     /// The state from which a sender can go on later, given a half bit, its queue and its draws.
     pub fn state(&self) -> SenderState
-        ensures { result ≡ state_of self.now }
+        ensures state { result ≡ state_of self.now }
+        ensures ranges { is_sending self.now.phase ≡ false → self.now.draws.made ≤ 2000000000 → IsStateOf self.now.queue result }
     {
         SenderState {
             phase: self.phase,
@@ -164,7 +165,7 @@ impl Transmitter {
     }
 
     /// A sending whose length is reached gives its event.
-    #[tactic(auto, unfolding(crate::specs::Sender::finished, crate::specs::Sender::event_from))]
+    #[tactic(auto, unfolding(crate::specs::Sender::finished, crate::specs::Sender::event_from), using(crate::proofs::Keeping::draw_below))]
     fn finish(&mut self) -> Option<Body>
         ensures state { self.new ≡ finished self.old }
         ensures time { self.new.t ≡ self.old.t }
