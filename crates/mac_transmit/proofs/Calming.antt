@@ -1,23 +1,20 @@
 -- Half bits in which nothing happens to a sender, one and many.
-use Rattle.std.proofs.Common.{◌≡◌, ◌≢◌, ℕ, zero, suc, ◌+◌, ◌-◌, ◌*◌, ◌<◌, ◌≤◌, min, Bool, true, false, cond, ltb, leb, eqb, ◌&&◌, ◌||◌, not, Option, Some, None, List, [], ◌∷◌, length, refl, sym, ap, ap₂, subst, ◌∙◌, inl, inr, arith}
+use Rattle.std.proofs.Common.{◌≡◌, ℕ, zero, suc, ◌+◌, ◌-◌, ◌<◌, ◌≤◌, Bool, true, false, cond, ltb, leb, eqb, ◌&&◌, ◌||◌, not, Option, Some, None, List, [], ◌∷◌, length, refl, sym, ap, ap₂, subst, ◌∙◌, inl, inr, arith}
 use Rattle.std.specs.Prelude.{if◌then◌else◌, ◌↔◌, ◌⊎◌}
-use Rattle.std.specs.List.{All}
-use Rattle.std.proofs.lemmas.Bool.{cond_both, cond-true, cond-false, and_parts, eqb-true, cases_lt}
+use Rattle.std.proofs.lemmas.Bool.{cond-true, cond-false, and_parts, eqb-true, cases_lt}
 use Rattle.std.proofs.lemmas.Bool.Decides.{nat_tests}
 use Rattle.manchester_line.specs.declared.Sym.{Sym}
-use Rattle.manchester_line.specs.declared.Sym.TheVariants.{Idle, Hi}
 use Rattle.frame_layout.specs.declared.queue.Ready.{Ready}
-use Rattle.backoff_draw.specs.Draws.{Drawing, draw_of, drawn}
-use Rattle.collision_log.specs.declared.row.Body.{Body}
+use Rattle.backoff_draw.specs.Draws.{Drawing}
 use Rattle.mac_transmit.specs.declared.deference.Defer.{Defer}
 use Rattle.mac_transmit.specs.declared.deference.Defer.TheVariants.{Watch, Busy, Gap}
 use Rattle.mac_transmit.specs.declared.phase.Phase.{Phase}
 use Rattle.mac_transmit.specs.declared.phase.Phase.TheVariants.{Rest, Waiting, Sending, Backoff}
 use Rattle.mac_transmit.specs.Deference.{deferred, free_of, gap_of, watched}
 use Rattle.mac_transmit.specs.Laws.{loud_after}
-use Rattle.mac_transmit.specs.Sender.{Sender, IsSender, PhaseIsSound, sent, hears, finished, finished_from, ended, promoted, promoted_from, deferring, is_free, started, emitting, after_turn, event_from, end_event, has_ended, phase_started, defer_started, phase_after, hit_at, is_sending, is_waiting, frame_at, ready_at, length_of}
-use Rattle.mac_transmit.specs.Calm.{after_all, AllHeardAs, IsCalmIn, AreCalm, gap_left, gets_hit, change_from, change_in, up_to_most, calm_of, gap_at, waited, leapt}
-use Rattle.mac_transmit.proofs.Keeping.{choose, goes_on, busy_stays, gap_next}
+use Rattle.mac_transmit.specs.Sender.{Sender, IsSender, PhaseIsSound, sent, hears, finished, ended, promoted, deferring, is_free, started, emitting, after_turn, event_from, end_event, phase_started, defer_started, phase_after, hit_at, is_sending, frame_at, ready_at, length_of}
+use Rattle.mac_transmit.specs.Calm.{after_all, AllHeardAs, IsCalmIn, AreCalm, gap_left, gets_hit, change_in, up_to_most, gap_at, waited, leapt}
+use Rattle.mac_transmit.proofs.Keeping.{goes_on, busy_stays, gap_next}
 
 -- tests on numbers
 past_true : (a b : ℕ) → a - b ≡ 0 → leb a b ≡ true

@@ -1,5 +1,5 @@
 -- What a sender keeps in a half bit, and the laws of its starts.
-use Rattle.std.proofs.Common.{◌≡◌, ℕ, ◌+◌, ◌-◌, ◌*◌, ◌%◌, ◌^◌, ◌<◌, ◌≤◌, min, Bool, true, false, ltb, leb, eqb, ◌&&◌, not, Option, Some, None, length, refl, sym, ap, subst, ◌∙◌, arith}
+use Rattle.std.proofs.Common.{◌≡◌, ℕ, ◌+◌, ◌%◌, ◌^◌, ◌<◌, ◌≤◌, min, Bool, true, false, ltb, eqb, ◌&&◌, not, Option, Some, None, length, refl, sym, ap, subst, ◌∙◌, arith}
 use Rattle.std.specs.Prelude.{if◌then◌else◌}
 use Rattle.std.proofs.lemmas.Bool.{cond_both, and_parts, eqb-true}
 use Rattle.std.proofs.Math.Nat.{mod-lt, pow-le-pow_right, one-le-pow}
@@ -130,6 +130,10 @@ turn_defer s c = defer_started s.phase (free_of s.defer c (is_waiting s.phase)) 
 pub turn : (s : Sender) (c : Bool) → IsSender s → Keeps s.t s.draws.made (ltb s.place (length s.queue)) s.last_end s.loud_from c (turn_phase s c) (turn_defer s c)
 turn s c h = turn_keeps s.t s.draws.made (ltb s.place (length s.queue)) s.last_end s.loud_from s.phase s.defer c h.drawn h.gap h.phase_sound h.defer_sound
 
+loud_next : (from t : ℕ) (c : Bool) → from ≤ t → loud_after from t c ≤ t + 1
+loud_next from t true h = omega arith
+loud_next from t false h = omega arith
+
 pub goes_on : (s : Sender) (c : Bool) (p : Phase) (d : Defer) (loud : ℕ) → IsSender s → s.t < 2000000000
     → p ≡ phase_after s.t (turn_phase s c) c → d ≡ turn_defer s c → loud ≡ loud_after s.loud_from s.t c
     → IsSender (record { queue = s.queue; draws = s.draws; t = s.t + 1; place = s.place; phase = p; defer = d; attempt = s.attempt; last_end = s.last_end; loud_from = loud })
@@ -146,6 +150,7 @@ goes_on s c p d loud h l ep ed el =
       place = h.place;
       phase_sound = subst (λ x. PhaseIsSound (s.t + 1) s.draws.made (ltb s.place (length s.queue)) x p) (sym ed) (subst (λ x. PhaseIsSound (s.t + 1) s.draws.made (ltb s.place (length s.queue)) (turn_defer s c) x) (sym ep) k.phase_sound);
       defer_sound = subst (λ x. DeferIsSound (s.t + 1) s.last_end loud x) (sym ed) (subst (λ x. DeferIsSound (s.t + 1) s.last_end x (turn_defer s c)) (sym el) k.defer_sound);
+      loud = subst (λ x. x ≤ s.t + 1) (sym el) (loud_next s.loud_from s.t c h.loud);
     }
 
 -- a draw is below 1,024

@@ -2,3 +2,4 @@ pub mod Symbols
 pub mod Keeping
 pub mod Calming
 pub mod Resumes
+pub mod Going

@@ -1,5 +1,5 @@
 -- A sender that isn't sending can go on later.
-use Rattle.std.proofs.Common.{◌≡◌, ℕ, ◌<◌, ◌≤◌, Bool, true, false, ltb, Option, length, sym, subst, arith}
+use Rattle.std.proofs.Common.{◌≡◌, ℕ, ◌≤◌, false, ltb, Option, length, sym, subst}
 use Rattle.std.proofs.lemmas.Bool.{ltb-true}
 use Rattle.frame_layout.specs.declared.queue.Ready.{Ready}
 use Rattle.std.specs.Prelude.{List}

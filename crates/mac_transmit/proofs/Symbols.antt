@@ -1,10 +1,10 @@
 -- No clash is sent.
-use Rattle.std.proofs.Common.{◌≡◌, ◌≢◌, ℕ, ◌+◌, ◌-◌, ◌*◌, ◌/◌, ◌%◌, ◌^◌, ◌<◌, ◌≤◌, Bool, true, false, Option, Some, None, eqb, ltb, List, length, get_or, sym, subst, inl, inr, arith}
+use Rattle.std.proofs.Common.{◌≡◌, ◌≢◌, ℕ, ◌-◌, ◌*◌, ◌%◌, Bool, true, false, Option, Some, None, eqb, ltb, List, length, inl, inr, arith}
 use Rattle.std.proofs.lemmas.Bool.{cond_both, cases_lt}
 use Rattle.std.specs.Prelude.{◌||◌}
 use Rattle.manchester_line.specs.declared.Sym.{Sym}
-use Rattle.manchester_line.specs.declared.Sym.TheVariants.{Idle, Hi, Lo, Clash}
-use Rattle.manchester_line.specs.Line.{half_at, header_at, jam_at, line}
+use Rattle.manchester_line.specs.declared.Sym.TheVariants.{Hi, Lo, Clash}
+use Rattle.manchester_line.specs.Line.{half_at, jam_at}
 use Rattle.manchester_line.proofs.Places.{line_at_header, line_at_octet, line_past}
 use Rattle.mac_transmit.specs.Sender.{line_at, symbol_of, jam_start, hit_at, symbol_emitted}
 use Rattle.mac_transmit.specs.declared.phase.Phase.{Phase}

@@ -1,5 +1,5 @@
 -- Half bits one after another, and those in which nothing happens to a sender but that time goes on and it waits.
-use Rattle.std.specs.Prelude.{ℕ, ◌≡◌, ◌+◌, ◌-◌, ◌≤◌, Bool, true, false, ◌==◌, ◌&&◌, ◌||◌, not, nat_lt, nat_le, min, if◌then◌else◌, Option, Some, None, List, [], ◌∷◌, length}
+use Rattle.std.specs.Prelude.{ℕ, ◌≡◌, ◌+◌, ◌-◌, Bool, true, false, ◌==◌, ◌&&◌, ◌||◌, not, nat_lt, nat_le, min, if◌then◌else◌, Option, Some, None, List, [], ◌∷◌, length}
 use Rattle.std.specs.List.{All}
 use Rattle.manchester_line.specs.declared.Sym.{Sym}
 use Rattle.mac_transmit.specs.declared.deference.Defer.{Defer}

@@ -3,7 +3,7 @@ use Rattle.std.specs.Prelude.{ℕ, ◌≡◌, ◌+◌, ◌<◌, ◌≤◌, Bool,
 use Rattle.collision_log.specs.declared.row.Body.{Body}
 use Rattle.collision_log.specs.declared.row.Body.TheVariants.{Sent, Collided, GivenUp}
 use Rattle.mac_transmit.specs.declared.phase.Phase.{Phase}
-use Rattle.mac_transmit.specs.declared.phase.Phase.TheVariants.{Rest, Waiting, Sending, Backoff}
+use Rattle.mac_transmit.specs.declared.phase.Phase.TheVariants.{Sending}
 
 -- The half bit in which the last sending ended, after half bit t, which gave this event if any: every event of a step
 -- is the end of a sending.

@@ -3,3 +3,4 @@ pub mod Deference
 pub mod Laws
 pub mod Resuming
 pub mod Sender
+pub mod Starts

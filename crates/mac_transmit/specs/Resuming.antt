@@ -1,5 +1,5 @@
 -- Senders that are stopped and go on later (profile).
-use Rattle.std.specs.Prelude.{ℕ, ◌≡◌, ◌<◌, ◌≤◌, Option, None, List, length}
+use Rattle.std.specs.Prelude.{ℕ, ◌<◌, ◌≤◌, None, List, length}
 use Rattle.frame_layout.specs.declared.queue.Ready.{Ready}
 use Rattle.backoff_draw.specs.Draws.{Drawing}
 use Rattle.mac_transmit.specs.declared.deference.Defer.{Defer}

@@ -220,3 +220,4 @@ pub record IsSender (s : Sender) : Type 0 where
   pub place : s.place ≤ length s.queue
   pub phase_sound : PhaseIsSound s.t s.draws.made (nat_lt s.place (length s.queue)) s.defer s.phase
   pub defer_sound : DeferIsSound s.t s.last_end s.loud_from s.defer
+  pub loud : s.loud_from ≤ s.t

@@ -1,7 +1,6 @@
-use Rattle.std.proofs.Common.{◌≡◌, ap, ◌<◌, sym, ◌∙◌, subst}
-use Rattle.mac_transmit.specs.Laws.{StartsAt}
+use Rattle.std.proofs.Common.{ap, ◌<◌, sym, ◌∙◌, subst}
 use Rattle.mac_transmit.specs.Sender.{Sender, phase_after}
-use Rattle.mac_transmit.proofs.Keeping.{turn, goes_on}
+use Rattle.mac_transmit.proofs.Keeping.{goes_on}
 use Rattle.mac_transmit.proofs.Symbols.{emitted_clear}
 use Rattle.mac_transmit.proofs.transmitter.Transmitter.go_on.Goals as goal
 
