@@ -128,7 +128,8 @@ impl Transmitter {
         }
     }
 
-    /// The state from which a sender can go on later, given a half bit, its queue and its draws.
+    /// The state from which a sender can go on later, given a half bit, its queue and its draws. A sender that isn't
+    /// sending, and that made at most 2,000,000,000 draws, can.
     pub fn state(&self) -> SenderState
         ensures state { result ≡ state_of self.now }
         ensures ranges { is_sending self.now.phase ≡ false → self.now.draws.made ≤ 2000000000 → IsStateOf self.now.queue result }
@@ -260,7 +261,8 @@ impl Transmitter {
         emitted
     }
 
-    /// Half bit `t`, the one after the last that was stepped, in which the station hears this symbol.
+    /// Half bit `t`, the one after the last that was stepped or leapt, in which the station hears this symbol
+    /// (IEEE 802.3, 4.2.3 and 4.2.8). It begins at 0, or where the sender goes on, and is below 2,000,000,000.
     #[tactic(auto, unfolding(crate::specs::Sender::sent))]
     pub fn step(&mut self, t: u64, heard: Sym) -> SendStep
         requires time { t ≡ self.old.t }
@@ -269,10 +271,14 @@ impl Transmitter {
         ensures time { self.new.t ≡ self.old.t + 1 }
         ensures emitted { result.emitted ≡ (sent self.old heard).emitted }
         ensures event { result.event ≡ (sent self.old heard).event }
+
+        // What a sender keeps follows the half bits, and the laws of its starts speak of it.
         ensures last_end { self.new.last_end ≡ end_after self.old.last_end t result.event }
         ensures loud_from { self.new.loud_from ≡ loud_after self.old.loud_from t (hears heard) }
         ensures gap { StartsAt t self.new.phase → IsAway self.new.last_end 192 t }
         ensures deaf_gap { StartsAt t self.new.phase → hears heard ≡ true → t < self.new.loud_from + 192 }
+
+        // A sending that ends was long enough, and no clash is sent.
         ensures length { IsLongEnough t result.event }
         ensures no_clash { result.emitted ≢ Clash }
     {
@@ -310,9 +316,9 @@ impl Transmitter {
         }
     }
 
-    /// The greatest number up to 4,096 of half bits from `t` on, the one after the last that was stepped, that give no
-    /// event, no change of phase and no new hit, where the station hears something in each, or Idle in each.
-
+    /// The greatest number up to 4,096 of half bits from `t` on, the one after the last that was stepped or leapt, that
+    /// give no event, no change of phase and no new hit, where the station hears something in each, as `carrier` says, or
+    /// Idle in each. A sending that goes on is calm, though it emits.
     pub fn calm(&self, t: u64, carrier: bool) -> u64
         requires time { t ≡ self.now.t }
         requires in_time { t < 2000000000 }
