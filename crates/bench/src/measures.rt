@@ -2,6 +2,7 @@
 ghost use Rattle.std.specs.Prelude.{◌≡◌, ◌≢◌, ◌≤◌, ◌+◌, ◌*◌, All, length, IfOk};
 ghost use Rattle.manchester_line.specs.declared.Sym.TheVariants.{Idle};
 
+use crate::segment::{leaps, segments};
 use frame_layout::fcs;
 use lists::{OutOfMemory, Text};
 use mac_receive::Receiver;
@@ -30,12 +31,18 @@ pub enum Measure {
     RepeatAllPorts,
     /// A repeater of two ports that hear nothing, half bit by half bit.
     RepeatQuiet,
+    /// A segment with four taps whose stations send, half bit by half bit.
+    FourStations,
+    /// The same with 32 taps.
+    ManyStations,
+    /// A sender that waits for its frame, by leaps.
+    SenderLeaps,
     /// The program on a segment of two stations, from the layout to the log.
     Plain,
 }
 
 impl Measure {
-    pub const ALL: [Measure; 9] = [
+    pub const ALL: [Measure; 12] = [
         Measure::Encode,
         Measure::Decode,
         Measure::ReceiveIdle,
@@ -44,6 +51,9 @@ impl Measure {
         Measure::RepeatTwoPorts,
         Measure::RepeatAllPorts,
         Measure::RepeatQuiet,
+        Measure::FourStations,
+        Measure::ManyStations,
+        Measure::SenderLeaps,
         Measure::Plain,
     ];
 
@@ -58,6 +68,9 @@ impl Measure {
             Measure::RepeatTwoPorts => "repeat-2-ports",
             Measure::RepeatAllPorts => "repeat-32-ports",
             Measure::RepeatQuiet => "repeat-quiet",
+            Measure::FourStations => "segment-4",
+            Measure::ManyStations => "segment-32",
+            Measure::SenderLeaps => "sender-leap",
             Measure::Plain => "plain",
         }
     }
@@ -68,6 +81,8 @@ impl Measure {
             Measure::Fcs => "octets",
             Measure::RepeatTwoPorts | Measure::RepeatAllPorts | Measure::RepeatQuiet =>
                 "port half bits",
+            Measure::FourStations | Measure::ManyStations => "station half bits",
+            Measure::SenderLeaps => "leaps",
             Measure::Plain => "device half bits",
             _ => "half bits",
         }
@@ -104,6 +119,9 @@ pub fn run(alloc: Global, measure: Measure) -> Result<u64, OutOfMemory> {
         Measure::RepeatTwoPorts => repeat(alloc, 2, Sym::Hi),
         Measure::RepeatAllPorts => repeat(alloc, 32, Sym::Hi),
         Measure::RepeatQuiet => repeat(alloc, 2, Sym::Idle),
+        Measure::FourStations => segments(alloc, 4, 100),
+        Measure::ManyStations => segments(alloc, 32, 10),
+        Measure::SenderLeaps => leaps(alloc, 100),
         Measure::Plain => plain(alloc),
     }
 }
