@@ -99,7 +99,8 @@ impl CaptureReader {
 
     /// What a reading answers.
     fn answer(self) -> Result<Records, CaptureFault>
-        ensures { result ≡ answer_of self.reading.stage self.reading.records self.reading.rest }
+        ensures answer { result ≡ answer_of self.reading.stage self.reading.records self.reading.rest }
+        ensures few { IfOk result (λ rs. length rs ≤ 4194304) }
     {
         let Reading {
             stage,
@@ -125,6 +126,7 @@ impl CaptureReader {
         ensures sound { IfOk result (λ rs. (stream : List ℕ) → Reads stream self → capture_fault stream ≡ None) }
         ensures records { IfOk result (λ rs. (stream : List ℕ) → Reads stream self → rs ≡ records stream) }
         ensures fault { IfErr result (λ f. (stream : List ℕ) → Reads stream self → capture_fault stream ≡ Some f) }
+        ensures few { IfOk result (λ rs. length rs ≤ 4194304) }
     {
         self.answer()
     }
@@ -138,6 +140,8 @@ pub fn read_capture(alloc: Global, bytes: &[u8]) -> Result<Records, CaptureFault
     ensures sound { IfOk result (λ rs. capture_fault bytes.now ≡ None) }
     ensures records { IfOk result (λ rs. rs ≡ records bytes.now) }
     ensures fault { IfErr result (λ f. f ≢ fault.OutOfMemory → capture_fault bytes.now ≡ Some f) }
+    // A record has at least the 16 octets of its header.
+    ensures few { IfOk result (λ rs. length rs ≤ 4194304) }
 {
     let mut reader = CaptureReader::new(alloc);
     reader.feed(bytes)?;
