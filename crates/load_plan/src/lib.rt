@@ -1,6 +1,7 @@
 //! What the stations of a layout have to send.
 #![tactic(auto)]
 
+pub mod laws;
 mod loads;
 mod make;
 mod plan;

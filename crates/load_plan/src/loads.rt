@@ -27,11 +27,11 @@ pub enum Fate {
 }
 
 /// What becomes of a record, by the most octets of a frame.
-fn fate_of(most: u32, record: &Record) -> Fate
-    ensures { result ≡ fate_of most record.now }
+fn fate_of(most: u32, entry: &Record) -> Fate
+    ensures { result ≡ fate_of most entry.now }
 {
-    let count = record.octets.len();
-    if count < record.original as usize {
+    let count = entry.octets.len();
+    if count < entry.original as usize {
         Fate::Snapped
     } else if count < LEAST_OCTETS {
         Fate::Short
