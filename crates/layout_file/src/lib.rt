@@ -22,4 +22,6 @@ pub use lists::{OutOfMemory, Text};
 pub use reader::read_layout;
 
 #[cfg(test)]
+mod refusals;
+#[cfg(test)]
 mod tests;
