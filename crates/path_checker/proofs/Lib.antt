@@ -1,0 +1,4 @@
+pub mod Beside
+pub mod Farthest
+pub mod Rooms
+pub mod Worst

@@ -1,0 +1,10 @@
+use Rattle.std.proofs.Common.{take}
+use Rattle.path_checker.specs.Far.{IsFarthest}
+use Rattle.path_checker.proofs.Farthest.{IsViaOne}
+use Rattle.path_checker.proofs.far.+farthest.Given as goal
+
+abbrev pub decreases-farthest : goal.decreases-farthest
+decreases-farthest l = l.room
+
+abbrev pub invariant-loop-k : goal.invariant-loop-k
+invariant-loop-k l = IsFarthest (IsViaOne l.layout l.above l.way l.from.tap (take l.k l.near)) l.best
