@@ -10,7 +10,7 @@ use Rattle.layout_file.specs.declared.taps.Tap.{Tap}
 use Rattle.layout_file.specs.declared.taps.Tap.TheVariants.{Station, Port}
 use Rattle.layout_file.specs.declared.taps.Way.{Way}
 use Rattle.layout_file.specs.declared.taps.Way.TheVariants as way
-use Rattle.layout_file.specs.Paths.{place, station_place, IsTap, part_by, IsStep, other_way, IsWalk, walk_length, Path, IsPath, IsDistance, HasOneDistance}
+use Rattle.layout_file.specs.Paths.{place, station_place, IsTap, part_by, IsStep, other_way, IsWalk, step_length, walk_length, Path, IsPath, IsDistance, HasOneDistance}
 use Rattle.layout_file.specs.Sound.{IsSound}
 use Rattle.layout_file.proofs.Cuts.{mapped, has_part}
 use Rattle.layout_file.proofs.SoundTaps.{walk_low, sound_one_distance}

@@ -1,7 +1,4 @@
 use Rattle.path_checker.specs.Verdicts.{IsWorstBelow}
-use Rattle.path_checker.proofs.Farthest.{farthest_same}
-use Rattle.path_checker.proofs.Rooms.{has_room}
-use Rattle.path_checker.proofs.Worst.{worst_more}
 use Rattle.path_checker.proofs.verdict.worst_pair.Given as goal
 
 abbrev pub invariant-loop-station : goal.invariant-loop-station
