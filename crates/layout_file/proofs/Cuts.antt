@@ -3,10 +3,10 @@ use Rattle.std.proofs.Common.{◌≡◌, ◌≢◌, ◌⊎◌, refl, sym, ◌∙
 use Rattle.std.specs.Option.{option_map}
 use Rattle.std.proofs.lemmas.Bool.{cases_eq}
 use Rattle.layout_file.specs.declared.layout.Layout.{Layout}
-use Rattle.layout_file.specs.declared.taps.Tap.{Tap}
-use Rattle.layout_file.specs.declared.taps.Tap.TheVariants.{Station, Port}
-use Rattle.layout_file.specs.declared.taps.Way.{Way}
-use Rattle.layout_file.specs.declared.taps.Way.TheVariants as way
+use Rattle.layout_file.specs.declared.ways.Tap.{Tap}
+use Rattle.layout_file.specs.declared.ways.Tap.TheVariants.{Station, Port}
+use Rattle.layout_file.specs.declared.ways.Way.{Way}
+use Rattle.layout_file.specs.declared.ways.Way.TheVariants as way
 use Rattle.layout_file.specs.Paths.{place, IsTap, part_by, IsStep, other_way, IsWalk, Path, IsPath}
 
 -- two taps are the same or not

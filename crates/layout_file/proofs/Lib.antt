@@ -9,3 +9,10 @@ pub mod Sides
 pub mod Reach
 pub mod OneDistance
 pub mod SoundTaps
+pub mod Cleared
+pub mod Keys
+pub mod Named
+pub mod Taps
+pub mod Trees
+pub mod Crowds
+pub mod Sound

@@ -3,6 +3,7 @@ ghost use Rattle.std.specs.Prelude.{◌≡◌, Some, Ok, Err, IfOk, IfErr};
 ghost use Rattle.toml.specs.View.{table_view};
 ghost use Rattle.layout_file.specs.Faults.{first_fault, document, is_too_long, judged_document, judged, IsMemory};
 ghost use Rattle.layout_file.specs.JointFaults.{file_fault};
+ghost use Rattle.layout_file.specs.Sound.{IsSound};
 ghost use Rattle.layout_file.specs.declared.fault.Key.TheVariants as key;
 
 use crate::fault::{Key, LayoutCode, LayoutFault, Table};
@@ -55,10 +56,13 @@ fn file_fault(code: LayoutCode) -> LayoutFault
 /// the octets are no TOML document, both with the file as their place. After them every code from UnknownKey to BadFrame is
 /// tried in the order of their numbers, at every place before the next code: the file's keys, the segments, the stations,
 /// the repeaters with their ports and the sends, each row's keys in their order. Want of memory alone is free.
-#[tactic(auto, unfolding(crate::specs::Faults::judged))]
+/// A layout that is answered is sound: its numbers are in their ranges, its names are different, what its rows name is
+/// there, no two taps share a place, and its network is a tree.
+#[tactic(auto, unfolding(crate::specs::Faults::judged), using(crate::proofs::Sound::sound))]
 pub fn read_layout(alloc: Global, bytes: &[u8]) -> Result<Layout, LayoutFault>
     ensures layout { IfOk result (λ layout. judged bytes.now ≡ Ok layout) }
     ensures fault { IfErr result (λ fault. ¬ IsMemory fault → judged bytes.now ≡ Err fault) }
+    ensures sound { IfOk result (λ layout. IsSound layout) }
 {
     if is_too_long(bytes) {
         return Err(file_fault(LayoutCode::TooMany));
