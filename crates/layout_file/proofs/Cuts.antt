@@ -128,7 +128,7 @@ avoids_end : (l : Layout) (e : Tap) (w : Way) (a t : Tap) (ts : List Tap) (b : T
 avoids_end l e w a t [] b walk avoids = λ same. avoids.0 (walk.1 ∙ same)
 avoids_end l e w a t (u ∷ us) b walk avoids = avoids_end l e (other_way w) t u us b walk.1 avoids.1
 
-never_round : (l : Layout) → HasCuts l → (w : Way) (a t : Tap) (ts : List Tap) (b : Tap) → IsWalk l w a (t ∷ ts) b → b ≢ a
+pub never_round : (l : Layout) → HasCuts l → (w : Way) (a t : Tap) (ts : List Tap) (b : Tap) → IsWalk l w a (t ∷ ts) b → b ≢ a
 never_round l cuts w a t ts b walk = avoids_end l a w a t ts b walk (leaves l cuts w a (t ∷ ts) b (steps_from l w a t walk.0) walk)
 
 -- two walks that part at once do not meet again

@@ -74,7 +74,7 @@ lead_here l stands w b part on a v too ne =
     let on_a : IsOn l w a part = subst (λ (u : Way). IsOn l u a part) (one_kind l stands v w a b part too on) too in
     direct l w a b (step_on l w a b part on_a on ne)
 
-other-other : (w : Way) → other_way (other_way w) ≡ w
+pub other-other : (w : Way) → other_way (other_way w) ≡ w
 other-other way.Cable = refl
 other-other way.Repeater = refl
 

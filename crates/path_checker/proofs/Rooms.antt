@@ -8,9 +8,9 @@ use Rattle.layout_file.specs.declared.layout.Layout.{Layout}
 use Rattle.layout_file.specs.declared.layout.PortLine.{PortLine}
 use Rattle.layout_file.specs.declared.layout.RepeaterLine.{RepeaterLine}
 use Rattle.layout_file.specs.declared.layout.StationLine.{StationLine}
-use Rattle.layout_file.specs.declared.taps.Tap.{Tap}
-use Rattle.layout_file.specs.declared.taps.Tap.TheVariants.{Station, Port}
-use Rattle.layout_file.specs.declared.taps.Way.{Way}
+use Rattle.layout_file.specs.declared.ways.Tap.{Tap}
+use Rattle.layout_file.specs.declared.ways.Tap.TheVariants.{Station, Port}
+use Rattle.layout_file.specs.declared.ways.Way.{Way}
 use Rattle.layout_file.specs.Paths.{place, station_place, IsTap, IsStep, other_way, IsWalk}
 use Rattle.layout_file.specs.Sound.{IsSound, IsSoundRepeater}
 use Rattle.layout_file.proofs.Cuts.{HasCuts, Avoids, leaves, mapped, has_part}
@@ -88,7 +88,7 @@ number_of (Station k) = k
 number_of (Port r p) = 1024 + 32 * r + p
 
 -- a tap whose numbers are in range
-abbrev IsLow : Tap → Type 0
+abbrev pub IsLow : Tap → Type 0
 IsLow (Station k) = k < 1024
 IsLow (Port r p) = (r < 128) × (p < 32)
 
@@ -96,7 +96,7 @@ low_number : (t : Tap) → IsLow t → number_of t < 5120
 low_number (Station k) low = omega arith
 low_number (Port r p) low = let a : r < 128 = low.0 in let b : p < 32 = low.1 in omega arith
 
-sound_low : (l : Layout) → IsSound l → (t : Tap) → IsTap l t → IsLow t
+pub sound_low : (l : Layout) → IsSound l → (t : Tap) → IsTap l t → IsLow t
 sound_low l sound (Station k) is =
     let found : (s : StationLine) × (slice_get l.stations k ≡ Some s) = mapped station_place (slice_get l.stations k) is.0 is.1 in
     let low : k < length l.stations = slice_get_within l.stations k found.0 found.1 in

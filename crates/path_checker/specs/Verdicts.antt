@@ -1,8 +1,8 @@
 -- The round trip of two stations, the worst of a layout, and what it means (profile, in the manner of clause 13).
 -- Lengths are half bits; stations have numbers from 0, and of a pair the lower one comes first.
-use Rattle.std.specs.Prelude.{◌≡◌, ◌⊎◌, ℕ, ◌+◌, ◌*◌, ◌<◌, ◌≤◌, nat_lt, if◌then◌else◌, length, Option, None, Some}
+use Rattle.std.specs.Prelude.{◌≡◌, ◌≢◌, ◌⊎◌, ℕ, ◌+◌, ◌*◌, ◌<◌, ◌≤◌, nat_lt, if◌then◌else◌, length, Option, None, Some}
 use Rattle.layout_file.specs.declared.layout.Layout.{Layout}
-use Rattle.layout_file.specs.declared.taps.Tap.TheVariants.{Station}
+use Rattle.layout_file.specs.declared.ways.Tap.TheVariants.{Station}
 use Rattle.layout_file.specs.Paths.{IsDistance}
 use Rattle.path_checker.specs.declared.far.Far.{Far}
 use Rattle.path_checker.specs.declared.verdict.PathVerdict.{PathVerdict}
@@ -22,11 +22,11 @@ pub record IsRoundTrip (l : Layout) (a b rt : ℕ) : Type 0 where
 abbrev pub IsNoLater : ℕ → ℕ → ℕ → ℕ → Type 0
 IsNoLater a b x y = (a < x) ⊎ ((a ≡ x) × (b ≤ y))
 
--- of all pairs' round trips the greatest, with the first pair that has it
+-- no two stations have a greater round trip, and of the pairs that have this one (a, b) is the first
 pub record IsWorst (l : Layout) (worst a b : ℕ) : Type 0 where
   pub pair : IsPair l a b
   pub has : IsRoundTrip l a b worst
-  pub greatest : (x y rt : ℕ) → IsPair l x y → IsRoundTrip l x y rt → rt ≤ worst
+  pub greatest : (x y rt : ℕ) → x ≢ y → IsRoundTrip l x y rt → rt ≤ worst
   pub first : (x y : ℕ) → IsPair l x y → IsRoundTrip l x y worst → IsNoLater a b x y
 
 -- the worst round trip is below the slot time of 1,024 half bits or not, and there is none without two stations
@@ -35,16 +35,17 @@ IsVerdict l (Within worst a b) = IsWorst l worst a b × (worst < 1024)
 IsVerdict l (Over worst a b) = IsWorst l worst a b × (1024 ≤ worst)
 IsVerdict l NoPair = length l.stations < 2
 
--- a higher station, and how far it is
-abbrev pub IsAbove : Layout → ℕ → ℕ → ℕ → Type 0
-IsAbove l a n b = (a < b) × IsDistance l (Station a) (Station b) n
+-- another station, and how far it is
+abbrev pub IsApart : Layout → ℕ → ℕ → ℕ → Type 0
+IsApart l a n b = (a ≢ b) × IsDistance l (Station a) (Station b) n
 
--- of the pairs whose first station is below k the farthest apart, the first pair of these, and None where there are none
+-- of the pairs, either way round, whose first station is below k the farthest apart, the first pair of these, and None where
+-- there are none
 abbrev pub IsWorstBelow : Layout → ℕ → Option Worst → Type 0
-IsWorstBelow l k None = (x y n : ℕ) → x < k → IsAbove l x n y → ⊥
+IsWorstBelow l k None = (x y n : ℕ) → x < k → IsApart l x n y → ⊥
 IsWorstBelow l k (Some w) =
-    (w.a < k) × IsAbove l w.a w.length w.b
-    × ((x y n : ℕ) → x < k → IsAbove l x n y → (n < w.length) ⊎ ((n ≡ w.length) × IsNoLater w.a w.b x y))
+    (w.a < k) × IsApart l w.a w.length w.b
+    × ((x y n : ℕ) → x < k → IsApart l x n y → (n < w.length) ⊎ ((n ≡ w.length) × IsNoLater w.a w.b x y))
 
 -- the pair that is farther apart, the earlier one of two that are equally far
 abbrev pub longer_of : Option Worst → ℕ → Option Far → Option Worst

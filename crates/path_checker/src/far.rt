@@ -4,9 +4,10 @@ ghost use Rattle.std.specs.Option.{ForSome};
 ghost use Rattle.layout_file.specs.Sound.{IsSound};
 ghost use Rattle.layout_file.specs.Paths.{delay_of, step_length, other_way};
 ghost use Rattle.path_checker.specs.Stops.{IsNetworkOf};
-ghost use Rattle.path_checker.specs.Far.{IsStop, HasRoom, IsOnward, IsFarthest, is_same_tap, farther_of, own_far, lengthened};
+ghost use Rattle.path_checker.specs.Far.{IsStop, HasRoom, IsOnward, IsFarthest, IsRight, is_same_tap, farther_of, lengthened};
 
 use crate::stops::{Network, Stop};
+use crate::table::{Entry, Table, entry_of, set_entry};
 use layout_file::{Layout, Tap, Way};
 
 /// A station, and how far it is in half bits.
@@ -91,17 +92,6 @@ fn farther(a: Option<Far>, b: Option<Far>) -> Option<Far>
     }
 }
 
-/// The station itself, where it is above.
-fn own_far(above: u32, station: u32) -> Option<Far>
-    ensures { result ≡ own_far above station }
-{
-    if above < station {
-        Some(Far { length: 0, station })
-    } else {
-        None
-    }
-}
-
 fn lengthened(by: u32, far: Option<Far>) -> Option<Far>
     requires { ForSome far (λ f. by + f.length < 2 ^ 32) }
     ensures { result ≡ lengthened by far }
@@ -115,22 +105,29 @@ fn lengthened(by: u32, far: Option<Far>) -> Option<Far>
     }
 }
 
-/// The farthest station above a number, from a tap by this way. `room` bounds the steps of any walk from there.
+/// The farthest station from a tap by this way. The table has what is known of the ports, and gets what is found.
+/// `room` bounds the steps of any walk from there.
 pub fn farthest(
     layout: &Layout,
     network: &Network,
-    above: u32,
+    table: &mut Table,
     way: Way,
     from: &Stop,
     room: u32,
 ) -> Option<Far>
     requires sound { IsSound layout.now }
     requires network { IsNetworkOf layout.now network.now }
+    requires table { IsRight layout.now table.old }
     requires from { IsStop layout.now from.now }
     requires room { HasRoom layout.now way from.now.tap room }
     requires most { room ≤ 5120 }
-    ensures { IsFarthest (IsOnward layout.now above way from.now.tap) result }
+    ensures far { IsFarthest (IsOnward layout.now way from.now.tap) result }
+    ensures table { IsRight layout.now table.new }
 {
+    match entry_of(table, way, from.tap) {
+        Entry::Found(far) => return far,
+        Entry::Open => {}
+    }
     let near = network.beside(way, from);
     let mut best = None;
     for k in 0..near.len() {
@@ -140,11 +137,12 @@ pub fn farthest(
         }
         let step = step_length(layout, way, from, &stop);
         if let Tap::Station(station) = stop.tap {
-            best = farther(best, lengthened(step, own_far(above, station)));
+            best = farther(best, lengthened(step, Some(Far { length: 0, station })));
             continue;
         }
-        let there = farthest(layout, network, above, other_way(way), &stop, room - 1);
+        let there = farthest(layout, network, table, other_way(way), &stop, room - 1);
         best = farther(best, lengthened(step, there));
     }
+    set_entry(table, way, from.tap, best);
     best
 }

@@ -3,6 +3,7 @@
 
 mod far;
 mod stops;
+mod table;
 mod verdict;
 
 pub use lists::OutOfMemory;

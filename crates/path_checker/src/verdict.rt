@@ -2,12 +2,13 @@
 ghost use Rattle.std.specs.Prelude.{◌≡◌, ◌<◌, ◌≤◌, ◌↔◌, IfOk, length};
 ghost use Rattle.std.specs.Option.{ForSome};
 ghost use Rattle.layout_file.specs.Sound.{IsSound};
-ghost use Rattle.path_checker.specs.Far.{IsFarthest};
-ghost use Rattle.path_checker.specs.Verdicts.{IsVerdict, IsAbove, IsWorstBelow, longer_of, verdict_of};
+ghost use Rattle.path_checker.specs.Far.{IsFarthest, IsRight};
+ghost use Rattle.path_checker.specs.Verdicts.{IsVerdict, IsApart, IsWorstBelow, longer_of, verdict_of};
 ghost use Rattle.path_checker.specs.Stops.{IsNetworkOf};
 
 use crate::far::{Far, farthest};
 use crate::stops::{Network, Stop, network_of};
+use crate::table::{Table, open_table};
 use layout_file::{Layout, Tap, Way};
 use lists::OutOfMemory;
 use std::alloc::Global;
@@ -40,12 +41,14 @@ pub struct Worst {
     pub b: u32,
 }
 
-/// The farthest station with a greater number.
-fn farthest_above(layout: &Layout, network: &Network, station: u32) -> Option<Far>
+/// The station that is farthest from a station.
+fn farthest_of(layout: &Layout, network: &Network, table: &mut Table, station: u32) -> Option<Far>
     requires sound { IsSound layout.now }
     requires network { IsNetworkOf layout.now network.now }
+    requires table { IsRight layout.now table.old }
     requires station { station < length layout.now.stations }
-    ensures { IsFarthest (IsAbove layout.now station) result }
+    ensures far { IsFarthest (IsApart layout.now station) result }
+    ensures table { IsRight layout.now table.new }
 {
     let line = layout.stations.get(station as usize);
     let from = Stop {
@@ -53,7 +56,7 @@ fn farthest_above(layout: &Layout, network: &Network, station: u32) -> Option<Fa
         segment: line.segment,
         at: line.at,
     };
-    farthest(layout, network, station, Way::Cable, &from, MOST_TAPS)
+    farthest(layout, network, table, Way::Cable, &from, MOST_TAPS)
 }
 
 /// The pair that is farther apart, the earlier one of two that are equally far.
@@ -80,14 +83,15 @@ fn longer(worst: Option<Worst>, a: u32, far: Option<Far>) -> Option<Worst>
     }
 }
 
-fn worst_pair(layout: &Layout, network: &Network) -> Option<Worst>
+fn worst_pair(layout: &Layout, network: &Network, table: &mut Table) -> Option<Worst>
     requires sound { IsSound layout.now }
     requires network { IsNetworkOf layout.now network.now }
+    requires table { IsRight layout.now table.old }
     ensures { IsWorstBelow layout.now (length layout.now.stations) result }
 {
     let mut worst = None;
     for station in 0..layout.stations.len() {
-        let far = farthest_above(layout, network, station as u32);
+        let far = farthest_of(layout, network, table, station as u32);
         worst = longer(worst, station as u32, far);
     }
     worst
@@ -115,5 +119,6 @@ pub fn check_paths(alloc: Global, layout: &Layout) -> Result<PathVerdict, OutOfM
     ensures verdict { IfOk result (IsVerdict layout.now) }
 {
     let network = network_of(alloc, layout)?;
-    Ok(verdict_of(worst_pair(layout, &network)))
+    let mut table = open_table(alloc, layout.repeaters.len())?;
+    Ok(verdict_of(worst_pair(layout, &network, &mut table)))
 }
