@@ -1,7 +1,6 @@
 -- The lists of a network have just the taps of each segment and of each repeater.
-use Rattle.std.proofs.Common.{◌≡◌, ◌≢◌, ◌⊎◌, refl, sym, ◌∙◌, ap, subst, inl, inr, ℕ, zero, suc, ◌+◌, ◌<◌, ◌≤◌, ◌==◌, Bool, true, false, if◌then◌else◌, List, [], ◌∷◌, ◌++◌, map, length, get_or, Option, None, Some, slice_get, arith}
-use Rattle.std.specs.List.{filter}
-use Rattle.std.specs.Option.{option_map, option_and_then, unwrap_or}
+use Rattle.std.proofs.Common.{◌≡◌, ◌⊎◌, refl, sym, ◌∙◌, ap, subst, inl, inr, ℕ, zero, suc, ◌+◌, ◌<◌, ◌==◌, true, false, List, [], ◌∷◌, ◌++◌, map, length, None, Some, slice_get, arith}
+use Rattle.std.specs.Option.{option_map}
 use Rattle.std.proofs.lemmas.Bool.{cases_Bool}
 use Rattle.std.proofs.lemmas.Bool.Decides.{Decides-eqb}
 use Rattle.std.proofs.lemmas.Option.{same_Some, slice_get-map, slice_get-get_or}
@@ -60,9 +59,9 @@ station_found k (x ∷ xs) g h =
     elim h [
       | inl e ↦ let z : k + 0 ≡ k = omega arith in (zero, x, refl, rw z e)
       | inr later ↦
-        let found : (j : ℕ) × (s : StationLine) × (slice_get xs j ≡ Some s) × (station_stop (k + 1 + j) s ≡ g) = station_found (k + 1) xs g later in
-        let z : k + suc found.0 ≡ k + 1 + found.0 = omega arith in
-        (suc found.0, found.1, found.2, rw z found.3)
+          let found : (j : ℕ) × (s : StationLine) × (slice_get xs j ≡ Some s) × (station_stop (k + 1 + j) s ≡ g) = station_found (k + 1) xs g later in
+          let z : k + suc found.0 ≡ k + 1 + found.0 = omega arith in
+          (suc found.0, found.1, found.2, rw z found.3)
     ]
 
 port_among : (r n k j : ℕ) (ps : List PortLine) (p : PortLine) → slice_get ps j ≡ Some p → n ≡ k + j → Among (port_stop r n p) (port_stops r k ps)
@@ -79,9 +78,9 @@ port_found r k (x ∷ xs) g h =
     elim h [
       | inl e ↦ let z : k + 0 ≡ k = omega arith in (zero, x, refl, rw z e)
       | inr later ↦
-        let found : (j : ℕ) × (p : PortLine) × (slice_get xs j ≡ Some p) × (port_stop r (k + 1 + j) p ≡ g) = port_found r (k + 1) xs g later in
-        let z : k + suc found.0 ≡ k + 1 + found.0 = omega arith in
-        (suc found.0, found.1, found.2, rw z found.3)
+          let found : (j : ℕ) × (p : PortLine) × (slice_get xs j ≡ Some p) × (port_stop r (k + 1 + j) p ≡ g) = port_found r (k + 1) xs g later in
+          let z : k + suc found.0 ≡ k + 1 + found.0 = omega arith in
+          (suc found.0, found.1, found.2, rw z found.3)
     ]
 
 repeater_among : (r n i j : ℕ) (rows : List RepeaterLine) (row : RepeaterLine) (p : PortLine) → slice_get rows i ≡ Some row → slice_get row.ports j ≡ Some p → n ≡ r + i → Among (port_stop n j p) (repeater_stops r rows)
@@ -107,14 +106,14 @@ repeater_found r [] g h = absurd h
 repeater_found r (x ∷ xs) g h =
     elim (among_cases g (port_stops r 0 x.ports) (repeater_stops (r + 1) xs) h) [
       | inl first ↦
-        let found : (j : ℕ) × (p : PortLine) × (slice_get x.ports j ≡ Some p) × (port_stop r (0 + j) p ≡ g) = port_found r 0 x.ports g first in
-        let z : r + 0 ≡ r = omega arith in
-        let y : 0 + found.0 ≡ found.0 = omega arith in
-        record { i = zero; j = found.0; line = found.1; of = record { row = x; of_row = refl; of_port = found.2 }; is = rw z (rw y at found.3) }
+          let found : (j : ℕ) × (p : PortLine) × (slice_get x.ports j ≡ Some p) × (port_stop r (0 + j) p ≡ g) = port_found r 0 x.ports g first in
+          let z : r + 0 ≡ r = omega arith in
+          let y : 0 + found.0 ≡ found.0 = omega arith in
+          record { i = zero; j = found.0; line = found.1; of = record { row = x; of_row = refl; of_port = found.2 }; is = rw z (rw y at found.3) }
       | inr later ↦
-        let found : IsPortStop (r + 1) xs g = repeater_found (r + 1) xs g later in
-        let z : r + suc found.i ≡ r + 1 + found.i = omega arith in
-        record { i = suc found.i; j = found.j; line = found.line; of = record { row = found.of.row; of_row = found.of.of_row; of_port = found.of.of_port }; is = rw z found.is }
+          let found : IsPortStop (r + 1) xs g = repeater_found (r + 1) xs g later in
+          let z : r + suc found.i ≡ r + 1 + found.i = omega arith in
+          record { i = suc found.i; j = found.j; line = found.line; of = record { row = found.of.row; of_row = found.of.of_row; of_port = found.of.of_port }; is = rw z found.is }
     ]
 
 -- each of the layout's taps, and no other
@@ -134,13 +133,13 @@ unfolding all_stops
 all_found l g h =
     elim (among_cases g (station_stops 0 l.stations) (repeater_stops 0 l.repeaters) h) [
       | inl station ↦
-        let found : (j : ℕ) × (s : StationLine) × (slice_get l.stations j ≡ Some s) × (station_stop (0 + j) s ≡ g) = station_found 0 l.stations g station in
-        let z : 0 + found.0 ≡ found.0 = omega arith in
-        subst (IsStop l) (rw z at found.3) (ap (option_map station_place) found.2)
+          let found : (j : ℕ) × (s : StationLine) × (slice_get l.stations j ≡ Some s) × (station_stop (0 + j) s ≡ g) = station_found 0 l.stations g station in
+          let z : 0 + found.0 ≡ found.0 = omega arith in
+          subst (IsStop l) (rw z at found.3) (ap (option_map station_place) found.2)
       | inr port ↦
-        let found : IsPortStop 0 l.repeaters g = repeater_found 0 l.repeaters g port in
-        let z : 0 + found.i ≡ found.i = omega arith in
-        subst (IsStop l) (rw z at found.is) (port_placed l found.i found.j found.line found.of)
+          let found : IsPortStop 0 l.repeaters g = repeater_found 0 l.repeaters g port in
+          let z : 0 + found.i ≡ found.i = omega arith in
+          subst (IsStop l) (rw z at found.is) (port_placed l found.i found.j found.line found.of)
     ]
 
 on_among : (g : Stop) (n : ℕ) (all : List Stop) → Among g all → g.segment ≡ n → Among g (stops_on all n)
@@ -150,9 +149,9 @@ on_among g n (x ∷ xs) h e =
       | inl equal ↦ rw equal (elim h [ inl same ↦ inl same | inr later ↦ inr (on_among g n xs later e) ])
       | inr unlike ↦ rw unlike (elim h [
         | inl same ↦
-          let at : (x.segment == n) ≡ true = (Decides-eqb x.segment n).1 (ap (λ (s : Stop). s.segment) same ∙ e) in
-          let wrong : false ≡ true = sym unlike ∙ at in
-          cc
+            let at : (x.segment == n) ≡ true = (Decides-eqb x.segment n).1 (ap (λ (s : Stop). s.segment) same ∙ e) in
+            let wrong : false ≡ true = sym unlike ∙ at in
+            cc
         | inr later ↦ on_among g n xs later e
       ])
     ]

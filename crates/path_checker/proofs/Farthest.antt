@@ -7,7 +7,7 @@ use Rattle.layout_file.specs.declared.ways.Tap.{Tap}
 use Rattle.layout_file.specs.declared.ways.Tap.TheVariants.{Station, Port}
 use Rattle.layout_file.specs.declared.ways.Way.{Way}
 use Rattle.layout_file.specs.declared.ways.Way.TheVariants as way
-use Rattle.layout_file.specs.Paths.{place, part_by, IsStep, other_way, IsWalk, step_length, walk_length}
+use Rattle.layout_file.specs.Paths.{IsStep, other_way, IsWalk, step_length, walk_length}
 use Rattle.layout_file.specs.Sound.{IsSound}
 use Rattle.layout_file.proofs.SoundTaps.{step_low, walk_low}
 use Rattle.path_checker.specs.declared.far.Far.{Far}
@@ -43,13 +43,13 @@ module _ (Q R S : ℕ → ℕ → Type 0) (left : (n s : ℕ) → Q n s → S n 
       cond_both (ltb x.length y.length) (Some y) (cond (ltb y.length x.length) (Some x) (cond (ltb y.station x.station) (Some y) (Some x))) (IsFarthest S)
       (λ less. second_farther x y q r (inl (ltb-true x.length y.length less)))
       (λ most. cond_both (ltb y.length x.length) (Some x) (cond (ltb y.station x.station) (Some y) (Some x)) (IsFarthest S)
-        (λ more. first_farther x y q r (inl (ltb-true y.length x.length more)))
-        (λ least.
-          let low : y.length ≤ x.length = ltb-false x.length y.length most in
-          let high : x.length ≤ y.length = ltb-false y.length x.length least in
-          cond_both (ltb y.station x.station) (Some y) (Some x) (IsFarthest S)
-          (λ lower. second_farther x y q r (let l : y.station < x.station = ltb-true y.station x.station lower in inr (omega arith, omega arith)))
-          (λ higher. first_farther x y q r (inr (omega arith, ltb-false y.station x.station higher)))))
+      (λ more. first_farther x y q r (inl (ltb-true y.length x.length more)))
+      (λ least.
+      let low : y.length ≤ x.length = ltb-false x.length y.length most in
+      let high : x.length ≤ y.length = ltb-false y.length x.length least in
+      cond_both (ltb y.station x.station) (Some y) (Some x) (IsFarthest S)
+      (λ lower. second_farther x y q r (let l : y.station < x.station = ltb-true y.station x.station lower in inr (omega arith, omega arith)))
+      (λ higher. first_farther x y q r (inr (omega arith, ltb-false y.station x.station higher)))))
 
 -- the stations that a walk reaches whose first tap is one of these
 pub record IsViaOne (l : Layout) (w : Way) (a : Tap) (xs : List Stop) (n s : ℕ) : Type 0 where
@@ -81,7 +81,7 @@ via_before l w a xs g n s h = record { stop = h.stop; among = among_more h.stop 
 skip_last : (l : Layout) (w : Way) (a : Tap) (xs : List Stop) (g : Stop) (best : Option Far) → g.tap ≡ a → IsFarthest (IsViaOne l w a xs) best → IsFarthest (IsViaOne l w a (xs ++ g ∷ [])) best
 skip_last l w a xs g best same h =
     farthest_same (IsViaOne l w a xs) (IsViaOne l w a (xs ++ g ∷ [])) (λ n s v. via_before l w a xs g n s v) (λ n s v.
-      elim (via_last l w a xs g n s v) [ inl before ↦ before | inr via ↦ absurd (via.step.different (sym same)) ]) best h
+    elim (via_last l w a xs g n s v) [ inl before ↦ before | inr via ↦ absurd (via.step.different (sym same)) ]) best h
 
 add_last : (l : Layout) (w : Way) (a : Tap) (xs : List Stop) (g : Stop) (best there : Option Far) → IsFarthest (IsViaOne l w a xs) best → IsFarthest (IsVia l w a g.tap) there → IsFarthest (IsViaOne l w a (xs ++ g ∷ [])) (farther_of best there)
 add_last l w a xs g best there h k =
@@ -103,14 +103,14 @@ add_more l w a xs k d best there low h v =
 pub via_lengthened : (l : Layout) (w : Way) (a g : Tap) (there : Option Far) → IsStep l w a g → IsFarthest (IsReach l (other_way w) g) there → IsFarthest (IsVia l w a g) (lengthened (step_length l w a g) there)
 via_lengthened l w a g None step h = λ n s v. h v.rest s v.reach
 via_lengthened l w a g (Some f) step h = (
-    record { step = step; rest = f.length; reach = h.0; sum = refl },
-    λ n s v.
-    let long : step_length l w a g + v.rest ≡ n = v.sum in
-    elim (h.1 v.rest s v.reach) [
-      | inl less ↦ inl (omega arith)
-      | inr (same, lower) ↦ inr (omega arith, lower)
-    ],
-  )
+  record { step = step; rest = f.length; reach = h.0; sum = refl },
+  λ n s v.
+      let long : step_length l w a g + v.rest ≡ n = v.sum in
+      elim (h.1 v.rest s v.reach) [
+        | inl less ↦ inl (omega arith)
+        | inr (same, lower) ↦ inr (omega arith, lower)
+      ],
+)
 
 no_step : (l : Layout) (j : ℕ) (g : Tap) → IsStep l way.Repeater (Station j) g → ⊥
 no_step l j g step = let none : None ≡ Some step.part = step.from in cc
@@ -127,12 +127,12 @@ own_far j = Some (record { length = 0; station = j })
 
 own_reach : (l : Layout) (j : ℕ) → IsFarthest (IsReach l way.Repeater (Station j)) (own_far j)
 own_reach l j = (
-    record { taps = []; leads = refl; long = refl },
-    λ n s h.
-    let found : (j ≡ s) × (walk_length l way.Repeater (Station j) h.taps ≡ 0) = own_walk l j h.taps s h.leads in
-    let long : walk_length l way.Repeater (Station j) h.taps ≡ n = h.long in
-    inr (sym long ∙ found.1, let same : j ≡ s = found.0 in omega arith),
-  )
+  record { taps = []; leads = refl; long = refl },
+  λ n s h.
+      let found : (j ≡ s) × (walk_length l way.Repeater (Station j) h.taps ≡ 0) = own_walk l j h.taps s h.leads in
+      let long : walk_length l way.Repeater (Station j) h.taps ≡ n = h.long in
+      inr (sym long ∙ found.1, let same : j ≡ s = found.0 in omega arith),
+)
 
 -- a step onto a station ends there
 pub onto_station : (l : Layout) (w : Way) (a g : Tap) (j : ℕ) → g ≡ Station j → IsStep l w a g → IsFarthest (IsReach l (other_way w) g) (own_far j)
@@ -163,8 +163,8 @@ onward_from l net w s near k best sound of stands is all h =
     farthest_same (IsViaOne l w s.tap near) (IsOnward l w s.tap)
     (λ n t v. record { first = v.stop.tap; via = v.via })
     (λ n t o.
-      let found : (x : Stop) × Among x (stops_by net w s) × (x.tap ≡ o.first) = beside_among l net sound of w s o.first stands o.via.step in
-      record { stop = found.0; among = subst (λ (xs : List Stop). Among found.0 xs) (sym is) found.1; via = subst (λ (g : Tap). IsVia l w s.tap g n t) (sym found.2) o.via })
+    let found : (x : Stop) × Among x (stops_by net w s) × (x.tap ≡ o.first) = beside_among l net sound of w s o.first stands o.via.step in
+    record { stop = found.0; among = subst (λ (xs : List Stop). Among found.0 xs) (sym is) found.1; via = subst (λ (g : Tap). IsVia l w s.tap g n t) (sym found.2) o.via })
     best (subst (λ (xs : List Stop). IsFarthest (IsViaOne l w s.tap xs) best) (take_all k near all) h)
 
 among_at : (xs : List Stop) (k : ℕ) (d : Stop) → k < length xs → Among (get_or xs k d) xs
@@ -182,9 +182,9 @@ step_to l w a g beside ne = record { different = λ e. ne (sym e); part = beside
 
 pub room_on : (l : Layout) (w : Way) (a g : Tap) (room : ℕ) → HasRoom l w a room → IsStep l w a g → (1 ≤ room) × HasRoom l (other_way w) g (room - 1)
 room_on l w a g room has step = (
-    has.most (g ∷ []) g (step, refl),
-    record { most = λ ts b walk. let low : suc (length ts) ≤ room = has.most (g ∷ ts) b (step, walk) in omega arith },
-  )
+  has.most (g ∷ []) g (step, refl),
+  record { most = λ ts b walk. let low : suc (length ts) ≤ room = has.most (g ∷ ts) b (step, walk) in omega arith },
+)
 
 reach_low : (l : Layout) (w : Way) (a : Tap) (room n s : ℕ) → IsSound l → HasRoom l w a room → IsReach l w a n s → n ≤ 2000 * room
 reach_low l w a room n s sound has r =

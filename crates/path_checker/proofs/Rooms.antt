@@ -1,19 +1,16 @@
 -- A walk comes to each tap at most once, and a sound layout has at most 5,120 taps.
-use Rattle.std.proofs.Common.{◌≡◌, ◌≢◌, ◌⊎◌, refl, sym, ◌∙◌, ap, subst, inl, inr, ℕ, zero, suc, ◌+◌, ◌*◌, ◌<◌, ◌≤◌, List, [], ◌∷◌, map, length, Option, None, Some, slice_get, arith}
-use Rattle.std.specs.Option.{option_map}
+use Rattle.std.proofs.Common.{◌≡◌, ◌≢◌, refl, ap, subst, inl, inr, ℕ, zero, suc, ◌+◌, ◌*◌, ◌<◌, ◌≤◌, List, [], ◌∷◌, map, length, Some, slice_get, arith}
 use Rattle.std.proofs.lemmas.Bool.{cases_eq}
 use Rattle.std.proofs.lemmas.List.{length-map}
 use Rattle.std.proofs.lemmas.Option.{slice_get_within}
 use Rattle.layout_file.specs.declared.layout.Layout.{Layout}
-use Rattle.layout_file.specs.declared.layout.PortLine.{PortLine}
-use Rattle.layout_file.specs.declared.layout.RepeaterLine.{RepeaterLine}
 use Rattle.layout_file.specs.declared.layout.StationLine.{StationLine}
 use Rattle.layout_file.specs.declared.ways.Tap.{Tap}
 use Rattle.layout_file.specs.declared.ways.Tap.TheVariants.{Station, Port}
 use Rattle.layout_file.specs.declared.ways.Way.{Way}
-use Rattle.layout_file.specs.Paths.{place, station_place, IsTap, IsStep, other_way, IsWalk}
+use Rattle.layout_file.specs.Paths.{station_place, IsTap, other_way, IsWalk}
 use Rattle.layout_file.specs.Sound.{IsSound, IsSoundRepeater}
-use Rattle.layout_file.proofs.Cuts.{HasCuts, Avoids, leaves, mapped, has_part}
+use Rattle.layout_file.proofs.Cuts.{Avoids, leaves, mapped, has_part}
 use Rattle.layout_file.proofs.Sides.{IsPortOf, port_of}
 use Rattle.layout_file.proofs.SoundTaps.{sound_repeater, sound_cuts}
 use Rattle.path_checker.specs.Far.{HasRoom}
@@ -52,24 +49,28 @@ without n (x ∷ xs) apart below =
     let rest : (ys : List ℕ) × IsWithout n xs ys = without n xs apart.1 below.1 in
     elim (cases_eq x n) [
       | inl same ↦
-        let none : Lacks n xs = subst (λ (m : ℕ). Lacks m xs) same apart.0 in
-        (xs, record {
-          apart = apart.1;
-          below = less_below n xs below.1 none;
-          most = omega arith;
-          lacking = λ m h. h.1;
-          whole = λ h. absurd (h.0 same);
-        })
+          let none : Lacks n xs = subst (λ (m : ℕ). Lacks m xs) same apart.0 in (
+            xs,
+            record {
+              apart = apart.1;
+              below = less_below n xs below.1 none;
+              most = omega arith;
+              lacking = λ m h. h.1;
+              whole = λ h. absurd (h.0 same);
+            },
+          )
       | inr unlike ↦
-        let low : x < suc n = below.0 in
-        let most : length xs ≤ suc (length rest.0) = rest.1.most in
-        (x ∷ rest.0, record {
-          apart = (rest.1.lacking x apart.0, rest.1.apart);
-          below = (omega arith, rest.1.below);
-          most = omega arith;
-          lacking = λ m h. (h.0, rest.1.lacking m h.1);
-          whole = λ h. ap (λ (k : ℕ). suc k) (rest.1.whole h.1);
-        })
+          let low : x < suc n = below.0 in
+          let most : length xs ≤ suc (length rest.0) = rest.1.most in (
+            x ∷ rest.0,
+            record {
+              apart = (rest.1.lacking x apart.0, rest.1.apart);
+              below = (omega arith, rest.1.below);
+              most = omega arith;
+              lacking = λ m h. (h.0, rest.1.lacking m h.1);
+              whole = λ h. ap (λ (k : ℕ). suc k) (rest.1.whole h.1);
+            },
+          )
     ]
 
 -- there are at most n different numbers below n

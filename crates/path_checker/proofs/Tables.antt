@@ -1,5 +1,5 @@
 -- A table has only what is so.
-use Rattle.std.proofs.Common.{◌≡◌, ◌≢◌, ◌⊎◌, refl, sym, ◌∙◌, ap, subst, inl, inr, ℕ, ◌+◌, ◌*◌, ◌<◌, ◌≤◌, List, length, get_or, set, replicate, Option, None, Some, arith}
+use Rattle.std.proofs.Common.{◌≡◌, ◌⊎◌, refl, sym, ◌∙◌, subst, inl, inr, ℕ, ◌<◌, List, length, get_or, set, replicate, Option, arith}
 use Rattle.std.proofs.lemmas.Bool.{cases_eq, cases_lt}
 use Rattle.std.proofs.lemmas.List.{get_or-set_same, get_or-set_other, get_or-replicate, get_or_past, set_past, length-replicate}
 use Rattle.layout_file.specs.declared.layout.Layout.{Layout}
@@ -50,9 +50,9 @@ set_found : (table : List Entry) (place : ℕ) (far other : Option Far) → get_
 set_found table place far other known =
     elim (cases_lt place (length table)) [
       | inl low ↦
-        let is : get_or (set table place (Found far)) place Open ≡ Found far = get_or-set_same table place (Found far) Open low in
-        let both : Found far ≡ Found other = sym is ∙ known in
-        inl (cc)
+          let is : get_or (set table place (Found far)) place Open ≡ Found far = get_or-set_same table place (Found far) Open low in
+          let both : Found far ≡ Found other = sym is ∙ known in
+          inl (cc)
       | inr high ↦ inr (rw (set_past table place (Found far) high) at known)
     ]
 
@@ -60,14 +60,14 @@ right_set : (l : Layout) (table : List Entry) (w : Way) (r p : ℕ) (far : Optio
 right_set l table w r p far low right h v s q other too known =
     elim (cases_eq (entry_place v s q) (entry_place w r p)) [
       | inl same ↦
-        let at : get_or (set table (entry_place w r p) (Found far)) (entry_place w r p) Open ≡ Found other = subst (λ (k : ℕ). get_or (set table (entry_place w r p) (Found far)) k Open ≡ Found other) same known in
-        elim (set_found table (entry_place w r p) far other at) [
-          | inl new ↦
-            let is : (v ≡ w) × (s ≡ r) × (q ≡ p) = same_place v w s r q p too low same in
-            let here : IsFarthest (IsOnward l w (Port r p)) other = subst (IsFarthest (IsOnward l w (Port r p))) new h in
-            same_port l w v r s p q other (sym is.0) (sym is.1) (sym is.2) here
-          | inr old ↦ right.right v s q other too (subst (λ (k : ℕ). get_or table k Open ≡ Found other) (sym same) old)
-        ]
+          let at : get_or (set table (entry_place w r p) (Found far)) (entry_place w r p) Open ≡ Found other = subst (λ (k : ℕ). get_or (set table (entry_place w r p) (Found far)) k Open ≡ Found other) same known in
+          elim (set_found table (entry_place w r p) far other at) [
+            | inl new ↦
+                let is : (v ≡ w) × (s ≡ r) × (q ≡ p) = same_place v w s r q p too low same in
+                let here : IsFarthest (IsOnward l w (Port r p)) other = subst (IsFarthest (IsOnward l w (Port r p))) new h in
+                same_port l w v r s p q other (sym is.0) (sym is.1) (sym is.2) here
+            | inr old ↦ right.right v s q other too (subst (λ (k : ℕ). get_or table k Open ≡ Found other) (sym same) old)
+          ]
       | inr unlike ↦ right.right v s q other too (sym (get_or-set_other table (entry_place w r p) (entry_place v s q) (Found far) Open unlike) ∙ known)
     ]
   where

@@ -1,16 +1,16 @@
 -- The worst of the pairs so far, and what the verdict says of it.
-use Rattle.std.proofs.Common.{◌≡◌, ◌≢◌, ◌⊎◌, refl, sym, ◌∙◌, ap, subst, inl, inr, ℕ, zero, suc, ◌+◌, ◌*◌, ◌<◌, ◌≤◌, ◌↔◌, Bool, true, false, ltb, cond, List, [], ◌∷◌, length, Option, None, Some, slice_get, arith}
+use Rattle.std.proofs.Common.{◌≡◌, ◌≢◌, ◌⊎◌, refl, sym, ◌∙◌, ap, subst, inl, inr, ℕ, zero, suc, ◌+◌, ◌*◌, ◌<◌, ◌≤◌, ◌↔◌, ltb, List, [], ◌∷◌, length, Option, None, Some, slice_get, arith}
 use Rattle.std.specs.Option.{option_map}
 use Rattle.std.proofs.lemmas.Bool.{cond_both, ltb-true, ltb-false, cases_lt}
-use Rattle.std.proofs.lemmas.Option.{slice_get_within, slice_get-get_or}
+use Rattle.std.proofs.lemmas.Option.{slice_get_within}
 use Rattle.layout_file.specs.declared.layout.Layout.{Layout}
 use Rattle.layout_file.specs.declared.layout.PortLine.{PortLine}
 use Rattle.layout_file.specs.declared.layout.StationLine.{StationLine}
 use Rattle.layout_file.specs.declared.ways.Tap.{Tap}
-use Rattle.layout_file.specs.declared.ways.Tap.TheVariants.{Station, Port}
+use Rattle.layout_file.specs.declared.ways.Tap.TheVariants.{Station}
 use Rattle.layout_file.specs.declared.ways.Way.{Way}
 use Rattle.layout_file.specs.declared.ways.Way.TheVariants as way
-use Rattle.layout_file.specs.Paths.{place, station_place, IsTap, part_by, IsStep, other_way, IsWalk, step_length, walk_length, Path, IsPath, IsDistance, HasOneDistance}
+use Rattle.layout_file.specs.Paths.{station_place, IsTap, other_way, IsWalk, step_length, walk_length, IsDistance}
 use Rattle.layout_file.specs.Sound.{IsSound}
 use Rattle.layout_file.proofs.Backward.{distance_back}
 use Rattle.layout_file.proofs.Cuts.{mapped, has_part, never_round}
@@ -19,8 +19,8 @@ use Rattle.path_checker.specs.declared.far.Far.{Far}
 use Rattle.path_checker.specs.declared.verdict.PathVerdict.{PathVerdict}
 use Rattle.path_checker.specs.declared.verdict.PathVerdict.TheVariants.{Within, Over, NoPair}
 use Rattle.path_checker.specs.declared.verdict.Worst.{Worst}
-use Rattle.path_checker.specs.Far.{IsReach, IsVia, IsOnward, IsNoFarther, IsFarthest}
-use Rattle.path_checker.specs.Verdicts.{IsPair, IsRoundTrip, IsNoLater, IsWorst, IsVerdict, IsApart, IsWorstBelow, longer_of, verdict_of}
+use Rattle.path_checker.specs.Far.{IsOnward, IsFarthest}
+use Rattle.path_checker.specs.Verdicts.{IsWorst, IsVerdict, IsApart, IsWorstBelow, longer_of, verdict_of}
 use Rattle.path_checker.proofs.Farthest.{farthest_same}
 use Rattle.path_checker.proofs.Rooms.{walk_short}
 
@@ -29,13 +29,13 @@ apart_walk l sound w a t ts s n b is walk = λ e. never_round l (sound_cuts l so
 
 onward_apart : (l : Layout) → IsSound l → (a n s : ℕ) → IsOnward l way.Cable (Station a) n s → IsApart l a n s
 onward_apart l sound a n s h = (
-    apart_walk l sound way.Cable (Station a) h.first h.via.reach.taps s n a refl (h.via.step, h.via.reach.leads),
-    record {
-      path = record { begins = way.Cable; taps = h.first ∷ h.via.reach.taps };
-      leads = (h.via.step, h.via.reach.leads);
-      long = ap (λ (m : ℕ). step_length l way.Cable (Station a) h.first + m) h.via.reach.long ∙ h.via.sum;
-    },
-  )
+  apart_walk l sound way.Cable (Station a) h.first h.via.reach.taps s n a refl (h.via.step, h.via.reach.leads),
+  record {
+    path = record { begins = way.Cable; taps = h.first ∷ h.via.reach.taps };
+    leads = (h.via.step, h.via.reach.leads);
+    long = ap (λ (m : ℕ). step_length l way.Cable (Station a) h.first + m) h.via.reach.long ∙ h.via.sum;
+  },
+)
 
 onward_by : (l : Layout) (a n s : ℕ) (w : Way) (ts : List Tap) → a ≢ s → IsWalk l w (Station a) ts (Station s) → walk_length l w (Station a) ts ≡ n → IsOnward l way.Cable (Station a) n s
 onward_by l a n s w [] ne walk long = absurd (ne (let e : Station a ≡ Station s = walk in cc))
@@ -74,30 +74,41 @@ module _ (l : Layout) (k : ℕ) where
       (omega arith, h.1, λ x y n low apart. elim (before_last l k x y n low apart) [ inl (less, p) ↦ h.2 x y n less p | inr (same, p) ↦ absurd (none n y p) ])
 
   first_pair : (f : Far) → IsWorstBelow l k None → IsFarthest (IsApart l k) (Some f) → IsWorstBelow l (k + 1) (Some (pair_of f))
-  first_pair f h far = (omega arith, far.0, λ x y n low apart.
-      elim (before_last l k x y n low apart) [
-        | inl (less, p) ↦ absurd (h x y n less p)
-        | inr (same, p) ↦ elim (far.1 n y p) [ inl shorter ↦ inl shorter | inr (equal, lower) ↦ inr (equal, inr (sym same, lower)) ]
-      ])
+  first_pair f h far = (
+    omega arith,
+    far.0,
+    λ x y n low apart.
+        elim (before_last l k x y n low apart) [
+          | inl (less, p) ↦ absurd (h x y n less p)
+          | inr (same, p) ↦ elim (far.1 n y p) [ inl shorter ↦ inl shorter | inr (equal, lower) ↦ inr (equal, inr (sym same, lower)) ]
+        ],
+  )
 
   longer_pair : (w : Worst) (f : Far) → IsWorstBelow l k (Some w) → IsFarthest (IsApart l k) (Some f) → w.length < f.length → IsWorstBelow l (k + 1) (Some (pair_of f))
-  longer_pair w f h far longer = (omega arith, far.0, λ x y n low apart.
-      elim (before_last l k x y n low apart) [
-        | inl (less, p) ↦ elim (h.2 x y n less p) [ inl shorter ↦ inl (omega arith) | inr (equal, later) ↦ inl (omega arith) ]
-        | inr (same, p) ↦ elim (far.1 n y p) [ inl shorter ↦ inl shorter | inr (equal, lower) ↦ inr (equal, inr (sym same, lower)) ]
-      ])
+  longer_pair w f h far longer = (
+    omega arith,
+    far.0,
+    λ x y n low apart.
+        elim (before_last l k x y n low apart) [
+          | inl (less, p) ↦ elim (h.2 x y n less p) [ inl shorter ↦ inl (omega arith) | inr (equal, later) ↦ inl (omega arith) ]
+          | inr (same, p) ↦ elim (far.1 n y p) [ inl shorter ↦ inl shorter | inr (equal, lower) ↦ inr (equal, inr (sym same, lower)) ]
+        ],
+  )
 
   kept_pair : (w : Worst) (f : Far) → IsWorstBelow l k (Some w) → IsFarthest (IsApart l k) (Some f) → f.length ≤ w.length → IsWorstBelow l (k + 1) (Some w)
   kept_pair w f h far most =
-      let low_a : w.a < k = h.0 in
-      (omega arith, h.1, λ x y n low apart.
-      elim (before_last l k x y n low apart) [
-        | inl (less, p) ↦ h.2 x y n less p
-        | inr (same, p) ↦ elim (far.1 n y p) [
-          | inl shorter ↦ inl (omega arith)
-          | inr (equal, lower) ↦ elim (cases_lt n w.length) [ inl shorter ↦ inl shorter | inr level ↦ inr (omega arith, inl (omega arith)) ]
-        ]
-      ])
+      let low_a : w.a < k = h.0 in (
+        omega arith,
+        h.1,
+        λ x y n low apart.
+            elim (before_last l k x y n low apart) [
+              | inl (less, p) ↦ h.2 x y n less p
+              | inr (same, p) ↦ elim (far.1 n y p) [
+                | inl shorter ↦ inl (omega arith)
+                | inr (equal, lower) ↦ elim (cases_lt n w.length) [ inl shorter ↦ inl shorter | inr level ↦ inr (omega arith, inl (omega arith)) ]
+              ]
+            ],
+      )
 
   worst_next : (w : Option Worst) (far : Option Far) → IsWorstBelow l k w → IsFarthest (IsApart l k) far → IsWorstBelow l (k + 1) (longer_of w k far)
   worst_next w None h far = none_more w h far
@@ -188,8 +199,8 @@ some_pair l sound h =
     elim (cases_lt (length l.stations) 2) [
       | inl low ↦ low
       | inr two ↦
-        let one : (n : ℕ) × IsDistance l (Station 0) (Station 1) n = (sound_one_distance l sound).some (Station 0) (Station 1) (placed l.stations 0 (omega arith)) (placed l.stations 1 (omega arith)) (λ e. cc) in
-        absurd (h 0 1 one.0 (omega arith) (unlike 0 1 (omega arith), one.1))
+          let one : (n : ℕ) × IsDistance l (Station 0) (Station 1) n = (sound_one_distance l sound).some (Station 0) (Station 1) (placed l.stations 0 (omega arith)) (placed l.stations 1 (omega arith)) (λ e. cc) in
+          absurd (h 0 1 one.0 (omega arith) (unlike 0 1 (omega arith), one.1))
     ]
 
 verdict_is : (l : Layout) → IsSound l → (worst : Option Worst) → IsWorstBelow l (length l.stations) worst → IsVerdict l (verdict_of worst)

@@ -1,6 +1,6 @@
 -- The station that is farthest from a tap by one way (profile).
 -- Lengths are half bits; stations have numbers from 0.
-use Rattle.std.specs.Prelude.{◌≡◌, ◌⊎◌, ℕ, ◌+◌, ◌*◌, ◌<◌, ◌≤◌, Bool, false, ◌==◌, ◌&&◌, nat_lt, if◌then◌else◌, List, [], ◌∷◌, length, slice_index_or, slice_set, Option, None, Some, option_map}
+use Rattle.std.specs.Prelude.{◌≡◌, ◌⊎◌, ℕ, ◌+◌, ◌*◌, ◌<◌, ◌≤◌, Bool, false, ◌==◌, ◌&&◌, nat_lt, if◌then◌else◌, List, length, slice_index_or, slice_set, Option, None, Some, option_map}
 use Rattle.layout_file.specs.declared.layout.Layout.{Layout}
 use Rattle.layout_file.specs.declared.ways.Tap.{Tap}
 use Rattle.layout_file.specs.declared.ways.Tap.TheVariants.{Station, Port}

@@ -47,7 +47,10 @@ fn push_ports(stops: &mut Stops, repeater: u32, ports: &[PortLine]) -> Result<()
     for k in 0..ports.len() {
         let port = ports[k];
         stops.push(Stop {
-            tap: Tap::Port { repeater, port: k as u32 },
+            tap: Tap::Port {
+                repeater,
+                port: k as u32,
+            },
             segment: port.segment,
             at: port.at,
         })?;
@@ -110,10 +113,7 @@ fn ports_of(alloc: Global, repeater: u32, ports: &[PortLine]) -> Result<Stops, O
     Ok(stops)
 }
 
-fn repeater_lists(
-    alloc: Global,
-    repeaters: &[RepeaterLine],
-) -> Result<List<Stops>, OutOfMemory>
+fn repeater_lists(alloc: Global, repeaters: &[RepeaterLine]) -> Result<List<Stops>, OutOfMemory>
     requires count { length repeaters.now ≤ 128 }
     requires ports { All (λ r. length r.ports ≤ 32) repeaters.now }
     ensures { IfOk result (λ lists. lists ≡ repeater_lists 0 repeaters.now) }
@@ -133,7 +133,10 @@ pub fn network_of(alloc: Global, layout: &Layout) -> Result<Network, OutOfMemory
     let all = all_stops(alloc, layout)?;
     let segments = segment_lists(alloc, all.as_slice(), layout.segments.len())?;
     let repeaters = repeater_lists(alloc, layout.repeaters.as_slice())?;
-    Ok(Network { segments, repeaters })
+    Ok(Network {
+        segments,
+        repeaters,
+    })
 }
 
 fn list_at(lists: &List<Stops>, n: u32) -> &[Stop]

@@ -33,9 +33,30 @@ fn two_stations(alloc: Global, at: u32) -> Result<String, Fail> {
 fn two_stations_are_judged(rt: HostRuntime) -> Result<(), Fail> {
     let alloc = rt.alloc();
     let cases = [
-        (10, PathVerdict::Within { worst: 212, a: 0, b: 1 }),
-        (415, PathVerdict::Within { worst: 1022, a: 0, b: 1 }),
-        (416, PathVerdict::Over { worst: 1024, a: 0, b: 1 }),
+        (
+            10,
+            PathVerdict::Within {
+                worst: 212,
+                a: 0,
+                b: 1,
+            },
+        ),
+        (
+            415,
+            PathVerdict::Within {
+                worst: 1022,
+                a: 0,
+                b: 1,
+            },
+        ),
+        (
+            416,
+            PathVerdict::Over {
+                worst: 1024,
+                a: 0,
+                b: 1,
+            },
+        ),
     ];
     for (at, wanted) in cases {
         let text = two_stations(alloc, at)?;
@@ -64,7 +85,11 @@ fn layouts_are_judged(rt: HostRuntime) -> Result<(), Fail> {
             "format = 2\nseed = 1\nuntil_bits = 700\nsegment = [{name = \"x\"}]\nstation = [\
              {name = \"a\", segment = \"x\", at = 0},\
              {name = \"b\", segment = \"x\", at = 10, lose_bits = 48}]\n",
-            PathVerdict::Within { worst: 212, a: 0, b: 1 },
+            PathVerdict::Within {
+                worst: 212,
+                a: 0,
+                b: 1,
+            },
         ),
         // two segments and a repeater
         (
@@ -72,7 +97,11 @@ fn layouts_are_judged(rt: HostRuntime) -> Result<(), Fail> {
              station = [{name = \"a\", segment = \"x\", at = 0}, {name = \"b\", segment = \"y\", at = 30}]\n\
              repeater = [{name = \"r\", delay = 16, port = [\
              {segment = \"x\", at = 20}, {segment = \"y\", at = 0}]}]\n",
-            PathVerdict::Within { worst: 324, a: 0, b: 1 },
+            PathVerdict::Within {
+                worst: 324,
+                a: 0,
+                b: 1,
+            },
         ),
         // three segments on one repeater: all pairs are as far apart
         (
@@ -81,7 +110,11 @@ fn layouts_are_judged(rt: HostRuntime) -> Result<(), Fail> {
              {name = \"a\", segment = \"x\", at = 10}, {name = \"b\", segment = \"y\", at = 10},\
              {name = \"c\", segment = \"z\", at = 10}]\nrepeater = [{name = \"r\", delay = 1, port = [\
              {segment = \"x\", at = 0}, {segment = \"y\", at = 0}, {segment = \"z\", at = 0}]}]\n",
-            PathVerdict::Within { worst: 234, a: 0, b: 1 },
+            PathVerdict::Within {
+                worst: 234,
+                a: 0,
+                b: 1,
+            },
         ),
     ];
     for (text, wanted) in cases {
@@ -112,7 +145,11 @@ repeater = [
 
 #[test]
 fn five_segments_are_judged(rt: HostRuntime) -> Result<(), Fail> {
-    let wanted = PathVerdict::Within { worst: 856, a: 0, b: 1 };
+    let wanted = PathVerdict::Within {
+        worst: 856,
+        a: 0,
+        b: 1,
+    };
     assert_eq!(rt; verdict(rt.alloc(), FIVE_SEGMENTS)?, wanted);
     Ok(())
 }

@@ -1,4 +1,4 @@
-use Rattle.std.proofs.Common.{◌≡◌, length}
+use Rattle.std.proofs.Common.{length}
 use Rattle.path_checker.proofs.Worst.{worst_low, is_verdict, no_pair_only}
 use Rattle.path_checker.proofs.verdict.check_paths.Goals as goal
 

@@ -1,4 +1,3 @@
-use Rattle.std.proofs.Common.{◌≡◌}
 use Rattle.layout_file.specs.declared.ways.Tap.TheVariants.{Station}
 use Rattle.layout_file.specs.declared.ways.Way.TheVariants as way
 use Rattle.path_checker.proofs.Rooms.{has_room}
