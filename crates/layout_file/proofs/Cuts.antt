@@ -3,10 +3,10 @@ use Rattle.std.proofs.Common.{◌≡◌, ◌≢◌, ◌⊎◌, refl, sym, ◌∙
 use Rattle.std.specs.Option.{option_map}
 use Rattle.std.proofs.lemmas.Bool.{cases_eq}
 use Rattle.layout_file.specs.declared.layout.Layout.{Layout}
-use Rattle.layout_file.specs.declared.taps.Tap.{Tap}
-use Rattle.layout_file.specs.declared.taps.Tap.TheVariants.{Station, Port}
-use Rattle.layout_file.specs.declared.taps.Way.{Way}
-use Rattle.layout_file.specs.declared.taps.Way.TheVariants as way
+use Rattle.layout_file.specs.declared.ways.Tap.{Tap}
+use Rattle.layout_file.specs.declared.ways.Tap.TheVariants.{Station, Port}
+use Rattle.layout_file.specs.declared.ways.Way.{Way}
+use Rattle.layout_file.specs.declared.ways.Way.TheVariants as way
 use Rattle.layout_file.specs.Paths.{place, IsTap, part_by, IsStep, other_way, IsWalk, Path, IsPath}
 
 -- two taps are the same or not
@@ -128,7 +128,7 @@ avoids_end : (l : Layout) (e : Tap) (w : Way) (a t : Tap) (ts : List Tap) (b : T
 avoids_end l e w a t [] b walk avoids = λ same. avoids.0 (walk.1 ∙ same)
 avoids_end l e w a t (u ∷ us) b walk avoids = avoids_end l e (other_way w) t u us b walk.1 avoids.1
 
-never_round : (l : Layout) → HasCuts l → (w : Way) (a t : Tap) (ts : List Tap) (b : Tap) → IsWalk l w a (t ∷ ts) b → b ≢ a
+pub never_round : (l : Layout) → HasCuts l → (w : Way) (a t : Tap) (ts : List Tap) (b : Tap) → IsWalk l w a (t ∷ ts) b → b ≢ a
 never_round l cuts w a t ts b walk = avoids_end l a w a t ts b walk (leaves l cuts w a (t ∷ ts) b (steps_from l w a t walk.0) walk)
 
 -- two walks that part at once do not meet again

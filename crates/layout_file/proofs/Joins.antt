@@ -139,7 +139,7 @@ length-counted (suc n) = rw (length-append (counted_up n) (n ∷ [])) (omega (ar
 counted_last : (xs : List ℕ) (n i d : ℕ) → length xs ≡ n → (i < n → get_or xs i d ≡ i) → i < suc n → get_or (xs ++ n ∷ []) i d ≡ i
 counted_last xs n i d len before h = grind (arith, common_steps)
 
-counted-at : (n i d : ℕ) → i < n → get_or (counted_up n) i d ≡ i
+pub counted-at : (n i d : ℕ) → i < n → get_or (counted_up n) i d ≡ i
 counted-at zero i d h = absurd (omega arith)
 counted-at (suc n) i d h = counted_last (counted_up n) n i d (length-counted n) (counted-at n i d) h
 

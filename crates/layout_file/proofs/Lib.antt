@@ -16,3 +16,4 @@ pub mod Tapped
 pub mod Trees
 pub mod Crowds
 pub mod Sound
+pub mod Backward

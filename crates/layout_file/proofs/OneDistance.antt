@@ -1,7 +1,7 @@
 -- Where two taps have one path they have one distance.
 use Rattle.std.proofs.Common.{refl, sym, ◌∙◌, ap, ℕ}
 use Rattle.layout_file.specs.declared.layout.Layout.{Layout}
-use Rattle.layout_file.specs.declared.taps.Tap.{Tap}
+use Rattle.layout_file.specs.declared.ways.Tap.{Tap}
 use Rattle.layout_file.specs.Networks.{IsTree}
 use Rattle.layout_file.specs.Paths.{Path, IsPath, length_of, IsDistance, HasOnePath, HasOneDistance, StandsOnSegments}
 use Rattle.layout_file.proofs.Cuts.{paths_same}

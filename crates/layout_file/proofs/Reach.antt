@@ -7,10 +7,10 @@ use Rattle.layout_file.specs.declared.graph.Edge.{Edge}
 use Rattle.layout_file.specs.declared.layout.Layout.{Layout}
 use Rattle.layout_file.specs.declared.layout.PortLine.{PortLine}
 use Rattle.layout_file.specs.declared.layout.RepeaterLine.{RepeaterLine}
-use Rattle.layout_file.specs.declared.taps.Tap.{Tap}
-use Rattle.layout_file.specs.declared.taps.Tap.TheVariants.{Port}
-use Rattle.layout_file.specs.declared.taps.Way.{Way}
-use Rattle.layout_file.specs.declared.taps.Way.TheVariants as way
+use Rattle.layout_file.specs.declared.ways.Tap.{Tap}
+use Rattle.layout_file.specs.declared.ways.Tap.TheVariants.{Port}
+use Rattle.layout_file.specs.declared.ways.Way.{Way}
+use Rattle.layout_file.specs.declared.ways.Way.TheVariants as way
 use Rattle.layout_file.specs.Joined.{colours, is_joined}
 use Rattle.layout_file.specs.Networks.{edge_at, edges_from, network_edges, parts_of, IsTree}
 use Rattle.layout_file.specs.Paths.{place, IsTap, part_by, IsStep, other_way, IsWalk, Path, IsPath, StandsOnSegments}
@@ -74,7 +74,7 @@ lead_here l stands w b part on a v too ne =
     let on_a : IsOn l w a part = subst (λ (u : Way). IsOn l u a part) (one_kind l stands v w a b part too on) too in
     direct l w a b (step_on l w a b part on_a on ne)
 
-other-other : (w : Way) → other_way (other_way w) ≡ w
+pub other-other : (w : Way) → other_way (other_way w) ≡ w
 other-other way.Cable = refl
 other-other way.Repeater = refl
 

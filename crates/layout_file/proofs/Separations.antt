@@ -5,8 +5,8 @@ use Rattle.std.proofs.lemmas.Bool.Decides.{Decides-eqb}
 use Rattle.layout_file.specs.declared.graph.Edge.{Edge}
 use Rattle.layout_file.specs.declared.layout.PortLine.{PortLine}
 use Rattle.layout_file.specs.declared.layout.RepeaterLine.{RepeaterLine}
-use Rattle.layout_file.specs.declared.taps.Tap.{Tap}
-use Rattle.layout_file.specs.declared.taps.Tap.TheVariants.{Port}
+use Rattle.layout_file.specs.declared.ways.Tap.{Tap}
+use Rattle.layout_file.specs.declared.ways.Tap.TheVariants.{Port}
 use Rattle.layout_file.specs.Joined.{colours, is_joined}
 use Rattle.layout_file.specs.Networks.{edge_at, edges_from, CloseNoLoop}
 use Rattle.layout_file.proofs.Joins.{Touch, AreWithin, Tell, told}

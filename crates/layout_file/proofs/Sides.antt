@@ -7,10 +7,10 @@ use Rattle.layout_file.specs.declared.graph.Edge.{Edge}
 use Rattle.layout_file.specs.declared.layout.Layout.{Layout}
 use Rattle.layout_file.specs.declared.layout.PortLine.{PortLine}
 use Rattle.layout_file.specs.declared.layout.RepeaterLine.{RepeaterLine}
-use Rattle.layout_file.specs.declared.taps.Tap.{Tap}
-use Rattle.layout_file.specs.declared.taps.Tap.TheVariants.{Station, Port}
-use Rattle.layout_file.specs.declared.taps.Way.{Way}
-use Rattle.layout_file.specs.declared.taps.Way.TheVariants as way
+use Rattle.layout_file.specs.declared.ways.Tap.{Tap}
+use Rattle.layout_file.specs.declared.ways.Tap.TheVariants.{Station, Port}
+use Rattle.layout_file.specs.declared.ways.Way.{Way}
+use Rattle.layout_file.specs.declared.ways.Way.TheVariants as way
 use Rattle.layout_file.specs.Networks.{edge_at, edges_from, network_edges, parts_of, IsTree}
 use Rattle.layout_file.specs.Paths.{place, IsTap, part_by, StandsOnSegments}
 use Rattle.layout_file.proofs.Cuts.{IsCut, HasCuts}

@@ -6,10 +6,10 @@ use Rattle.layout_file.specs.declared.layout.Layout.{Layout}
 use Rattle.layout_file.specs.declared.layout.PortLine.{PortLine}
 use Rattle.layout_file.specs.declared.layout.RepeaterLine.{RepeaterLine}
 use Rattle.layout_file.specs.declared.layout.StationLine.{StationLine}
-use Rattle.layout_file.specs.declared.taps.Tap.{Tap}
-use Rattle.layout_file.specs.declared.taps.Tap.TheVariants.{Station, Port}
-use Rattle.layout_file.specs.declared.taps.Way.{Way}
-use Rattle.layout_file.specs.declared.taps.Way.TheVariants as way
+use Rattle.layout_file.specs.declared.ways.Tap.{Tap}
+use Rattle.layout_file.specs.declared.ways.Tap.TheVariants.{Station, Port}
+use Rattle.layout_file.specs.declared.ways.Way.{Way}
+use Rattle.layout_file.specs.declared.ways.Way.TheVariants as way
 use Rattle.layout_file.specs.Paths.{place, station_place, distance, at_of, delay_of, step_length, other_way, walk_length, StandsOnSegments, HasOnePath, HasOneDistance}
 use Rattle.layout_file.specs.Sound.{IsSound, IsSoundStation, IsSoundPort, IsSoundRepeater}
 use Rattle.layout_file.proofs.Cuts.{mapped, HasCuts}

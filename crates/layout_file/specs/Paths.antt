@@ -4,10 +4,10 @@ use Rattle.std.specs.Prelude.{◌≡◌, ◌≢◌, ℕ, ◌+◌, ◌-◌, ◌<�
 use Rattle.layout_file.specs.declared.layout.Layout.{Layout}
 use Rattle.layout_file.specs.declared.layout.PortLine.{PortLine}
 use Rattle.layout_file.specs.declared.layout.StationLine.{StationLine}
-use Rattle.layout_file.specs.declared.taps.Tap.{Tap}
-use Rattle.layout_file.specs.declared.taps.Tap.TheVariants.{Station, Port}
-use Rattle.layout_file.specs.declared.taps.Way.{Way}
-use Rattle.layout_file.specs.declared.taps.Way.TheVariants as way
+use Rattle.layout_file.specs.declared.ways.Tap.{Tap}
+use Rattle.layout_file.specs.declared.ways.Tap.TheVariants.{Station, Port}
+use Rattle.layout_file.specs.declared.ways.Way.{Way}
+use Rattle.layout_file.specs.declared.ways.Way.TheVariants as way
 
 -- where a station's tap stands
 abbrev pub station_place : StationLine → PortLine

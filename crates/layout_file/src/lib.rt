@@ -11,9 +11,9 @@ mod reader;
 mod rows;
 mod rules;
 mod sites;
-mod taps;
 mod texts;
 mod tree;
+mod ways;
 
 pub use fault::{Key, LayoutCode, LayoutFault, Place, Table};
 pub use layout::{
@@ -22,7 +22,7 @@ pub use layout::{
 };
 pub use lists::{OutOfMemory, Text};
 pub use reader::read_layout;
-pub use taps::{Tap, Way};
+pub use ways::{Tap, Way};
 
 #[cfg(test)]
 mod refusals;
