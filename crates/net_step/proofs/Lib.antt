@@ -1,5 +1,7 @@
 pub mod Elements
 pub mod Told
 pub mod Hearing
+pub mod Ports
+pub mod Masks
+pub mod Places
 pub mod Standing
-pub mod Times

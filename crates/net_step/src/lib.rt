@@ -1,11 +1,15 @@
 //! The network of a plan, stepped half bit by half bit on one thread.
 #![tactic(auto)]
 
-mod laws;
+mod devices;
 mod outputs;
 mod passes;
+mod places;
 mod plain;
+mod relay;
+mod rows;
+mod segment;
 
-pub use laws::history_is_time;
 pub use outputs::{Captures, Outputs, Taken, TakenList};
 pub use plain::{PlainNet, run_plain};
+
