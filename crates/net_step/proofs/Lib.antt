@@ -3,5 +3,6 @@ pub mod Told
 pub mod Hearing
 pub mod Ports
 pub mod Masks
-pub mod Places
+pub mod OnSegment
 pub mod Standing
+pub mod Whole

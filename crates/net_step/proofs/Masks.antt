@@ -1,7 +1,8 @@
 -- The flags of ports as the bits of a number.
-use Rattle.std.proofs.Common.{◌≡◌, ℕ, zero, suc, ◌+◌, ◌*◌, ◌/◌, ◌%◌, ◌^◌, Bool, true, false, eqb, List, [], ◌∷◌, ◌++◌, map, length, refl, sym, ap, ap₂, ◌∙◌, arith}
+use Rattle.std.proofs.Common.{◌≡◌, ℕ, zero, suc, ◌+◌, ◌*◌, ◌/◌, ◌%◌, ◌^◌, Bool, true, false, eqb, List, [], ◌∷◌, ◌++◌, map, length, refl, sym, ap, ap₂, ◌∙◌, arith, append_assoc}
 use Rattle.std.proofs.lemmas.Grind.{common_steps}
-use Rattle.std.proofs.lemmas.List.{length-map}
+use Rattle.std.proofs.lemmas.List.{length-map, map-append, append-nil}
+use Rattle.collision_log.specs.declared.row.Row.{Row}
 use Rattle.collision_log.specs.declared.row.Body.{Body}
 use Rattle.collision_log.specs.declared.row.Body.TheVariants.{Clash, Closed, Opened, Halted}
 use Rattle.manchester_line.specs.declared.Sym.{Sym}
@@ -11,7 +12,7 @@ use Rattle.repeater_core.specs.declared.repeater.RepeaterEvents.{RepeaterEvents}
 use Rattle.repeater_core.specs.Step.{State, mask_from, is_closing, is_opening, chosen, guard_events, emitted_by, decided_by, clash_begins, closed_mask, opened_mask, halted_mask}
 use Rattle.repeater_core.specs.Counts.{Choice}
 use Rattle.port_partition.specs.Guard.{Guard}
-use Rattle.net_step.specs.Net.{happened, guard_bodies, port_bodies, bodies_of}
+use Rattle.net_step.specs.Net.{happened, rows_at, guard_bodies, port_bodies, bodies_of}
 use Rattle.net_step.specs.Kept.{bits_bodies, told_bodies}
 
 twice : (p : ℕ) → 2 ^ (p + 1) ≡ 2 * 2 ^ p
@@ -84,3 +85,34 @@ pub step_told : (heard emitted decided : List Sym) (r : State) (ports : ℕ) (e 
     e.clash ≡ clash_begins heard r → e.closed ≡ closed_mask heard r → e.opened ≡ opened_mask heard r → e.halted ≡ halted_mask heard r → told_bodies ports e ≡ bodies_of heard r
 step_told heard emitted decided r ports e lh le ld lg ee ed clash closed opened halted =
     told_are heard r ports e (sym (length-guard_events r.guards heard (emitted_by r) (lh ∙ sym lg) (ap length (sym ee) ∙ le ∙ sym lg) ∙ lg)) (sym (length-map (chosen heard r) (λ (c : Choice). c.symbol)) ∙ ap length (sym ed) ∙ ld) clash closed opened halted
+
+-- where all flags are off, nothing happens at the ports
+pub no_bits : (port n : ℕ) → bits_bodies port n 0 0 0 ≡ []
+no_bits port zero = refl
+no_bits port (suc n) = no_bits (port + 1) n
+
+-- one port more
+pub bits_more : (port n : ℕ) (c o h : ℕ) → bits_bodies port (suc n) c o h ≡ bits_bodies port 1 c o h ++ bits_bodies (port + 1) n (c / 2) (o / 2) (h / 2)
+bits_more port n c o h =
+    let a = happened (eqb (h % 2) 1) (Halted port) in
+    let b = happened (eqb (c % 2) 1) (Closed port) in
+    let d = happened (eqb (o % 2) 1) (Opened port) in
+    let rest = bits_bodies (port + 1) n (c / 2) (o / 2) (h / 2) in
+    let nothing : d ++ [] ≡ d = append-nil d in
+    sym (append_assoc a (b ++ (d ++ [])) rest ∙ ap (λ xs. a ++ xs) (append_assoc b (d ++ []) rest ∙ ap (λ xs. b ++ (xs ++ rest)) nothing))
+
+-- its rows within those of all ports
+pub rows_more : (t k port left n : ℕ) (c o h : ℕ) (rows more : List Row) → left ≡ suc n → more ≡ rows ++ rows_at t k (bits_bodies port 1 c o h) →
+    more ++ rows_at t k (bits_bodies (port + 1) n (c / 2) (o / 2) (h / 2)) ≡ rows ++ rows_at t k (bits_bodies port left c o h)
+rows_more t k port left n c o h rows more e is =
+    let row : Body → Row = λ body. record { t = t; device = k; body = body } in
+    let rest = bits_bodies (port + 1) n (c / 2) (o / 2) (h / 2) in
+    ap (λ xs. xs ++ map row rest) is
+    ∙ append_assoc rows (map row (bits_bodies port 1 c o h)) (map row rest)
+    ∙ ap (λ xs. rows ++ xs) (sym (map-append row (bits_bodies port 1 c o h) rest) ∙ ap (map row) (sym (bits_more port n c o h) ∙ ap (λ m. bits_bodies port m c o h) (sym e)))
+
+-- nothing happens at the ports of a repeater whose flags are all off
+pub rows_none : (t k ports : ℕ) (e : RepeaterEvents) (rows more : List Row) → e.closed ≡ 0 → e.opened ≡ 0 → e.halted ≡ 0 → more ≡ rows ++ rows_at t k (happened e.clash Clash) → more ≡ rows ++ rows_at t k (told_bodies ports e)
+rows_none t k ports e rows more ec eo eh is =
+    let none : bits_bodies 1 ports e.closed e.opened e.halted ≡ [] = ap (λ m. bits_bodies 1 ports m e.opened e.halted) ec ∙ ap (λ m. bits_bodies 1 ports 0 m e.halted) eo ∙ ap (bits_bodies 1 ports 0 0) eh ∙ no_bits 1 ports in
+    is ∙ ap (λ bs. rows ++ rows_at t k bs) (sym (append-nil (happened e.clash Clash)) ∙ ap (λ bs. happened e.clash Clash ++ bs) (sym none))

@@ -28,7 +28,7 @@ use Rattle.net_step.specs.Runnable.{IsRunnable}
 use Rattle.net_step.specs.Wires.{Wire, no_wire, wire_at, symbols_of, told_from, carried, heard_at_place, IsPlaced, count_on, numbers_on, positions_on, cable_places, new_wire, places_from}
 use Rattle.net_step.specs.Kept.{KeptNet, heard_kept, stations_hear_kept, ports_hear_kept, sendings_kept, stations_emit_kept, emitted_kept, receptions_kept, rows_kept, AllHear, AllGive, GoesOn, IsWire, Stands}
 use Rattle.net_step.proofs.Hearing.{AllHear-given, events-given, captured-given}
-use Rattle.net_step.proofs.Places.{count-here, count-there, positions-here, positions-there, position_at, number_at, count_below, length-numbers, same_number, places_some}
+use Rattle.net_step.proofs.OnSegment.{count-here, count-there, positions-here, positions-there, position_at, number_at, count_below, length-numbers, same_number, places_some}
 use Rattle.net_step.proofs.Told.{told_at-told_from, told_at-told_from_earlier, told_at-advanced, told_at-advanced_now, positions-told_from, ahead-told_from, length-rows-told_from, length-rows-advanced}
 
 -- a tap of the segment is left out in both ways, or told alike
@@ -62,7 +62,7 @@ module _ (u v : ℕ → ℕ → Sym) (s q : ℕ) (here d : PortLine) (local : �
   ]
 
 -- the place of a tap
-abbrev place_of : List PortLine → ℕ → PortLine → Place
+abbrev pub place_of : List PortLine → ℕ → PortLine → Place
 place_of all q x = record { segment = x.segment; local = count_on x.segment (take q all) }
 
 -- a tap hears at its place what it hears in the network
@@ -80,15 +80,20 @@ hears_there n k st q d h =
     ap (λ at. heard_at (told_at c) at local) places
     ∙ ap (λ at. heard_among (told_at c) local at 0 ps) (position_at s n.taps q d h refl)
     ∙ hears_alike (told_at c) (emitted_before n.emitted) s q x d local refl n.taps 0 0
-        (λ i a m l ea em es. ap₂ eqb (ea ∙ omega arith) (em ∙ omega arith) ∙ same_number s n.taps i q d l h es refl)
+        (λ i a m l ea em es.
+            let number : a ≡ count_on s (take i n.taps) = omega (arith, ea) in
+            let same : i ≡ m = omega (arith, em) in
+            ap (λ z. eqb z local) number ∙ same_number s n.taps i q d l h es refl ∙ ap (λ z. eqb z q) same)
         (λ i a m l ea em es.
             let other = get_or n.taps i d in
             let other_near : other.at ≤ 2000 = st.near i d l in
             let back = distance x.at other.at in
-            ap (told_at c back) (ea ∙ omega arith)
+            let number : a ≡ count_on s (take i n.taps) = omega (arith, ea) in
+            let same : i ≡ m = omega (arith, em) in
+            ap (told_at c back) number
             ∙ ap (λ z. told_at (wire_at k.wires z).cable back (count_on z (take i n.taps))) (sym es)
             ∙ st.told back i d (omega arith) l
-            ∙ ap (emitted_before n.emitted back) (omega arith))
+            ∙ ap (emitted_before n.emitted back) same)
 
 -- all taps from p on
 all_hear_there : (wires : List Wire) (told : ℕ → ℕ → Sym) (all xs : List PortLine) (p : ℕ) →
@@ -98,7 +103,7 @@ all_hear_there wires told all [] p each = refl
 all_hear_there wires told all (x ∷ xs) p each =
     ap₂ ◌∷◌ (each 0 p x (omega arith) (omega arith)) (all_hear_there wires told all xs (p + 1) (λ i m d l e. each (suc i) m d (omega arith) (omega arith)))
 
-heard_alike : (n : Net) (k : KeptNet) → Stands n k → heard_kept k ≡ heard_in n
+pub heard_alike : (n : Net) (k : KeptNet) → Stands n k → heard_kept k ≡ heard_in n
 heard_alike n k st =
     ap (map (heard_at_place k.wires)) st.places
     ∙ all_hear_there k.wires (emitted_before n.emitted) n.taps n.taps 0 (λ i m d l e.
@@ -148,7 +153,7 @@ module _ (c : Told) (row : List Sym) (ahead : c.ahead ≡ 0) (window : length c.
       ∙ told_at-told_from_earlier row c 0 b r (omega arith)
       ∙ ap (λ i. told_at c i r) one
 
-wire_at-carried : (row : List Sym) (wires : List Wire) (s : ℕ) → s < length wires → wire_at (map (carried row) wires) s ≡ carried row (wire_at wires s)
+pub wire_at-carried : (row : List Sym) (wires : List Wire) (s : ℕ) → s < length wires → wire_at (map (carried row) wires) s ≡ carried row (wire_at wires s)
 wire_at-carried row wires s h = get_or-map (carried row) wires s no_wire no_wire h
 
 carried_wire : (row : List Sym) (all : List PortLine) (s : ℕ) (w : Wire) → IsWire all s w → IsWire all s (carried row w)
@@ -297,7 +302,7 @@ stands_new plan k near on time senders receivers repeaters wires places rows cap
 
 -- what a layout says of all its taps
 flat_All : {X : Type 0} (P : PortLine → Type 0) (ports : X → List PortLine) (rs : List X) → All (λ r. All P (ports r)) rs → All P (flat_map ports rs)
-flat_All P ports [] h k d l = absurd (omega arith)
+flat_All P ports [] h = λ k d l. absurd (omega arith)
 flat_All P ports (r ∷ rs) h = All-append P (ports r) (flat_map ports rs) (h 0 r (omega arith)) (flat_All P ports rs (λ k d l. h (suc k) d (omega arith)))
 
 pub taps_near : (l : Layout) → IsRunnable l → All (λ x. x.at ≤ 2000) (taps_of l)

@@ -56,10 +56,10 @@ IsTap k device port =
     ((device < length k.senders) × (port ≡ 0))
     ⊎ ((length k.senders ≤ device) × (device - length k.senders < length k.repeaters) × (port < length (slice_index_or k.repeaters (device - length k.senders) (new_state 0 0)).guards))
 
--- Its number among all taps.
-abbrev pub tap_number : List Sender → List State → ℕ → ℕ → ℕ
-tap_number senders repeaters device port =
-    if nat_lt device (length senders) then device else length senders + ports_of (take (device - length senders) repeaters) + port
+-- Its number among all taps, of which the first so many are the stations'.
+abbrev pub tap_number : ℕ → List State → ℕ → ℕ → ℕ
+tap_number stations repeaters device port =
+    if nat_lt device stations then device else stations + ports_of (take (device - stations) repeaters) + port
 
 -- What happens at n ports from this one on, counted from 1, whose flags are the bits of these numbers, the least first.
 abbrev pub bits_bodies : ℕ → ℕ → ℕ → ℕ → ℕ → List Body

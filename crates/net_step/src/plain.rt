@@ -2,7 +2,7 @@
 ghost use Rattle.std.specs.Prelude.{◌≡◌, ◌<◌, ◌≤◌, ◌+◌, ◌*◌, ◌^◌, ◌++◌, [], All, List, length, map, take, IfOk, OnOk};
 ghost use Rattle.net_step.specs.Outputs.{cut_rows, half_bits, rows, captures};
 ghost use Rattle.net_step.specs.Runnable.{IsRunnable};
-ghost use Rattle.net_step.specs.Kept.{ports_of};
+ghost use Rattle.net_step.specs.Kept.{ports_of, tap_number};
 
 use crate::devices::{
     most_of, new_receivers, new_relays, new_segments, new_transmitters, no_captures,
@@ -81,13 +81,27 @@ fn listed(alloc: Global, captures: Vec<TakenList>) -> Result<Captures, OutOfMemo
 fn ports_before(relays: &[Relay], count: usize) -> usize
     requires within { count ≤ length relays.now }
     requires few { length relays.now < 2 ^ 32 }
-    ensures { result ≡ ports_of (take count relays.now) }
+    ensures ports { result ≡ ports_of (take count relays.now) }
+    ensures few { result ≤ 32 * count }
 {
     let mut ports = 0;
     for k in 0..count {
         ports += relays[k].ports();
     }
     ports
+}
+
+/// The number of a tap among all taps, of which the stations' come first.
+fn tap_number(stations: usize, relays: &[Relay], device: usize, port: usize) -> usize
+    requires within { device < stations + length relays.now }
+    requires few { stations + length relays.now < 2 ^ 32 }
+    requires port { port < 2 ^ 32 }
+    ensures { result ≡ tap_number stations relays.now device port }
+{
+    if device < stations {
+        return device;
+    }
+    stations + ports_before(relays, device - stations) + port
 }
 
 impl PlainNet {
@@ -108,8 +122,8 @@ impl PlainNet {
         let layout = &plan.layout;
         let stations = layout.stations.as_slice();
         let taps = taps_of(alloc, layout)?;
+        let all = taps.len();
         let count = stations.len();
-        let ports = taps.len() - count;
         let repeaters = layout.repeaters.len();
         Ok(PlainNet {
             alloc,
@@ -119,10 +133,10 @@ impl PlainNet {
             relays: new_relays(alloc, layout.repeaters.as_slice())?,
             segments: new_segments(alloc, layout.segments.len(), &taps)?,
             places: places_of(alloc, &taps)?,
-            heard: vec![in alloc; Sym::Idle; count + ports]?,
+            heard: vec![in alloc; Sym::Idle; all]?,
             emitted: vec![in alloc; Sym::Idle; count]?,
-            port_emitted: vec![in alloc; Sym::Idle; ports]?,
-            row: vec![in alloc; Sym::Idle; count + ports]?,
+            port_emitted: vec![in alloc; Sym::Idle; all - count]?,
+            row: vec![in alloc; Sym::Idle; all]?,
             sent: vec![in alloc; None; count]?,
             received: vec![in alloc; None; count]?,
             events: vec![in alloc; NOTHING; repeaters]?,
@@ -135,15 +149,10 @@ impl PlainNet {
     /// devices follow the stations, and their ports count from 0.
     pub fn heard(&self, device: u32, port: u32) -> Sym
         requires { IsTap self.now device port }
-        ensures { (n : Net) → Stands n self.now → result ≡ slice_index_or (heard_in n) (tap_number n.senders n.repeaters device port) Idle }
+        ensures { (n : Net) → Stands n self.now → result ≡ slice_index_or (heard_in n) (tap_number (length n.senders) n.repeaters device port) Idle }
     {
         let stations = self.senders.len();
-        let device = device as usize;
-        let tap = if device < stations {
-            device
-        } else {
-            stations + ports_before(&self.relays, device - stations) + port as usize
-        };
+        let tap = tap_number(stations, &self.relays, device as usize, port as usize);
         let place = self.places[tap];
         self.segments[place.segment as usize].heard(place.local)
     }

@@ -7,4 +7,4 @@ use Rattle.net_step.proofs.rows.log_ports.Given as goal
 abbrev pub invariant-loop-port : goal.invariant-loop-port
 invariant-loop-port l =
     l.rows ++ rows_at l.t l.device (bits_bodies (l.port + 1) (l.ports - l.port) l.left.closed l.left.opened l.left.halted)
-    ≡ l.fn.rows ++ rows_at l.t l.device (bits_bodies 1 l.ports l.events.closed l.events.opened l.events.halted)
+    ≡ l.fn.rows ++ rows_at l.t l.device (bits_bodies 1 l.ports l.fn.events.closed l.fn.events.opened l.fn.events.halted)
