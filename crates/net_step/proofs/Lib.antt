@@ -6,3 +6,5 @@ pub mod Masks
 pub mod OnSegment
 pub mod Standing
 pub mod Whole
+pub mod Lines
+pub mod Times

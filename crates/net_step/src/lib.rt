@@ -2,6 +2,7 @@
 #![tactic(auto)]
 
 mod devices;
+mod laws;
 mod outputs;
 mod passes;
 mod places;
@@ -10,6 +11,7 @@ mod relay;
 mod rows;
 mod segment;
 
+pub use laws::{history_is_time, ports_emit_late, taps_hear_others};
 pub use outputs::{Captures, Outputs, Taken, TakenList};
 pub use plain::{PlainNet, run_plain};
 
