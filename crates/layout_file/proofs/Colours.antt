@@ -17,7 +17,7 @@ colours-last : (parts : ℕ) (es : List Edge) (e : Edge) → colours parts (es +
 unfolding colours
 colours-last parts es e = painted_all-last (counted_up parts) es e
 
-edges_of-port : (segments : List (List ℕ)) (xs : List Spot) (s : Spot) → is_port s.shape ≡ true → edges_of segments (xs ++ s ∷ []) ≡ edges_of segments xs ++ edge_of segments s ∷ []
+pub edges_of-port : (segments : List (List ℕ)) (xs : List Spot) (s : Spot) → is_port s.shape ≡ true → edges_of segments (xs ++ s ∷ []) ≡ edges_of segments xs ++ edge_of segments s ∷ []
 edges_of-port segments [] s port = rw port refl
 edges_of-port segments (x ∷ xs) s last =
     elim (cases_Bool (is_port x.shape)) [
@@ -25,7 +25,7 @@ edges_of-port segments (x ∷ xs) s last =
       | inr none ↦ rw none (edges_of-port segments xs s last)
     ]
 
-edges_of-other : (segments : List (List ℕ)) (xs : List Spot) (s : Spot) → is_port s.shape ≡ false → edges_of segments (xs ++ s ∷ []) ≡ edges_of segments xs
+pub edges_of-other : (segments : List (List ℕ)) (xs : List Spot) (s : Spot) → is_port s.shape ≡ false → edges_of segments (xs ++ s ∷ []) ≡ edges_of segments xs
 edges_of-other segments [] s other = rw other refl
 edges_of-other segments (x ∷ xs) s other =
     elim (cases_Bool (is_port x.shape)) [

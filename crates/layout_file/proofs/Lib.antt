@@ -2,4 +2,10 @@ pub mod Digits
 pub mod Arrays
 pub mod Documents
 pub mod Colours
-pub mod FirstForm
+pub mod Cleared
+pub mod Keys
+pub mod Named
+pub mod Taps
+pub mod Trees
+pub mod Crowds
+pub mod Sound

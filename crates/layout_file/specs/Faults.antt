@@ -9,7 +9,6 @@ use Rattle.layout_file.specs.declared.fault.LayoutFault.{LayoutFault}
 use Rattle.layout_file.specs.declared.layout.Layout.{Layout}
 use Rattle.layout_file.specs.declared.rows.RowTest.{RowTest}
 use Rattle.layout_file.specs.declared.rows.RowTest.TheVariants as test
-use Rattle.layout_file.specs.Form.{is_first_form}
 use Rattle.layout_file.specs.GraphFaults.{first_graph_fault}
 use Rattle.layout_file.specs.JointFaults.{file_fault, first_crowd, first_same_name, first_taken}
 use Rattle.layout_file.specs.Lines.{layout_of}
@@ -52,17 +51,10 @@ first_fault ms =
 abbrev pub document : List ℕ → Option Members
 document bytes = if is_utf8 bytes then parse_document bytes else None
 
--- the file is not one that is run yet
-abbrev pub unbuilt : LayoutFault
-unbuilt = file_fault code.Unbuilt key.None
-
-abbrev pub judged_layout : Layout → Result Layout LayoutFault
-judged_layout l = if is_first_form l then Ok l else Err unbuilt
-
--- a layout with a fault is not run either: so far its code and place are not told
+-- the layout that a document spells, where it has no fault
 abbrev pub judged_tree : Members → Option LayoutFault → Result Layout LayoutFault
-judged_tree ms None = judged_layout (layout_of ms)
-judged_tree ms (Some f) = Err unbuilt
+judged_tree ms None = Ok (layout_of ms)
+judged_tree ms (Some f) = Err f
 
 abbrev pub judged_document : Option Members → Result Layout LayoutFault
 judged_document None = Err (file_fault code.NotToml key.None)

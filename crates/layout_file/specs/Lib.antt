@@ -8,7 +8,8 @@ pub mod RowFaults
 pub mod Arounds
 pub mod JointFaults
 pub mod Lines
-pub mod Form
 pub mod Faults
 pub mod Joined
 pub mod GraphFaults
+pub mod Networks
+pub mod Sound

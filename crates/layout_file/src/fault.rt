@@ -108,7 +108,7 @@ pub enum LayoutCode {
     BadFrame,
     /// An allocation was refused.
     OutOfMemory,
-    /// The layout has no fault, but it is of a form that isn't run yet.
+    /// The layout has no fault, but it is of a form that isn't run yet. Reading a layout never answers this.
     Unbuilt,
 }
 

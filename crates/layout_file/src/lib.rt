@@ -2,7 +2,6 @@
 #![tactic(auto)]
 
 mod fault;
-mod form;
 mod graph;
 mod joint;
 mod layout;

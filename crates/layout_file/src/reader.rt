@@ -1,13 +1,12 @@
 //! Reads a layout from octets.
-ghost use Rattle.std.specs.Prelude.{◌≡◌, Some, Ok, Err, IfOk, IfErr, IsTrue};
+ghost use Rattle.std.specs.Prelude.{◌≡◌, Some, Ok, Err, IfOk, IfErr};
 ghost use Rattle.toml.specs.View.{table_view};
 ghost use Rattle.layout_file.specs.Faults.{first_fault, document, is_too_long, judged_document, judged, IsMemory};
-ghost use Rattle.layout_file.specs.Form.{is_first_form};
 ghost use Rattle.layout_file.specs.JointFaults.{file_fault};
+ghost use Rattle.layout_file.specs.Sound.{IsSound};
 ghost use Rattle.layout_file.specs.declared.fault.Key.TheVariants as key;
 
 use crate::fault::{Key, LayoutCode, LayoutFault, Table};
-use crate::form::is_first_form;
 use crate::graph::first_graph_fault;
 use crate::joint::{first_crowd, first_same_name, first_taken};
 use crate::layout::Layout;
@@ -53,28 +52,25 @@ fn file_fault(code: LayoutCode) -> LayoutFault
     LayoutFault::of_row(code, Table::File, 0, Key::None)
 }
 
-/// The layout that the octets spell, where that is one of the least networks: one segment, no repeater,
-/// one or two stations of which at most one sends. TooMany comes exactly above 1,048,576 octets, then
-/// NotToml exactly where the octets are no TOML document, then Unbuilt exactly where the document isn't
-/// that of such a network or has a fault. Each has the file as its place. Want of memory alone is free.
-#[tactic(auto, unfolding(crate::specs::Faults::judged))]
+/// The layout that the octets spell, or its first fault: TooMany exactly above 1,048,576 octets, then NotToml exactly where
+/// the octets are no TOML document, both with the file as their place. After them every code from UnknownKey to BadFrame is
+/// tried in the order of their numbers, at every place before the next code: the file's keys, the segments, the stations,
+/// the repeaters with their ports and the sends, each row's keys in their order. Want of memory alone is free.
+/// A layout that is answered is sound: its numbers are in their ranges, its names are different, what its rows name is
+/// there, no two taps share a place, and its network is a tree.
+#[tactic(auto, unfolding(crate::specs::Faults::judged), using(crate::proofs::Sound::sound))]
 pub fn read_layout(alloc: Global, bytes: &[u8]) -> Result<Layout, LayoutFault>
     ensures layout { IfOk result (λ layout. judged bytes.now ≡ Ok layout) }
     ensures fault { IfErr result (λ fault. ¬ IsMemory fault → judged bytes.now ≡ Err fault) }
-    ensures first_form { IfOk result (λ layout. IsTrue (is_first_form layout)) }
+    ensures sound { IfOk result (λ layout. IsSound layout) }
 {
     if is_too_long(bytes) {
         return Err(file_fault(LayoutCode::TooMany));
     }
     let document = parse(alloc, bytes)?;
-    if first_fault(alloc, &document)?.is_some() {
-        return Err(file_fault(LayoutCode::Unbuilt));
-    }
-    let layout = layout(alloc, &document)?;
-    if is_first_form(&layout) {
-        Ok(layout)
-    } else {
-        Err(file_fault(LayoutCode::Unbuilt))
+    match first_fault(alloc, &document)? {
+        Some(fault) => Err(fault),
+        None => Ok(layout(alloc, &document)?),
     }
 }
 

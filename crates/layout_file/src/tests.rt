@@ -1,4 +1,3 @@
-use crate::reader::{first_fault, parse};
 use crate::{Key, Layout, LayoutCode, Table, read_layout};
 use std::alloc::Global;
 use std::test::Fail;
@@ -140,21 +139,6 @@ fn fault(alloc: Global, octets: &[u8], code: LayoutCode) -> Option<(Table, u32, 
     }
 }
 
-/// The place of the first fault of a document, where it is of this code. A document with a fault isn't built.
-fn first(alloc: Global, octets: &[u8], code: LayoutCode) -> Option<(Table, u32, u32, Key)> {
-    let Ok(document) = parse(alloc, octets) else {
-        return fault(alloc, octets, code);
-    };
-    match first_fault(alloc, &document) {
-        Ok(Some(fault)) if fault.code == code => {
-            let place = fault.place;
-            Some((place.table, place.row, place.port, place.key))
-        }
-        Ok(None) => fault(alloc, octets, code),
-        _ => None,
-    }
-}
-
 #[test]
 fn whole_files_are_refused(rt: HostRuntime) -> Result<(), Fail> {
     let alloc = rt.alloc();
@@ -190,13 +174,6 @@ fn whole_files_are_refused(rt: HostRuntime) -> Result<(), Fail> {
             station(Key::At),
         ),
         (
-            "format = 2\nseed = 1\nuntil_bits = 700\nsegment = [{name = \"x\"}]\nstation = [\
-             {name = \"a\", segment = \"x\", at = 0},\
-             {name = \"b\", segment = \"x\", at = 10, lose_bits = 48}]",
-            LayoutCode::Unbuilt,
-            file(Key::None),
-        ),
-        (
             "format = 1\nseed = 1\nuntil_bits = 700\nsegment = [{name = \"x\"}]\nstation = [\
              {name = \"a\", segment = \"x\", at = 0},\
              {name = \"b\", segment = \"x\", at = 10, lose_bits = 4}]",
@@ -212,24 +189,26 @@ fn whole_files_are_refused(rt: HostRuntime) -> Result<(), Fail> {
         ),
     ];
     for (text, code, place) in cases {
-        assert_eq!(rt; first(alloc, text.as_bytes(), code), place, "{text}");
+        assert_eq!(rt; fault(alloc, text.as_bytes(), code), place, "{text}");
     }
     Ok(())
 }
 
-/// Two segments, joined or not, are not run yet, and so is a file with a fault.
+/// Two segments that a repeater joins.
 #[test]
-fn other_forms_are_unbuilt(rt: HostRuntime) -> Result<(), Fail> {
-    let alloc = rt.alloc();
-    let apart = changed(alloc, REPEATER, "")?;
-    let strange = changed(alloc, "seed = 1", "seed = 1\ncolor = 1")?;
-    for text in ["", TWO_HOP, apart.as_str(), strange.as_str()] {
-        assert_eq!(rt;
-            fault(alloc, text.as_bytes(), LayoutCode::Unbuilt),
-            Some((Table::File, 0, 0, Key::None)),
-            "{text}"
-        );
-    }
+fn two_hops_are_read(rt: HostRuntime) -> Result<(), Fail> {
+    let layout = read(rt.alloc(), TWO_HOP)?;
+    assert_eq!(rt; layout.segments.len(), 2);
+    assert_eq!(rt; layout.segments.get(1).name.as_str(), "y");
+    let b = layout.stations.get(1);
+    assert_eq!(rt; (b.segment, b.at), (1, 30));
+    let repeater = layout.repeaters.get(0);
+    assert_eq!(rt; repeater.name.as_str(), "r");
+    assert_eq!(rt; (repeater.delay, repeater.ports.len()), (16, 2));
+    let port = *repeater.ports.get(1);
+    assert_eq!(rt; (port.segment, port.at), (1, 0));
+    let send = layout.sends.get(1);
+    assert_eq!(rt; (send.station, send.at, send.octets.len()), (1, 65, 14));
     Ok(())
 }
 
@@ -241,7 +220,7 @@ fn too_many_segments_are_refused(rt: HostRuntime) -> Result<(), Fail> {
         text.push_str("[[segment]]\nname = \"x\"\n")?;
     }
     assert_eq!(rt;
-        first(alloc, text.as_bytes(), LayoutCode::TooMany),
+        fault(alloc, text.as_bytes(), LayoutCode::TooMany),
         Some((Table::File, 0, 0, Key::Segment))
     );
     Ok(())
@@ -281,10 +260,6 @@ at = 60
 #[test]
 fn changed_files_are_refused(rt: HostRuntime) -> Result<(), Fail> {
     let alloc = rt.alloc();
-    assert_eq!(rt;
-        fault(alloc, TWO_HOP.as_bytes(), LayoutCode::Unbuilt),
-        Some((Table::File, 0, 0, Key::None))
-    );
     let cases = [
         (
             "seed = 1",
@@ -373,7 +348,7 @@ fn changed_files_are_refused(rt: HostRuntime) -> Result<(), Fail> {
     ];
     for (from, to, code, place) in cases {
         let text = changed(alloc, from, to)?;
-        assert_eq!(rt; first(alloc, text.as_bytes(), code), Some(place), "{to}");
+        assert_eq!(rt; fault(alloc, text.as_bytes(), code), Some(place), "{to}");
     }
     Ok(())
 }

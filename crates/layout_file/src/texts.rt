@@ -21,7 +21,7 @@ fn is_name_octet(octet: u8) -> bool
 }
 
 /// From the first bound to the second.
-pub fn is_between(least: u64, most: u64, n: u64) -> bool
+fn is_between(least: u64, most: u64, n: u64) -> bool
     ensures { result ≡ is_between least most n }
 {
     least <= n && n <= most
