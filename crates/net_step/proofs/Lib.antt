@@ -8,3 +8,4 @@ pub mod Standing
 pub mod Whole
 pub mod Lines
 pub mod Times
+pub mod Soundness

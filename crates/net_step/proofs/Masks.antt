@@ -67,10 +67,10 @@ told_are heard r ports e np nc clash closed opened halted =
     let hs = map (λ (c : Choice). c.halted) (chosen heard r) in
     let es = guard_events r.guards heard (emitted_by r) in
     let bits : bits_bodies 1 ports e.closed e.opened e.halted ≡ bits_bodies 1 (length es) (mask_from 0 (map is_closing es)) (mask_from 0 (map is_opening es)) (mask_from 0 hs) =
-        ap (λ n. bits_bodies 1 n e.closed e.opened e.halted) np
-        ∙ ap (λ m. bits_bodies 1 (length es) m e.opened e.halted) closed
-        ∙ ap (λ m. bits_bodies 1 (length es) (closed_mask heard r) m e.halted) opened
-        ∙ ap (λ m. bits_bodies 1 (length es) (closed_mask heard r) (opened_mask heard r) m) halted in
+    ap (λ n. bits_bodies 1 n e.closed e.opened e.halted) np
+    ∙ ap (λ m. bits_bodies 1 (length es) m e.opened e.halted) closed
+    ∙ ap (λ m. bits_bodies 1 (length es) (closed_mask heard r) m e.halted) opened
+    ∙ ap (λ m. bits_bodies 1 (length es) (closed_mask heard r) (opened_mask heard r) m) halted in
     ap₂ (λ b rest. happened b Clash ++ rest) clash (bits ∙ bits_are 1 hs es (length-map (chosen heard r) (λ (c : Choice). c.halted) ∙ nc ∙ np))
 
 length-guard_events : (gs : List Guard) (hs es : List Sym) → length hs ≡ length gs → length es ≡ length gs → length (guard_events gs hs es) ≡ length gs

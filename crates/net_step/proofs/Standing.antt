@@ -48,16 +48,16 @@ module _ (u v : ℕ → ℕ → Sym) (s q : ℕ) (here d : PortLine) (local : �
     | inl e ↦
         ap (heard_among u local here.at r) (positions-here s x xs e)
         ∙ ap₂ mix_of
-            (pick (eqb r local) (eqb p q) (eqb x.segment here.segment) (u (distance here.at x.at) r) (v (distance here.at x.at) p)
-              (tests 0 r p (omega arith) (omega arith) (omega arith) e) (eq-eqb x.segment here.segment (e ∙ sym on)) (same 0 r p (omega arith) (omega arith) (omega arith) e))
-            (hears_alike xs (r + 1) (p + 1)
-              (λ i c m l ec em es. let one = count-here s x (take i xs) e in tests (suc i) c m (omega arith) (omega (arith, ec, one)) (omega arith) es)
-              (λ i c m l ec em es. let one = count-here s x (take i xs) e in same (suc i) c m (omega arith) (omega (arith, ec, one)) (omega arith) es))
+        (pick (eqb r local) (eqb p q) (eqb x.segment here.segment) (u (distance here.at x.at) r) (v (distance here.at x.at) p)
+        (tests 0 r p (omega arith) (omega arith) (omega arith) e) (eq-eqb x.segment here.segment (e ∙ sym on)) (same 0 r p (omega arith) (omega arith) (omega arith) e))
+        (hears_alike xs (r + 1) (p + 1)
+        (λ i c m l ec em es. let one = count-here s x (take i xs) e in tests (suc i) c m (omega arith) (omega (arith, ec, one)) (omega arith) es)
+        (λ i c m l ec em es. let one = count-here s x (take i xs) e in same (suc i) c m (omega arith) (omega (arith, ec, one)) (omega arith) es))
     | inr ne ↦
         ap (heard_among u local here.at r) (positions-there s x xs ne)
         ∙ hears_alike xs r (p + 1)
-            (λ i c m l ec em es. let one = count-there s x (take i xs) ne in tests (suc i) c m (omega arith) (omega (arith, ec, one)) (omega arith) es)
-            (λ i c m l ec em es. let one = count-there s x (take i xs) ne in same (suc i) c m (omega arith) (omega (arith, ec, one)) (omega arith) es)
+        (λ i c m l ec em es. let one = count-there s x (take i xs) ne in tests (suc i) c m (omega arith) (omega (arith, ec, one)) (omega arith) es)
+        (λ i c m l ec em es. let one = count-there s x (take i xs) ne in same (suc i) c m (omega arith) (omega (arith, ec, one)) (omega arith) es)
         ∙ sym (ap (λ (b : Bool). mix_of (cond (b && not (eqb p q)) (v (distance here.at x.at) p) Idle) (heard_of v q here (p + 1) xs)) (ne_eqb x.segment here.segment (λ same_segment. ne (same_segment ∙ on))))
   ]
 
@@ -80,20 +80,20 @@ hears_there n k st q d h =
     ap (λ at. heard_at (told_at c) at local) places
     ∙ ap (λ at. heard_among (told_at c) local at 0 ps) (position_at s n.taps q d h refl)
     ∙ hears_alike (told_at c) (emitted_before n.emitted) s q x d local refl n.taps 0 0
-        (λ i a m l ea em es.
-            let number : a ≡ count_on s (take i n.taps) = omega (arith, ea) in
-            let same : i ≡ m = omega (arith, em) in
-            ap (λ z. eqb z local) number ∙ same_number s n.taps i q d l h es refl ∙ ap (λ z. eqb z q) same)
-        (λ i a m l ea em es.
-            let other = get_or n.taps i d in
-            let other_near : other.at ≤ 2000 = st.near i d l in
-            let back = distance x.at other.at in
-            let number : a ≡ count_on s (take i n.taps) = omega (arith, ea) in
-            let same : i ≡ m = omega (arith, em) in
-            ap (told_at c back) number
-            ∙ ap (λ z. told_at (wire_at k.wires z).cable back (count_on z (take i n.taps))) (sym es)
-            ∙ st.told back i d (omega arith) l
-            ∙ ap (emitted_before n.emitted back) same)
+    (λ i a m l ea em es.
+    let number : a ≡ count_on s (take i n.taps) = omega (arith, ea) in
+    let same : i ≡ m = omega (arith, em) in
+    ap (λ z. eqb z local) number ∙ same_number s n.taps i q d l h es refl ∙ ap (λ z. eqb z q) same)
+    (λ i a m l ea em es.
+    let other = get_or n.taps i d in
+    let other_near : other.at ≤ 2000 = st.near i d l in
+    let back = distance x.at other.at in
+    let number : a ≡ count_on s (take i n.taps) = omega (arith, ea) in
+    let same : i ≡ m = omega (arith, em) in
+    ap (told_at c back) number
+    ∙ ap (λ z. told_at (wire_at k.wires z).cable back (count_on z (take i n.taps))) (sym es)
+    ∙ st.told back i d (omega arith) l
+    ∙ ap (emitted_before n.emitted back) same)
 
 -- all taps from p on
 all_hear_there : (wires : List Wire) (told : ℕ → ℕ → Sym) (all xs : List PortLine) (p : ℕ) →
@@ -107,8 +107,8 @@ pub heard_alike : (n : Net) (k : KeptNet) → Stands n k → heard_kept k ≡ he
 heard_alike n k st =
     ap (map (heard_at_place k.wires)) st.places
     ∙ all_hear_there k.wires (emitted_before n.emitted) n.taps n.taps 0 (λ i m d l e.
-        let at : m ≡ i = omega arith in
-        subst (λ j. heard_at_place k.wires (place_of n.taps m (get_or n.taps j d)) ≡ heard_of (emitted_before n.emitted) m (get_or n.taps j d) 0 n.taps) at (hears_there n k st m d (omega arith)))
+    let at : m ≡ i = omega arith in
+    subst (λ j. heard_at_place k.wires (place_of n.taps m (get_or n.taps j d)) ≡ heard_of (emitted_before n.emitted) m (get_or n.taps j d) 0 n.taps) at (hears_there n k st m d (omega arith)))
 
 stations_alike : (n : Net) (k : KeptNet) → Stands n k → stations_hear_kept k ≡ stations_hear n
 stations_alike n k st = ap₂ (λ (ss : List Sender) (hs : List Sym). take (length ss) hs) st.senders (heard_alike n k st)

@@ -96,8 +96,8 @@ heard_is plan t p d away h =
     ap (λ ts. get_or (heard_by told ts 0 ts) p Idle) (taps_stay plan t)
     ∙ heard_by_at told all all 0 p p d h (omega arith)
     ∙ heard_of_alike told (λ back q. earlier (emitted plan q) t back) p (get_or all p d) d 0 all
-        (λ i m l e ne on same. let at : m ≡ i = omega arith in away p i d h l (λ pi. ne (at ∙ sym pi)) (sym on) same)
-        (λ back m l. emitted_before_is plan t back m l)
+    (λ i m l e ne on same. let at : m ≡ i = omega arith in away p i d h l (λ pi. ne (at ∙ sym pi)) (sym on) same)
+    (λ back m l. emitted_before_is plan t back m l)
 
 length-heard_by : (told : ℕ → ℕ → Sym) (all : List PortLine) (k : ℕ) (xs : List PortLine) → length (heard_by told all k xs) ≡ length xs
 length-heard_by told all k [] = refl

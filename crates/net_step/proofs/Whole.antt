@@ -48,7 +48,7 @@ placed_after row wires places h = λ i d l.
     let p = get_or places i d in
     let old = h i d l in
     let same : (wire_at (map (carried row) wires) p.segment).cable.positions ≡ (wire_at wires p.segment).cable.positions =
-        ap (λ (w : Wire). w.cable.positions) (wire_at-carried row wires p.segment old.0) ∙ positions-told_from (symbols_of row (wire_at wires p.segment).taps) (wire_at wires p.segment).cable 0 in
+    ap (λ (w : Wire). w.cable.positions) (wire_at-carried row wires p.segment old.0) ∙ positions-told_from (symbols_of row (wire_at wires p.segment).taps) (wire_at wires p.segment).cable 0 in
     (omega (arith, old.0, length-map wires (carried row)), omega (arith, old.1, ap length same))
 
 known_after : (row : List Sym) (wires : List Wire) (n : ℕ) → All (λ w. All (λ q. q < n) w.taps) wires → All (λ w. All (λ q. q < n) w.taps) (map (carried row) wires)
@@ -142,7 +142,7 @@ whole_new l k h e p r s v n run senders receivers captures repeaters wires place
     let many : length k.places ≡ length all = ap length places ∙ length-places 0 all all in
     let ports : ports_of k.repeaters ≡ length (flat_map (λ (x : RepeaterLine). x.ports) l.repeaters) = ap ports_of repeaters ∙ sym (ports_new l.repeaters) in
     let joined : length all ≡ length l.stations + length (flat_map (λ (x : RepeaterLine). x.ports) l.repeaters) =
-        length-append (map tap_of l.stations) (flat_map (λ (x : RepeaterLine). x.ports) l.repeaters) ∙ ap (λ m. m + length (flat_map (λ (x : RepeaterLine). x.ports) l.repeaters)) (length-map l.stations tap_of) in
+    length-append (map tap_of l.stations) (flat_map (λ (x : RepeaterLine). x.ports) l.repeaters) ∙ ap (λ m. m + length (flat_map (λ (x : RepeaterLine). x.ports) l.repeaters)) (length-map l.stations tap_of) in
     let relays : length k.repeaters ≡ length l.repeaters = ap length repeaters ∙ length-map l.repeaters new_repeater in
     let taken : length k.captures ≡ length l.stations = ap length captures ∙ length-map l.stations (λ (x : StationLine). []) in
     record {

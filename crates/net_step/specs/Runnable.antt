@@ -2,11 +2,12 @@
 use Rattle.std.specs.Prelude.{ℕ, ◌<◌, ◌≤◌, All, length}
 use Rattle.layout_file.specs.declared.layout.Layout.{Layout}
 
--- How many devices there are, that each tap is on a segment of the layout and near its end, and the ranges of delays, of
--- ports and of lost bits.
+-- How many devices there are and how long a run may be, that each tap is on a segment of the layout and near its end, and the
+-- ranges of delays, of ports and of lost bits. A sound layout has all this.
 pub record IsRunnable (l : Layout) : Type 0 where
   pub few_stations : length l.stations ≤ 1024
   pub few_repeaters : length l.repeaters ≤ 128
+  pub short : l.until_bits ≤ 1000000000
   pub stations_on : All (λ s. s.segment < length l.segments) l.stations
   pub stations_near : All (λ s. s.at ≤ 2000) l.stations
   pub lose : All (λ s. s.lose ≤ 48) l.stations

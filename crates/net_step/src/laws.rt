@@ -1,6 +1,8 @@
 //! Laws of the definitions.
 ghost use Rattle.std.specs.Prelude.{◌≡◌, ◌≤◌, ◌<◌, ◌+◌, ℕ, length, flat_map, slice_index, slice_index_or};
+ghost use Rattle.layout_file.specs.declared.layout.Layout.{Layout};
 ghost use Rattle.layout_file.specs.declared.layout.PortLine.{PortLine};
+ghost use Rattle.layout_file.specs.Sound.{IsSound};
 ghost use Rattle.load_plan.specs.declared.plan.Plan.{Plan};
 ghost use Rattle.net_step.specs.Net.{net, emitted_before};
 ghost use Rattle.net_step.specs.Runnable.{IsRunnable};
@@ -26,4 +28,10 @@ pub fn taps_hear_others()
 pub fn ports_emit_late()
     ensures { (plan : Plan) (t e : ℕ) → IsRunnable plan.layout → e < length (flat_map (λ r. r.ports) plan.layout.repeaters) →
         emitted plan (length plan.layout.stations + e) t ≡ earlier (decided plan e) t (slice_index (port_delays plan.layout) e) }
+{}
+
+/// A sound layout can be run, and different taps of one of its segments are at different places.
+pub fn sound_layouts_run()
+    ensures runnable { (l : Layout) → IsSound l → IsRunnable l }
+    ensures apart { (l : Layout) → IsSound l → AreApart (taps_of l) }
 {}

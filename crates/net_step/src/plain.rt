@@ -250,8 +250,7 @@ impl PlainNet {
 /// Runs a plan to its end.
 #[tactic(auto, unfolding(crate::specs::Outputs::rows, crate::specs::Outputs::captures))]
 pub fn run_plain(alloc: Global, plan: &Plan) -> Result<Outputs, OutOfMemory>
-    requires runnable { IsRunnable plan.now.layout }
-    requires bounded { plan.now.layout.until_bits ≤ 1000000000 }
+    requires { IsRunnable plan.now.layout }
     ensures rows { IfOk result (λ outputs. outputs.rows ≡ rows plan.now) }
     ensures captures { IfOk result (λ outputs. outputs.captures ≡ captures plan.now) }
 {

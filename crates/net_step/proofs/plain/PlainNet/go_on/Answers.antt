@@ -35,7 +35,7 @@ invariant_of-self c =
     let k : KeptNet = record { t = q.t; senders = q.senders.items; receivers = q.receivers.items; repeaters = q.relays.items; wires = q.segments.items; places = q.places.items; rows = q.rows; captures = q.captures.items } in
     let wires : (with_items q.segments c.carry_all.new.segments).items ≡ map (carried c.deref-7.result.now) q.segments.items = segments ∙ c.carry_all.ensures ∙ ap (map (carried c.deref-7.result.now)) c.deref_mut-11.ensures.value in
     let guards : map (λ (x : State). length x.guards) (with_items q.relays c.relay_all.new.relays).items ≡ map (λ (x : State). length x.guards) q.relays.items =
-        ap (map (λ (x : State). length x.guards)) relays ∙ c.relay_all.ensures.ports ∙ ap (map (λ (x : State). length x.guards)) c.deref_mut-7.ensures.value in
+    ap (map (λ (x : State). length x.guards)) relays ∙ c.relay_all.ensures.ports ∙ ap (map (λ (x : State). length x.guards)) c.deref_mut-7.ensures.value in
     let times : All (λ (s : Sender). s.t ≡ q.t + 1) (with_items q.senders c.send_all.new.senders).items = subst (All (λ (s : Sender). s.t ≡ q.t + 1)) (sym senders) c.send_all.ensures.times in
     let steps : All (λ (r : Kept). r.steps ≡ q.t + 1) (with_items q.receivers c.receive_all.new.receivers).items = subst (All (λ (r : Kept). r.steps ≡ q.t + 1)) (sym receivers) c.receive_all.ensures.steps in
     whole_next k _ c.deref-7.result.now _ _ _ _ _ _ _ _ _ _ _ _ _ _ c.self.invariant refl wires
@@ -61,7 +61,7 @@ invariant_of-self-in_err-log_repeaters c =
     let k : KeptNet = record { t = q.t; senders = q.senders.items; receivers = q.receivers.items; repeaters = q.relays.items; wires = q.segments.items; places = q.places.items; rows = q.rows; captures = q.captures.items } in
     let wires : (with_items q.segments c.carry_all.new.segments).items ≡ map (carried c.deref-7.result.now) q.segments.items = segments ∙ c.carry_all.ensures ∙ ap (map (carried c.deref-7.result.now)) c.deref_mut-11.ensures.value in
     let guards : map (λ (x : State). length x.guards) (with_items q.relays c.relay_all.new.relays).items ≡ map (λ (x : State). length x.guards) q.relays.items =
-        ap (map (λ (x : State). length x.guards)) relays ∙ c.relay_all.ensures.ports ∙ ap (map (λ (x : State). length x.guards)) c.deref_mut-7.ensures.value in
+    ap (map (λ (x : State). length x.guards)) relays ∙ c.relay_all.ensures.ports ∙ ap (map (λ (x : State). length x.guards)) c.deref_mut-7.ensures.value in
     let times : All (λ (s : Sender). s.t ≡ q.t + 1) (with_items q.senders c.send_all.new.senders).items = subst (All (λ (s : Sender). s.t ≡ q.t + 1)) (sym senders) c.send_all.ensures.times in
     let steps : All (λ (r : Kept). r.steps ≡ q.t + 1) (with_items q.receivers c.receive_all.new.receivers).items = subst (All (λ (r : Kept). r.steps ≡ q.t + 1)) (sym receivers) c.receive_all.ensures.steps in
     whole_next k _ c.deref-7.result.now _ _ _ _ _ _ _ _ _ _ _ _ _ _ c.self.invariant refl wires
@@ -88,7 +88,7 @@ invariant_of-self-2 c =
     let k : KeptNet = record { t = q.t; senders = q.senders.items; receivers = q.receivers.items; repeaters = q.relays.items; wires = q.segments.items; places = q.places.items; rows = q.rows; captures = q.captures.items } in
     let wires : (with_items q.segments c.carry_all.new.segments).items ≡ map (carried c.deref-7.result.now) q.segments.items = segments ∙ c.carry_all.ensures ∙ ap (map (carried c.deref-7.result.now)) c.deref_mut-11.ensures.value in
     let guards : map (λ (x : State). length x.guards) (with_items q.relays c.relay_all.new.relays).items ≡ map (λ (x : State). length x.guards) q.relays.items =
-        ap (map (λ (x : State). length x.guards)) relays ∙ c.relay_all.ensures.ports ∙ ap (map (λ (x : State). length x.guards)) c.deref_mut-7.ensures.value in
+    ap (map (λ (x : State). length x.guards)) relays ∙ c.relay_all.ensures.ports ∙ ap (map (λ (x : State). length x.guards)) c.deref_mut-7.ensures.value in
     let times : All (λ (s : Sender). s.t ≡ q.t + 1) (with_items q.senders c.send_all.new.senders).items = subst (All (λ (s : Sender). s.t ≡ q.t + 1)) (sym senders) c.send_all.ensures.times in
     let steps : All (λ (r : Kept). r.steps ≡ q.t + 1) (with_items q.receivers c.receive_all.new.receivers).items = subst (All (λ (r : Kept). r.steps ≡ q.t + 1)) (sym receivers) c.receive_all.ensures.steps in
     whole_next k _ c.deref-7.result.now _ _ _ _ _ _ _ _ _ _ _ _ _ _ c.self.invariant refl wires
@@ -130,7 +130,7 @@ returns c =
     } in
     let stations : c.len-stations.result ≡ length q.senders.items = search rules in
     let all : c.deref-3.result.now ≡ map (heard_at_place q.segments.items) q.places.items =
-        c.deref-3.ensures.value ∙ heard ∙ c.hear_all.ensures ∙ ap₂ (λ (ws : List Wire) (at : List Place). map (heard_at_place ws) at) c.deref.ensures.value c.deref-2.ensures.value in
+    c.deref-3.ensures.value ∙ heard ∙ c.hear_all.ensures ∙ ap₂ (λ (ws : List Wire) (at : List Place). map (heard_at_place ws) at) c.deref.ensures.value c.deref-2.ensures.value in
     let stations_hear : hs ≡ stations_hear_kept first = c.split_at.ensures.front ∙ ap₂ (λ n (xs : List Sym). take n xs) stations all in
     let ports_hear : ps ≡ ports_hear_kept first = c.split_at.ensures.back ∙ ap₂ (λ n (xs : List Sym). drop n xs) stations all in
     let outcomes : sendings hs c.deref_mut-2.result.now ≡ sendings hs q.senders.items = ap (sendings hs) c.deref_mut-2.ensures.value in

@@ -16,7 +16,7 @@ index-place-requires c =
     let is_tap : IsTap k c.args.device c.args.port = subst (λ x. IsTap x c.args.device c.args.port) (sym c.self.view_is) c.requires in
     let stations : c.len-stations.result ≡ length q.senders.items = search rules in
     let number : c.tap_number-tap.result ≡ tap_number (length q.senders.items) q.relays.items c.args.device c.args.port =
-        c.tap_number-tap.ensures ∙ ap₂ (λ m (rs : List State). tap_number m rs c.args.device c.args.port) stations c.deref.ensures.value in
+    c.tap_number-tap.ensures ∙ ap₂ (λ m (rs : List State). tap_number m rs c.args.device c.args.port) stations c.deref.ensures.value in
     let inside = tap_in_places k _ _ _ _ _ _ _ c.self.invariant c.args.device c.args.port c.tap_number-tap.result is_tap number in
     search rules
 
@@ -27,7 +27,7 @@ index-requires c =
     let is_tap : IsTap k c.args.device c.args.port = subst (λ x. IsTap x c.args.device c.args.port) (sym c.self.view_is) c.requires in
     let stations : c.len-stations.result ≡ length q.senders.items = search rules in
     let number : c.tap_number-tap.result ≡ tap_number (length q.senders.items) q.relays.items c.args.device c.args.port =
-        c.tap_number-tap.ensures ∙ ap₂ (λ m (rs : List State). tap_number m rs c.args.device c.args.port) stations c.deref.ensures.value in
+    c.tap_number-tap.ensures ∙ ap₂ (λ m (rs : List State). tap_number m rs c.args.device c.args.port) stations c.deref.ensures.value in
     let inside = place_in_wires k _ _ _ _ _ _ _ c.self.invariant c.args.device c.args.port c.tap_number-tap.result is_tap number c.index-place.result.now c.index-place.ensures in
     search rules
 
@@ -38,7 +38,7 @@ heard-requires c =
     let is_tap : IsTap k c.args.device c.args.port = subst (λ x. IsTap x c.args.device c.args.port) (sym c.self.view_is) c.requires in
     let stations : c.len-stations.result ≡ length q.senders.items = search rules in
     let number : c.tap_number-tap.result ≡ tap_number (length q.senders.items) q.relays.items c.args.device c.args.port =
-        c.tap_number-tap.ensures ∙ ap₂ (λ m (rs : List State). tap_number m rs c.args.device c.args.port) stations c.deref.ensures.value in
+    c.tap_number-tap.ensures ∙ ap₂ (λ m (rs : List State). tap_number m rs c.args.device c.args.port) stations c.deref.ensures.value in
     local_in_wire k _ _ _ _ _ _ _ c.self.invariant c.args.device c.args.port c.tap_number-tap.result is_tap number c.index-place.result.now c.index.result.now c.index-place.ensures c.index.ensures
 
 pub returns : goal.returns
@@ -49,9 +49,9 @@ returns c = λ n st.
     let stands : Stands n k = subst (Stands n) (sym c.self.view_is) st in
     let stations : c.len-stations.result ≡ length q.senders.items = search rules in
     let number : c.tap_number-tap.result ≡ tap_number (length q.senders.items) q.relays.items c.args.device c.args.port =
-        c.tap_number-tap.ensures ∙ ap₂ (λ m (rs : List State). tap_number m rs c.args.device c.args.port) stations c.deref.ensures.value in
+    c.tap_number-tap.ensures ∙ ap₂ (λ m (rs : List State). tap_number m rs c.args.device c.args.port) stations c.deref.ensures.value in
     let meant : tap_number (length q.senders.items) q.relays.items c.args.device c.args.port ≡ tap_number (length n.senders) n.repeaters c.args.device c.args.port =
-        ap₂ (λ (ss : List Sender) (rs : List State). tap_number (length ss) rs c.args.device c.args.port) stands.senders stands.repeaters in
+    ap₂ (λ (ss : List Sender) (rs : List State). tap_number (length ss) rs c.args.device c.args.port) stands.senders stands.repeaters in
     c.heard.ensures
     ∙ hears_at k _ _ _ _ _ _ _ c.self.invariant c.args.device c.args.port c.tap_number-tap.result is_tap number c.index-place.result.now c.index.result.now c.index-place.ensures c.index.ensures
     ∙ ap₂ (λ (hs : List Sym) m. get_or hs m Idle) (heard_alike n k stands) (number ∙ meant)
