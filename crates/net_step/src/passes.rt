@@ -37,7 +37,7 @@ pub fn hear_all(segments: &[Segment], places: &[Place], heard: &mut [Sym])
 }
 
 /// Half bit `t` of each sender: what its station emits, and its event.
-pub fn send_all(
+fn send_all(
     t: u64,
     senders: &mut [Transmitter],
     heard: &[Sym],
@@ -115,7 +115,7 @@ fn has_signal(symbol: Sym) -> bool
 }
 
 /// Half bit `t` of each receiver, which is told whether its own station emits something: its event.
-pub fn receive_all(
+fn receive_all(
     t: u64,
     receivers: &mut [Receiver],
     heard: &[Sym],
@@ -134,6 +134,36 @@ pub fn receive_all(
         let receiver = &mut receivers[k];
         received[k] = receiver.step(heard[k], has_signal(emitted[k]));
     }
+}
+
+/// Half bit `t` of each station: of its sender, then of its receiver, which is told whether the station emits
+/// something.
+pub fn step_stations(
+    t: u64,
+    senders: &mut [Transmitter],
+    receivers: &mut [Receiver],
+    heard: &[Sym],
+    emitted: &mut [Sym],
+    sent: &mut [Option<Body>],
+    received: &mut [Option<Body>],
+)
+    requires heard_len { length heard.now ≡ length senders.old }
+    requires receivers_len { length receivers.old ≡ length senders.old }
+    requires emitted_len { length emitted.old ≡ length senders.old }
+    requires sent_len { length sent.old ≡ length senders.old }
+    requires received_len { length received.old ≡ length senders.old }
+    requires times { All (λ s. s.t ≡ t) senders.old }
+    requires steps { All (λ r. r.steps ≡ t) receivers.old }
+    requires in_time { t < 2000000000 }
+    ensures times { All (λ s. s.t ≡ t + 1) senders.new }
+    ensures steps { All (λ r. r.steps ≡ t + 1) receivers.new }
+    ensures states { senders.new ≡ map (λ s. s.state) (sendings heard.now senders.old) }
+    ensures emitted { emitted.new ≡ map (λ s. s.emitted) (sendings heard.now senders.old) }
+    ensures events { sent.new ≡ map (λ s. s.event) (sendings heard.now senders.old) }
+    ensures given { (rs : List Receiving) → AllHear rs receivers.old → AllGive (receptions heard.now emitted.new rs) receivers.new received.new }
+{
+    send_all(t, senders, heard, emitted, sent);
+    receive_all(t, receivers, heard, emitted, received);
 }
 
 /// Puts a frame that was received at half bit `t` into a station's capture, without its FCS.

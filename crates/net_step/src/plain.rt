@@ -8,10 +8,10 @@ use crate::devices::{
     most_of, new_receivers, new_relays, new_segments, new_transmitters, no_captures,
 };
 use crate::outputs::{Captures, Outputs, TakenList};
-use crate::passes::{capture_all, carry_all, hear_all, join, receive_all, relay_all, send_all};
+use crate::passes::{capture_all, carry_all, hear_all, join, relay_all, step_stations};
 use crate::places::{Place, places_of, taps_of};
 use crate::relay::Relay;
-use crate::rows::{log_cut, log_repeaters, log_stations};
+use crate::rows::{log_all, log_cut};
 use crate::segment::Segment;
 use collision_log::{Body, Rows};
 use lists::OutOfMemory;
@@ -166,18 +166,13 @@ impl PlainNet {
         let stations = self.senders.len();
         hear_all(&self.segments, &self.places, &mut self.heard);
         let (heard, ports_heard) = self.heard.split_at(stations);
-        send_all(
+        step_stations(
             t,
             &mut self.senders,
+            &mut self.receivers,
             heard,
             &mut self.emitted,
             &mut self.sent,
-        );
-        receive_all(
-            t,
-            &mut self.receivers,
-            heard,
-            &self.emitted,
             &mut self.received,
         );
         relay_all(
@@ -189,10 +184,10 @@ impl PlainNet {
         join(&self.emitted, &self.port_emitted, &mut self.row);
         carry_all(&mut self.segments, &self.row);
         self.t = t + 1;
-        log_stations(t, &self.sent, &self.received, &mut self.rows)?;
-        log_repeaters(
+        log_all(
             t,
-            stations as u32,
+            &self.sent,
+            &self.received,
             &self.relays,
             &self.events,
             &mut self.rows,

@@ -21,7 +21,7 @@ fn push_row(rows: &mut Rows, t: u64, device: u32, event: Option<Body>) -> Result
 }
 
 /// Writes the stations' rows of half bit `t`.
-pub fn log_stations(
+fn log_stations(
     t: u64,
     sent: &[Option<Body>],
     received: &[Option<Body>],
@@ -126,7 +126,7 @@ fn log_repeater(
 }
 
 /// Writes the repeaters' rows of half bit `t`; the first of them is device number `first`.
-pub fn log_repeaters(
+fn log_repeaters(
     t: u64,
     first: u32,
     relays: &[Relay],
@@ -142,6 +142,24 @@ pub fn log_repeaters(
         log_repeater(rows, t, first + k as u32, ports, events[k])?;
     }
     Ok(())
+}
+
+/// Writes the rows of half bit `t`: those of the stations, then those of the repeaters.
+pub fn log_all(
+    t: u64,
+    sent: &[Option<Body>],
+    received: &[Option<Body>],
+    relays: &[Relay],
+    events: &[RepeaterEvents],
+    rows: &mut Rows,
+) -> Result<(), OutOfMemory>
+    requires stations_len { length sent.now ≡ length received.now }
+    requires repeaters_len { length events.now ≡ length relays.now }
+    requires few { length sent.now + length relays.now < 2 ^ 32 }
+    ensures { OnOk result (rows.new ≡ (rows.old ++ rows_of t 0 sent.now received.now) ++ repeater_rows t (length sent.now) (all_told relays.now events.now)) }
+{
+    log_stations(t, sent, received, rows)?;
+    log_repeaters(t, sent.len() as u32, relays, events, rows)
 }
 
 /// Writes the rows of the sendings that are under way at the end `t`.
