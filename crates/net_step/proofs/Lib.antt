@@ -1,5 +1,11 @@
 pub mod Elements
 pub mod Told
 pub mod Hearing
+pub mod Ports
+pub mod Masks
+pub mod OnSegment
 pub mod Standing
+pub mod Whole
+pub mod Lines
 pub mod Times
+pub mod Soundness

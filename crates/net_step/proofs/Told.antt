@@ -5,7 +5,7 @@ use Rattle.std.proofs.lemmas.Bool.{cases_eq}
 use Rattle.manchester_line.specs.declared.Sym.{Sym}
 use Rattle.manchester_line.specs.declared.Sym.TheVariants.{Idle}
 use Rattle.cable_segment.specs.Cable.{Told, told_at, told, advanced}
-use Rattle.net_step.specs.Kept.{told_from}
+use Rattle.net_step.specs.Wires.{told_from}
 
 -- an earlier half bit stays
 pub told_at-told_earlier : (c : Told) (tap : ℕ) (s : Sym) (b q : ℕ) → tap < length c.positions → told_at (told c c.ahead tap s) (b + 1) q ≡ told_at c (b + 1) q

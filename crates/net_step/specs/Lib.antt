@@ -1,4 +1,7 @@
+pub mod Taps
 pub mod Net
-pub mod Times
-pub mod Kept
 pub mod Outputs
+pub mod Runnable
+pub mod Times
+pub mod Wires
+pub mod Kept

@@ -1,4 +1,4 @@
--- What a run of a plan gives: its rows and captures, and the text of its log.
+-- What a run of a plan gives: its rows and captures.
 use Rattle.std.specs.Prelude.{ℕ, ◌+◌, ◌*◌, List, [], ◌∷◌, ◌++◌}
 use Rattle.collision_log.specs.declared.row.Row.{Row}
 use Rattle.load_plan.specs.declared.plan.Plan.{Plan}
@@ -10,7 +10,7 @@ use Rattle.net_step.specs.Net.{row_of, net}
 abbrev pub half_bits : Plan → ℕ
 half_bits plan = 2 * plan.layout.until_bits
 
--- The rows at the end t of a run, of the devices from k on whose sending is under way.
+-- The rows at the end t of a run, of the stations from k on whose sending is under way.
 abbrev pub cut_rows : ℕ → ℕ → List Sender → List Row
 cut_rows t k [] = []
 cut_rows t k (s ∷ ss) = row_of t k (cut_of s) ++ cut_rows t (k + 1) ss

@@ -1,11 +1,19 @@
 //! The network of a plan, stepped half bit by half bit on one thread.
 #![tactic(auto)]
 
+mod devices;
 mod laws;
 mod outputs;
 mod passes;
+mod places;
 mod plain;
+mod relay;
+mod rows;
+mod segment;
 
-pub use laws::history_is_time;
+pub use laws::{history_is_time, ports_emit_late, sound_layouts_run, taps_hear_others};
 pub use outputs::{Captures, Outputs, Taken, TakenList};
 pub use plain::{PlainNet, run_plain};
+
+#[cfg(test)]
+mod tests;

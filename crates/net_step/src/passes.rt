@@ -1,38 +1,43 @@
-//! One pass over the stations for each thing that a half bit does.
-ghost use Rattle.std.specs.Prelude.{◌≡◌, ◌<◌, ◌+◌, ◌^◌, ◌++◌, List, All, length, map, OnOk};
-ghost use Rattle.cable_segment.specs.Cable.{told_at};
-ghost use Rattle.net_step.specs.Net.{heard_by, sendings, receptions, row_of, rows_of, taken_by, captured};
-ghost use Rattle.net_step.specs.Kept.{told_from, AllHear, AllGive};
+//! One pass over the devices or the segments for each thing that a half bit does.
+ghost use Rattle.std.specs.Prelude.{◌≡◌, ◌<◌, ◌+◌, ◌++◌, List, All, length, map, flat_map, OnOk};
+ghost use Rattle.net_step.specs.Net.{sendings, receptions, each_repeater, bodies_of, taken_by, captured};
+ghost use Rattle.net_step.specs.Kept.{AllHear, AllGive, ports_of, all_told};
+ghost use Rattle.net_step.specs.Wires.{heard_at_place, carried, IsPlaced};
 ghost use Rattle.mac_transmit.specs.Sender.{hears};
 ghost use Rattle.mac_receive.specs.Receiver.{Receiving};
 ghost use Rattle.mac_receive.specs.Kept.{octets_of};
+ghost use Rattle.repeater_core.specs.Step.{after, emitted_by};
 
 use crate::outputs::{Taken, TakenList};
-use cable_segment::Cable;
-use collision_log::{Body, Row, Rows};
+use crate::places::Place;
+use crate::relay::Relay;
+use crate::segment::Segment;
+use collision_log::Body;
 use layout_file::Octets;
 use lists::OutOfMemory;
 use mac_receive::Receiver;
 use mac_transmit::Transmitter;
 use manchester_line::Sym;
+use repeater_core::RepeaterEvents;
 use std::alloc::Global;
 
 /// The octets of the FCS at the end of a frame.
 const FCS_OCTETS: usize = 4;
 
 /// What every tap hears in the present half bit.
-pub fn hear_all(cable: &Cable, heard: &mut [Sym])
-    requires len { length heard.old ≡ length cable.now.positions }
-    requires few { length cable.now.positions < 2 ^ 32 }
-    ensures { heard.new ≡ heard_by (told_at cable.now) cable.now.positions 0 cable.now.positions }
+pub fn hear_all(segments: &[Segment], places: &[Place], heard: &mut [Sym])
+    requires len { length heard.old ≡ length places.now }
+    requires placed { All (IsPlaced segments.now) places.now }
+    ensures { heard.new ≡ map (heard_at_place segments.now) places.now }
 {
-    for k in 0..heard.len() {
-        heard[k] = cable.heard(k as u32);
+    for k in 0..places.len() {
+        let place = places[k];
+        heard[k] = segments[place.segment as usize].heard(place.local);
     }
 }
 
 /// Half bit `t` of each sender: what its station emits, and its event.
-pub fn send_all(
+fn send_all(
     t: u64,
     senders: &mut [Transmitter],
     heard: &[Sym],
@@ -57,50 +62,50 @@ pub fn send_all(
     }
 }
 
-/// Tells the cable what each tap emits in the present half bit.
-pub fn tell_all(cable: &mut Cable, emitted: &[Sym])
-    requires len { length emitted.now ≡ length cable.old.positions }
-    requires few { length cable.old.positions < 2 ^ 32 }
-    ensures told { cable.new ≡ told_from cable.old 0 emitted.now }
-    ensures places { cable.new.positions ≡ cable.old.positions }
-    ensures ahead { cable.new.ahead ≡ cable.old.ahead }
+/// One half bit of each repeater, whose ports follow those of the one before: what the ports emit, and
+/// what happens at each repeater.
+pub fn relay_all(
+    relays: &mut [Relay],
+    heard: &[Sym],
+    emitted: &mut [Sym],
+    events: &mut [RepeaterEvents],
+)
+    requires heard_len { length heard.now ≡ ports_of relays.old }
+    requires emitted_len { length emitted.old ≡ length heard.now }
+    requires events_len { length events.old ≡ length relays.old }
+    ensures ports { map (λ r. length r.guards) relays.new ≡ map (λ r. length r.guards) relays.old }
+    ensures states { relays.new ≡ each_repeater after heard.now relays.old }
+    ensures emitted { emitted.new ≡ flat_map emitted_by relays.old }
+    ensures bodies { all_told relays.new events.new ≡ each_repeater bodies_of heard.now relays.old }
 {
-    for k in 0..emitted.len() {
-        cable.emit(k as u32, emitted[k]);
+    let mut from = 0;
+    for k in 0..relays.len() {
+        let relay = &mut relays[k];
+        let to = from + relay.ports();
+        events[k] = relay.step(&heard[from..to], &mut emitted[from..to]);
+        from = to;
     }
 }
 
-/// Writes the row of an event, if there is one.
-pub fn push_row(
-    rows: &mut Rows,
-    t: u64,
-    device: u32,
-    event: Option<Body>,
-) -> Result<(), OutOfMemory>
-    ensures { OnOk result (rows.new ≡ rows.old ++ row_of t device event) }
+/// The stations' symbols, then those of the ports.
+pub fn join(stations: &[Sym], ports: &[Sym], row: &mut [Sym])
+    requires { length row.old ≡ length stations.now + length ports.now }
+    ensures { row.new ≡ stations.now ++ ports.now }
 {
-    match event {
-        Some(body) => rows.push(Row { t, device, body }),
-        None => Ok(()),
-    }
+    let count = stations.len();
+    row[..count].copy_from_slice(stations);
+    row[count..].copy_from_slice(ports);
 }
 
-/// Writes the rows of half bit `t`.
-pub fn log_all(
-    t: u64,
-    sent: &[Option<Body>],
-    received: &[Option<Body>],
-    rows: &mut Rows,
-) -> Result<(), OutOfMemory>
-    requires len { length sent.now ≡ length received.now }
-    requires few { length sent.now < 2 ^ 32 }
-    ensures { OnOk result (rows.new ≡ rows.old ++ rows_of t 0 sent.now received.now) }
+/// Every segment carries what its taps emit.
+pub fn carry_all(segments: &mut [Segment], emitted: &[Sym])
+    requires { All (λ w. All (λ q. q < length emitted.now) w.taps) segments.old }
+    ensures { segments.new ≡ map (carried emitted.now) segments.old }
 {
-    for k in 0..sent.len() {
-        push_row(rows, t, k as u32, sent[k])?;
-        push_row(rows, t, k as u32, received[k])?;
+    for s in 0..segments.len() {
+        let segment = &mut segments[s];
+        segment.carry(emitted);
     }
-    Ok(())
 }
 
 fn has_signal(symbol: Sym) -> bool
@@ -110,7 +115,7 @@ fn has_signal(symbol: Sym) -> bool
 }
 
 /// Half bit `t` of each receiver, which is told whether its own station emits something: its event.
-pub fn receive_all(
+fn receive_all(
     t: u64,
     receivers: &mut [Receiver],
     heard: &[Sym],
@@ -129,6 +134,36 @@ pub fn receive_all(
         let receiver = &mut receivers[k];
         received[k] = receiver.step(heard[k], has_signal(emitted[k]));
     }
+}
+
+/// Half bit `t` of each station: of its sender, then of its receiver, which is told whether the station emits
+/// something.
+pub fn step_stations(
+    t: u64,
+    senders: &mut [Transmitter],
+    receivers: &mut [Receiver],
+    heard: &[Sym],
+    emitted: &mut [Sym],
+    sent: &mut [Option<Body>],
+    received: &mut [Option<Body>],
+)
+    requires heard_len { length heard.now ≡ length senders.old }
+    requires receivers_len { length receivers.old ≡ length senders.old }
+    requires emitted_len { length emitted.old ≡ length senders.old }
+    requires sent_len { length sent.old ≡ length senders.old }
+    requires received_len { length received.old ≡ length senders.old }
+    requires times { All (λ s. s.t ≡ t) senders.old }
+    requires steps { All (λ r. r.steps ≡ t) receivers.old }
+    requires in_time { t < 2000000000 }
+    ensures times { All (λ s. s.t ≡ t + 1) senders.new }
+    ensures steps { All (λ r. r.steps ≡ t + 1) receivers.new }
+    ensures states { senders.new ≡ map (λ s. s.state) (sendings heard.now senders.old) }
+    ensures emitted { emitted.new ≡ map (λ s. s.emitted) (sendings heard.now senders.old) }
+    ensures events { sent.new ≡ map (λ s. s.event) (sendings heard.now senders.old) }
+    ensures given { (rs : List Receiving) → AllHear rs receivers.old → AllGive (receptions heard.now emitted.new rs) receivers.new received.new }
+{
+    send_all(t, senders, heard, emitted, sent);
+    receive_all(t, receivers, heard, emitted, received);
 }
 
 /// Puts a frame that was received at half bit `t` into a station's capture, without its FCS.

@@ -1,42 +1,55 @@
 //! The network on one thread.
-ghost use Rattle.std.specs.Prelude.{◌≡◌, ◌<◌, ◌≤◌, ◌+◌, ◌*◌, ◌^◌, ◌++◌, [], All, List, length, map, IfOk, OnOk};
-ghost use Rattle.frame_layout.specs.Frame.{IsMost};
-ghost use Rattle.net_step.specs.Net.{new_receiver, new_senders, most_octets};
+ghost use Rattle.std.specs.Prelude.{◌≡◌, ◌<◌, ◌≤◌, ◌+◌, ◌*◌, ◌^◌, ◌++◌, [], All, List, length, map, take, IfOk, OnOk};
 ghost use Rattle.net_step.specs.Outputs.{cut_rows, half_bits, rows, captures};
-ghost use Rattle.net_step.specs.Kept.{AllHear};
+ghost use Rattle.net_step.specs.Runnable.{IsRunnable};
+ghost use Rattle.net_step.specs.Kept.{ports_of, tap_number};
 
+use crate::devices::{
+    most_of, new_receivers, new_relays, new_segments, new_transmitters, no_captures,
+};
 use crate::outputs::{Captures, Outputs, TakenList};
-use crate::passes::{capture_all, hear_all, log_all, push_row, receive_all, send_all, tell_all};
-use backoff_draw::Draws;
-use cable_segment::Cable;
+use crate::passes::{capture_all, carry_all, hear_all, join, relay_all, step_stations};
+use crate::places::{Place, places_of, taps_of};
+use crate::relay::Relay;
+use crate::rows::{log_all, log_cut};
+use crate::segment::Segment;
 use collision_log::{Body, Rows};
-use frame_layout::Queue;
-use layout_file::StationLine;
 use lists::OutOfMemory;
 use load_plan::Plan;
 use mac_receive::Receiver;
 use mac_transmit::Transmitter;
 use manchester_line::Sym;
+use repeater_core::RepeaterEvents;
 use std::alloc::Global;
 use std::marker::Model;
 
-/// The most octets of a frame without its FCS, in a layout of format 1 and of format 2.
-const MOST_OCTETS: u32 = 1514;
+/// A repeater at which nothing happens.
+const NOTHING: RepeaterEvents = RepeaterEvents {
+    clash: false,
+    closed: 0,
+    opened: 0,
+    halted: 0,
+};
 
-const MOST_OCTETS_TAGGED: u32 = 1518;
-
-/// A network of one segment with its stations, stepped half bit by half bit.
+/// A network, stepped half bit by half bit: its stations' senders and receivers, its repeaters and its segments.
+/// `heard` and `row` have a symbol for each tap, the stations' taps first; `emitted` has one for each station, and
+/// `port_emitted` one for each port.
 #[derive(Drop)]
 pub struct PlainNet {
     alloc: Global,
     t: u64,
     senders: Vec<Transmitter>,
     receivers: Vec<Receiver>,
-    cable: Cable,
+    relays: Vec<Relay>,
+    segments: Vec<Segment>,
+    places: Vec<Place>,
     heard: Vec<Sym>,
     emitted: Vec<Sym>,
+    port_emitted: Vec<Sym>,
+    row: Vec<Sym>,
     sent: Vec<Option<Body>>,
     received: Vec<Option<Body>>,
+    events: Vec<RepeaterEvents>,
     rows: Rows,
     captures: Vec<TakenList>,
 }
@@ -47,93 +60,10 @@ impl Model for PlainNet {
 
     ghost Value = { KeptNet };
 
-    ghost view = { λ p. record { t = p.t; senders = p.senders.items; receivers = p.receivers.items; cable = p.cable; rows = p.rows; captures = p.captures.items } };
+    ghost view = { λ p. record { t = p.t; senders = p.senders.items; receivers = p.receivers.items; repeaters = p.relays.items; wires = p.segments.items; places = p.places.items; rows = p.rows; captures = p.captures.items } };
 
-    ghost invariant = { λ p. IsWhole (record { t = p.t; senders = p.senders.items; receivers = p.receivers.items; cable = p.cable; rows = p.rows; captures = p.captures.items })
-        (length p.heard.items) (length p.emitted.items) (length p.sent.items) (length p.received.items) };
-}
-
-/// The new senders of these queues.
-fn new_transmitters(
-    alloc: Global,
-    seed: u64,
-    queues: &[Queue],
-) -> Result<Vec<Transmitter>, OutOfMemory>
-    requires { length queues.now < 2 ^ 32 }
-    ensures senders { IfOk result (λ senders. senders.items ≡ new_senders seed 0 queues.now) }
-    ensures times { IfOk result (λ senders. All (λ s. s.t ≡ 0) senders.items) }
-    ensures count { IfOk result (λ senders. length senders.items ≡ length queues.now) }
-{
-    let mut senders = Vec::new(alloc);
-    for k in 0..queues.len() {
-        senders.push(Transmitter::new(queues[k].copy()?, Draws::new(seed, k as u32)))?;
-    }
-    Ok(senders)
-}
-
-/// The new receivers of these stations.
-fn new_receivers(
-    alloc: Global,
-    most: u32,
-    stations: &[StationLine],
-) -> Result<Vec<Receiver>, OutOfMemory>
-    requires lose { All (λ s. s.lose ≤ 48) stations.now }
-    requires most { IsMost most }
-    ensures receivers { IfOk result (λ receivers. AllHear (map (new_receiver most) stations.now) receivers.items) }
-    ensures steps { IfOk result (λ receivers. All (λ r. r.steps ≡ 0) receivers.items) }
-    ensures count { IfOk result (λ receivers. length receivers.items ≡ length stations.now) }
-{
-    let mut receivers = Vec::new(alloc);
-    for station in stations {
-        receivers.push(Receiver::new_for(station.lose, most))?;
-    }
-    Ok(receivers)
-}
-
-/// No captures yet of these stations.
-fn no_captures(alloc: Global, stations: &[StationLine]) -> Result<Vec<TakenList>, OutOfMemory>
-    ensures { IfOk result (λ captures. captures.items ≡ map (λ s. []) stations.now) }
-{
-    let mut captures = Vec::new(alloc);
-    for _station in stations {
-        captures.push(TakenList::new(alloc))?;
-    }
-    Ok(captures)
-}
-
-/// The places of the stations' taps.
-fn positions_of(alloc: Global, stations: &[StationLine]) -> Result<Vec<u32>, OutOfMemory>
-    requires { All (λ s. s.at ≤ 2000) stations.now }
-    ensures places { IfOk result (λ positions. positions.items ≡ map (λ s. s.at) stations.now) }
-    ensures near { IfOk result (λ positions. All (λ p. p ≤ 2000) positions.items) }
-{
-    let mut positions = Vec::new(alloc);
-    for station in stations {
-        positions.push(station.at)?;
-    }
-    Ok(positions)
-}
-
-fn most_of(format: u32) -> u32
-    ensures value { result ≡ most_octets format }
-    ensures most { IsMost result }
-{
-    if format == 2 {
-        MOST_OCTETS_TAGGED
-    } else {
-        MOST_OCTETS
-    }
-}
-
-/// Writes the rows of the sendings that are under way at the end `t`.
-fn log_cut(t: u64, senders: &[Transmitter], rows: &mut Rows) -> Result<(), OutOfMemory>
-    requires { length senders.now < 2 ^ 32 }
-    ensures { OnOk result (rows.new ≡ rows.old ++ cut_rows t 0 senders.now) }
-{
-    for k in 0..senders.len() {
-        push_row(rows, t, k as u32, senders[k].cut())?;
-    }
-    Ok(())
+    ghost invariant = { λ p. IsWhole (record { t = p.t; senders = p.senders.items; receivers = p.receivers.items; repeaters = p.relays.items; wires = p.segments.items; places = p.places.items; rows = p.rows; captures = p.captures.items })
+        (length p.heard.items) (length p.emitted.items) (length p.port_emitted.items) (length p.row.items) (length p.sent.items) (length p.received.items) (length p.events.items) };
 }
 
 /// The same captures as a list.
@@ -147,38 +77,84 @@ fn listed(alloc: Global, captures: Vec<TakenList>) -> Result<Captures, OutOfMemo
     Ok(list)
 }
 
+/// The ports of the first `count` of these repeaters.
+fn ports_before(relays: &[Relay], count: usize) -> usize
+    requires within { count ≤ length relays.now }
+    requires few { length relays.now < 2 ^ 32 }
+    ensures ports { result ≡ ports_of (take count relays.now) }
+    ensures few { result ≤ 32 * count }
+{
+    let mut ports = 0;
+    for k in 0..count {
+        ports += relays[k].ports();
+    }
+    ports
+}
+
+/// The number of a tap among all taps, of which the stations' come first.
+fn tap_number(stations: usize, relays: &[Relay], device: usize, port: usize) -> usize
+    requires within { device < stations + length relays.now }
+    requires few { stations + length relays.now < 2 ^ 32 }
+    requires port { port < 2 ^ 32 }
+    ensures { result ≡ tap_number stations relays.now device port }
+{
+    if device < stations {
+        return device;
+    }
+    stations + ports_before(relays, device - stations) + port
+}
+
 impl PlainNet {
-    ghost use Rattle.std.specs.Prelude.{◌≡◌, ◌<◌, ◌≤◌, ◌+◌, ◌^◌, ◌++◌, length, All, OnOk, IfOk};
+    ghost use Rattle.std.specs.Prelude.{◌≡◌, ◌<◌, ◌≤◌, ◌+◌, ◌-◌, ◌^◌, ◌++◌, length, All, OnOk, IfOk, slice_index_or};
     ghost use Rattle.load_plan.specs.declared.plan.Plan.{Plan};
-    ghost use Rattle.net_step.specs.Net.{Net, net, next};
+    ghost use Rattle.manchester_line.specs.declared.Sym.TheVariants.{Idle};
+    ghost use Rattle.net_step.specs.Runnable.{IsRunnable};
+    ghost use Rattle.net_step.specs.Net.{Net, net, next, heard_in};
     ghost use Rattle.net_step.specs.Outputs.{cut_rows};
-    ghost use Rattle.net_step.specs.Kept.{GoesOn, Stands};
+    ghost use Rattle.net_step.specs.Kept.{GoesOn, Stands, IsTap, tap_number};
 
     /// The network of a plan before half bit 0.
     pub fn new(alloc: Global, plan: &Plan) -> Result<PlainNet, OutOfMemory>
-        requires some { 0 < length plan.now.layout.stations }
-        requires few { length plan.now.layout.stations ≤ 1024 }
-        requires near { All (λ s. s.at ≤ 2000) plan.now.layout.stations }
-        requires lose { All (λ s. s.lose ≤ 48) plan.now.layout.stations }
+        requires { IsRunnable plan.now.layout }
         ensures stands { IfOk result (λ made. Stands (net plan.now 0) made) }
         ensures time { IfOk result (λ made. made.t ≡ 0) }
     {
-        let stations = plan.layout.stations.as_slice();
+        let layout = &plan.layout;
+        let stations = layout.stations.as_slice();
+        let taps = taps_of(alloc, layout)?;
+        let all = taps.len();
         let count = stations.len();
-        let positions = positions_of(alloc, stations)?;
+        let repeaters = layout.repeaters.len();
         Ok(PlainNet {
             alloc,
             t: 0,
-            senders: new_transmitters(alloc, plan.layout.seed, plan.queues.as_slice())?,
-            receivers: new_receivers(alloc, most_of(plan.layout.format), stations)?,
-            cable: Cable::new(alloc, &positions, 0)?,
-            heard: vec![in alloc; Sym::Idle; count]?,
+            senders: new_transmitters(alloc, layout.seed, plan.queues.as_slice())?,
+            receivers: new_receivers(alloc, most_of(layout.format), stations)?,
+            relays: new_relays(alloc, layout.repeaters.as_slice())?,
+            segments: new_segments(alloc, layout.segments.len(), &taps)?,
+            places: places_of(alloc, &taps)?,
+            heard: vec![in alloc; Sym::Idle; all]?,
             emitted: vec![in alloc; Sym::Idle; count]?,
+            port_emitted: vec![in alloc; Sym::Idle; all - count]?,
+            row: vec![in alloc; Sym::Idle; all]?,
             sent: vec![in alloc; None; count]?,
             received: vec![in alloc; None; count]?,
+            events: vec![in alloc; NOTHING; repeaters]?,
             rows: Rows::new(alloc),
             captures: no_captures(alloc, stations)?,
         })
+    }
+
+    /// What a tap hears in the half bit that the next step makes. A station is a device with port 0; the repeaters'
+    /// devices follow the stations, and their ports count from 0.
+    pub fn heard(&self, device: u32, port: u32) -> Sym
+        requires { IsTap self.now device port }
+        ensures { (n : Net) → Stands n self.now → result ≡ slice_index_or (heard_in n) (tap_number (length n.senders) n.repeaters device port) Idle }
+    {
+        let stations = self.senders.len();
+        let tap = tap_number(stations, &self.relays, device as usize, port as usize);
+        let place = self.places[tap];
+        self.segments[place.segment as usize].heard(place.local)
     }
 
     /// The next half bit. After an `Err` the net is only dropped.
@@ -187,25 +163,35 @@ impl PlainNet {
         ensures { OnOk result (GoesOn self.old self.new) }
     {
         let t = self.t;
-        hear_all(&self.cable, &mut self.heard);
-        send_all(
+        let stations = self.senders.len();
+        hear_all(&self.segments, &self.places, &mut self.heard);
+        let (heard, ports_heard) = self.heard.split_at(stations);
+        step_stations(
             t,
             &mut self.senders,
-            &self.heard,
+            &mut self.receivers,
+            heard,
             &mut self.emitted,
             &mut self.sent,
-        );
-        receive_all(
-            t,
-            &mut self.receivers,
-            &self.heard,
-            &self.emitted,
             &mut self.received,
         );
-        tell_all(&mut self.cable, &self.emitted);
-        self.cable.advance();
+        relay_all(
+            &mut self.relays,
+            ports_heard,
+            &mut self.port_emitted,
+            &mut self.events,
+        );
+        join(&self.emitted, &self.port_emitted, &mut self.row);
+        carry_all(&mut self.segments, &self.row);
         self.t = t + 1;
-        log_all(t, &self.sent, &self.received, &mut self.rows)?;
+        log_all(
+            t,
+            &self.sent,
+            &self.received,
+            &self.relays,
+            &self.events,
+            &mut self.rows,
+        )?;
         capture_all(
             self.alloc,
             t,
@@ -235,11 +221,16 @@ impl PlainNet {
             t,
             senders,
             receivers: _,
-            cable: _,
+            relays: _,
+            segments: _,
+            places: _,
             heard: _,
             emitted: _,
+            port_emitted: _,
+            row: _,
             sent: _,
             received: _,
+            events: _,
             mut rows,
             captures,
         } = self;
@@ -251,14 +242,10 @@ impl PlainNet {
     }
 }
 
-/// Runs a plan, whose layout has one segment and no repeater, to its end.
+/// Runs a plan to its end.
 #[tactic(auto, unfolding(crate::specs::Outputs::rows, crate::specs::Outputs::captures))]
 pub fn run_plain(alloc: Global, plan: &Plan) -> Result<Outputs, OutOfMemory>
-    requires some { 0 < length plan.now.layout.stations }
-    requires few { length plan.now.layout.stations ≤ 1024 }
-    requires near { All (λ s. s.at ≤ 2000) plan.now.layout.stations }
-    requires lose { All (λ s. s.lose ≤ 48) plan.now.layout.stations }
-    requires bounded { plan.now.layout.until_bits ≤ 1000000000 }
+    requires { IsRunnable plan.now.layout }
     ensures rows { IfOk result (λ outputs. outputs.rows ≡ rows plan.now) }
     ensures captures { IfOk result (λ outputs. outputs.captures ≡ captures plan.now) }
 {

@@ -1,51 +1,132 @@
-use Rattle.std.proofs.Common.{◌≡◌, ◌+◌, ◌++◌, List, map, refl, sym, subst, ap, ap₂, ◌∙◌, rules}
+use Rattle.std.proofs.Common.{◌≡◌, ◌+◌, ◌++◌, All, List, length, map, take, drop, refl, sym, subst, ap, ap₂, ◌∙◌, arith, rules}
+use Rattle.std.specs.List.{flat_map}
 use Rattle.std.specs.Prelude.{Option}
 use Rattle.std.specs.Vec.{with_items}
 use Rattle.std.proofs.lemmas.List.{with_items_is}
+use Rattle.manchester_line.specs.declared.Sym.{Sym}
 use Rattle.collision_log.specs.declared.row.Body.{Body}
-use Rattle.cable_segment.specs.Cable.{advanced}
-use Rattle.mac_transmit.specs.Sender.{SendOutcome}
+use Rattle.collision_log.specs.declared.row.Row.{Row}
+use Rattle.mac_transmit.specs.Sender.{Sender, SendOutcome}
 use Rattle.mac_receive.specs.Kept.{Kept, octets_of}
-use Rattle.net_step.specs.Net.{sendings, rows_of, captured}
-use Rattle.net_step.specs.Kept.{KeptNet, told_from, GoesOn}
+use Rattle.repeater_core.specs.Step.{State, after, emitted_by}
+use Rattle.net_step.specs.declared.places.Place.{Place}
+use Rattle.net_step.specs.Net.{sendings, each_repeater, bodies_of, rows_of, repeater_rows, captured}
+use Rattle.net_step.specs.Wires.{Wire, heard_at_place, carried}
+use Rattle.net_step.specs.Kept.{KeptNet, stations_hear_kept, ports_hear_kept, all_told, GoesOn}
 use Rattle.net_step.proofs.Hearing.{given-alike}
 use Rattle.net_step.proofs.Standing.{goes_on}
+use Rattle.net_step.proofs.Whole.{whole_next}
 use Rattle.net_step.proofs.plain.PlainNet.go_on.Goals as goal
+
+pub invariant_of-self : goal.invariant_of-self
+invariant_of-self c =
+    let q = c.self.inside in
+    let heard = with_items_is q.heard c.hear_all.new.heard (search rules) in
+    let senders = with_items_is q.senders c.step_stations.new.senders (search rules) in
+    let emitted = with_items_is q.emitted c.step_stations.new.emitted (search rules) in
+    let sent = with_items_is q.sent c.step_stations.new.sent (search rules) in
+    let receivers = with_items_is q.receivers c.step_stations.new.receivers (search rules) in
+    let received = with_items_is q.received c.step_stations.new.received (search rules) in
+    let relays = with_items_is q.relays c.relay_all.new.relays (search rules) in
+    let port_emitted = with_items_is q.port_emitted c.relay_all.new.emitted (search rules) in
+    let events = with_items_is q.events c.relay_all.new.events (search rules) in
+    let row = with_items_is q.row c.join.new.row (search rules) in
+    let segments = with_items_is q.segments c.carry_all.new.segments (search rules) in
+    let k : KeptNet = record { t = q.t; senders = q.senders.items; receivers = q.receivers.items; repeaters = q.relays.items; wires = q.segments.items; places = q.places.items; rows = q.rows; captures = q.captures.items } in
+    let wires : (with_items q.segments c.carry_all.new.segments).items ≡ map (carried c.deref-6.result.now) q.segments.items = segments ∙ c.carry_all.ensures ∙ ap (map (carried c.deref-6.result.now)) c.deref_mut-11.ensures.value in
+    let guards : map (λ (x : State). length x.guards) (with_items q.relays c.relay_all.new.relays).items ≡ map (λ (x : State). length x.guards) q.relays.items =
+    ap (map (λ (x : State). length x.guards)) relays ∙ c.relay_all.ensures.ports ∙ ap (map (λ (x : State). length x.guards)) c.deref_mut-7.ensures.value in
+    let times : All (λ (s : Sender). s.t ≡ q.t + 1) (with_items q.senders c.step_stations.new.senders).items = subst (All (λ (s : Sender). s.t ≡ q.t + 1)) (sym senders) c.step_stations.ensures.times in
+    let steps : All (λ (r : Kept). r.steps ≡ q.t + 1) (with_items q.receivers c.step_stations.new.receivers).items = subst (All (λ (r : Kept). r.steps ≡ q.t + 1)) (sym receivers) c.step_stations.ensures.steps in
+    whole_next k _ c.deref-6.result.now _ _ _ _ _ _ _ _ _ _ _ _ _ _ c.self.invariant refl wires
+    (ap length senders ∙ c.step_stations.auto.senders ∙ ap length c.deref_mut-2.ensures.value) (ap length receivers ∙ c.step_stations.auto.receivers ∙ ap length c.deref_mut-3.ensures.value) refl guards
+    (ap length heard ∙ c.hear_all.auto.heard ∙ ap length c.deref_mut.ensures.value) (ap length emitted ∙ c.step_stations.auto.emitted ∙ ap length c.deref_mut-4.ensures.value) (ap length port_emitted ∙ c.relay_all.auto.emitted ∙ ap length c.deref_mut-8.ensures.value)
+    (ap length row ∙ c.join.auto.row ∙ ap length c.deref_mut-10.ensures.value) (ap length sent ∙ c.step_stations.auto.sent ∙ ap length c.deref_mut-5.ensures.value) (ap length received ∙ c.step_stations.auto.received ∙ ap length c.deref_mut-6.ensures.value)
+    (ap length events ∙ c.relay_all.auto.events ∙ ap length c.deref_mut-9.ensures.value) times steps
+
+pub invariant_of-self-2 : goal.invariant_of-self-2
+invariant_of-self-2 c =
+    let q = c.self.inside in
+    let heard = with_items_is q.heard c.hear_all.new.heard (search rules) in
+    let senders = with_items_is q.senders c.step_stations.new.senders (search rules) in
+    let emitted = with_items_is q.emitted c.step_stations.new.emitted (search rules) in
+    let sent = with_items_is q.sent c.step_stations.new.sent (search rules) in
+    let receivers = with_items_is q.receivers c.step_stations.new.receivers (search rules) in
+    let received = with_items_is q.received c.step_stations.new.received (search rules) in
+    let relays = with_items_is q.relays c.relay_all.new.relays (search rules) in
+    let port_emitted = with_items_is q.port_emitted c.relay_all.new.emitted (search rules) in
+    let events = with_items_is q.events c.relay_all.new.events (search rules) in
+    let row = with_items_is q.row c.join.new.row (search rules) in
+    let segments = with_items_is q.segments c.carry_all.new.segments (search rules) in
+    let captures = with_items_is q.captures c.capture_all.new.captures (search rules) in
+    let k : KeptNet = record { t = q.t; senders = q.senders.items; receivers = q.receivers.items; repeaters = q.relays.items; wires = q.segments.items; places = q.places.items; rows = q.rows; captures = q.captures.items } in
+    let wires : (with_items q.segments c.carry_all.new.segments).items ≡ map (carried c.deref-6.result.now) q.segments.items = segments ∙ c.carry_all.ensures ∙ ap (map (carried c.deref-6.result.now)) c.deref_mut-11.ensures.value in
+    let guards : map (λ (x : State). length x.guards) (with_items q.relays c.relay_all.new.relays).items ≡ map (λ (x : State). length x.guards) q.relays.items =
+    ap (map (λ (x : State). length x.guards)) relays ∙ c.relay_all.ensures.ports ∙ ap (map (λ (x : State). length x.guards)) c.deref_mut-7.ensures.value in
+    let times : All (λ (s : Sender). s.t ≡ q.t + 1) (with_items q.senders c.step_stations.new.senders).items = subst (All (λ (s : Sender). s.t ≡ q.t + 1)) (sym senders) c.step_stations.ensures.times in
+    let steps : All (λ (r : Kept). r.steps ≡ q.t + 1) (with_items q.receivers c.step_stations.new.receivers).items = subst (All (λ (r : Kept). r.steps ≡ q.t + 1)) (sym receivers) c.step_stations.ensures.steps in
+    whole_next k _ c.deref-6.result.now _ _ _ _ _ _ _ _ _ _ _ _ _ _ c.self.invariant refl wires
+    (ap length senders ∙ c.step_stations.auto.senders ∙ ap length c.deref_mut-2.ensures.value) (ap length receivers ∙ c.step_stations.auto.receivers ∙ ap length c.deref_mut-3.ensures.value) (ap length captures ∙ c.capture_all.auto.captures ∙ ap length c.deref_mut-12.ensures.value) guards
+    (ap length heard ∙ c.hear_all.auto.heard ∙ ap length c.deref_mut.ensures.value) (ap length emitted ∙ c.step_stations.auto.emitted ∙ ap length c.deref_mut-4.ensures.value) (ap length port_emitted ∙ c.relay_all.auto.emitted ∙ ap length c.deref_mut-8.ensures.value)
+    (ap length row ∙ c.join.auto.row ∙ ap length c.deref_mut-10.ensures.value) (ap length sent ∙ c.step_stations.auto.sent ∙ ap length c.deref_mut-5.ensures.value) (ap length received ∙ c.step_stations.auto.received ∙ ap length c.deref_mut-6.ensures.value)
+    (ap length events ∙ c.relay_all.auto.events ∙ ap length c.deref_mut-9.ensures.value) times steps
 
 pub returns : goal.returns
 returns c =
     let q = c.self.inside in
-    let hs = c.hear_all.new.heard in
-    let es = c.send_all.new.emitted in
-    let os = c.receive_all.new.received in
-    let heard = with_items_is q.heard hs (search rules) in
-    let senders = with_items_is q.senders c.send_all.new.senders (search rules) in
+    let hs = c.split_at.result.0.now in
+    let ps = c.split_at.result.1.now in
+    let es = c.step_stations.new.emitted in
+    let pes = c.relay_all.new.emitted in
+    let os = c.step_stations.new.received in
+    let heard = with_items_is q.heard c.hear_all.new.heard (search rules) in
+    let senders = with_items_is q.senders c.step_stations.new.senders (search rules) in
     let emitted = with_items_is q.emitted es (search rules) in
-    let sent = with_items_is q.sent c.send_all.new.sent (search rules) in
-    let receivers = with_items_is q.receivers c.receive_all.new.receivers (search rules) in
+    let sent = with_items_is q.sent c.step_stations.new.sent (search rules) in
+    let receivers = with_items_is q.receivers c.step_stations.new.receivers (search rules) in
     let received = with_items_is q.received os (search rules) in
+    let relays = with_items_is q.relays c.relay_all.new.relays (search rules) in
+    let port_emitted = with_items_is q.port_emitted pes (search rules) in
+    let events = with_items_is q.events c.relay_all.new.events (search rules) in
+    let row = with_items_is q.row c.join.new.row (search rules) in
+    let segments = with_items_is q.segments c.carry_all.new.segments (search rules) in
     let captures = with_items_is q.captures c.capture_all.new.captures (search rules) in
-    let first : KeptNet = record { t = q.t; senders = q.senders.items; receivers = q.receivers.items; cable = q.cable; rows = q.rows; captures = q.captures.items } in
+    let first : KeptNet = record { t = q.t; senders = q.senders.items; receivers = q.receivers.items; repeaters = q.relays.items; wires = q.segments.items; places = q.places.items; rows = q.rows; captures = q.captures.items } in
     let last : KeptNet = record {
       t = q.t + 1;
-      senders = (with_items q.senders c.send_all.new.senders).items;
-      receivers = (with_items q.receivers c.receive_all.new.receivers).items;
-      cable = c.advance.new.self;
+      senders = (with_items q.senders c.step_stations.new.senders).items;
+      receivers = (with_items q.receivers c.step_stations.new.receivers).items;
+      repeaters = (with_items q.relays c.relay_all.new.relays).items;
+      wires = (with_items q.segments c.carry_all.new.segments).items;
+      places = q.places.items;
       rows = c.log_all.new.rows;
       captures = (with_items q.captures c.capture_all.new.captures).items;
     } in
-    let outcomes : sendings c.deref.result.now c.deref_mut-2.result.now ≡ sendings hs q.senders.items = ap₂ sendings (c.deref.ensures.value ∙ heard) c.deref_mut-2.ensures.value in
-    let goes : (c.capture_all.new.captures ≡ captured q.t c.deref-7.result.now (map octets_of c.deref-8.result.now) c.deref_mut-7.result.now) → GoesOn first last = λ kept.
-    goes_on first last hs es c.send_all.new.sent os
-    c.hear_all.ensures
+    let stations : c.len-stations.result ≡ length q.senders.items = search rules in
+    let all : c.deref-3.result.now ≡ map (heard_at_place q.segments.items) q.places.items =
+    c.deref-3.ensures.value ∙ heard ∙ c.hear_all.ensures ∙ ap₂ (λ (ws : List Wire) (at : List Place). map (heard_at_place ws) at) c.deref.ensures.value c.deref-2.ensures.value in
+    let stations_hear : hs ≡ stations_hear_kept first = c.split_at.ensures.front ∙ ap₂ (λ n (xs : List Sym). take n xs) stations all in
+    let ports_hear : ps ≡ ports_hear_kept first = c.split_at.ensures.back ∙ ap₂ (λ n (xs : List Sym). drop n xs) stations all in
+    let many : length c.deref-7.result.now ≡ length q.senders.items = ap length (c.deref-7.ensures.value ∙ sent) ∙ c.step_stations.auto.sent ∙ ap length c.deref_mut-5.ensures.value ∙ c.self.invariant.sending in
+    let outcomes : sendings hs c.deref_mut-2.result.now ≡ sendings hs q.senders.items = ap (sendings hs) c.deref_mut-2.ensures.value in
+    let bodies = all_told c.relay_all.new.relays c.relay_all.new.events in
+    let goes : (c.capture_all.new.captures ≡ captured q.t c.deref-11.result.now (map octets_of c.deref-12.result.now) c.deref_mut-12.result.now) → GoesOn first last = λ kept.
+    goes_on first last hs ps es pes c.step_stations.new.sent os bodies stations_hear ports_hear refl
+    (senders ∙ c.step_stations.ensures.states ∙ ap (map (λ (o : SendOutcome). o.state)) outcomes)
+    (c.step_stations.ensures.emitted ∙ ap (map (λ (o : SendOutcome). o.emitted)) outcomes)
+    (c.step_stations.ensures.events ∙ ap (map (λ (o : SendOutcome). o.event)) outcomes)
+    (given-alike hs hs es es c.deref_mut-3.result.now q.receivers.items c.step_stations.new.receivers last.receivers os
+    refl refl c.deref_mut-3.ensures.value (sym receivers) c.step_stations.ensures.given)
+    (relays ∙ c.relay_all.ensures.states ∙ ap (each_repeater after ps) c.deref_mut-7.ensures.value)
+    (c.relay_all.ensures.emitted ∙ ap (flat_map emitted_by) c.deref_mut-7.ensures.value)
+    (segments ∙ c.carry_all.ensures ∙ ap₂ (λ (xs : List Sym) (ws : List Wire). map (carried xs) ws) (c.deref-6.ensures.value ∙ row ∙ c.join.ensures ∙ ap₂ (λ (xs ys : List Sym). xs ++ ys) (c.deref-4.ensures.value ∙ emitted) (c.deref-5.ensures.value ∙ port_emitted)) c.deref_mut-11.ensures.value)
     refl
-    (senders ∙ c.send_all.ensures.states ∙ ap (map (λ (o : SendOutcome). o.state)) outcomes)
-    (c.send_all.ensures.emitted ∙ ap (map (λ (o : SendOutcome). o.emitted)) outcomes)
-    (c.send_all.ensures.events ∙ ap (map (λ (o : SendOutcome). o.event)) outcomes)
-    (given-alike c.deref-2.result.now hs c.deref-3.result.now es c.deref_mut-5.result.now q.receivers.items c.receive_all.new.receivers last.receivers os
-    (c.deref-2.ensures.value ∙ heard) (c.deref-3.ensures.value ∙ emitted) c.deref_mut-5.ensures.value (sym receivers) c.receive_all.ensures.given)
-    (c.advance.ensures ∙ ap advanced (c.tell_all.ensures.told ∙ ap (told_from q.cable 0) (c.deref-4.ensures.value ∙ emitted)))
-    (c.in_ok-log_all.ensures ∙ ap₂ (λ (s r : List (Option Body)). q.rows ++ rows_of q.t 0 s r) (c.deref-5.ensures.value ∙ sent) (c.deref-6.ensures.value ∙ received))
-    (captures ∙ kept ∙ ap₂ (λ (o : List (Option Body)) (k : List Kept). captured q.t o (map octets_of k) c.deref_mut-7.result.now) (c.deref-7.ensures.value ∙ received) c.deref-8.ensures.value ∙ ap (captured q.t os (map octets_of last.receivers)) c.deref_mut-7.ensures.value) in
-    let moved : (c.capture_all.new.captures ≡ captured q.t c.deref-7.result.now (map octets_of c.deref-8.result.now) c.deref_mut-7.result.now) → GoesOn c.args.self.now last = λ kept. subst (λ k. GoesOn k last) c.self.view_is (goes kept) in
+    (c.relay_all.ensures.bodies ∙ ap (each_repeater bodies_of ps) c.deref_mut-7.ensures.value)
+    (c.in_ok-log_all.ensures
+    ∙ ap₂ (λ (xs : List Row) (bs : List (List Body)). xs ++ repeater_rows q.t (length c.deref-7.result.now) bs)
+    (ap₂ (λ (s r : List (Option Body)). q.rows ++ rows_of q.t 0 s r) (c.deref-7.ensures.value ∙ sent) (c.deref-8.ensures.value ∙ received))
+    (ap₂ all_told (c.deref-9.ensures.value ∙ relays) (c.deref-10.ensures.value ∙ events))
+    ∙ ap (λ n. (q.rows ++ rows_of q.t 0 c.step_stations.new.sent os) ++ repeater_rows q.t n bodies) many)
+    (captures ∙ kept ∙ ap₂ (λ (o : List (Option Body)) (k : List Kept). captured q.t o (map octets_of k) c.deref_mut-12.result.now) (c.deref-11.ensures.value ∙ received) c.deref-12.ensures.value ∙ ap (captured q.t os (map octets_of last.receivers)) c.deref_mut-12.ensures.value) in
+    let moved : (c.capture_all.new.captures ≡ captured q.t c.deref-11.result.now (map octets_of c.deref-12.result.now) c.deref_mut-12.result.now) → GoesOn c.args.self.now last = λ kept. subst (λ k. GoesOn k last) c.self.view_is (goes kept) in
     search rules

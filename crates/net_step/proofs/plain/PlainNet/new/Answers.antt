@@ -1,17 +1,61 @@
-use Rattle.std.proofs.Common.{◌≡◌, [], map, refl, ap, ◌∙◌, rules}
-use Rattle.cable_segment.specs.Cable.{silent}
-use Rattle.layout_file.specs.declared.layout.StationLine.{StationLine}
-use Rattle.net_step.specs.Net.{new_senders, new_receiver, most_octets}
+use Rattle.std.proofs.Common.{◌≡◌, ◌+◌, ◌-◌, ◌≤◌, ◌<◌, [], All, List, length, map, refl, sym, subst, ap, ap₂, ◌∙◌, arith, rules}
+use Rattle.std.specs.List.{range_with_len}
+use Rattle.layout_file.specs.declared.layout.PortLine.{PortLine}
+use Rattle.mac_transmit.specs.Sender.{Sender}
+use Rattle.mac_receive.specs.Kept.{Kept}
+use Rattle.net_step.specs.Taps.{taps_of}
+use Rattle.net_step.specs.Net.{new_senders, new_receiver, new_repeater, most_octets}
+use Rattle.net_step.specs.Wires.{new_wire, places_from}
 use Rattle.net_step.specs.Kept.{AllHear}
-use Rattle.net_step.proofs.Standing.{stands_new}
+use Rattle.net_step.proofs.Standing.{stands_new, taps_near, taps_on, few_taps}
+use Rattle.net_step.proofs.Whole.{whole_new, stations_within}
 use Rattle.net_step.proofs.plain.PlainNet.new.Goals as goal
+
+pub new_segments-requires-clause-few : goal.new_segments-requires-clause-few
+new_segments-requires-clause-few c = omega (arith, few_taps c.args.plan.now.layout c.requires, ap length (c.deref.ensures.value ∙ c.in_ok-taps.ensures))
+
+pub new_segments-requires-clause-near : goal.new_segments-requires-clause-near
+new_segments-requires-clause-near c =
+    subst (All (λ (x : PortLine). x.at ≤ 2000)) (sym (c.deref.ensures.value ∙ c.in_ok-taps.ensures)) (taps_near c.args.plan.now.layout c.requires)
+
+pub places_of-requires : goal.places_of-requires
+places_of-requires c = omega (arith, few_taps c.args.plan.now.layout c.requires, ap length (c.deref-2.ensures.value ∙ c.in_ok-taps.ensures))
+
+pub invariant_of-result : goal.invariant_of-result
+invariant_of-result c =
+    let l = c.args.plan.now.layout in
+    let all : c.in_ok-taps.taps.items ≡ taps_of l = c.in_ok-taps.ensures in
+    let many : length c.in_ok-taps.taps.items ≡ length (taps_of l) = ap length all in
+    let within = stations_within l in
+    let repeaters : c.in_ok-new_relays.field-0.items ≡ map new_repeater l.repeaters = search rules in
+    let wires : c.in_ok-new_segments.field-0.items ≡ map (new_wire (taps_of l)) (range_with_len 0 (length l.segments)) = c.in_ok-new_segments.ensures ∙ ap₂ (λ n (ts : List PortLine). map (new_wire ts) (range_with_len 0 n)) c.len.ensures (c.deref.ensures.value ∙ all) in
+    let places : c.in_ok-places_of.field-0.items ≡ places_from 0 (taps_of l) (taps_of l) = c.in_ok-places_of.ensures ∙ ap (λ ts. places_from 0 ts ts) (c.deref-2.ensures.value ∙ all) in
+    let captures : c.in_ok-no_captures.field-0.items ≡ map (λ s. []) l.stations = search rules in
+    let senders : length c.in_ok-new_transmitters.field-0.items ≡ length l.stations = search rules in
+    let receivers : length c.in_ok-new_receivers.field-0.items ≡ length l.stations = search rules in
+    let times : All (λ (s : Sender). s.t ≡ 0) c.in_ok-new_transmitters.field-0.items = search rules in
+    let steps : All (λ (r : Kept). r.steps ≡ 0) c.in_ok-new_receivers.field-0.items = search rules in
+    let heard_len : length c.in_ok-vec.field-0.items ≡ length c.in_ok-taps.taps.items = search rules in
+    let heard : length c.in_ok-vec.field-0.items ≡ length (taps_of l) = heard_len ∙ many in
+    let emitted : length c.in_ok-vec-2.field-0.items ≡ length l.stations = search rules in
+    let ports_len : length c.in_ok-vec-3.field-0.items ≡ length c.in_ok-taps.taps.items - length l.stations = search rules in
+    let ports : length l.stations + length c.in_ok-vec-3.field-0.items ≡ length (taps_of l) = omega (arith, ports_len, many, within) in
+    let row_len : length c.in_ok-vec-4.field-0.items ≡ length c.in_ok-taps.taps.items = search rules in
+    let row : length c.in_ok-vec-4.field-0.items ≡ length (taps_of l) = row_len ∙ many in
+    let sent : length c.in_ok-vec-5.field-0.items ≡ length l.stations = search rules in
+    let received : length c.in_ok-vec-6.field-0.items ≡ length l.stations = search rules in
+    let events : length c.in_ok-vec-7.field-0.items ≡ length l.repeaters = search rules in
+    whole_new l _ _ _ _ _ _ _ _ c.requires senders receivers captures repeaters wires places heard emitted ports row sent received events times steps
 
 pub returns-clause-stands : goal.returns-clause-stands
 returns-clause-stands c =
     let plan = c.args.plan.now in
-    let senders : c.in_ok-new_transmitters.field-0.items ≡ new_senders plan.layout.seed 0 plan.queues = search rules in
-    let receivers : AllHear (map (new_receiver (most_octets plan.layout.format)) plan.layout.stations) c.in_ok-new_receivers.field-0.items = search rules in
-    let cable : c.in_ok-new.field-0 ≡ silent (map (λ (s : StationLine). s.at) plan.layout.stations) 0 =
-    c.in_ok-new.ensures ∙ ap (λ ps. silent ps 0) (c.deref.ensures.value ∙ c.in_ok-positions.ensures.places ∙ ap (map (λ (s : StationLine). s.at)) c.as_slice-stations.ensures) in
-    let captures : c.in_ok-no_captures.field-0.items ≡ map (λ s. []) plan.layout.stations = search rules in
-    stands_new plan _ c.requires.near plan.queued refl senders receivers cable c.new-2.ensures captures
+    let l = plan.layout in
+    let all : c.in_ok-taps.taps.items ≡ taps_of l = c.in_ok-taps.ensures in
+    let repeaters : c.in_ok-new_relays.field-0.items ≡ map new_repeater l.repeaters = search rules in
+    let wires : c.in_ok-new_segments.field-0.items ≡ map (new_wire (taps_of l)) (range_with_len 0 (length l.segments)) = c.in_ok-new_segments.ensures ∙ ap₂ (λ n (ts : List PortLine). map (new_wire ts) (range_with_len 0 n)) c.len.ensures (c.deref.ensures.value ∙ all) in
+    let places : c.in_ok-places_of.field-0.items ≡ places_from 0 (taps_of l) (taps_of l) = c.in_ok-places_of.ensures ∙ ap (λ ts. places_from 0 ts ts) (c.deref-2.ensures.value ∙ all) in
+    let captures : c.in_ok-no_captures.field-0.items ≡ map (λ s. []) l.stations = search rules in
+    let senders : c.in_ok-new_transmitters.field-0.items ≡ new_senders l.seed 0 plan.queues = search rules in
+    let receivers : AllHear (map (new_receiver (most_octets l.format)) l.stations) c.in_ok-new_receivers.field-0.items = search rules in
+    stands_new plan _ (taps_near l c.requires) (taps_on l c.requires) refl senders receivers repeaters wires places c.new.ensures captures

@@ -1,0 +1,20 @@
+use Rattle.std.proofs.Common.{◌≡◌, ◌+◌, ◌++◌, length, map, take, drop}
+use Rattle.std.specs.List.{flat_map}
+use Rattle.repeater_core.specs.Step.{after, emitted_by}
+use Rattle.net_step.specs.Net.{each_repeater, bodies_of}
+use Rattle.net_step.specs.Kept.{ports_of, all_told}
+use Rattle.net_step.proofs.passes.relay_all.Given as goal
+
+-- the repeaters below k have stepped, and the ports before `from` are theirs
+abbrev pub invariant-loop-k : goal.invariant-loop-k
+invariant-loop-k l =
+    let rest = drop l.k l.relays in
+    record {
+      from : l.from + ports_of rest ≡ length l.heard;
+      ports : map (λ r. length r.guards) l.relays ≡ map (λ r. length r.guards) l.fn.relays;
+      len : length l.emitted ≡ length l.heard;
+      len_events : length l.events ≡ length l.relays;
+      states : take l.k l.relays ++ each_repeater after (drop l.from l.heard) rest ≡ each_repeater after l.heard l.fn.relays;
+      bodies : all_told (take l.k l.relays) (take l.k l.events) ++ each_repeater bodies_of (drop l.from l.heard) rest ≡ each_repeater bodies_of l.heard l.fn.relays;
+      emitted : take l.from l.emitted ++ flat_map emitted_by rest ≡ flat_map emitted_by l.fn.relays;
+    }

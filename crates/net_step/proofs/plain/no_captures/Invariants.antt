@@ -1,5 +1,0 @@
-use Rattle.std.proofs.Common.{◌≡◌, [], map, take}
-use Rattle.net_step.proofs.plain.no_captures.Given as goal
-
-abbrev pub invariant-loop-station : goal.invariant-loop-station
-invariant-loop-station l = l.captures.items ≡ map (λ s. []) (take l._station-index l.stations)

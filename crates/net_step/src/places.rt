@@ -1,0 +1,54 @@
+//! The taps of a layout, and where each is.
+ghost use Rattle.std.specs.Prelude.{◌≡◌, ◌<◌, ◌≤◌, ◌^◌, length, IfOk};
+ghost use Rattle.net_step.specs.Taps.{taps_of};
+ghost use Rattle.net_step.specs.Wires.{count_on, places_from};
+
+use layout_file::{Layout, PortLine};
+use lists::OutOfMemory;
+use std::alloc::Global;
+
+/// Where a tap is: its segment, and its number among the taps of that segment, both counted from 0.
+#[derive(Clone, Copy, Debug, PartialEq, Eq)]
+pub struct Place {
+    pub segment: u32,
+    pub local: u32,
+}
+
+/// The taps of the stations, then those of the repeaters' ports.
+pub fn taps_of(alloc: Global, layout: &Layout) -> Result<Vec<PortLine>, OutOfMemory>
+    ensures { IfOk result (λ taps. taps.items ≡ taps_of layout.now) }
+{
+    let mut taps = Vec::new(alloc);
+    for station in layout.stations.as_slice() {
+        taps.push(PortLine {
+            segment: station.segment,
+            at: station.at,
+        })?;
+    }
+    for repeater in layout.repeaters.as_slice() {
+        taps.extend_from_slice(repeater.ports.as_slice())?;
+    }
+    Ok(taps)
+}
+
+/// How many of these taps are on a segment.
+fn count_on(taps: &[PortLine], segment: u32) -> usize
+    ensures count { result ≡ count_on segment taps.now }
+    ensures few { result ≤ length taps.now }
+{
+    taps.iter().filter(|tap| tap.segment == segment).count()
+}
+
+/// The place of each tap.
+pub fn places_of(alloc: Global, taps: &[PortLine]) -> Result<Vec<Place>, OutOfMemory>
+    requires { length taps.now < 2 ^ 32 }
+    ensures { IfOk result (λ places. places.items ≡ places_from 0 taps.now taps.now) }
+{
+    let mut places = Vec::new(alloc);
+    for q in 0..taps.len() {
+        let segment = taps[q].segment;
+        let local = count_on(&taps[..q], segment) as u32;
+        places.push(Place { segment, local })?;
+    }
+    Ok(places)
+}

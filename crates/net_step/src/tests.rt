@@ -1,0 +1,200 @@
+ghost use Rattle.std.specs.Prelude.{IfOk};
+ghost use Rattle.net_step.specs.Runnable.{IsRunnable};
+
+use crate::{Outputs, PlainNet, run_plain};
+use backoff_draw::Draws;
+use collision_log::{Body, Row, Why};
+use layout_file::read_layout;
+use lists::OutOfMemory;
+use load_plan::{Plan, plan_of_sends};
+use manchester_line::Sym;
+use std::alloc::Global;
+
+/// Two stations on a segment, of which the first sends a frame.
+const ONE_FRAME: &str = r#"format = 1
+seed = 1
+until_bits = 700
+segment = [{ name = "x" }]
+station = [{ name = "a", segment = "x", at = 0 }, { name = "b", segment = "x", at = 10 }]
+send = [{ station = "a", at = 0, octets = "ffffffffffff0200000000010800" }]
+"#;
+
+/// The same, but the run ends before the frame is sent.
+const CUT_OFF: &str = r#"format = 1
+seed = 1
+until_bits = 500
+segment = [{ name = "x" }]
+station = [{ name = "a", segment = "x", at = 0 }, { name = "b", segment = "x", at = 10 }]
+send = [{ station = "a", at = 0, octets = "ffffffffffff0200000000010800" }]
+"#;
+
+/// Two stations that collide, and a third that hears it.
+const COLLISION: &str = r#"format = 1
+seed = 1
+until_bits = 110
+segment = [{ name = "x" }]
+station = [{ name = "a", segment = "x", at = 0 }, { name = "b", segment = "x", at = 10 }, { name = "c", segment = "x", at = 20 }]
+send = [
+  { station = "a", at = 0, octets = "ffffffffffff0200000000010800" },
+  { station = "b", at = 0, octets = "ffffffffffff0200000000010800" },
+]
+"#;
+
+/// Two stations that collide over a repeater.
+const TWO_HOPS: &str = r#"format = 1
+seed = 1
+until_bits = 130
+segment = [{ name = "x" }, { name = "y" }]
+station = [{ name = "a", segment = "x", at = 0 }, { name = "b", segment = "y", at = 30 }]
+repeater = [{ name = "r", delay = 16, port = [{ segment = "x", at = 20 }, { segment = "y", at = 0 }] }]
+send = [
+  { station = "a", at = 0, octets = "ffffffffffff0200000000010800" },
+  { station = "b", at = 65, octets = "ffffffffffff0200000000020800" },
+]
+"#;
+
+/// The repeater's delay and all places as small as may be.
+const SHORT: &str = r#"format = 1
+seed = 1
+until_bits = 600
+segment = [{ name = "x" }, { name = "y" }]
+station = [{ name = "a", segment = "x", at = 0 }, { name = "b", segment = "y", at = 1 }]
+repeater = [{ name = "r", delay = 1, port = [{ segment = "x", at = 1 }, { segment = "y", at = 0 }] }]
+send = [{ station = "a", at = 0, octets = "ffffffffffff0200000000010800" }]
+"#;
+
+/// A plan of a layout without loads. A layout with a fault, which none here has, counts as no memory.
+fn plan_of(alloc: Global, layout: &str) -> Result<Plan, OutOfMemory>
+    ensures { IfOk result (λ plan. IsRunnable plan.layout) }
+{
+    match read_layout(alloc, layout.as_bytes()) {
+        Ok(layout) if layout.format == 1 => plan_of_sends(alloc, layout),
+        _ => Err(OutOfMemory),
+    }
+}
+
+fn run(alloc: Global, layout: &str) -> Result<Outputs, OutOfMemory> {
+    let plan = plan_of(alloc, layout)?;
+    run_plain(alloc, &plan)
+}
+
+fn row(t: u64, device: u32, body: Body) -> Row {
+    Row { t, device, body }
+}
+
+/// The row of a station whose first frame collided, with the draw of the first attempt.
+fn collided(t: u64, device: u32, start: u64, hit: u32) -> Row {
+    let body = Body::Collided {
+        frame: 1,
+        start,
+        attempt: 1,
+        hit,
+        drawn: Draws::new(1, device).draw(1),
+    };
+    Row { t, device, body }
+}
+
+#[test]
+fn one_frame_is_sent_and_received(rt: HostRuntime) -> Result<(), OutOfMemory> {
+    let outputs = run(rt.alloc(), ONE_FRAME)?;
+    let sent = Body::Sent {
+        frame: 1,
+        start: 0,
+        attempt: 1,
+    };
+    let want = [
+        row(1152, 0, sent),
+        row(1162, 1, Body::Received { octets: 64 }),
+    ];
+    assert_eq!(rt; outputs.rows.as_slice(), want.as_slice());
+    let captures = outputs.captures.as_slice();
+    assert_eq!(rt; captures.len(), 2);
+    if let [of_a, of_b] = captures {
+        assert_eq!(rt; of_a.len(), 0);
+        if let [taken] = of_b.as_slice() {
+            assert_eq!(rt; taken.t, 1162);
+            assert_eq!(rt; taken.octets.len(), 60);
+        }
+        assert_eq!(rt; of_b.len(), 1);
+    }
+    Ok(())
+}
+
+#[test]
+fn a_sending_is_cut_at_the_end(rt: HostRuntime) -> Result<(), OutOfMemory> {
+    let outputs = run(rt.alloc(), CUT_OFF)?;
+    let cut = Body::Cut {
+        frame: 1,
+        start: 0,
+        attempt: 1,
+        hit: None,
+    };
+    assert_eq!(rt; outputs.rows.as_slice(), [row(1000, 0, cut)].as_slice());
+    Ok(())
+}
+
+#[test]
+fn a_third_station_drops_a_collision(rt: HostRuntime) -> Result<(), OutOfMemory> {
+    let outputs = run(rt.alloc(), COLLISION)?;
+    let dropped = Body::Dropped {
+        why: Why::Fragment,
+        halves: 202,
+    };
+    let want = [
+        collided(192, 0, 0, 10),
+        collided(192, 1, 0, 10),
+        row(212, 2, dropped),
+    ];
+    assert_eq!(rt; outputs.rows.as_slice(), want.as_slice());
+    Ok(())
+}
+
+#[test]
+fn a_collision_over_two_hops(rt: HostRuntime) -> Result<(), OutOfMemory> {
+    let outputs = run(rt.alloc(), TWO_HOPS)?;
+    let want = [
+        row(95, 2, Body::Clash),
+        collided(196, 0, 0, 131),
+        collided(257, 1, 65, 1),
+    ];
+    assert_eq!(rt; outputs.rows.as_slice(), want.as_slice());
+    Ok(())
+}
+
+#[test]
+fn a_repeater_of_the_least_delay(rt: HostRuntime) -> Result<(), OutOfMemory> {
+    let outputs = run(rt.alloc(), SHORT)?;
+    let sent = Body::Sent {
+        frame: 1,
+        start: 0,
+        attempt: 1,
+    };
+    let want = [
+        row(1152, 0, sent),
+        row(1155, 1, Body::Received { octets: 64 }),
+    ];
+    assert_eq!(rt; outputs.rows.as_slice(), want.as_slice());
+    Ok(())
+}
+
+/// What a sends at half bit 0 comes to the repeater's first port after 20 half bits, and from its second port,
+/// after 16 half bits of delay, to b after 30.
+#[test]
+fn a_tap_hears_what_comes_to_it(rt: HostRuntime) -> Result<(), OutOfMemory> {
+    let alloc = rt.alloc();
+    let plan = plan_of(alloc, TWO_HOPS)?;
+    let mut whole = PlainNet::new(alloc, &plan)?;
+    for _ in 0..20 {
+        assert_eq!(rt; whole.heard(2, 0), Sym::Idle);
+        whole.step()?;
+    }
+    assert_eq!(rt; whole.heard(2, 0), Sym::Lo);
+    assert_eq!(rt; whole.heard(2, 1), Sym::Idle);
+    for _ in 0..46 {
+        assert_eq!(rt; whole.heard(1, 0), Sym::Idle);
+        whole.step()?;
+    }
+    assert_eq!(rt; whole.heard(1, 0), Sym::Lo);
+    assert_eq!(rt; whole.heard(2, 1), Sym::Idle);
+    Ok(())
+}
