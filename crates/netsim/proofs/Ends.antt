@@ -1,98 +1,137 @@
--- A file that isn't held was not judged.
-use Rattle.std.proofs.Common.{◌≡◌, ◌⊎◌, ℕ, Option, None, Some, Result, Ok, Err, List, refl, inl, inr}
+-- What each end of a call says.
+use Rattle.std.proofs.Common.{◌≡◌, ◌⊎◌, ℕ, Option, None, Some, Result, Ok, Err, List, refl, sym, ap, subst, ◌∙◌, inl, inr}
 use Rattle.std.specs.Prelude.{IfSome}
+use Rattle.capture_file.specs.declared.entries.Record.{Record}
+use Rattle.capture_file.specs.declared.fault.CaptureFault.{CaptureFault}
 use Rattle.outside.specs.Files.{Files, IsAbsent, Rose}
 use Rattle.layout_file.specs.declared.layout.Layout.{Layout}
 use Rattle.layout_file.specs.declared.fault.LayoutFault.{LayoutFault}
+use Rattle.load_files.specs.Loaded.{Loaded, IsLoaded, IsFirstAbsent, Whole, Faulty, Absent, loaded}
+use Rattle.load_plan.specs.declared.plan.Plan.{Plan}
 use Rattle.netsim.specs.declared.ended.Ended.{Ended}
 use Rattle.netsim.specs.declared.ended.Ended.TheVariants as ended
-use Rattle.netsim.specs.declared.judge.Purpose.{Purpose}
-use Rattle.netsim.specs.declared.judge.Purpose.TheVariants as purposes
-use Rattle.netsim.specs.Ended.{Moment, IsEndOf, IsJudged, HasFault, IsRun, IsChecked}
-use Rattle.netsim.specs.Reading.{front_of}
+use Rattle.netsim.specs.Ended.{Moment, IsEndOf, IsJudged, HasFault, IsEarly, IsUnloaded, IsUnrun, IsRun, IsChecked, IsCheckEnd, IsPlainEnd, IsText, IsFiledEnd, status_of}
+use Rattle.netsim.specs.Reading.{front_of, IsSaid, IsBrokenAmong, added}
 use Rattle.netsim.specs.Requests.{Asked, Check, Plain, Help, Version}
-use Rattle.netsim.specs.Statuses.{IfLayout, IfCheck, IfPlain, IsFaultStatus, IsDoneOrMemory}
+use Rattle.netsim.specs.Runs.{IsPlanOf}
+use Rattle.netsim.specs.Statuses.{IfLayout, IfCheck, IfPlain, IsPlainWith, IsFaultStatus, IsDoneOrMemory, IsLoadFaultLine, HasLoadFault, HasAbsentLoad, IsNetworkWith, IsReadFault, IsRunHeld, IsRunBroken, AreRunFilesHeld}
+use Rattle.netsim.specs.Texts.{line_of_read_fault}
 
-absent_unjudged : (purpose : Purpose) (name : List ℕ) (held : Option Files) (verdict : Result Layout LayoutFault) → IsAbsent name held → IsJudged purpose name held verdict → ⊥
+absent_unjudged : (name : List ℕ) (held : Option Files) (verdict : Result Layout LayoutFault) → IsAbsent name held → IsJudged name held verdict → ⊥
 unfolding front_of
-absent_unjudged purpose name None verdict absent judged = absent
-absent_unjudged purpose name (Some files) verdict absent judged = let e = rw absent at judged in cc
+absent_unjudged name None verdict absent judged = absent
+absent_unjudged name (Some files) verdict absent judged = let e = rw absent at judged in cc
 
-unrun : (layout prefix : List ℕ) (before after : Moment) (e : Ended) → IsAbsent layout before.held → IsRun layout prefix before after e → ⊥
-unrun layout prefix before after e absent run = absent_unjudged purposes.Run layout before.held (Ok run.network) absent run.judged
+some_of : (held : Option Files) (P : Files → Type 0) → ((files : Files) → P files) → IfSome held P
+some_of None P all = tt
+some_of (Some files) P all = all files
 
-unchecked : (layout : List ℕ) (before after : Moment) (e : Ended) → IsAbsent layout before.held → IsChecked layout before after e → ⊥
-unchecked layout before after e absent checked = absent_unjudged purposes.Check layout before.held (Ok checked.network) absent checked.judged
+same_network : (name : List ℕ) (files : Files) (a b : Layout) → IsJudged name (Some files) (Ok a) → IsJudged name (Some files) (Ok b) → a ≡ b
+same_network name files a b one two = cc
 
--- a layout that was run or checked is held
-pub run_held : (X : Type 0) (o : Option Asked) (before after : Moment) → IsEndOf o before after ended.Done ⊎ IsEndOf o before after ended.Write → IfLayout o (λ purpose layout. IsAbsent layout before.held → X)
-run_held X None before after h = tt
-run_held X (Some Help) before after h = tt
-run_held X (Some Version) before after h = tt
-run_held X (Some (Check layout)) before after h =
+good_or_faulty : (name : List ℕ) (files : Files) (a : Layout) (f : LayoutFault) → IsJudged name (Some files) (Ok a) → IsJudged name (Some files) (Err f) → ⊥
+good_or_faulty name files a f one two = cc
+
+-- a layout that was judged good has no fault
+no_fault_of : (X : Type 0) (name : List ℕ) (held : Option Files) (network : Layout) → IsJudged name held (Ok network) → IfSome held (λ files. HasFault name (Some files) → X)
+no_fault_of X name None network judged = tt
+no_fault_of X name (Some files) network judged = λ fault. absurd (good_or_faulty name files network fault.0 judged fault.1)
+
+-- one with a fault isn't judged good
+no_network_of : (X : Layout → Type 0) (name : List ℕ) (held : Option Files) (fault : LayoutFault) → IsJudged name held (Err fault) → IfSome held (λ files. (network : Layout) → IsJudged name (Some files) (Ok network) → X network)
+no_network_of X name None fault judged = tt
+no_network_of X name (Some files) fault judged = λ network good. absurd (good_or_faulty name files network fault good judged)
+
+-- nor one that isn't held
+absent_network : (X : Layout → Type 0) (name : List ℕ) (held : Option Files) → IsAbsent name held → IfSome held (λ files. (network : Layout) → IsJudged name (Some files) (Ok network) → X network)
+absent_network X name None absent = tt
+absent_network X name (Some files) absent = λ network good. absurd (absent_unjudged name (Some files) (Ok network) absent good)
+
+-- the loads are what they are
+other_loads : (X : Layout → Loaded → Type 0) (name : List ℕ) (held : Option Files) (network : Layout) (l : Loaded) → IsJudged name held (Ok network) → IsLoaded held network.stations l
+    → ((other : Loaded) → l ≡ other → X network other) → IfSome held (λ files. (again : Layout) (other : Loaded) → IsJudged name (Some files) (Ok again) → loaded files again.stations ≡ other → X again other)
+other_loads X name None network l judged is on = tt
+other_loads X name (Some files) network l judged is on =
+    λ again other good so.
+      let same : network ≡ again = same_network name files network again judged good in
+      let there : loaded files network.stations ≡ other = rw (← same) at so in
+      let e : l ≡ other = sym is ∙ there in
+      subst (λ n. X n other) same (on other e)
+
+-- an end that came early
+module _ (layout : List ℕ) (before after : Moment) where
+  early_absent : (e : Ended) → IsAbsent layout before.held → IsEarly layout before after e → (status_of e ≡ 4) ⊎ (status_of e ≡ 6)
+  early_absent ended.Done absent early = absurd early
+  early_absent ended.Words absent early = absurd early
+  early_absent ended.Layout absent early = absurd (absent_unjudged layout before.held (Err early.0) absent early.1)
+  early_absent ended.Load absent early = absurd early
+  early_absent ended.Read absent early = inl refl
+  early_absent ended.Write absent early = absurd early
+  early_absent ended.Memory absent early = inr refl
+
+
+-- where a read failed or the layout isn't held
+unread_status : (X : Type 0) (layout : List ℕ) (held : Option Files) (reads risen : ℕ) (P : Files → Type 0) → ((files : Files) → IsAbsent layout (Some files) → P files → ⊥) → (Rose reads risen → X)
+    → IsAbsent layout held ⊎ Rose reads risen → IfSome held (λ files. P files → X)
+unread_status X layout None reads risen P never on unread = tt
+unread_status X layout (Some files) reads risen P never on unread =
+    λ p. elim unread [ inl absent ↦ absurd (never files absent p) | inr rose ↦ on rose ]
+
+absent_faulty : (layout : List ℕ) (files : Files) → IsAbsent layout (Some files) → HasFault layout (Some files) → ⊥
+absent_faulty layout files absent fault = absent_unjudged layout (Some files) (Err fault.0) absent fault.1
+
+-- early ends where the layout has a fault
+early_faulty : (layout : List ℕ) (before after : Moment) (e : Ended) → IsEarly layout before after e
+    → IfSome before.held (λ files. HasFault layout (Some files) → IsFaultStatus 2 (status_of e) before.reads after.reads)
+early_faulty layout before after ended.Done early = absurd early
+early_faulty layout before after ended.Words early = absurd early
+early_faulty layout before after ended.Layout early = some_of before.held _ (λ files fault. inl refl)
+early_faulty layout before after ended.Load early = absurd early
+early_faulty layout before after ended.Read early =
+    unread_status (IsFaultStatus 2 4 before.reads after.reads) layout before.held before.reads after.reads (HasFault layout) (absent_faulty layout) (λ rose. inr (inr (refl, rose))) early.0
+early_faulty layout before after ended.Write early = absurd early
+early_faulty layout before after ended.Memory early = some_of before.held _ (λ files fault. inr (inl refl))
+
+unrun_faulty : (fault : ℕ) (P : Files → Type 0) (before after : Moment) (e : Ended) → IsUnrun before after e
+    → IfSome before.held (λ files. P files → IsFaultStatus fault (status_of e) before.reads after.reads)
+unrun_faulty fault P before after e unrun = some_of before.held _ (λ files p. let six : status_of e ≡ 6 = ap status_of unrun.0 in inr (inl six))
+
+-- status 2 where the layout has a fault
+pub fault_only : (o : Option Asked) (before after : Moment) (e : Ended) → IsEndOf o before after e
+    → IfLayout o (λ layout. IfSome before.held (λ files. HasFault layout (Some files) → IsFaultStatus 2 (status_of e) before.reads after.reads))
+fault_only None before after e h = tt
+fault_only (Some Help) before after e h = tt
+fault_only (Some Version) before after e h = tt
+fault_only (Some (Check layout)) before after e h =
+    elim h.1 [ inl early ↦ early_faulty layout before after e early | inr checked ↦ no_fault_of (IsFaultStatus 2 (status_of e) before.reads after.reads) layout before.held checked.network checked.judged ]
+fault_only (Some (Plain layout prefix)) before after e h =
+    elim h [
+      | inl early ↦ early_faulty layout before after e early.0
+      | inr later ↦ elim later [
+        | inl unloaded ↦ no_fault_of (IsFaultStatus 2 (status_of e) before.reads after.reads) layout before.held unloaded.0.network unloaded.0.judged
+        | inr on ↦ elim on [
+          | inl unrun ↦ unrun_faulty 2 (λ files. HasFault layout (Some files)) before after e unrun
+          | inr run ↦ no_fault_of (IsFaultStatus 2 (status_of e) before.reads after.reads) layout before.held run.network run.judged
+        ]
+      ]
+    ]
+
+-- a layout that isn't held is not judged
+pub read_only : (o : Option Asked) (before after : Moment) (e : Ended) → IsEndOf o before after e
+    → IfLayout o (λ layout. IsAbsent layout before.held → (status_of e ≡ 4) ⊎ (status_of e ≡ 6))
+read_only None before after e h = tt
+read_only (Some Help) before after e h = tt
+read_only (Some Version) before after e h = tt
+read_only (Some (Check layout)) before after e h =
+    λ absent. elim h.1 [ inl early ↦ early_absent layout before after e absent early | inr checked ↦ absurd (absent_unjudged layout before.held (Ok checked.network) absent checked.judged) ]
+read_only (Some (Plain layout prefix)) before after e h =
     λ absent. elim h [
-      | inl done ↦ elim done.1 [ inl early ↦ absurd early | inr checked ↦ absurd (unchecked layout before after ended.Done absent checked) ]
-      | inr broken ↦ elim broken.1 [ inl early ↦ absurd early | inr checked ↦ absurd (unchecked layout before after ended.Write absent checked) ]
+      | inl early ↦ early_absent layout before after e absent early.0
+      | inr later ↦ elim later [
+        | inl unloaded ↦ absurd (absent_unjudged layout before.held (Ok unloaded.0.network) absent unloaded.0.judged)
+        | inr on ↦ elim on [
+          | inl unrun ↦ inr (ap status_of unrun.0)
+          | inr run ↦ absurd (absent_unjudged layout before.held (Ok run.network) absent run.judged)
+        ]
+      ]
     ]
-run_held X (Some (Plain layout prefix)) before after h =
-    λ absent. elim h [
-      | inl done ↦ elim done [ inl early ↦ absurd early.0 | inr run ↦ absurd (unrun layout prefix before after ended.Done absent run) ]
-      | inr broken ↦ elim broken [ inl early ↦ absurd early.0 | inr run ↦ absurd (unrun layout prefix before after ended.Write absent run) ]
-    ]
-
--- a layout with a fault is held
-pub fault_held : (X : Type 0) (o : Option Asked) (before after : Moment) → IsEndOf o before after ended.Layout → IfLayout o (λ purpose layout. IsAbsent layout before.held → X)
-fault_held X None before after h = tt
-fault_held X (Some Help) before after h = tt
-fault_held X (Some Version) before after h = tt
-fault_held X (Some (Check layout)) before after h =
-    λ absent. elim h.1 [
-      | inl early ↦ absurd (absent_unjudged purposes.Check layout before.held (Err early.0) absent early.1)
-      | inr checked ↦ absurd (unchecked layout before after ended.Layout absent checked)
-    ]
-fault_held X (Some (Plain layout prefix)) before after h =
-    λ absent. elim h [
-      | inl early ↦ absurd (absent_unjudged purposes.Run layout before.held (Err early.0.0) absent early.0.1)
-      | inr run ↦ absurd (unrun layout prefix before after ended.Layout absent run)
-    ]
-
-no_fault : (purpose : Purpose) (name : List ℕ) (held : Option Files) (reads risen : ℕ) → IsAbsent name held ⊎ Rose reads risen → IfSome held (λ files. HasFault purpose name (Some files) → IsFaultStatus 4 reads risen)
-no_fault purpose name None reads risen h = tt
-no_fault purpose name (Some files) reads risen h =
-    λ fault. elim h [ inl absent ↦ absurd (absent_unjudged purpose name (Some files) (Err fault.0) absent fault.1) | inr rose ↦ inr (inr (refl, rose)) ]
-
-no_network : (purpose : Purpose) (name : List ℕ) (held : Option Files) (reads risen : ℕ) (X Y : Type 0) → IsAbsent name held ⊎ Rose reads risen → IfSome held (λ files. (network : Layout) → IsJudged purpose name (Some files) (Ok network) → ¬ Rose reads risen → X → Y)
-no_network purpose name None reads risen X Y h = tt
-no_network purpose name (Some files) reads risen X Y h =
-    λ network judged unrisen x. elim h [ inl absent ↦ absurd (absent_unjudged purpose name (Some files) (Ok network) absent judged) | inr rose ↦ absurd (unrisen rose) ]
-
--- a layout with a fault is read, unless a read failed
-pub read_faultless : (o : Option Asked) (before after : Moment) → IsEndOf o before after ended.Read
-    → IfLayout o (λ purpose layout. IfSome before.held (λ files. HasFault purpose layout (Some files) → IsFaultStatus 4 before.reads after.reads))
-read_faultless None before after h = tt
-read_faultless (Some Help) before after h = tt
-read_faultless (Some Version) before after h = tt
-read_faultless (Some (Check layout)) before after h =
-    elim h.1 [ inl early ↦ no_fault purposes.Check layout before.held before.reads after.reads early.0 | inr checked ↦ absurd checked.written ]
-read_faultless (Some (Plain layout prefix)) before after h =
-    elim h [ inl early ↦ no_fault purposes.Run layout before.held before.reads after.reads early.0.0 | inr run ↦ absurd run.logged.filed ]
-
--- a layout without a fault is read, unless a read failed
-pub read_complete : (X Y : Type 0) (o : Option Asked) (before after : Moment) → IsEndOf o before after ended.Read
-    → IfPlain o (λ layout prefix. IfSome before.held (λ files. (network : Layout) → IsJudged purposes.Run layout (Some files) (Ok network) → ¬ Rose before.reads after.reads → X → Y))
-read_complete X Y None before after h = tt
-read_complete X Y (Some Help) before after h = tt
-read_complete X Y (Some Version) before after h = tt
-read_complete X Y (Some (Check layout)) before after h = tt
-read_complete X Y (Some (Plain layout prefix)) before after h =
-    elim h [ inl early ↦ no_network purposes.Run layout before.held before.reads after.reads X Y early.0.0 | inr run ↦ absurd run.logged.filed ]
-
--- the same of a layout that is checked
-pub read_check_complete : (X Y : Type 0) (o : Option Asked) (before after : Moment) → IsEndOf o before after ended.Read
-    → IfCheck o (λ layout. IfSome before.held (λ files. (network : Layout) → IsJudged purposes.Check layout (Some files) (Ok network) → ¬ Rose before.reads after.reads → X → Y))
-read_check_complete X Y None before after h = tt
-read_check_complete X Y (Some Help) before after h = tt
-read_check_complete X Y (Some Version) before after h = tt
-read_check_complete X Y (Some (Plain layout prefix)) before after h = tt
-read_check_complete X Y (Some (Check layout)) before after h =
-    elim h.1 [ inl early ↦ no_network purposes.Check layout before.held before.reads after.reads X Y early.0 | inr checked ↦ absurd checked.written ]

@@ -1,6 +1,6 @@
-pub mod Wholes
 pub mod Fronts
+pub mod Wholes
 pub mod Lines
-pub mod FirstForms
 pub mod Ends
-pub mod Logged
+pub mod Known
+pub mod Told

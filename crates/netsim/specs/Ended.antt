@@ -1,19 +1,22 @@
 -- How a call ends (profile).
-use Rattle.std.specs.Prelude.{◌≡◌, ◌⊎◌, ℕ, List, Option, None, Some, option_map, codes, Result, Ok, Err}
+use Rattle.std.specs.Prelude.{◌≡◌, ◌⊎◌, ℕ, List, Option, None, Some, option_map, slice_get, Result, Ok, Err}
+use Rattle.capture_file.specs.declared.entries.Record.{Record}
+use Rattle.capture_file.specs.declared.fault.CaptureFault.{CaptureFault}
 use Rattle.outside.specs.Files.{Files, IsAbsent, Rose}
+use Rattle.layout_file.specs.Faults.{judged}
 use Rattle.layout_file.specs.declared.layout.Layout.{Layout}
+use Rattle.layout_file.specs.declared.layout.StationLine.{StationLine}
 use Rattle.layout_file.specs.declared.fault.LayoutFault.{LayoutFault}
-use Rattle.netsim.specs.Reading.{front_of, put, added, IsBroken, IsSaid, IsCutShort}
+use Rattle.load_files.specs.Loaded.{IsLoaded, IsFirstAbsent, Faulty, load_of}
+use Rattle.load_plan.specs.declared.plan.Plan.{Plan}
+use Rattle.netsim.specs.Reading.{front_of, put_all, added, IsBrokenAmong, IsSaid, IsCutShort}
 use Rattle.netsim.specs.Requests.{Asked, asked, Check, Plain, Help, Version}
-use Rattle.netsim.specs.Texts.{line_of_words_fault, line_of_fault, line_of_read_fault, name_of_log}
+use Rattle.netsim.specs.Runs.{IsMadeOf, IsPlanOf, files_of, IsSummary}
+use Rattle.netsim.specs.Texts.{line_of_words_fault, line_of_fault, line_of_load_fault, line_of_read_fault}
+use Rattle.netsim.specs.Verdicts.{IsVerdictLine}
 use Rattle.netsim.specs.declared.ended.Ended.{Ended}
 use Rattle.netsim.specs.declared.ended.Ended.TheVariants as ended
 use Rattle.netsim.specs.declared.texts.TheConstants.{HELP, VERSION}
-use Rattle.netsim.specs.declared.judge.Purpose.{Purpose}
-use Rattle.netsim.specs.declared.judge.Purpose.TheVariants as purposes
-use Rattle.netsim.specs.Judging.{judged_for}
-use Rattle.netsim.specs.Logs.{IsLogOf}
-use Rattle.netsim.specs.Verdicts.{IsVerdictLine}
 
 -- the store and the sink at a moment: what they tell, and their counts
 pub record Moment : Type 0 where
@@ -24,87 +27,157 @@ pub record Moment : Type 0 where
   pub faults : ℕ
   pub refused : ℕ
 
--- where the store tells its files, the layout was there and was judged so for the purpose, whole or at one octet past the most
--- that it may have
-abbrev pub IsJudged : Purpose → List ℕ → Option Files → Result Layout LayoutFault → Type 0
-IsJudged purpose name None verdict = Unit {0}
-IsJudged purpose name (Some files) verdict = option_map (judged_for purpose) (front_of 1048576 name files) ≡ Some verdict
+-- where the store tells its files, the layout was there and was judged so, whole or at one octet past the most that it may have
+abbrev pub IsJudged : List ℕ → Option Files → Result Layout LayoutFault → Type 0
+IsJudged name None verdict = Unit {0}
+IsJudged name (Some files) verdict = option_map judged (front_of 1048576 name files) ≡ Some verdict
 
 -- the layout has a fault
-abbrev pub HasFault : Purpose → List ℕ → Option Files → Type 0
-HasFault purpose name held = (fault : LayoutFault) × IsJudged purpose name held (Err fault)
+abbrev pub HasFault : List ℕ → Option Files → Type 0
+HasFault name held = (fault : LayoutFault) × IsJudged name held (Err fault)
 
 -- this line was said, or a front of it where the sink refused
 abbrev pub Says : List ℕ → Moment → Moment → Type 0
 Says line before after = IsSaid line before.written after.written before.refused after.refused
 
 -- the layout has a fault, and its line was said
-abbrev pub IsFaultSaid : Purpose → List ℕ → Moment → Moment → Type 0
-IsFaultSaid purpose name before after = (fault : LayoutFault) × IsJudged purpose name before.held (Err fault) × Says (line_of_fault fault) before after
+abbrev pub IsFaultSaid : List ℕ → Moment → Moment → Type 0
+IsFaultSaid name before after = (fault : LayoutFault) × IsJudged name before.held (Err fault) × Says (line_of_fault fault) before after
+
+-- of a network's loads that of a station, from 0, is the first with a fault, and its line was said
+pub record IsLoadFaultSaid (network : Layout) (before after : Moment) : Type 0 where
+  pub station : ℕ
+  pub fault : CaptureFault
+  pub loaded : IsLoaded before.held network.stations (Faulty station fault)
+  pub name : List ℕ
+  pub named : option_map (λ s. s.name) (slice_get network.stations station) ≡ Some name
+  pub said : Says (line_of_load_fault name fault) before after
+
+-- a load of the network is the first that isn't held, no load before it having a fault, or a read of it failed; that was said
+pub record IsLoadUnreadSaid (network : Layout) (before after : Moment) : Type 0 where
+  pub station : ℕ
+  pub name : List ℕ
+  pub named : load_of network.stations station ≡ Some name
+  pub unread : IsFirstAbsent before.held network.stations name ⊎ Rose before.reads after.reads
+  pub said : Says (line_of_read_fault name) before after
 
 -- the layout isn't held or a read failed, and that was said
 abbrev pub IsUnreadSaid : List ℕ → Moment → Moment → Type 0
 IsUnreadSaid name before after = (IsAbsent name before.held ⊎ Rose before.reads after.reads) × Says (line_of_read_fault name) before after
 
--- the call ended before a file was begun
-abbrev pub IsEarly : Purpose → List ℕ → Moment → Moment → Ended → Type 0
-IsEarly purpose name before after ended.Done = ⊥
-IsEarly purpose name before after ended.Words = ⊥
-IsEarly purpose name before after ended.Layout = IsFaultSaid purpose name before after
-IsEarly purpose name before after ended.Read = IsUnreadSaid name before after
-IsEarly purpose name before after ended.Write = ⊥
-IsEarly purpose name before after ended.Memory = after.written ≡ before.written
+-- the call ended before a layout without fault was read
+abbrev pub IsEarly : List ℕ → Moment → Moment → Ended → Type 0
+IsEarly name before after ended.Done = ⊥
+IsEarly name before after ended.Words = ⊥
+IsEarly name before after ended.Layout = IsFaultSaid name before after
+IsEarly name before after ended.Load = ⊥
+IsEarly name before after ended.Read = IsUnreadSaid name before after
+IsEarly name before after ended.Write = ⊥
+IsEarly name before after ended.Memory = after.written ≡ before.written
 
--- a file was made of a text, or a front of it was; the last two numbers count the failed writes
-abbrev pub IsFiled : List ℕ → List ℕ → Option Files → Option Files → ℕ → ℕ → Ended → Type 0
-IsFiled name text held now writes risen ended.Done = now ≡ put name text held
-IsFiled name text held now writes risen ended.Words = ⊥
-IsFiled name text held now writes risen ended.Layout = ⊥
-IsFiled name text held now writes risen ended.Read = ⊥
-IsFiled name text held now writes risen ended.Write = IsBroken name text held now × Rose writes risen
-IsFiled name text held now writes risen ended.Memory = IsBroken name text held now
+-- what is said of a load with a fault: nothing without memory
+abbrev pub IsFaultyEnd : List StationLine → ℕ → CaptureFault → Option (List ℕ) → Option (List ℕ) → ℕ → ℕ → Ended → Type 0
+IsFaultyEnd stations station fault written now refused risen ended.Load =
+    (name : List ℕ) × (option_map (λ s. s.name) (slice_get stations station) ≡ Some name) × IsSaid (line_of_load_fault name fault) written now refused risen
+IsFaultyEnd stations station fault written now refused risen ended.Memory = now ≡ written
+IsFaultyEnd stations station fault written now refused risen _ = ⊥
 
--- the log of a network's run was made, and then its file, or a front of it
-pub record IsLogged (network : Layout) (prefix : List ℕ) (held now : Option Files) (writes risen : ℕ) (e : Ended) : Type 0 where
-  pub text : List ℕ
-  pub log : IsLogOf network text
-  pub filed : IsFiled (name_of_log prefix) text held now writes risen e
+-- and of one that can't be read
+abbrev pub IsUnreadEnd : List StationLine → ℕ → Option (List ℕ) → Option (List ℕ) → ℕ → ℕ → Ended → Type 0
+IsUnreadEnd stations station written now refused risen ended.Read =
+    (name : List ℕ) × (load_of stations station ≡ Some name) × IsSaid (line_of_read_fault name) written now refused risen
+IsUnreadEnd stations station written now refused risen ended.Memory = now ≡ written
+IsUnreadEnd stations station written now refused risen _ = ⊥
 
--- the end of the run of a network
-abbrev pub IsRunEnd : Layout → List ℕ → Option Files → Option Files → ℕ → ℕ → Ended → Type 0
-IsRunEnd network prefix held now writes risen e = ((e ≡ ended.Memory) × (now ≡ held)) ⊎ IsLogged network prefix held now writes risen e
+-- the call ended before the network's loads, without fault, were read
+abbrev pub IsUnloadedSaid : Layout → Moment → Moment → Ended → Type 0
+IsUnloadedSaid network before after ended.Done = ⊥
+IsUnloadedSaid network before after ended.Words = ⊥
+IsUnloadedSaid network before after ended.Layout = ⊥
+IsUnloadedSaid network before after ended.Load = IsLoadFaultSaid network before after
+IsUnloadedSaid network before after ended.Read = IsLoadUnreadSaid network before after
+IsUnloadedSaid network before after ended.Write = ⊥
+IsUnloadedSaid network before after ended.Memory = after.written ≡ before.written
 
--- the layout has no fault, its network was run, and nothing was said
-pub record IsRun (layout prefix : List ℕ) (before after : Moment) (e : Ended) : Type 0 where
+-- so it did with the network of a layout without fault
+pub record IsUnloaded (layout : List ℕ) (before after : Moment) (e : Ended) : Type 0 where
   pub network : Layout
-  pub judged : IsJudged purposes.Run layout before.held (Ok network)
-  pub logged : IsLogged network prefix before.held after.held before.writes after.writes e
-  pub silent : after.written ≡ before.written
-
--- the end of the form plain LAYOUT PREFIX
-abbrev pub IsPlainEnd : List ℕ → List ℕ → Moment → Moment → Ended → Type 0
-IsPlainEnd layout prefix before after e = (IsEarly purposes.Run layout before after e × (after.held ≡ before.held)) ⊎ IsRun layout prefix before after e
+  pub judged : IsJudged layout before.held (Ok network)
+  pub said : IsUnloadedSaid network before after e
 
 -- a fixed text was written to the sink, or a front of it was; the last two numbers count the failed writes
 abbrev pub IsText : List ℕ → Option (List ℕ) → Option (List ℕ) → ℕ → ℕ → Ended → Type 0
 IsText text written now faults risen ended.Done = now ≡ added text written
 IsText text written now faults risen ended.Words = ⊥
 IsText text written now faults risen ended.Layout = ⊥
+IsText text written now faults risen ended.Load = ⊥
 IsText text written now faults risen ended.Read = ⊥
 IsText text written now faults risen ended.Write = IsCutShort text written now × Rose faults risen
 IsText text written now faults risen ended.Memory = IsCutShort text written now
 
+-- all files of a plan's run are whole; the summary was written, or a front of it
+abbrev pub AreFiled : List ℕ → Plan → Moment → Moment → Ended → Type 0
+AreFiled prefix plan before after e =
+    (after.held ≡ put_all (files_of prefix plan) before.held)
+    × ((text : List ℕ) × IsSummary plan text × IsText text before.written after.written before.faults after.faults e)
+
+-- a file could not be written, or there was no memory for it; nothing was said
+abbrev pub IsUnfiled : List ℕ → Plan → Moment → Moment → Ended → Type 0
+IsUnfiled prefix plan before after ended.Done = ⊥
+IsUnfiled prefix plan before after ended.Words = ⊥
+IsUnfiled prefix plan before after ended.Layout = ⊥
+IsUnfiled prefix plan before after ended.Load = ⊥
+IsUnfiled prefix plan before after ended.Read = ⊥
+IsUnfiled prefix plan before after ended.Write =
+    IsBrokenAmong (files_of prefix plan) before.held after.held × Rose before.writes after.writes × (after.written ≡ before.written)
+IsUnfiled prefix plan before after ended.Memory = IsBrokenAmong (files_of prefix plan) before.held after.held × (after.written ≡ before.written)
+
+-- a file could not be written: a write to the store failed, or there was no memory
+abbrev pub IsFileEnd : ℕ → ℕ → Ended → Type 0
+IsFileEnd writes risen ended.Write = Rose writes risen
+IsFileEnd writes risen ended.Memory = Unit {0}
+IsFileEnd writes risen _ = ⊥
+
+-- there was no memory for the run, before a file was begun
+abbrev pub IsUnrun : Moment → Moment → Ended → Type 0
+IsUnrun before after e = (e ≡ ended.Memory) × (after.held ≡ before.held) × (after.written ≡ before.written)
+
+-- the files of a plan's run were written, or some of them
+abbrev pub IsFiledEnd : List ℕ → Plan → Moment → Moment → Ended → Type 0
+IsFiledEnd prefix plan before after e = AreFiled prefix plan before after e ⊎ IsUnfiled prefix plan before after e
+
+-- the end of the run of a network with these loads
+abbrev pub IsRunEnd : Layout → List (List Record) → List ℕ → Moment → Moment → Ended → Type 0
+IsRunEnd network loads prefix before after e =
+    IsUnrun before after e ⊎ ((plan : Plan) × IsMadeOf network loads plan × IsFiledEnd prefix plan before after e)
+
+-- the layout and its loads have no fault, and its network was run
+pub record IsRun (layout prefix : List ℕ) (before after : Moment) (e : Ended) : Type 0 where
+  pub network : Layout
+  pub judged : IsJudged layout before.held (Ok network)
+  pub plan : Plan
+  pub planned : IsPlanOf before.held network plan
+  pub filed : IsFiledEnd prefix plan before after e
+
+-- the end of the form plain LAYOUT PREFIX
+abbrev pub IsPlainEnd : List ℕ → List ℕ → Moment → Moment → Ended → Type 0
+IsPlainEnd layout prefix before after e =
+    (IsEarly layout before after e × (after.held ≡ before.held))
+    ⊎ (IsUnloaded layout before after e × (after.held ≡ before.held))
+    ⊎ IsUnrun before after e
+    ⊎ IsRun layout prefix before after e
+
 -- the layout has no fault, and the line of its path verdict was written, or a front of it
 pub record IsChecked (layout : List ℕ) (before after : Moment) (e : Ended) : Type 0 where
   pub network : Layout
-  pub judged : IsJudged purposes.Check layout before.held (Ok network)
+  pub judged : IsJudged layout before.held (Ok network)
   pub line : List ℕ
   pub verdict : IsVerdictLine network line
   pub written : IsText line before.written after.written before.faults after.faults e
 
 -- the end of the form check LAYOUT
 abbrev pub IsCheckEnd : List ℕ → Moment → Moment → Ended → Type 0
-IsCheckEnd layout before after e = (after.held ≡ before.held) × (IsEarly purposes.Check layout before after e ⊎ IsChecked layout before after e)
+IsCheckEnd layout before after e = (after.held ≡ before.held) × (IsEarly layout before after e ⊎ IsChecked layout before after e)
 
 -- the end of a form that writes a fixed text
 abbrev pub IsTextEnd : List ℕ → Moment → Moment → Ended → Type 0
@@ -127,6 +200,7 @@ abbrev pub status_of : Ended → ℕ
 status_of ended.Done = 0
 status_of ended.Words = 1
 status_of ended.Layout = 2
+status_of ended.Load = 3
 status_of ended.Read = 4
 status_of ended.Write = 5
 status_of ended.Memory = 6

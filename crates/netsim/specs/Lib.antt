@@ -1,9 +1,7 @@
 pub mod Reading
 pub mod Requests
-pub mod Forms
-pub mod Judging
 pub mod Texts
 pub mod Verdicts
-pub mod Logs
+pub mod Runs
 pub mod Ended
 pub mod Statuses

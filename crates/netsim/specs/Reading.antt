@@ -1,6 +1,7 @@
 -- What is read of a file, and what is written of a text.
-use Rattle.std.specs.Prelude.{◌≡◌, ◌⊎◌, ◌↔◌, ℕ, ◌+◌, ◌-◌, ◌≤◌, List, [], ◌++◌, take, drop, length, Option, None, Some, option_map}
+use Rattle.std.specs.Prelude.{◌≡◌, ◌⊎◌, ◌↔◌, ℕ, ◌+◌, ◌-◌, ◌≤◌, List, [], ◌∷◌, ◌++◌, take, drop, length, Option, None, Some, option_map}
 use Rattle.outside.specs.Files.{Files, file_of, with_file, Rose}
+use Rattle.outside.specs.declared.memory.File.{File}
 
 -- the file's octets, up to one past a limit
 unfoldable pub front_of : ℕ → List ℕ → Files → Option (List ℕ)
@@ -37,6 +38,17 @@ put name text held = option_map (with_file name text) held
 -- after a refusal: the file is as it was, or a front of its text
 abbrev pub IsBroken : List ℕ → List ℕ → Option Files → Option Files → Type 0
 IsBroken name text before now = (now ≡ before) ⊎ ((k : ℕ) × (now ≡ put name (take k text) before))
+
+-- the store's files, where each of these, one after the other, has its text
+abbrev pub put_all : List File → Option Files → Option Files
+put_all [] held = held
+put_all (f ∷ fs) held = put_all fs (put f.name f.octets held)
+
+-- after a refusal in the midst of these files: those before one of them are whole, that one is as it was or a front of its
+-- text, and later ones are untouched
+abbrev pub IsBrokenAmong : List File → Option Files → Option Files → Type 0
+IsBrokenAmong [] before now = now ≡ before
+IsBrokenAmong (f ∷ fs) before now = IsBroken f.name f.octets before now ⊎ IsBrokenAmong fs (put f.name f.octets before) now
 
 -- a front of a line was written, and less than all of it only where the sink refused
 abbrev pub IsSaid : List ℕ → Option (List ℕ) → Option (List ℕ) → ℕ → ℕ → Type 0

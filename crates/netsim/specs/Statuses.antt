@@ -1,33 +1,41 @@
 -- What each status of the program says (profile).
-use Rattle.std.specs.Prelude.{◌≡◌, ◌⊎◌, ℕ, List, Option, None, Some, Result, Ok, Err}
+use Rattle.std.specs.Prelude.{◌≡◌, ◌⊎◌, ℕ, List, Option, None, Some, option_map, slice_get, Result, Ok, Err}
+use Rattle.capture_file.specs.declared.fault.CaptureFault.{CaptureFault}
 use Rattle.outside.specs.Files.{Files, IsAbsent, Rose}
 use Rattle.layout_file.specs.declared.layout.Layout.{Layout}
-use Rattle.layout_file.specs.declared.fault.LayoutFault.{LayoutFault}
-use Rattle.netsim.specs.Ended.{IsJudged, HasFault}
-use Rattle.netsim.specs.Logs.{IsLogOf}
-use Rattle.netsim.specs.Reading.{put, added, IsBroken, IsSaid, IsCutShort}
+use Rattle.load_files.specs.Loaded.{IsLoaded, IsFirstAbsent, Faulty, load_of}
+use Rattle.load_plan.specs.declared.plan.Plan.{Plan}
+use Rattle.netsim.specs.Ended.{IsJudged}
+use Rattle.netsim.specs.Reading.{put_all, added, IsBrokenAmong, IsCutShort}
 use Rattle.netsim.specs.Requests.{Asked, Check, Plain, Help, Version}
-use Rattle.netsim.specs.Texts.{line_of_fault, line_of_read_fault, name_of_log}
+use Rattle.netsim.specs.Runs.{IsPlanOf, files_of, IsSummary}
+use Rattle.netsim.specs.Texts.{line_of_load_fault}
 use Rattle.netsim.specs.Verdicts.{IsVerdictLine}
-use Rattle.netsim.specs.declared.judge.Purpose.{Purpose}
-use Rattle.netsim.specs.declared.judge.Purpose.TheVariants as purposes
 use Rattle.netsim.specs.declared.texts.TheConstants.{HELP, VERSION}
 
--- the words name a layout, and this holds of what it is read for and of its name
-abbrev pub IsLayoutWith : Option Asked → (Purpose → List ℕ → Type 0) → Type 0
-IsLayoutWith (Some (Check layout)) P = P purposes.Check layout
-IsLayoutWith (Some (Plain layout prefix)) P = P purposes.Run layout
+-- the words name a layout, and this holds of its name
+abbrev pub IsLayoutWith : Option Asked → (List ℕ → Type 0) → Type 0
+IsLayoutWith (Some (Check layout)) P = P layout
+IsLayoutWith (Some (Plain layout prefix)) P = P layout
 IsLayoutWith (Some Help) P = ⊥
 IsLayoutWith (Some Version) P = ⊥
 IsLayoutWith None P = ⊥
 
--- if the words name a layout, this holds of what it is read for and of its name
-abbrev pub IfLayout : Option Asked → (Purpose → List ℕ → Type 0) → Type 0
-IfLayout (Some (Check layout)) P = P purposes.Check layout
-IfLayout (Some (Plain layout prefix)) P = P purposes.Run layout
+-- if the words name a layout, this holds of its name
+abbrev pub IfLayout : Option Asked → (List ℕ → Type 0) → Type 0
+IfLayout (Some (Check layout)) P = P layout
+IfLayout (Some (Plain layout prefix)) P = P layout
 IfLayout (Some Help) P = Unit {0}
 IfLayout (Some Version) P = Unit {0}
 IfLayout None P = Unit {0}
+
+-- the words are plain LAYOUT PREFIX, and this holds of the two names
+abbrev pub IsPlainWith : Option Asked → (List ℕ → List ℕ → Type 0) → Type 0
+IsPlainWith (Some (Check layout)) P = ⊥
+IsPlainWith (Some (Plain layout prefix)) P = P layout prefix
+IsPlainWith (Some Help) P = ⊥
+IsPlainWith (Some Version) P = ⊥
+IsPlainWith None P = ⊥
 
 -- if the words are check LAYOUT, this holds of the name
 abbrev pub IfCheck : Option Asked → (List ℕ → Type 0) → Type 0
@@ -55,36 +63,84 @@ IfText None P = Unit {0}
 
 -- the statuses of a call that begins no file and writes its line alone
 abbrev pub IsRefusal : ℕ → Type 0
-IsRefusal status = (status ≡ 1) ⊎ (status ≡ 2) ⊎ (status ≡ 4)
+IsRefusal status = (status ≡ 1) ⊎ (status ≡ 2) ⊎ (status ≡ 3) ⊎ (status ≡ 4)
 
 -- the statuses of a call that the outside didn't hinder; 6 is want of memory
 abbrev pub IsDoneOrMemory : ℕ → Type 0
 IsDoneOrMemory status = (status ≡ 0) ⊎ (status ≡ 6)
 
--- the statuses of a layout with a fault: 4 only where a read failed, 6 for want of memory
-abbrev pub IsFaultStatus : ℕ → ℕ → ℕ → Type 0
-IsFaultStatus status reads risen = (status ≡ 2) ⊎ (status ≡ 6) ⊎ ((status ≡ 4) × Rose reads risen)
+-- the statuses where there is a fault that has this status: 4 only where a read failed, 6 for want of memory
+abbrev pub IsFaultStatus : ℕ → ℕ → ℕ → ℕ → Type 0
+IsFaultStatus fault status reads risen = (status ≡ fault) ⊎ (status ≡ 6) ⊎ ((status ≡ 4) × Rose reads risen)
 
--- the layout held at entry has no fault, and this holds of the log of its network's run
-pub record IsLogWith (layout : List ℕ) (held : Option Files) (P : List ℕ → Type 0) : Type 0 where
+-- the layout held at entry has no fault, and this holds of its network
+abbrev pub IsNetworkWith : List ℕ → Option Files → (Layout → Type 0) → Type 0
+IsNetworkWith layout held P = (network : Layout) × IsJudged layout held (Ok network) × P network
+
+-- the load of this station, numbered from 0, is the first of the layout's loads with a fault
+abbrev pub HasLoadFault : List ℕ → Option Files → ℕ → CaptureFault → Type 0
+HasLoadFault layout held station fault = IsNetworkWith layout held (λ network. IsLoaded held network.stations (Faulty station fault))
+
+-- and this holds of the line of the fault
+pub record IsLoadFaultLine (layout : List ℕ) (held : Option Files) (P : List ℕ → Type 0) : Type 0 where
   pub network : Layout
-  pub judged : IsJudged purposes.Run layout held (Ok network)
-  pub text : List ℕ
-  pub log : IsLogOf network text
-  pub holds : P text
+  pub judged : IsJudged layout held (Ok network)
+  pub station : ℕ
+  pub fault : CaptureFault
+  pub loaded : IsLoaded held network.stations (Faulty station fault)
+  pub name : List ℕ
+  pub named : option_map (λ s. s.name) (slice_get network.stations station) ≡ Some name
+  pub holds : P (line_of_load_fault name fault)
 
--- the log of the layout's run is whole in its file, and every other file is as before
-abbrev pub IsLogHeld : List ℕ → List ℕ → Option Files → Option Files → Type 0
-IsLogHeld layout prefix held now = IsLogWith layout held (λ text. now ≡ put (name_of_log prefix) text held)
+-- this is the name of the first load of the layout that isn't held, no load before it having a fault
+abbrev pub HasAbsentLoad : List ℕ → Option Files → List ℕ → Type 0
+HasAbsentLoad layout held name = IsNetworkWith layout held (λ network. IsFirstAbsent held network.stations name)
 
--- the log's file is as it was or a front of the log, and every other file is as before
-abbrev pub IsLogBroken : List ℕ → List ℕ → Option Files → Option Files → Type 0
-IsLogBroken layout prefix held now = IsLogWith layout held (λ text. IsBroken (name_of_log prefix) text held now)
+-- this is the name of a load of the layout that is the first that isn't held, or a read failed
+pub record IsLoadUnread (layout : List ℕ) (held : Option Files) (reads risen : ℕ) (name : List ℕ) : Type 0 where
+  pub network : Layout
+  pub judged : IsJudged layout held (Ok network)
+  pub station : ℕ
+  pub named : load_of network.stations station ≡ Some name
+  pub unread : IsFirstAbsent held network.stations name ⊎ Rose reads risen
+
+-- a file to be read, which is the layout or, for a run, one of its loads, isn't held or a read failed; this holds of its name
+abbrev pub IsReadFault : Option Asked → Option Files → ℕ → ℕ → (List ℕ → Type 0) → Type 0
+IsReadFault (Some (Check layout)) held reads risen P = (IsAbsent layout held ⊎ Rose reads risen) × P layout
+IsReadFault (Some (Plain layout prefix)) held reads risen P =
+    ((IsAbsent layout held ⊎ Rose reads risen) × P layout) ⊎ ((name : List ℕ) × IsLoadUnread layout held reads risen name × P name)
+IsReadFault (Some Help) held reads risen P = ⊥
+IsReadFault (Some Version) held reads risen P = ⊥
+IsReadFault None held reads risen P = ⊥
+
+-- the layout and its loads held at entry have no fault, and this holds of their plan
+pub record IsPlanWith (layout : List ℕ) (held : Option Files) (P : Plan → Type 0) : Type 0 where
+  pub network : Layout
+  pub judged : IsJudged layout held (Ok network)
+  pub plan : Plan
+  pub planned : IsPlanOf held network plan
+  pub holds : P plan
+
+-- the files of the run are whole, every other file is as before, and the sink got the run's summary
+abbrev pub IsRunHeld : List ℕ → List ℕ → Option Files → Option Files → Option (List ℕ) → Option (List ℕ) → Type 0
+IsRunHeld layout prefix held now written said =
+    IsPlanWith layout held (λ plan. (now ≡ put_all (files_of prefix plan) held) × ((text : List ℕ) × IsSummary plan text × (said ≡ added text written)))
+
+-- the files of the run before one of them are whole, that one is as it was or a front of its text, every other file is as
+-- before, and nothing was said; or all are whole, and the sink got a front of the summary
+abbrev pub IsRunBroken : List ℕ → List ℕ → Option Files → Option Files → Option (List ℕ) → Option (List ℕ) → Type 0
+IsRunBroken layout prefix held now written said =
+    IsPlanWith layout held (λ plan. (IsBrokenAmong (files_of prefix plan) held now × (said ≡ written))
+        ⊎ ((now ≡ put_all (files_of prefix plan) held) × ((text : List ℕ) × IsSummary plan text × IsCutShort text written said)))
+
+-- all files of the run are whole
+abbrev pub AreRunFilesHeld : List ℕ → List ℕ → Option Files → Option Files → Type 0
+AreRunFilesHeld layout prefix held now = IsPlanWith layout held (λ plan. now ≡ put_all (files_of prefix plan) held)
 
 -- the layout held at entry has no fault, and this holds of the line of its path verdict
 pub record IsVerdictWith (layout : List ℕ) (held : Option Files) (P : List ℕ → Type 0) : Type 0 where
   pub network : Layout
-  pub judged : IsJudged purposes.Check layout held (Ok network)
+  pub judged : IsJudged layout held (Ok network)
   pub line : List ℕ
   pub verdict : IsVerdictLine network line
   pub holds : P line

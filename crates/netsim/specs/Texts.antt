@@ -2,6 +2,8 @@
 use Rattle.std.specs.Prelude.{ℕ, List, ◌++◌, codes, decimal}
 use Rattle.layout_file.specs.declared.fault.LayoutFault.{LayoutFault}
 use Rattle.layout_file.specs.declared.fault.Place.{Place}
+use Rattle.capture_file.specs.Names.{code_of, name_of, number_of}
+use Rattle.capture_file.specs.declared.fault.CaptureFault.{CaptureFault}
 use Rattle.layout_file.specs.Names.{name_of_table, name_of_key, number_of_code, name_of_code}
 
 -- the line of words that are none of the forms
@@ -21,6 +23,19 @@ line_of_fault fault =
 -- the line of a file that can't be read
 unfoldable pub line_of_read_fault : List ℕ → List ℕ
 line_of_read_fault name = codes "read fault " ++ name ++ codes "\n"
+
+-- the line of a load with a fault, of the station with this name; records from 1, or 0 for none
+unfoldable pub line_of_load_fault : List ℕ → CaptureFault → List ℕ
+line_of_load_fault name fault =
+    codes "capture fault " ++ decimal (code_of fault) ++ codes " " ++ name_of fault ++ codes " station " ++ name ++ codes " record " ++ decimal (number_of fault) ++ codes "\n"
+
+-- the counters of a prefix
+unfoldable pub name_of_counters : List ℕ → List ℕ
+name_of_counters prefix = prefix ++ codes ".counters"
+
+-- the capture of a prefix and a station with this name
+unfoldable pub name_of_capture : List ℕ → List ℕ → List ℕ
+name_of_capture prefix name = prefix ++ codes "." ++ name ++ codes ".pcap"
 
 -- the log of a prefix
 unfoldable pub name_of_log : List ℕ → List ℕ

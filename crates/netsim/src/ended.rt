@@ -10,7 +10,9 @@ pub enum Ended {
     Words,
     /// The layout has a fault.
     Layout,
-    /// The layout isn't held, or a read failed.
+    /// A load has a fault.
+    Load,
+    /// The layout or a load isn't held, or a read failed.
     Read,
     /// A write failed.
     Write,

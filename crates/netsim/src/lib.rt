@@ -4,18 +4,21 @@
 mod check;
 mod ended;
 mod files;
-mod form;
 mod judge;
-mod log;
+mod loads;
+mod outputs;
 mod plain;
 mod run;
 mod said;
 mod texts;
+mod verdict;
 mod words;
 
 pub use ended::Ended;
 pub use run::{netsim, run_words};
 pub use words::Words;
 
+#[cfg(test)]
+mod loaded;
 #[cfg(test)]
 mod tests;

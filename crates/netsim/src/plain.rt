@@ -1,48 +1,96 @@
 //! The form that runs a network by half bits.
-ghost use Rattle.std.specs.Prelude.{◌≡◌, IfOk, IsTrue, string_bytes};
-ghost use Rattle.netsim.specs.Ended.{IsRunEnd, IsPlainEnd};
-ghost use Rattle.netsim.specs.Forms.{is_first_form};
-ghost use Rattle.netsim.specs.Logs.{IsLogOf};
-ghost use Rattle.netsim.specs.Texts.{name_of_log};
+ghost use Rattle.std.specs.Prelude.{◌≡◌, ◌≤◌, length, All, IfOk};
+ghost use Rattle.layout_file.specs.Sound.{IsSound};
+ghost use Rattle.load_plan.specs.Loads.{planned_queues, planned_skips};
+ghost use Rattle.net_step.specs.Outputs.{captures, rows};
+ghost use Rattle.netsim.specs.Ended.{IsPlainEnd, IsRunEnd};
+ghost use Rattle.netsim.specs.Runs.{IsMadeOf, IsSummary};
 
 use crate::ended::Ended;
-use crate::files::write_file;
-use crate::judge::{Purpose, read_network};
-use crate::log::log_of;
-use crate::texts::name_of_log;
+use crate::judge::read_network;
+use crate::loads::read_network_loads;
+use crate::outputs::file_outputs;
+use crate::said::write_line;
+use crate::verdict::verdict_line;
 use layout_file::Layout;
 use lists::{List, OutOfMemory};
-use outside::{Sink, Store, StoreFail};
+use load_plan::{Plan, RecordsList, make_plan};
+use net_step::{Outputs, run_plain};
+use outside::{Sink, Store};
+use run_texts::laws::{captures_are_short, frames_are_left};
+use run_texts::totals_of_rows;
 use std::alloc::Global;
 
-/// Makes the log of a layout's run, with its name.
-fn make_log(alloc: Global, layout: Layout, prefix: &str) -> Result<(String, List<u8>), OutOfMemory>
-    requires { IsTrue (is_first_form layout) }
-    ensures name { IfOk result (λ log. string_bytes log.0 ≡ name_of_log prefix.now) }
-    ensures text { IfOk result (λ log. IsLogOf layout log.1) }
-{
-    let name = name_of_log(alloc, prefix)?;
-    let text = log_of(alloc, layout)?;
-    Ok((name, text))
+/// A network's run: its plan, what it gave, and its summary.
+#[derive(Debug, Drop)]
+struct Run {
+    plan: Plan,
+    outputs: Outputs,
+    summary: List<u8>,
 }
 
-/// Runs the network of a layout and writes its log.
-fn run_network<S: Store>(alloc: Global, layout: Layout, prefix: &str, store: &mut S) -> Ended
-    requires { IsTrue (is_first_form layout) }
-    ensures { IsRunEnd layout prefix.now (S.held store.old) (S.held store.new) (S.write_faults store.old) (S.write_faults store.new) result }
+/// The summary of a plan's run.
+fn summary_of(alloc: Global, plan: &Plan, outputs: &Outputs) -> Result<List<u8>, OutOfMemory>
+    requires sound { IsSound plan.now.layout }
+    requires rows { outputs.now.rows ≡ rows plan.now }
+    ensures { IfOk result (λ text. IsSummary plan.now text) }
 {
-    let (name, text) = match make_log(alloc, layout, prefix) {
-        Ok(log) => log,
+    let mut text = verdict_line(alloc, &plan.layout)?;
+    let totals = totals_of_rows(alloc, plan, outputs.rows.as_slice())?;
+    text.extend(totals.as_slice())?;
+    Ok(text)
+}
+
+/// Runs a network with these loads.
+fn run_of(alloc: Global, network: Layout, loads: RecordsList) -> Result<Run, OutOfMemory>
+    requires sound { IsSound network }
+    requires loads { length loads ≡ length network.stations }
+    requires few { All (λ rs. length rs ≤ 4194304) loads }
+    ensures plan { IfOk result (λ run. IsMadeOf network loads run.plan) }
+    ensures rows { IfOk result (λ run. run.outputs.rows ≡ rows run.plan) }
+    ensures captures { IfOk result (λ run. run.outputs.captures ≡ captures run.plan) }
+    ensures summary { IfOk result (λ run. IsSummary run.plan run.summary) }
+{
+    let plan = make_plan(alloc, network, loads)?;
+    let outputs = run_plain(alloc, &plan)?;
+    let summary = summary_of(alloc, &plan, &outputs)?;
+    Ok(Run {
+        plan,
+        outputs,
+        summary,
+    })
+}
+
+/// Runs a network with these loads, writes the files of a prefix, and then the summary.
+fn run_network<S: Store, K: Sink>(
+    alloc: Global,
+    network: Layout,
+    loads: RecordsList,
+    prefix: &str,
+    store: &mut S,
+    out: &mut K,
+) -> Ended
+    requires sound { IsSound network }
+    requires loads { length loads ≡ length network.stations }
+    requires few { All (λ rs. length rs ≤ 4194304) loads }
+    ensures { IsRunEnd network loads prefix.now
+        (record { held = S.held store.old; reads = S.read_faults store.old; writes = S.write_faults store.old; written = K.written out.old; faults = K.faults out.old; refused = K.refused out.old })
+        (record { held = S.held store.new; reads = S.read_faults store.new; writes = S.write_faults store.new; written = K.written out.new; faults = K.faults out.new; refused = K.refused out.new })
+        result }
+{
+    let run = match run_of(alloc, network, loads) {
+        Ok(run) => run,
         Err(OutOfMemory) => return Ended::Memory,
     };
-    match write_file(store, name.as_str(), text.as_slice()) {
-        Ok(()) => Ended::Done,
-        Err(StoreFail::OutOfMemory) => Ended::Memory,
-        Err(_) => Ended::Write,
+    frames_are_left(&run.plan);
+    captures_are_short(&run.plan);
+    match file_outputs(alloc, &run.plan, &run.outputs, prefix, store) {
+        Ok(()) => write_line(out, run.summary.as_slice()),
+        Err(ended) => ended,
     }
 }
 
-/// Runs the network of a layout file by half bits, and writes the files of a prefix.
+/// Runs the network of a layout file and its loads by half bits, writes the files of a prefix, and says the summary.
 pub(crate) fn plain<S: Store, K: Sink>(
     alloc: Global,
     layout: &str,
@@ -55,8 +103,12 @@ pub(crate) fn plain<S: Store, K: Sink>(
         (record { held = S.held store.new; reads = S.read_faults store.new; writes = S.write_faults store.new; written = K.written out.new; faults = K.faults out.new; refused = K.refused out.new })
         result }
 {
-    match read_network(alloc, Purpose::Run, layout, store, out) {
-        Ok(network) => run_network(alloc, network, prefix, store),
+    let network = match read_network(alloc, layout, store, out) {
+        Ok(network) => network,
+        Err(ended) => return ended,
+    };
+    match read_network_loads(alloc, &network, store, out) {
+        Ok(loads) => run_network(alloc, network, loads, prefix, store, out),
         Err(ended) => ended,
     }
 }

@@ -1,7 +1,8 @@
 //! The fixed texts, the lines of faults, and the names of the files that are written.
 ghost use Rattle.std.specs.Prelude.{◌≡◌, ◌++◌, IfOk, OnOk, decimal, string_bytes};
-ghost use Rattle.netsim.specs.Texts.{line_of_fault, line_of_read_fault, name_of_log, text_of_place};
+ghost use Rattle.netsim.specs.Texts.{line_of_fault, line_of_load_fault, line_of_read_fault, name_of_capture, name_of_counters, name_of_log, text_of_place};
 
+use capture_file::CaptureFault;
 use layout_file::{LayoutFault, Place};
 use lists::{List, OutOfMemory, Text};
 use std::alloc::Global;
@@ -11,7 +12,7 @@ pub const WORDS_FAULT: &str = "words fault\n";
 
 /// What the program is called with.
 pub const HELP: &str =
-    "netsim check LAYOUT: writes whether the worst round trip of LAYOUT is within the slot time\nnetsim plain LAYOUT PREFIX: runs the network of LAYOUT by half bits and writes PREFIX.log\nnetsim --help: writes this text\nnetsim --version: writes the name and the version\n";
+    "netsim check LAYOUT: writes whether the worst round trip of LAYOUT is within the slot time\nnetsim plain LAYOUT PREFIX: runs the network of LAYOUT by half bits and writes PREFIX.log, PREFIX.counters and a capture PREFIX.STATION.pcap for each station\nnetsim --help: writes this text\nnetsim --version: writes the name and the version\n";
 
 /// The program's name and version.
 pub const VERSION: &str = "netsim 0.1.0\n";
@@ -66,6 +67,28 @@ pub(crate) fn line_of_read_fault(alloc: Global, name: &str) -> Result<List<u8>, 
     Ok(line)
 }
 
+/// What is said of a load with a fault, of the station with this name.
+#[tactic(auto, unfolding(crate::specs::Texts::line_of_load_fault))]
+pub(crate) fn line_of_load_fault(
+    alloc: Global,
+    name: &str,
+    fault: &CaptureFault,
+) -> Result<List<u8>, OutOfMemory>
+    ensures { IfOk result (λ line. line ≡ line_of_load_fault name.now fault.now) }
+{
+    let mut line = List::new(alloc);
+    line.extend(b"capture fault ")?;
+    add_number(&mut line, fault.code())?;
+    line.extend(b" ")?;
+    line.extend(fault.name().as_bytes())?;
+    line.extend(b" station ")?;
+    line.extend(name.as_bytes())?;
+    line.extend(b" record ")?;
+    add_number(&mut line, fault.number())?;
+    line.extend(b"\n")?;
+    Ok(line)
+}
+
 /// The name of the log of a prefix.
 #[tactic(auto, unfolding(crate::specs::Texts::name_of_log))]
 pub(crate) fn name_of_log(alloc: Global, prefix: &str) -> Result<String, OutOfMemory>
@@ -73,5 +96,31 @@ pub(crate) fn name_of_log(alloc: Global, prefix: &str) -> Result<String, OutOfMe
 {
     let mut name = String::from_str(alloc, prefix)?;
     name.push_str(".log")?;
+    Ok(name)
+}
+
+/// The name of the counters of a prefix.
+#[tactic(auto, unfolding(crate::specs::Texts::name_of_counters))]
+pub(crate) fn name_of_counters(alloc: Global, prefix: &str) -> Result<String, OutOfMemory>
+    ensures { IfOk result (λ name. string_bytes name ≡ name_of_counters prefix.now) }
+{
+    let mut name = String::from_str(alloc, prefix)?;
+    name.push_str(".counters")?;
+    Ok(name)
+}
+
+/// The name of the capture of a prefix and a station.
+#[tactic(auto, unfolding(crate::specs::Texts::name_of_capture))]
+pub(crate) fn name_of_capture(
+    alloc: Global,
+    prefix: &str,
+    station: &str,
+) -> Result<String, OutOfMemory>
+    ensures { IfOk result (λ name. string_bytes name ≡ name_of_capture prefix.now station.now) }
+{
+    let mut name = String::from_str(alloc, prefix)?;
+    name.push_str(".")?;
+    name.push_str(station)?;
+    name.push_str(".pcap")?;
     Ok(name)
 }

@@ -1,0 +1,180 @@
+-- What a call of a run leaves, by its end.
+use Rattle.std.proofs.Common.{◌≡◌, ◌⊎◌, ℕ, Option, None, Some, Result, Ok, Err, List, refl, ap, inl, inr}
+use Rattle.outside.specs.Files.{Files, IsAbsent, Rose}
+use Rattle.load_plan.specs.declared.plan.Plan.{Plan}
+use Rattle.netsim.specs.declared.ended.Ended.{Ended}
+use Rattle.netsim.specs.declared.ended.Ended.TheVariants as ended
+use Rattle.netsim.specs.Ended.{Moment, IsEndOf, IsFiledEnd, IsPlainEnd, IsRun, IsUnrun}
+use Rattle.netsim.specs.Reading.{IsSaid}
+use Rattle.netsim.specs.Requests.{Asked, Check, Plain, Help, Version}
+use Rattle.netsim.specs.Statuses.{IfPlain, IsPlainWith, IsLoadFaultLine, IsReadFault, IsRunHeld, IsRunBroken, AreRunFilesHeld}
+use Rattle.netsim.specs.Texts.{line_of_read_fault}
+
+never_unrun : (X : Type 0) (before after : Moment) (e : Ended) → (e ≡ ended.Memory → ⊥) → IsUnrun before after e → X
+never_unrun X before after e never unrun = absurd (never unrun.0)
+
+-- a run was done
+run_done : (layout prefix : List ℕ) (before after : Moment) → IsPlainEnd layout prefix before after ended.Done → IsRun layout prefix before after ended.Done
+run_done layout prefix before after h =
+    elim h [
+      | inl early ↦ absurd early.0
+      | inr later ↦ elim later [
+        | inl unloaded ↦ absurd unloaded.0.said
+        | inr on ↦ elim on [ inl unrun ↦ never_unrun _ before after ended.Done (λ e. cc) unrun | inr run ↦ run ]
+      ]
+    ]
+
+run_written : (layout prefix : List ℕ) (before after : Moment) → IsPlainEnd layout prefix before after ended.Write → IsRun layout prefix before after ended.Write
+run_written layout prefix before after h =
+    elim h [
+      | inl early ↦ absurd early.0
+      | inr later ↦ elim later [
+        | inl unloaded ↦ absurd unloaded.0.said
+        | inr on ↦ elim on [ inl unrun ↦ never_unrun _ before after ended.Write (λ e. cc) unrun | inr run ↦ run ]
+      ]
+    ]
+
+held_of : (layout prefix : List ℕ) (before after : Moment) → IsRun layout prefix before after ended.Done → IsRunHeld layout prefix before.held after.held before.written after.written
+held_of layout prefix before after run =
+    elim run.filed [
+      | inl all ↦ record { network = run.network; judged = run.judged; plan = run.plan; planned = run.planned; holds = (all.0, all.1.0, all.1.1, all.1.2) }
+      | inr some ↦ absurd some
+    ]
+
+pub done : (o : Option Asked) (before after : Moment) → IsEndOf o before after ended.Done → IfPlain o (λ layout prefix. IsRunHeld layout prefix before.held after.held before.written after.written)
+done None before after h = tt
+done (Some Help) before after h = tt
+done (Some Version) before after h = tt
+done (Some (Check layout)) before after h = tt
+done (Some (Plain layout prefix)) before after h = held_of layout prefix before after (run_done layout prefix before after h)
+
+broken_of : (layout prefix : List ℕ) (before after : Moment) → IsRun layout prefix before after ended.Write → IsRunBroken layout prefix before.held after.held before.written after.written
+broken_of layout prefix before after run =
+    elim run.filed [
+      | inl all ↦ record { network = run.network; judged = run.judged; plan = run.plan; planned = run.planned; holds = inr (all.0, all.1.0, all.1.1, all.1.2.0) }
+      | inr some ↦ record { network = run.network; judged = run.judged; plan = run.plan; planned = run.planned; holds = inl (some.0, some.2) }
+    ]
+
+pub broken : (o : Option Asked) (before after : Moment) → IsEndOf o before after ended.Write → IfPlain o (λ layout prefix. IsRunBroken layout prefix before.held after.held before.written after.written)
+broken None before after h = tt
+broken (Some Help) before after h = tt
+broken (Some Version) before after h = tt
+broken (Some (Check layout)) before after h = tt
+broken (Some (Plain layout prefix)) before after h = broken_of layout prefix before after (run_written layout prefix before after h)
+
+pub write : (o : Option Asked) (before after : Moment) → IsEndOf o before after ended.Write → IfPlain o (λ layout prefix. Rose before.writes after.writes ⊎ Rose before.faults after.faults)
+write None before after h = tt
+write (Some Help) before after h = tt
+write (Some Version) before after h = tt
+write (Some (Check layout)) before after h = tt
+write (Some (Plain layout prefix)) before after h =
+    let run : IsRun layout prefix before after ended.Write = run_written layout prefix before after h in
+    elim run.filed [ inl all ↦ inr all.1.2.1 | inr some ↦ inl some.1 ]
+
+pub write_files : (o : Option Asked) (before after : Moment) → IsEndOf o before after ended.Write → ¬ Rose before.writes after.writes → IfPlain o (λ layout prefix. AreRunFilesHeld layout prefix before.held after.held)
+write_files None before after h never = tt
+write_files (Some Help) before after h never = tt
+write_files (Some Version) before after h never = tt
+write_files (Some (Check layout)) before after h never = tt
+write_files (Some (Plain layout prefix)) before after h never =
+    let run : IsRun layout prefix before after ended.Write = run_written layout prefix before after h in
+    elim run.filed [
+      | inl all ↦ record { network = run.network; judged = run.judged; plan = run.plan; planned = run.planned; holds = all.0 }
+      | inr some ↦ absurd (never some.1)
+    ]
+
+pub write_silent : (o : Option Asked) (before after : Moment) → IsEndOf o before after ended.Write → ¬ Rose before.faults after.faults → IfPlain o (λ layout prefix. after.written ≡ before.written)
+write_silent None before after h never = tt
+write_silent (Some Help) before after h never = tt
+write_silent (Some Version) before after h never = tt
+write_silent (Some (Check layout)) before after h never = tt
+write_silent (Some (Plain layout prefix)) before after h never =
+    let run : IsRun layout prefix before after ended.Write = run_written layout prefix before after h in
+    elim run.filed [ inl all ↦ absurd (never all.1.2.1) | inr some ↦ some.2 ]
+
+refused_of : (layout prefix : List ℕ) (before after : Moment) → IsRun layout prefix before after ended.Memory → IsRunBroken layout prefix before.held after.held before.written after.written
+refused_of layout prefix before after run =
+    elim run.filed [
+      | inl all ↦ record { network = run.network; judged = run.judged; plan = run.plan; planned = run.planned; holds = inr (all.0, all.1.0, all.1.1, all.1.2) }
+      | inr some ↦ record { network = run.network; judged = run.judged; plan = run.plan; planned = run.planned; holds = inl (some.0, some.1) }
+    ]
+
+pub memory : (o : Option Asked) (before after : Moment) → IsEndOf o before after ended.Memory
+    → IfPlain o (λ layout prefix. ((after.held ≡ before.held) × (after.written ≡ before.written)) ⊎ IsRunBroken layout prefix before.held after.held before.written after.written)
+memory None before after h = tt
+memory (Some Help) before after h = tt
+memory (Some Version) before after h = tt
+memory (Some (Check layout)) before after h = tt
+memory (Some (Plain layout prefix)) before after h =
+    elim h [
+      | inl early ↦ inl (early.1, early.0)
+      | inr later ↦ elim later [
+        | inl unloaded ↦ inl (unloaded.1, unloaded.0.said)
+        | inr on ↦ elim on [ inl unrun ↦ inl (unrun.1, unrun.2) | inr run ↦ inr (refused_of layout prefix before after run) ]
+      ]
+    ]
+
+-- status 3
+pub load : (o : Option Asked) (before after : Moment) → IsEndOf o before after ended.Load
+    → IsPlainWith o (λ layout prefix. IsLoadFaultLine layout before.held (λ line. IsSaid line before.written after.written before.refused after.refused))
+load None before after h = cc
+load (Some Help) before after h = absurd h.0
+load (Some Version) before after h = absurd h.0
+load (Some (Check layout)) before after h = elim h.1 [ inl early ↦ absurd early | inr checked ↦ absurd checked.written ]
+load (Some (Plain layout prefix)) before after h =
+    elim h [
+      | inl early ↦ absurd early.0
+      | inr later ↦ elim later [
+        | inl unloaded ↦ (let u = unloaded.0 in let s = u.said in record { network = u.network; judged = u.judged; station = s.station; fault = s.fault; loaded = s.loaded; name = s.name; named = s.named; holds = s.said })
+        | inr on ↦ elim on [ inl unrun ↦ never_unrun _ before after ended.Load (λ e. cc) unrun | inr run ↦ elim run.filed [ inl all ↦ absurd all.1.2 | inr some ↦ absurd some ] ]
+      ]
+    ]
+
+-- status 4
+pub read : (o : Option Asked) (before after : Moment) → IsEndOf o before after ended.Read
+    → IsReadFault o before.held before.reads after.reads (λ name. IsSaid (line_of_read_fault name) before.written after.written before.refused after.refused)
+read None before after h = cc
+read (Some Help) before after h = absurd h.0
+read (Some Version) before after h = absurd h.0
+read (Some (Check layout)) before after h = elim h.1 [ inl early ↦ early | inr checked ↦ absurd checked.written ]
+read (Some (Plain layout prefix)) before after h =
+    elim h [
+      | inl early ↦ inl early.0
+      | inr later ↦ elim later [
+        | inl unloaded ↦ (let u = unloaded.0 in let s = u.said in inr (s.name, record { network = u.network; judged = u.judged; station = s.station; named = s.named; unread = s.unread }, s.said))
+        | inr on ↦ elim on [ inl unrun ↦ never_unrun _ before after ended.Read (λ e. cc) unrun | inr run ↦ elim run.filed [ inl all ↦ absurd all.1.2 | inr some ↦ absurd some ] ]
+      ]
+    ]
+
+-- an end of a run with no file begun
+unbegun : (layout prefix : List ℕ) (before after : Moment) (e : Ended) → ((plan : Plan) → IsFiledEnd prefix plan before after e → ⊥) → IsPlainEnd layout prefix before after e → after.held ≡ before.held
+unbegun layout prefix before after e never h =
+    elim h [
+      | inl early ↦ early.1
+      | inr later ↦ elim later [
+        | inl unloaded ↦ unloaded.1
+        | inr on ↦ elim on [ inl unrun ↦ unrun.1 | inr run ↦ absurd (never run.plan run.filed) ]
+      ]
+    ]
+
+-- with the statuses 2 to 4 every file is as at entry
+pub refused_layout : (o : Option Asked) (before after : Moment) → IsEndOf o before after ended.Layout → after.held ≡ before.held
+refused_layout None before after h = h.1
+refused_layout (Some Help) before after h = h.1
+refused_layout (Some Version) before after h = h.1
+refused_layout (Some (Check layout)) before after h = h.0
+refused_layout (Some (Plain layout prefix)) before after h = unbegun layout prefix before after ended.Layout (λ plan filed. elim filed [ inl all ↦ all.1.2 | inr some ↦ some ]) h
+
+pub refused_load : (o : Option Asked) (before after : Moment) → IsEndOf o before after ended.Load → after.held ≡ before.held
+refused_load None before after h = h.1
+refused_load (Some Help) before after h = h.1
+refused_load (Some Version) before after h = h.1
+refused_load (Some (Check layout)) before after h = h.0
+refused_load (Some (Plain layout prefix)) before after h = unbegun layout prefix before after ended.Load (λ plan filed. elim filed [ inl all ↦ all.1.2 | inr some ↦ some ]) h
+
+pub refused_read : (o : Option Asked) (before after : Moment) → IsEndOf o before after ended.Read → after.held ≡ before.held
+refused_read None before after h = h.1
+refused_read (Some Help) before after h = h.1
+refused_read (Some Version) before after h = h.1
+refused_read (Some (Check layout)) before after h = h.0
+refused_read (Some (Plain layout prefix)) before after h = unbegun layout prefix before after ended.Read (λ plan filed. elim filed [ inl all ↦ all.1.2 | inr some ↦ some ]) h

@@ -1,5 +1,0 @@
-use Rattle.netsim.proofs.FirstForms.{least}
-use Rattle.netsim.proofs.log.log_of_rows.Goals as goal
-
-pub lines_of_rows-requires : goal.lines_of_rows-requires
-lines_of_rows-requires c = rw (c.as_slice.ensures.value, c.in_ok-names.ensures) (least c.args.layout.now c.requires).names

@@ -1,0 +1,58 @@
+-- The plan of a layout and its loads, and what its run leaves (profile).
+use Rattle.std.specs.Prelude.{◌≡◌, ℕ, List, [], ◌∷◌, ◌++◌, Option}
+use Rattle.capture_file.specs.declared.entries.Record.{Record}
+use Rattle.layout_file.specs.declared.layout.Layout.{Layout}
+use Rattle.layout_file.specs.declared.layout.StationLine.{StationLine}
+use Rattle.load_files.specs.Loaded.{IsLoaded, Whole}
+use Rattle.load_plan.specs.Loads.{planned_queues, planned_skips}
+use Rattle.load_plan.specs.declared.plan.Plan.{Plan}
+use Rattle.net_step.specs.Outputs.{rows, captures}
+use Rattle.net_step.specs.declared.outputs.Taken.{Taken}
+use Rattle.outside.specs.Files.{Files}
+use Rattle.outside.specs.declared.memory.File.{File}
+use Rattle.path_checker.specs.Verdicts.{IsVerdict}
+use Rattle.path_checker.specs.declared.verdict.PathVerdict.{PathVerdict}
+use Rattle.run_texts.specs.Captures.{pcap_of_taken}
+use Rattle.run_texts.specs.Texts.{log_of_rows, counters_of_rows, totals_of_rows}
+use Rattle.netsim.specs.Texts.{name_of_log, name_of_counters, name_of_capture}
+use Rattle.netsim.specs.Verdicts.{line_of_verdict}
+
+-- the plan of a layout, whose loads are those that the store held, where it tells them
+pub record IsPlanOf (held : Option Files) (network : Layout) (plan : Plan) : Type 0 where
+  pub layout : plan.layout ≡ network
+  pub loads : List (List Record)
+  pub loaded : IsLoaded held network.stations (Whole loads)
+  pub queues : plan.queues ≡ planned_queues network loads
+  pub skips : plan.skips ≡ planned_skips network loads
+
+-- the log of a plan's run
+abbrev pub log : Plan → List ℕ
+log plan = log_of_rows plan.layout (rows plan)
+
+-- the counters of its devices
+abbrev pub counters : Plan → List ℕ
+counters plan = counters_of_rows plan (rows plan)
+
+-- the captures of stations, by what each of them received
+abbrev pub capture_files : List ℕ → List StationLine → List (List Taken) → List File
+capture_files prefix (s ∷ ss) (c ∷ cs) = record { name = name_of_capture prefix s.name; octets = pcap_of_taken c } ∷ capture_files prefix ss cs
+capture_files prefix _ _ = []
+
+-- the files of a plan's run: its log, its counters, and the capture of each station
+abbrev pub files_of : List ℕ → Plan → List File
+files_of prefix plan =
+    record { name = name_of_log prefix; octets = log plan }
+    ∷ record { name = name_of_counters prefix; octets = counters plan }
+    ∷ capture_files prefix plan.layout.stations (captures plan)
+
+-- the summary of a plan's run: the path verdict, the half bits, and the sums of the counters
+pub record IsSummary (plan : Plan) (text : List ℕ) : Type 0 where
+  pub verdict : PathVerdict
+  pub right : IsVerdict plan.layout verdict
+  pub text : text ≡ line_of_verdict plan.layout verdict ++ totals_of_rows plan (rows plan)
+
+-- the plan of a network with these loads
+pub record IsMadeOf (network : Layout) (loads : List (List Record)) (plan : Plan) : Type 0 where
+  pub layout : plan.layout ≡ network
+  pub queues : plan.queues ≡ planned_queues network loads
+  pub skips : plan.skips ≡ planned_skips network loads

@@ -1,0 +1,113 @@
+//! The loads of a layout, read and judged.
+ghost use Rattle.std.specs.Prelude.{◌≡◌, ◌≤◌, length, All, IfOk, IfErr, OnOk, OnErr, option_map};
+ghost use Rattle.layout_file.specs.Sound.{IsSound};
+ghost use Rattle.load_files.specs.Loaded.{IsLoaded, Whole, load_of};
+ghost use Rattle.netsim.specs.Ended.{IsFaultyEnd, IsUnloadedSaid, IsUnreadEnd};
+ghost use Rattle.netsim.specs.Reading.{IsSaid};
+ghost use Rattle.netsim.specs.Texts.{line_of_load_fault};
+
+use crate::ended::Ended;
+use crate::judge::say_read_fault;
+use crate::said::say;
+use crate::texts::line_of_load_fault;
+use capture_file::CaptureFault;
+use layout_file::{Layout, StationLine};
+use lists::OutOfMemory;
+use load_files::{LoadStop, read_loads};
+use load_plan::RecordsList;
+use outside::{Sink, Store};
+use std::alloc::Global;
+
+/// Says that the load of a station has a fault.
+fn say_load_fault<K: Sink>(
+    alloc: Global,
+    name: &str,
+    fault: &CaptureFault,
+    out: &mut K,
+) -> Result<(), OutOfMemory>
+    ensures said { OnOk result (IsSaid (line_of_load_fault name.now fault.now) (K.written out.old) (K.written out.new) (K.refused out.old) (K.refused out.new)) }
+    ensures silent { OnErr result (K.written out.new ≡ K.written out.old) }
+{
+    let line = line_of_load_fault(alloc, name, fault)?;
+    say(out, line.as_slice());
+    Ok(())
+}
+
+/// Says that the load of a station, numbered from 0, has a fault.
+fn say_faulty<K: Sink>(
+    alloc: Global,
+    stations: &[StationLine],
+    station: u32,
+    fault: &CaptureFault,
+    out: &mut K,
+) -> Ended
+    ensures { IsFaultyEnd stations.now station fault.now (K.written out.old) (K.written out.new) (K.refused out.old) (K.refused out.new) result }
+{
+    let Some(line) = stations.get(station as usize) else {
+        return Ended::Memory;
+    };
+    match say_load_fault(alloc, line.name.as_str(), fault, out) {
+        Ok(()) => Ended::Load,
+        Err(OutOfMemory) => Ended::Memory,
+    }
+}
+
+/// The name of a station's load, if it has one.
+fn load_of(stations: &[StationLine], station: u32) -> Option<&str>
+    ensures { option_map (λ name. name.now) result ≡ load_of stations.now station }
+{
+    match &stations.get(station as usize)?.load {
+        Some(name) => Some(name.as_str()),
+        None => None,
+    }
+}
+
+/// Says that the load of a station, numbered from 0, can't be read.
+fn say_unread<K: Sink>(
+    alloc: Global,
+    stations: &[StationLine],
+    station: u32,
+    out: &mut K,
+) -> Ended
+    ensures { IsUnreadEnd stations.now station (K.written out.old) (K.written out.new) (K.refused out.old) (K.refused out.new) result }
+{
+    let Some(name) = load_of(stations, station) else {
+        return Ended::Memory;
+    };
+    match say_read_fault(alloc, name, out) {
+        Ok(()) => Ended::Read,
+        Err(OutOfMemory) => Ended::Memory,
+    }
+}
+
+/// Reads and judges the loads of a network, or says why they can't be read.
+pub(crate) fn read_network_loads<S: Store, K: Sink>(
+    alloc: Global,
+    network: &Layout,
+    store: &mut S,
+    out: &mut K,
+) -> Result<RecordsList, Ended>
+    requires { IsSound network.now }
+    ensures loaded { IfOk result (λ loads. IsLoaded (S.held store.old) network.now.stations (Whole loads)) }
+    ensures count { IfOk result (λ loads. length loads ≡ length network.now.stations) }
+    ensures few { IfOk result (λ loads. All (λ rs. length rs ≤ 4194304) loads) }
+    ensures silent { OnOk result (K.written out.new ≡ K.written out.old) }
+    ensures faults { OnOk result (K.faults out.new ≡ K.faults out.old) }
+    ensures unloaded { IfErr result (λ e. IsUnloadedSaid network.now
+        (record { held = S.held store.old; reads = S.read_faults store.old; writes = S.write_faults store.old; written = K.written out.old; faults = K.faults out.old; refused = K.refused out.old })
+        (record { held = S.held store.new; reads = S.read_faults store.new; writes = S.write_faults store.new; written = K.written out.new; faults = K.faults out.new; refused = K.refused out.new })
+        e) }
+    ensures held { S.held store.new ≡ S.held store.old }
+    ensures reads { S.read_faults store.old ≤ S.read_faults store.new }
+    ensures writes { S.write_faults store.old ≤ S.write_faults store.new }
+{
+    let stations = network.stations.as_slice();
+    match read_loads(alloc, store, stations) {
+        Ok(loads) => Ok(loads),
+        Err(LoadStop::Fault { station, fault }) => {
+            Err(say_faulty(alloc, stations, station, &fault, out))
+        }
+        Err(LoadStop::Unread { station }) => Err(say_unread(alloc, stations, station, out)),
+        Err(LoadStop::OutOfMemory) => Err(Ended::Memory),
+    }
+}

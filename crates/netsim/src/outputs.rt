@@ -1,0 +1,149 @@
+//! The files of a run.
+ghost use Rattle.std.specs.Prelude.{◌≡◌, ◌≤◌, All, OnOk, OnErr, IfErr, string_bytes};
+ghost use Rattle.layout_file.specs.Sound.{IsSound};
+ghost use Rattle.net_step.specs.Outputs.{captures, rows};
+ghost use Rattle.run_texts.specs.Captures.{AreShort, pcap_of_taken};
+ghost use Rattle.run_texts.specs.Counts.{AreLeft, counts_of};
+ghost use Rattle.netsim.specs.Ended.{IsFileEnd};
+ghost use Rattle.netsim.specs.Reading.{IsBroken, IsBrokenAmong, put, put_all};
+ghost use Rattle.netsim.specs.Runs.{capture_files, counters, files_of, log};
+ghost use Rattle.netsim.specs.Texts.{name_of_capture, name_of_counters, name_of_log};
+
+use crate::ended::Ended;
+use crate::files::write_file;
+use crate::texts::{name_of_capture, name_of_counters, name_of_log};
+use layout_file::StationLine;
+use lists::{List, OutOfMemory};
+use load_plan::Plan;
+use net_step::{Outputs, TakenList};
+use outside::{Store, StoreFail};
+use run_texts::{counters_of_rows, log_of_rows, pcap_of};
+use std::alloc::Global;
+
+impl From<OutOfMemory> for Ended {
+    ghost use Rattle.std.specs.Prelude.{◌≡◌};
+    ghost use Rattle.netsim.specs.declared.ended.Ended.TheVariants as ended;
+
+    ghost from_gives = { λ _ e. e ≡ ended.Memory };
+
+    fn from(_: OutOfMemory) -> Self {
+        Ended::Memory
+    }
+}
+
+/// Makes a file of a text.
+fn file<S: Store>(store: &mut S, name: &str, text: &[u8]) -> Result<(), Ended>
+    ensures ok { OnOk result (S.held store.new ≡ put name.now text.now (S.held store.old)) }
+    ensures err { OnErr result (IsBroken name.now text.now (S.held store.old) (S.held store.new)) }
+    ensures ended { IfErr result (λ e. IsFileEnd (S.write_faults store.old) (S.write_faults store.new) e) }
+    ensures writes { S.write_faults store.old ≤ S.write_faults store.new }
+{
+    match write_file(store, name, text) {
+        Ok(()) => Ok(()),
+        Err(StoreFail::OutOfMemory) => Err(Ended::Memory),
+        Err(_) => Err(Ended::Write),
+    }
+}
+
+/// Writes the log of a plan's run.
+fn file_log<S: Store>(
+    alloc: Global,
+    plan: &Plan,
+    outputs: &Outputs,
+    prefix: &str,
+    store: &mut S,
+) -> Result<(), Ended>
+    requires sound { IsSound plan.now.layout }
+    requires rows { outputs.now.rows ≡ rows plan.now }
+    ensures ok { OnOk result (S.held store.new ≡ put (name_of_log prefix.now) (log plan.now) (S.held store.old)) }
+    ensures err { OnErr result (IsBroken (name_of_log prefix.now) (log plan.now) (S.held store.old) (S.held store.new)) }
+    ensures ended { IfErr result (λ e. IsFileEnd (S.write_faults store.old) (S.write_faults store.new) e) }
+    ensures writes { S.write_faults store.old ≤ S.write_faults store.new }
+{
+    let name = name_of_log(alloc, prefix)?;
+    let text = log_of_rows(alloc, &plan.layout, outputs.rows.as_slice())?;
+    file(store, name.as_str(), text.as_slice())
+}
+
+/// Writes the counters of a plan's run.
+fn file_counters<S: Store>(
+    alloc: Global,
+    plan: &Plan,
+    outputs: &Outputs,
+    prefix: &str,
+    store: &mut S,
+) -> Result<(), Ended>
+    requires sound { IsSound plan.now.layout }
+    requires rows { outputs.now.rows ≡ rows plan.now }
+    requires left { AreLeft (counts_of plan.now (rows plan.now)) }
+    ensures ok { OnOk result (S.held store.new ≡ put (name_of_counters prefix.now) (counters plan.now) (S.held store.old)) }
+    ensures err { OnErr result (IsBroken (name_of_counters prefix.now) (counters plan.now) (S.held store.old) (S.held store.new)) }
+    ensures ended { IfErr result (λ e. IsFileEnd (S.write_faults store.old) (S.write_faults store.new) e) }
+    ensures writes { S.write_faults store.old ≤ S.write_faults store.new }
+{
+    let name = name_of_counters(alloc, prefix)?;
+    let text = counters_of_rows(alloc, plan, outputs.rows.as_slice())?;
+    file(store, name.as_str(), text.as_slice())
+}
+
+/// Writes the capture of a station.
+fn file_capture<S: Store>(
+    alloc: Global,
+    station: &StationLine,
+    taken: &TakenList,
+    prefix: &str,
+    store: &mut S,
+) -> Result<(), Ended>
+    requires { AreShort taken.now }
+    ensures ok { OnOk result (S.held store.new ≡ put (name_of_capture prefix.now station.now.name) (pcap_of_taken taken.now) (S.held store.old)) }
+    ensures err { OnErr result (IsBroken (name_of_capture prefix.now station.now.name) (pcap_of_taken taken.now) (S.held store.old) (S.held store.new)) }
+    ensures ended { IfErr result (λ e. IsFileEnd (S.write_faults store.old) (S.write_faults store.new) e) }
+    ensures writes { S.write_faults store.old ≤ S.write_faults store.new }
+{
+    let name = name_of_capture(alloc, prefix, station.name.as_str())?;
+    let capture = pcap_of(alloc, taken)?;
+    file(store, name.as_str(), capture.bytes())
+}
+
+/// Writes the captures of stations, one after the other.
+fn file_captures<S: Store>(
+    alloc: Global,
+    stations: &[StationLine],
+    captures: &[TakenList],
+    prefix: &str,
+    store: &mut S,
+) -> Result<(), Ended>
+    requires { All AreShort captures.now }
+    ensures ok { OnOk result (S.held store.new ≡ put_all (capture_files prefix.now stations.now captures.now) (S.held store.old)) }
+    ensures err { OnErr result (IsBrokenAmong (capture_files prefix.now stations.now captures.now) (S.held store.old) (S.held store.new)) }
+    ensures ended { IfErr result (λ e. IsFileEnd (S.write_faults store.old) (S.write_faults store.new) e) }
+    ensures writes { S.write_faults store.old ≤ S.write_faults store.new }
+{
+    for (station, taken) in stations.iter().zip(captures) {
+        file_capture(alloc, station, taken, prefix, store)?;
+    }
+    Ok(())
+}
+
+/// Writes the files of a plan's run: its log, its counters and the capture of each station.
+pub(crate) fn file_outputs<S: Store>(
+    alloc: Global,
+    plan: &Plan,
+    outputs: &Outputs,
+    prefix: &str,
+    store: &mut S,
+) -> Result<(), Ended>
+    requires sound { IsSound plan.now.layout }
+    requires rows { outputs.now.rows ≡ rows plan.now }
+    requires captures { outputs.now.captures ≡ captures plan.now }
+    requires left { AreLeft (counts_of plan.now (rows plan.now)) }
+    requires short { All AreShort (captures plan.now) }
+    ensures ok { OnOk result (S.held store.new ≡ put_all (files_of prefix.now plan.now) (S.held store.old)) }
+    ensures err { OnErr result (IsBrokenAmong (files_of prefix.now plan.now) (S.held store.old) (S.held store.new)) }
+    ensures ended { IfErr result (λ e. IsFileEnd (S.write_faults store.old) (S.write_faults store.new) e) }
+{
+    file_log(alloc, plan, outputs, prefix, store)?;
+    file_counters(alloc, plan, outputs, prefix, store)?;
+    let stations = plan.layout.stations.as_slice();
+    file_captures(alloc, stations, outputs.captures.as_slice(), prefix, store)
+}

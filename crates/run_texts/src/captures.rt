@@ -1,0 +1,46 @@
+//! The captures of a run.
+ghost use Rattle.std.specs.Prelude.{◌≡◌, ◌*◌, ◌++◌, [], IfOk, OnOk};
+ghost use Rattle.capture_file.specs.Writing.{capture_text, record_text};
+ghost use Rattle.run_texts.specs.Captures.{AreShort, IsShort, pcap_of_taken};
+
+use capture_file::CaptureWriter;
+use lists::OutOfMemory;
+use net_step::{Taken, TakenList};
+use std::alloc::Global;
+
+/// The nanoseconds of a half bit at 10 Mb/s (clause 4.4.2).
+const HALF_BIT: u64 = 50;
+
+fn new_capture(alloc: Global) -> Result<CaptureWriter, OutOfMemory>
+    ensures { IfOk result (λ capture. capture ≡ capture_text []) }
+{
+    match CaptureWriter::new(alloc) {
+        Ok(capture) => Ok(capture),
+        Err(_) => Err(OutOfMemory),
+    }
+}
+
+/// Puts the record of a frame that was received at the end of a capture.
+fn add_taken(capture: &mut CaptureWriter, taken: &Taken) -> Result<(), OutOfMemory>
+    requires { IsShort taken.now }
+    ensures { OnOk result (capture.new ≡ capture.old ++ record_text (50 * taken.now.t) taken.now.octets) }
+{
+    match capture.add(HALF_BIT * taken.t, taken.octets.as_slice()) {
+        Ok(()) => Ok(()),
+        Err(_) => Err(OutOfMemory),
+    }
+}
+
+/// The capture of the frames that a station received, in their order, where each has at most 1,518 octets and came
+/// in one of the first 2,000,000,000 half bits (profile).
+#[tactic(auto, unfolding(crate::specs::Captures::pcap_of_taken))]
+pub fn pcap_of(alloc: Global, taken: &TakenList) -> Result<CaptureWriter, OutOfMemory>
+    requires { AreShort taken.now }
+    ensures { IfOk result (λ capture. capture ≡ pcap_of_taken taken.now) }
+{
+    let mut capture = new_capture(alloc)?;
+    for one in taken.as_slice() {
+        add_taken(&mut capture, one)?;
+    }
+    Ok(capture)
+}
