@@ -1,13 +1,13 @@
 -- Taps that are skipped, since they were silent.
 use Rattle.std.proofs.Common.{◌≡◌, ◌≢◌, ℕ, zero, suc, ◌+◌, ◌-◌, ◌*◌, ◌<◌, ◌≤◌, min, Bool, true, false, List, [], ◌∷◌, ◌++◌, length, take, drop, replicate, get_or, set, eqb, refl, sym, ap, ap₂, subst, ◌∙◌, inl, inr, arith, get_or-set_same, get_or-set_other, get_or-take, drop-cons, length-set, mul-le-mul_right}
 use Rattle.std.specs.Prelude.{if◌then◌else◌, ◌⊎◌}
-use Rattle.std.proofs.lemmas.Bool.{cond_both, cases_lt}
+use Rattle.std.proofs.lemmas.Bool.{cases_lt}
 use Rattle.std.proofs.lemmas.List.{get_or-append_right, get_or_append_left, get_or-replicate, length-replicate, get_or_past, length-take}
 use Rattle.std.proofs.lemmas.Nat.{same_from_place}
 use Rattle.manchester_line.specs.declared.Sym.{Sym}
 use Rattle.manchester_line.specs.declared.Sym.TheVariants.{Idle, Hi, Lo, Clash}
 use Rattle.manchester_line.specs.Line.{mix_of}
-use Rattle.cable_segment.specs.Bus.{distance, heard_among, heard_at}
+use Rattle.cable_segment.specs.Bus.{distance, heard_among}
 use Rattle.cable_segment.specs.Skips.{Skips}
 
 mix_assoc : (a b c : Sym) → mix_of (mix_of a b) c ≡ mix_of a (mix_of b c)

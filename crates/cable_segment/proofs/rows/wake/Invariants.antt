@@ -1,4 +1,4 @@
-use Rattle.std.proofs.Common.{◌≡◌, ℕ, ◌<◌, ◌≤◌, min, length, get_or}
+use Rattle.std.proofs.Common.{◌≡◌, ℕ, ◌<◌, ◌≤◌, min, get_or}
 use Rattle.cable_segment.proofs.rows.wake.Given as goal
 
 abbrev pub invariant-loop-q : goal.invariant-loop-q
