@@ -45,8 +45,8 @@ within_from n part (x ∷ xs) low all =
 pub network_within : (l : Layout) → StandsOnSegments l → AreWithin (parts_of l) (network_edges l)
 network_within l stands =
     within_from (parts_of l) (length l.segments) l.repeaters (omega arith) (λ r p line is.
-      let low : line.segment < length l.segments = stands (Port r p) line (port_placed l r p line is) in
-      omega arith)
+    let low : line.segment < length l.segments = stands (Port r p) line (port_placed l r p line is) in
+    omega arith)
 
 -- the colours for a station: it alone stands behind its tap
 abbrev alone : ℕ → Way → Tap → Bool
@@ -121,12 +121,14 @@ by_parts_others l d r p line parts (Port s q) (other, h) ne =
 port_cut : (l : Layout) → StandsOnSegments l → IsTree l → (r p : ℕ) (line : PortLine) → place l (Port r p) ≡ Some line → (c : Way → Tap → Bool) × IsCut l (Port r p) c
 port_cut l stands tree r p line h =
     let all : AllSeparate (port_edges l) = network_separates l stands tree in
-    let found : (d : ℕ → Bool) × Separates (port_edges l) (port_edge l r p line) d = all (port_edge l r p line) (port_edge_among l r p line h) in
-    (by_parts l found.0, record {
-      crosses = λ e. found.1.crosses (sym e ∙ ap found.0 (segment_number_is l (Port r p) line h));
-      others = λ g is ne. by_parts_others l found.0 r p line found.1 g is ne;
-      along = λ w a b s. by_parts_along l found.0 w a b s.part s.from s.to;
-    })
+    let found : (d : ℕ → Bool) × Separates (port_edges l) (port_edge l r p line) d = all (port_edge l r p line) (port_edge_among l r p line h) in (
+      by_parts l found.0,
+      record {
+        crosses = λ e. found.1.crosses (sym e ∙ ap found.0 (segment_number_is l (Port r p) line h));
+        others = λ g is ne. by_parts_others l found.0 r p line found.1 g is ne;
+        along = λ w a b s. by_parts_along l found.0 w a b s.part s.from s.to;
+      },
+    )
 
 pub tree_has_cuts : (l : Layout) → StandsOnSegments l → IsTree l → HasCuts l
 tree_has_cuts l stands tree (Station k) is = (alone k, station_cut l k)
