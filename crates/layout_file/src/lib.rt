@@ -25,4 +25,6 @@ pub use reader::read_layout;
 pub use ways::{Tap, Way};
 
 #[cfg(test)]
+mod refusals;
+#[cfg(test)]
 mod tests;
