@@ -13,10 +13,10 @@ use Rattle.layout_file.specs.declared.ways.Way.{Way}
 use Rattle.layout_file.specs.declared.ways.Way.TheVariants as way
 use Rattle.layout_file.specs.Joined.{colours, is_joined}
 use Rattle.layout_file.specs.Networks.{edge_at, edges_from, network_edges, parts_of, IsTree}
-use Rattle.layout_file.specs.Paths.{place, IsTap, part_by, IsStep, other_way, IsWalk, Path, IsPath, StandsOnSegments}
+use Rattle.layout_file.specs.Paths.{place, IsTap, part_by, IsStep, other_way, IsWalk, Path, IsPath}
 use Rattle.layout_file.proofs.Cuts.{same_tap, same_way}
 use Rattle.layout_file.proofs.Joins.{Links, Touch, Joined, here, next, joined_from}
-use Rattle.layout_file.proofs.Sides.{IsPortOf, port_placed, network_within}
+use Rattle.layout_file.proofs.Sides.{StandsOnSegments, IsPortOf, port_placed, network_within}
 
 -- the number of a segment or a repeater among the network's parts
 abbrev part_number : Layout → Way → ℕ → ℕ

@@ -12,10 +12,14 @@ use Rattle.layout_file.specs.declared.ways.Tap.TheVariants.{Station, Port}
 use Rattle.layout_file.specs.declared.ways.Way.{Way}
 use Rattle.layout_file.specs.declared.ways.Way.TheVariants as way
 use Rattle.layout_file.specs.Networks.{edge_at, edges_from, network_edges, parts_of, IsTree}
-use Rattle.layout_file.specs.Paths.{place, IsTap, part_by, StandsOnSegments}
+use Rattle.layout_file.specs.Paths.{place, IsTap, part_by}
 use Rattle.layout_file.proofs.Cuts.{IsCut, HasCuts}
 use Rattle.layout_file.proofs.Joins.{AreWithin}
 use Rattle.layout_file.proofs.Separations.{PortEdge, Among, Separates, AllSeparate, edges_separate, named_from, edges_named, edges_named-from, edge_among}
+
+-- each tap stands on a segment of the layout
+abbrev pub StandsOnSegments : Layout → Type 0
+StandsOnSegments l = (t : Tap) (p : PortLine) → place l t ≡ Some p → p.segment < length l.segments
 
 -- a port and its row
 pub record IsPortOf (rows : List RepeaterLine) (r p : ℕ) (line : PortLine) : Type 0 where
