@@ -105,7 +105,7 @@ fn tap_number(stations: usize, relays: &[Relay], device: usize, port: usize) -> 
 }
 
 impl PlainNet {
-    ghost use Rattle.std.specs.Prelude.{◌≡◌, ◌<◌, ◌≤◌, ◌+◌, ◌-◌, ◌^◌, ◌++◌, length, All, OnOk, IfOk, slice_index_or};
+    ghost use Rattle.std.specs.Prelude.{◌≡◌, ◌<◌, ◌≤◌, ◌+◌, ◌-◌, ◌^◌, ◌++◌, length, All, OnOk, IfOk, IsTrue, slice_index_or};
     ghost use Rattle.load_plan.specs.declared.plan.Plan.{Plan};
     ghost use Rattle.manchester_line.specs.declared.Sym.TheVariants.{Idle};
     ghost use Rattle.net_step.specs.Runnable.{IsRunnable};
@@ -155,6 +155,22 @@ impl PlainNet {
         let tap = tap_number(stations, &self.relays, device as usize, port as usize);
         let place = self.places[tap];
         self.segments[place.segment as usize].heard(place.local)
+    }
+
+    /// Whether there is such a tap.
+    #[cfg(test)]
+    pub(crate) fn has_tap(&self, device: u32, port: u32) -> bool
+        ensures { IsTrue result → IsTap self.now device port }
+    {
+        let device = device as usize;
+        let stations = self.senders.len();
+        if device < stations {
+            return port == 0;
+        }
+        if self.relays.len() <= device - stations {
+            return false;
+        }
+        (port as usize) < self.relays[device - stations].ports()
     }
 
     /// The next half bit. After an `Err` the net is only dropped.

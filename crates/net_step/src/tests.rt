@@ -177,6 +177,14 @@ fn a_repeater_of_the_least_delay(rt: HostRuntime) -> Result<(), OutOfMemory> {
     Ok(())
 }
 
+/// What a tap hears, and Clash, which no tap here hears, where there is no such tap.
+fn heard(whole: &PlainNet, device: u32, port: u32) -> Sym {
+    if !whole.has_tap(device, port) {
+        return Sym::Clash;
+    }
+    whole.heard(device, port)
+}
+
 /// What a sends at half bit 0 comes to the repeater's first port after 20 half bits, and from its second port,
 /// after 16 half bits of delay, to b after 30.
 #[test]
@@ -184,17 +192,15 @@ fn a_tap_hears_what_comes_to_it(rt: HostRuntime) -> Result<(), OutOfMemory> {
     let alloc = rt.alloc();
     let plan = plan_of(alloc, TWO_HOPS)?;
     let mut whole = PlainNet::new(alloc, &plan)?;
-    for _ in 0..20 {
-        assert_eq!(rt; whole.heard(2, 0), Sym::Idle);
+    for t in 0..66 {
+        let want = if t < 20 { Sym::Idle } else { Sym::Lo };
+        if t <= 20 {
+            assert_eq!(rt; heard(&whole, 2, 0), want);
+        }
+        assert_eq!(rt; heard(&whole, 1, 0), Sym::Idle);
         whole.step()?;
     }
-    assert_eq!(rt; whole.heard(2, 0), Sym::Lo);
-    assert_eq!(rt; whole.heard(2, 1), Sym::Idle);
-    for _ in 0..46 {
-        assert_eq!(rt; whole.heard(1, 0), Sym::Idle);
-        whole.step()?;
-    }
-    assert_eq!(rt; whole.heard(1, 0), Sym::Lo);
-    assert_eq!(rt; whole.heard(2, 1), Sym::Idle);
+    assert_eq!(rt; heard(&whole, 1, 0), Sym::Lo);
+    assert_eq!(rt; heard(&whole, 2, 1), Sym::Idle);
     Ok(())
 }
