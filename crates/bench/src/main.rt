@@ -3,6 +3,7 @@
 #![tactic(auto)]
 
 mod measures;
+mod segment;
 
 use measures::{Measure, run};
 use std::time::CpuClock;

@@ -2,6 +2,8 @@
 ghost use Rattle.std.specs.Prelude.{◌≡◌, ◌≢◌, ◌≤◌, ◌+◌, ◌*◌, All, length, IfOk};
 ghost use Rattle.manchester_line.specs.declared.Sym.TheVariants.{Idle};
 
+use crate::segment::{leaps, segments};
+use capture_file::{CaptureFault, CaptureReader, CaptureWriter};
 use frame_layout::fcs;
 use lists::{OutOfMemory, Text};
 use mac_receive::Receiver;
@@ -30,12 +32,22 @@ pub enum Measure {
     RepeatAllPorts,
     /// A repeater of two ports that hear nothing, half bit by half bit.
     RepeatQuiet,
+    /// A segment with four taps whose stations send, half bit by half bit.
+    FourStations,
+    /// The same with 32 taps.
+    ManyStations,
+    /// A sender that waits for its frame, by leaps.
+    SenderLeaps,
+    /// A capture of about 64 MB that comes in pieces of 65,536 octets.
+    CaptureRead,
+    /// A capture of about 64 MB.
+    CaptureWrite,
     /// The program on a segment of two stations, from the layout to the log.
     Plain,
 }
 
 impl Measure {
-    pub const ALL: [Measure; 9] = [
+    pub const ALL: [Measure; 14] = [
         Measure::Encode,
         Measure::Decode,
         Measure::ReceiveIdle,
@@ -44,6 +56,11 @@ impl Measure {
         Measure::RepeatTwoPorts,
         Measure::RepeatAllPorts,
         Measure::RepeatQuiet,
+        Measure::FourStations,
+        Measure::ManyStations,
+        Measure::SenderLeaps,
+        Measure::CaptureRead,
+        Measure::CaptureWrite,
         Measure::Plain,
     ];
 
@@ -58,6 +75,11 @@ impl Measure {
             Measure::RepeatTwoPorts => "repeat-2-ports",
             Measure::RepeatAllPorts => "repeat-32-ports",
             Measure::RepeatQuiet => "repeat-quiet",
+            Measure::FourStations => "segment-4",
+            Measure::ManyStations => "segment-32",
+            Measure::SenderLeaps => "sender-leap",
+            Measure::CaptureRead => "capture-read",
+            Measure::CaptureWrite => "capture-write",
             Measure::Plain => "plain",
         }
     }
@@ -65,9 +87,11 @@ impl Measure {
     /// What its rate counts.
     pub fn unit(self) -> &'static str {
         match self {
-            Measure::Fcs => "octets",
+            Measure::Fcs | Measure::CaptureRead | Measure::CaptureWrite => "octets",
             Measure::RepeatTwoPorts | Measure::RepeatAllPorts | Measure::RepeatQuiet =>
                 "port half bits",
+            Measure::FourStations | Measure::ManyStations => "station half bits",
+            Measure::SenderLeaps => "leaps",
             Measure::Plain => "device half bits",
             _ => "half bits",
         }
@@ -85,6 +109,14 @@ const TIMES: u32 = 20_000;
 const STEPS: u32 = 500_000_000;
 
 const REPEATED: u32 = 10_000_000;
+
+/// The octets of a captured frame.
+const CAPTURED: usize = 484;
+
+/// How many of them, with their headers, have 64,000,000 octets.
+const RECORDS: u64 = 128_000;
+
+const PIECE: usize = 65_536;
 
 /// A segment of two stations, of which one sends.
 const LAYOUT: &str =
@@ -104,6 +136,11 @@ pub fn run(alloc: Global, measure: Measure) -> Result<u64, OutOfMemory> {
         Measure::RepeatTwoPorts => repeat(alloc, 2, Sym::Hi),
         Measure::RepeatAllPorts => repeat(alloc, 32, Sym::Hi),
         Measure::RepeatQuiet => repeat(alloc, 2, Sym::Idle),
+        Measure::FourStations => segments(alloc, 4, 100),
+        Measure::ManyStations => segments(alloc, 32, 10),
+        Measure::SenderLeaps => leaps(alloc, 100),
+        Measure::CaptureRead => read_often(alloc, capture(alloc)?.bytes()),
+        Measure::CaptureWrite => Ok(capture(alloc)?.bytes().len() as u64),
         Measure::Plain => plain(alloc),
     }
 }
@@ -234,4 +271,37 @@ fn plain(alloc: Global) -> Result<u64, OutOfMemory> {
     let mut out = MemorySink::new(alloc);
     run_words(alloc, &words, &mut store, &mut out);
     Ok(DEVICE_HALF_BITS)
+}
+
+fn capture(alloc: Global) -> Result<CaptureWriter, OutOfMemory> {
+    let Ok(mut writer) = CaptureWriter::new(alloc) else {
+        return Err(OutOfMemory);
+    };
+    for time in 0..RECORDS {
+        if writer.add(time, &OCTETS[..CAPTURED]).is_err() {
+            return Err(OutOfMemory);
+        }
+    }
+    Ok(writer)
+}
+
+/// How many records a capture has that comes in pieces.
+fn read_in_pieces(alloc: Global, bytes: &[u8]) -> Result<usize, CaptureFault> {
+    let mut reader = CaptureReader::new(alloc);
+    for piece in bytes.chunks(PIECE) {
+        reader.feed(piece)?;
+    }
+    Ok(reader.end()?.len())
+}
+
+/// Reads a capture ten times, so that writing it first counts little.
+fn read_often(alloc: Global, bytes: &[u8]) -> Result<u64, OutOfMemory> {
+    let mut records = 0usize;
+    for _time in 0..10 {
+        let Ok(count) = read_in_pieces(alloc, bytes) else {
+            return Err(OutOfMemory);
+        };
+        records = records.saturating_add(count);
+    }
+    Ok((bytes.len() as u64).saturating_mul(10).saturating_add(records as u64 % 2))
 }

@@ -1,5 +1,6 @@
 //! The text of a row.
 ghost use Rattle.std.specs.Prelude.{◌≡◌, ◌≤◌, ◌+◌, ◌++◌, length, take, drop};
+ghost use Rattle.collision_log.specs.declared.row.Body.TheVariants.{Collided, Cut, Dropped};
 ghost use Rattle.collision_log.specs.Rows.{body_text, device_word, hit_text, row_line, why_text};
 
 use crate::line::Line;
@@ -56,13 +57,7 @@ fn write_body(line: &mut Line, body: &Body)
             attempt,
             hit,
             drawn,
-        } => {
-            line.field(b"collided frame ", u64::from(frame));
-            line.field(b" start ", start);
-            line.field(b" attempt ", u64::from(attempt));
-            line.field(b" hit ", u64::from(hit));
-            line.field(b" draw ", u64::from(drawn));
-        }
+        } => write_collided(line, frame, start, attempt, hit, drawn),
         Body::GivenUp { frame, start, hit } => {
             line.field(b"given_up frame ", u64::from(frame));
             line.field(b" start ", start);
@@ -73,24 +68,48 @@ fn write_body(line: &mut Line, body: &Body)
             start,
             attempt,
             hit,
-        } => {
-            line.field(b"cut frame ", u64::from(frame));
-            line.field(b" start ", start);
-            line.field(b" attempt ", u64::from(attempt));
-            line.text(b" hit ");
-            write_hit(line, hit);
-        }
+        } => write_cut(line, frame, start, attempt, hit),
         Body::Received { octets } => line.field(b"received octets ", u64::from(octets)),
-        Body::Dropped { why, halves } => {
-            line.text(b"dropped ");
-            line.text(word_of(why));
-            line.field(b" halves ", u64::from(halves));
-        }
+        Body::Dropped { why, halves } => write_dropped(line, why, halves),
         Body::Clash => line.text(b"clash"),
         Body::Closed { port } => line.field(b"closed port ", u64::from(port)),
         Body::Opened { port } => line.field(b"opened port ", u64::from(port)),
         Body::Halted { port } => line.field(b"halted port ", u64::from(port)),
     }
+}
+
+fn write_collided(line: &mut Line, frame: u32, start: u64, attempt: u32, hit: u32, drawn: u32)
+    requires { length line.old ≤ 100 }
+    ensures text { line.new ≡ line.old ++ body_text (Collided frame start attempt hit drawn) }
+    ensures short { length line.new ≤ length line.old + 102 }
+{
+    line.field(b"collided frame ", u64::from(frame));
+    line.field(b" start ", start);
+    line.field(b" attempt ", u64::from(attempt));
+    line.field(b" hit ", u64::from(hit));
+    line.field(b" draw ", u64::from(drawn));
+}
+
+fn write_cut(line: &mut Line, frame: u32, start: u64, attempt: u32, hit: Option<u32>)
+    requires { length line.old ≤ 100 }
+    ensures text { line.new ≡ line.old ++ body_text (Cut frame start attempt hit) }
+    ensures short { length line.new ≤ length line.old + 102 }
+{
+    line.field(b"cut frame ", u64::from(frame));
+    line.field(b" start ", start);
+    line.field(b" attempt ", u64::from(attempt));
+    line.text(b" hit ");
+    write_hit(line, hit);
+}
+
+fn write_dropped(line: &mut Line, why: Why, halves: u32)
+    requires { length line.old ≤ 100 }
+    ensures text { line.new ≡ line.old ++ body_text (Dropped why halves) }
+    ensures short { length line.new ≤ length line.old + 102 }
+{
+    line.text(b"dropped ");
+    line.text(word_of(why));
+    line.field(b" halves ", u64::from(halves));
 }
 
 fn write_hit(line: &mut Line, hit: Option<u32>)

@@ -20,7 +20,7 @@ use Rattle.layout_file.proofs.Cleared.{Clean, CleanRepeater, CleanRows, Faultles
 use Rattle.layout_file.proofs.Crowds.{HasFewPorts, FewRows, few_rows}
 use Rattle.layout_file.proofs.Keys.{EachHolds, clean_holds, clean_keys, between, whole, whole_or_none, name, load, segment_name, station_name, frame, rows}
 use Rattle.layout_file.proofs.Named.{place_within, length-names_of, length-octets_of, unlisted_key, names_different}
-use Rattle.layout_file.proofs.Taps.{HasSegment, taps_different}
+use Rattle.layout_file.proofs.Tapped.{HasSegment, taps_different}
 use Rattle.layout_file.proofs.Trees.{tree}
 
 one_or_two : (n : ℕ) → 1 ≤ n → n ≤ 2 → (n ≡ 1) ⊎ (n ≡ 2)

@@ -13,3 +13,4 @@ pub mod Joined
 pub mod GraphFaults
 pub mod Networks
 pub mod Sound
+pub mod Paths

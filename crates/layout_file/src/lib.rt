@@ -4,6 +4,7 @@
 mod fault;
 mod graph;
 mod joint;
+pub mod laws;
 mod layout;
 mod lines;
 mod reader;
@@ -12,6 +13,7 @@ mod rules;
 mod sites;
 mod texts;
 mod tree;
+mod ways;
 
 pub use fault::{Key, LayoutCode, LayoutFault, Place, Table};
 pub use layout::{
@@ -20,6 +22,9 @@ pub use layout::{
 };
 pub use lists::{OutOfMemory, Text};
 pub use reader::read_layout;
+pub use ways::{Tap, Way};
 
+#[cfg(test)]
+mod refusals;
 #[cfg(test)]
 mod tests;

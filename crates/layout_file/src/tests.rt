@@ -49,7 +49,7 @@ octets = \"ffffffffffff0200000000010800\"
 ";
 
 /// Two segments that a repeater joins.
-const TWO_HOP: &str = "\
+pub const TWO_HOP: &str = "\
 format = 1
 seed = 1
 until_bits = 130
@@ -129,7 +129,8 @@ fn two_sends_are_read(rt: HostRuntime) -> Result<(), Fail> {
     Ok(())
 }
 
-fn fault(alloc: Global, octets: &[u8], code: LayoutCode) -> Option<(Table, u32, u32, Key)> {
+/// The place of the first fault, where it is of this code.
+pub fn fault(alloc: Global, octets: &[u8], code: LayoutCode) -> Option<(Table, u32, u32, Key)> {
     match read_layout(alloc, octets) {
         Err(fault) if fault.code == code => {
             let place = fault.place;
@@ -158,6 +159,16 @@ fn whole_files_are_refused(rt: HostRuntime) -> Result<(), Fail> {
             "format = 1\n[[segment]]\nname = \"x",
             LayoutCode::NotToml,
             file(Key::None),
+        ),
+        (
+            "format = 1\nseed = 1\nuntil_bits = 700\nsegment = []",
+            LayoutCode::OutOfRange,
+            file(Key::Segment),
+        ),
+        (
+            "format = 1\nseed = 1\nuntil_bits = 700\nsegment = [{name = \"x\"}, 1]",
+            LayoutCode::WrongType,
+            file(Key::Segment),
         ),
         (
             "format = 1\nseed = 1\nuntil_bits = 1000000000\nsegment = [{name = \"x\"}]\nstation = [\
@@ -200,155 +211,138 @@ fn two_hops_are_read(rt: HostRuntime) -> Result<(), Fail> {
     let layout = read(rt.alloc(), TWO_HOP)?;
     assert_eq!(rt; layout.segments.len(), 2);
     assert_eq!(rt; layout.segments.get(1).name.as_str(), "y");
+    assert_eq!(rt; layout.stations.len(), 2);
     let b = layout.stations.get(1);
     assert_eq!(rt; (b.segment, b.at), (1, 30));
+    assert_eq!(rt; layout.repeaters.len(), 1);
     let repeater = layout.repeaters.get(0);
     assert_eq!(rt; repeater.name.as_str(), "r");
     assert_eq!(rt; (repeater.delay, repeater.ports.len()), (16, 2));
     let port = *repeater.ports.get(1);
     assert_eq!(rt; (port.segment, port.at), (1, 0));
+    assert_eq!(rt; layout.sends.len(), 2);
     let send = layout.sends.get(1);
     assert_eq!(rt; (send.station, send.at, send.octets.len()), (1, 65, 14));
     Ok(())
 }
 
-#[test]
-fn too_many_segments_are_refused(rt: HostRuntime) -> Result<(), Fail> {
-    let alloc = rt.alloc();
-    let mut text = String::from_str(alloc, "format = 1\nseed = 1\nuntil_bits = 130\n")?;
-    for _ in 0..257 {
-        text.push_str("[[segment]]\nname = \"x\"\n")?;
+/// A text with so many of the same rows after it.
+fn repeated(alloc: Global, head: &str, row: &str, count: usize) -> Result<String, Fail> {
+    let mut text = String::from_str(alloc, head)?;
+    for _ in 0..count {
+        text.push_str(row)?;
     }
-    assert_eq!(rt;
-        fault(alloc, text.as_bytes(), LayoutCode::TooMany),
-        Some((Table::File, 0, 0, Key::Segment))
-    );
-    Ok(())
+    Ok(text)
 }
 
-/// The two hops with one piece of the text changed.
-fn changed(alloc: Global, from: &str, to: &str) -> Result<String, Fail> {
-    let (before, after) = TWO_HOP.split_once(from).ok_or("no such text")?;
-    Ok(format!(in alloc; "{before}{to}{after}")?)
-}
+const RUN: &str = "format = 1\nseed = 1\nuntil_bits = 1\n";
 
-const REPEATER: &str = "\
-[[repeater]]
-name = \"r\"
-delay = 16
-[[repeater.port]]
-segment = \"x\"
-at = 20
-[[repeater.port]]
-segment = \"y\"
-at = 0
-";
+const ONE_SEGMENT: &str = "format = 1\nseed = 1\nuntil_bits = 1\n[[segment]]\nname = \"x\"\n";
 
-const OTHER_REPEATER: &str = "\
-[[repeater]]
-name = \"s\"
-delay = 16
-[[repeater.port]]
-segment = \"x\"
-at = 40
-[[repeater.port]]
-segment = \"y\"
-at = 60
-[[send]]
-";
+const ONE_REPEATER: &str = "format = 1\nseed = 1\nuntil_bits = 1\n[[segment]]\nname = \"x\"\n\
+    [[repeater]]\nname = \"r\"\ndelay = 1\n";
 
+/// Just too many rows of each kind but sends, of which a file has no room for so many.
 #[test]
-fn changed_files_are_refused(rt: HostRuntime) -> Result<(), Fail> {
+fn crowds_are_refused(rt: HostRuntime) -> Result<(), Fail> {
     let alloc = rt.alloc();
     let cases = [
         (
-            "seed = 1",
-            "seed = 1\nseed = 1",
-            LayoutCode::NotToml,
-            (Table::File, 0, 0, Key::None),
+            RUN,
+            "[[segment]]\nname = \"x\"\n",
+            257,
+            (Table::File, 0, 0, Key::Segment),
         ),
         (
-            "seed = 1",
-            "seed = 1\ncolor = 1",
-            LayoutCode::UnknownKey,
-            (Table::File, 0, 0, Key::None),
+            ONE_SEGMENT,
+            "[[station]]\nname = \"a\"\nsegment = \"x\"\nat = 0\n",
+            1_025,
+            (Table::File, 0, 0, Key::Station),
         ),
         (
-            "at = 30",
-            "at = 1.0",
-            LayoutCode::WrongType,
-            (Table::Station, 2, 0, Key::At),
+            ONE_SEGMENT,
+            "[[repeater]]\nname = \"r\"\ndelay = 1\n\
+             port = [{segment = \"x\", at = 0}, {segment = \"x\", at = 1}]\n",
+            129,
+            (Table::File, 0, 0, Key::Repeater),
         ),
         (
-            "\"r\"",
-            "\"r r\"",
-            LayoutCode::BadName,
-            (Table::Repeater, 1, 0, Key::Name),
-        ),
-        (
-            "seed = 1",
-            "seed = -1",
-            LayoutCode::OutOfRange,
-            (Table::File, 0, 0, Key::Seed),
-        ),
-        (
-            "format = 1",
-            "format = 3",
-            LayoutCode::OutOfRange,
-            (Table::File, 0, 0, Key::Format),
-        ),
-        (
-            "[[repeater.port]]\nsegment = \"y\"\nat = 0\n",
-            "",
-            LayoutCode::OutOfRange,
+            ONE_REPEATER,
+            "[[repeater.port]]\nsegment = \"x\"\nat = 0\n",
+            33,
             (Table::Repeater, 1, 0, Key::Port),
         ),
-        (
-            "name = \"y\"",
-            "name = \"x\"",
-            LayoutCode::SameName,
-            (Table::Segment, 2, 0, Key::Name),
-        ),
-        (
-            "name = \"r\"",
-            "name = \"b\"",
-            LayoutCode::SameName,
-            (Table::Repeater, 1, 0, Key::Name),
-        ),
-        (
-            "segment = \"y\"\nat = 0",
-            "segment = \"z\"\nat = 0",
-            LayoutCode::NoSuchSegment,
-            (Table::Repeater, 1, 2, Key::Segment),
-        ),
-        (
-            "station = \"b\"",
-            "station = \"r\"",
-            LayoutCode::NoSuchStation,
-            (Table::Send, 2, 0, Key::Station),
-        ),
-        (
-            "[[send]]\n",
-            OTHER_REPEATER,
-            LayoutCode::Loop,
-            (Table::Repeater, 2, 2, Key::Segment),
-        ),
-        (
-            REPEATER,
-            "",
-            LayoutCode::Apart,
-            (Table::Segment, 2, 0, Key::Name),
-        ),
-        (
-            "020800",
-            "02080",
-            LayoutCode::BadFrame,
-            (Table::Send, 2, 0, Key::Octets),
-        ),
     ];
-    for (from, to, code, place) in cases {
-        let text = changed(alloc, from, to)?;
-        assert_eq!(rt; fault(alloc, text.as_bytes(), code), Some(place), "{to}");
+    for (head, row, count, place) in cases {
+        let many = repeated(alloc, head, row, count)?;
+        assert_eq!(rt;
+            fault(alloc, many.as_bytes(), LayoutCode::TooMany),
+            Some(place),
+            "{row}"
+        );
+        let most = repeated(alloc, head, row, count - 1)?;
+        assert_eq!(rt;
+            fault(alloc, most.as_bytes(), LayoutCode::TooMany),
+            None,
+            "{row}"
+        );
+    }
+    Ok(())
+}
+
+/// One station that sends so many octets, in a file of that format.
+fn long_frame(alloc: Global, format: u32, octets: usize) -> Result<String, Fail> {
+    let head = format!(in alloc;
+        "format = {format}\nseed = 1\nuntil_bits = 1\nsegment = [{{name = \"x\"}}]\n\
+         station = [{{name = \"a\", segment = \"x\", at = 0}}]\n\
+         [[send]]\nstation = \"a\"\nat = 0\noctets = \""
+    )?;
+    let mut text = repeated(alloc, head.as_str(), "00", octets)?;
+    text.push_str("\"")?;
+    Ok(text)
+}
+
+/// How many octets the first send has.
+fn first_length(layout: &Layout) -> usize {
+    match layout.sends.as_slice() {
+        [send, ..] => send.octets.len(),
+        [] => 0,
+    }
+}
+
+/// The longest frame has 1,514 octets, and 1,518 in format 2.
+#[test]
+fn long_frames_are_refused(rt: HostRuntime) -> Result<(), Fail> {
+    let alloc = rt.alloc();
+    for (format, most) in [(1, 1_514), (2, 1_518)] {
+        let longest = long_frame(alloc, format, most)?;
+        let layout = read(alloc, longest.as_str())?;
+        assert_eq!(rt; first_length(&layout), most);
+        let longer = long_frame(alloc, format, most + 1)?;
+        assert_eq!(rt;
+            fault(alloc, longer.as_bytes(), LayoutCode::BadFrame),
+            Some((Table::Send, 1, 0, Key::Octets))
+        );
+    }
+    Ok(())
+}
+
+/// Format 2 has lost bits, and a station may have a load.
+#[test]
+fn the_second_format_is_read(rt: HostRuntime) -> Result<(), Fail> {
+    let layout = read(
+        rt.alloc(),
+        "format = 2\nseed = 1\nuntil_bits = 700\nsegment = [{name = \"x\"}]\nstation = [\
+         {name = \"a\", segment = \"x\", at = 0},\
+         {name = \"b\", segment = \"x\", at = 10, lose_bits = 48, load = \"l.pcap\"}]",
+    )?;
+    assert_eq!(rt; layout.format, 2);
+    assert_eq!(rt; layout.stations.len(), 2);
+    let b = layout.stations.get(1);
+    assert_eq!(rt; (b.lose, layout.stations.get(0).lose), (48, 0));
+    match &b.load {
+        Some(load) => assert_eq!(rt; load.as_str(), "l.pcap"),
+        None => return Err("no load")?,
     }
     Ok(())
 }

@@ -1,5 +1,5 @@
 -- A plan: a layout and, for each station, the queue of the frames that it has to send.
-use Rattle.std.specs.Prelude.{◌≡◌, ℕ, ◌==◌, max, List, [], ◌∷◌, map, filter}
+use Rattle.std.specs.Prelude.{ℕ, ◌==◌, max, List, [], ◌∷◌, map, filter}
 use Rattle.std.specs.List.{range_with_len}
 use Rattle.frame_layout.specs.declared.queue.Ready.{Ready}
 use Rattle.frame_layout.specs.Frame.{frame_of}

@@ -2,6 +2,7 @@
 ghost use Rattle.std.specs.Prelude.{◌≡◌, ◌≤◌, ◌<◌, ◌++◌, ◌∷◌, [], max, length, IfOk, replicate, All};
 ghost use Rattle.frame_layout.specs.Frame.{frame_of};
 ghost use Rattle.frame_layout.specs.Queue.{IsNotBelowLast};
+ghost use Rattle.layout_file.specs.Sound.{IsSound};
 ghost use Rattle.load_plan.specs.Plans.{queue_of, queues_of, no_skips};
 
 use frame_layout::{Frame, Queue, build};
@@ -31,6 +32,7 @@ pub struct Plan {
     pub skips: SkipList,
     ghost queued: { length queues ≡ length layout.stations },
     ghost counted: { length skips ≡ length layout.stations },
+    ghost sound: { ∥ IsSound layout ∥₁ },
 }
 
 fn frame_of_send(alloc: Global, send: &SendLine) -> Result<Frame, OutOfMemory>
@@ -112,8 +114,7 @@ fn nothing_skipped(alloc: Global, stations: u32) -> Result<SkipList, OutOfMemory
 /// The plan of a layout without loads: each station has its sends in the file's order, and each frame is
 /// ready no earlier than the one before it.
 pub fn plan_of_sends(alloc: Global, layout: Layout) -> Result<Plan, OutOfMemory>
-    requires stations { length layout.stations ≤ 1024 }
-    requires sends { length layout.sends ≤ 65536 }
+    requires sound { IsSound layout }
     requires frames { All (λ s. (14 ≤ length s.octets) × (length s.octets ≤ 1514)) layout.sends }
     ensures layout { IfOk result (λ plan. plan.layout ≡ layout) }
     ensures queues { IfOk result (λ plan. plan.queues ≡ queues_of layout.sends (length layout.stations)) }

@@ -1,2 +1,6 @@
+pub mod Calm
 pub mod Deference
+pub mod Laws
+pub mod Resuming
 pub mod Sender
+pub mod Starts

@@ -9,12 +9,15 @@ use Rattle.backoff_draw.specs.Draws.{Drawing, draw_of, drawn}
 use Rattle.collision_log.specs.declared.row.Body.{Body}
 use Rattle.collision_log.specs.declared.row.Body.TheVariants.{Sent, Collided, GivenUp, Cut}
 use Rattle.mac_transmit.specs.declared.deference.Defer.{Defer}
-use Rattle.mac_transmit.specs.declared.deference.Defer.TheVariants.{Watch, Busy}
+use Rattle.mac_transmit.specs.declared.deference.Defer.TheVariants.{Watch, Busy, Gap}
 use Rattle.mac_transmit.specs.declared.phase.Phase.{Phase}
 use Rattle.mac_transmit.specs.declared.phase.Phase.TheVariants.{Rest, Waiting, Sending, Backoff}
 use Rattle.mac_transmit.specs.Deference.{deferred, free_of, gap_of}
+use Rattle.mac_transmit.specs.Laws.{loud_after, IsAway}
 
--- A sender before half bit t: its queue, the place in it of its frame, from 0, and its attempt, from 1.
+-- A sender before half bit t: its queue, the place in it of its frame, from 0, and its attempt, from 1; the half bit in
+-- which its last sending ended, if one did; and the half bit from which on its station heard something in every half bit
+-- before t, which is t where it heard Idle in the last.
 pub record Sender : Type 0 where
   pub queue : List Ready
   pub draws : Drawing
@@ -23,10 +26,12 @@ pub record Sender : Type 0 where
   pub phase : Phase
   pub defer : Defer
   pub attempt : ℕ
+  pub last_end : Option ℕ
+  pub loud_from : ℕ
 
 -- a sender before half bit 0
 abbrev pub new_sender : List Ready → Drawing → Sender
-new_sender queue draws = record { queue = queue; draws = draws; t = 0; place = 0; phase = Rest; defer = Watch; attempt = 1 }
+new_sender queue draws = record { queue = queue; draws = draws; t = 0; place = 0; phase = Rest; defer = Watch; attempt = 1; last_end = None; loud_from = 0 }
 
 abbrev pub no_frame : Ready
 no_frame = record { at = 0; frame = [] }
@@ -68,10 +73,15 @@ hears _ = true
 
 -- 1. finish: a sending whose length is reached
 abbrev pub ended : Sender → Option ℕ → Sender
-ended s None = record s { place = s.place + 1; phase = Rest }
+ended s None = record s { place = s.place + 1; phase = Rest; last_end = Some s.t }
 ended s (Some hit) =
-    if s.attempt == 16 then record s { place = s.place + 1; phase = Rest }
-    else record s { phase = Backoff (s.t + 1024 * draw_of s.draws.seed s.draws.station s.draws.made s.attempt); attempt = s.attempt + 1; draws = drawn s.draws }
+    if s.attempt == 16 then record s { place = s.place + 1; phase = Rest; last_end = Some s.t }
+    else record s {
+      phase = Backoff (s.t + 1024 * draw_of s.draws.seed s.draws.station s.draws.made s.attempt);
+      attempt = s.attempt + 1;
+      draws = drawn s.draws;
+      last_end = Some s.t;
+    }
 
 abbrev pub end_event : Sender → ℕ → Option ℕ → Body
 end_event s start None = Sent (s.place + 1) start s.attempt
@@ -80,7 +90,7 @@ end_event s start (Some hit) =
     else Collided (s.place + 1) start s.attempt hit (draw_of s.draws.seed s.draws.station s.draws.made s.attempt)
 
 abbrev pub has_ended : Sender → ℕ → Option ℕ → Bool
-has_ended s start hit = s.t == start + length_of (frame_at s.queue s.place) hit
+has_ended s start hit = nat_le (start + length_of (frame_at s.queue s.place) hit) s.t
 
 abbrev pub finished_from : Sender → Phase → Sender
 finished_from s (Sending start hit) = if has_ended s start hit then ended s hit else s
@@ -112,23 +122,38 @@ is_waiting Waiting = true
 is_waiting _ = false
 
 unfoldable pub deferring : Sender → Bool → Sender
-deferring s c = record s { defer = deferred s.defer c (is_sending s.phase) (is_waiting s.phase) }
+deferring s c = record s {
+  defer = deferred s.defer c (is_sending s.phase) (is_waiting s.phase);
+  loud_from = loud_after s.loud_from s.t c;
+}
 
 unfoldable pub is_free : Sender → Bool → Bool
 is_free s c = free_of s.defer c (is_waiting s.phase)
 
 -- 4. start: a waiting station that is free
+abbrev pub phase_started : ℕ → Phase → Bool → Phase
+phase_started t Waiting true = Sending t None
+phase_started t p free = p
+
+abbrev pub defer_started : Phase → Bool → Defer → Defer
+defer_started Waiting true d = Busy true
+defer_started p free d = d
+
 unfoldable pub started : Sender → Bool → Sender
-started s free = if free && is_waiting s.phase then record s { phase = Sending s.t None; defer = Busy true } else s
+started s free = record s { phase = phase_started s.t s.phase free; defer = defer_started s.phase free s.defer }
 
 -- 5. emit, with the first carrier of a sending as its hit
 abbrev pub hit_at : Option ℕ → Bool → ℕ → Option ℕ
 hit_at None true p = Some p
 hit_at hit _ p = hit
 
-unfoldable pub emitted_from : Sender → Phase → Bool → Sym
-emitted_from s (Sending start hit) c = symbol_of (frame_at s.queue s.place) (hit_at hit c (s.t - start)) (s.t - start)
-emitted_from s _ c = Idle
+-- with a frame of these octets, in half bit t
+unfoldable pub symbol_emitted : List ℕ → ℕ → Phase → Bool → Sym
+symbol_emitted octets t (Sending start hit) c = symbol_of octets (hit_at hit c (t - start)) (t - start)
+symbol_emitted octets t _ c = Idle
+
+abbrev pub emitted_from : Sender → Phase → Bool → Sym
+emitted_from s p c = symbol_emitted (frame_at s.queue s.place) s.t p c
 
 abbrev pub phase_after : ℕ → Phase → Bool → Phase
 phase_after t (Sending start hit) c = Sending start (hit_at hit c (t - start))
@@ -137,9 +162,13 @@ phase_after t p c = p
 unfoldable pub emitting : Sender → Bool → Sender
 emitting s c = record s { t = s.t + 1; phase = phase_after s.t s.phase c }
 
+-- a half bit from deference on, up to what is emitted
+abbrev pub after_turn : Sender → Bool → Sender
+after_turn s c = started (deferring s c) (is_free s c)
+
 -- one half bit, up to what is emitted
 abbrev pub before_emission : Sender → Bool → Sender
-before_emission s c = let d = promoted (finished s) in started (deferring d c) (is_free d c)
+before_emission s c = after_turn (promoted (finished s)) c
 
 -- What a half bit gives: the state after it, the symbol that is emitted in it, and at most one event.
 pub record SendOutcome : Type 0 where
@@ -161,20 +190,34 @@ cut_from s _ = None
 unfoldable pub cut_of : Sender → Option Body
 cut_of s = cut_from s s.phase
 
--- there is a frame where one is waiting or under way, and a sending began before the present half bit
-abbrev pub PhaseIsSound : ℕ → ℕ → Bool → Phase → Type 0
-PhaseIsSound t made more Rest = Unit {0}
-PhaseIsSound t made more Waiting = more ≡ true
-PhaseIsSound t made more (Sending start hit) = (more ≡ true) × (start ≤ t) × (made ≤ start)
-PhaseIsSound t made more (Backoff until) = more ≡ true
+-- where a frame is under way there is one
+abbrev pub IsWithin : Bool → Phase → Type 0
+IsWithin more (Sending start hit) = more ≡ true
+IsWithin more _ = Unit {0}
+
+-- Where a frame waits or is under way there is one. A sending under way began in an earlier half bit, and since then the
+-- station made no draw and is busy with it. A backoff ends by half bit 2,100,000,000.
+abbrev pub PhaseIsSound : ℕ → ℕ → Bool → Defer → Phase → Type 0
+PhaseIsSound t made more defer Rest = Unit {0}
+PhaseIsSound t made more defer Waiting = more ≡ true
+PhaseIsSound t made more defer (Sending start hit) = (more ≡ true) × (start < t) × (made ≤ start + 2000000000) × (defer ≡ Busy true)
+PhaseIsSound t made more defer (Backoff until) = (more ≡ true) × (until ≤ 2100000000)
+
+-- The gap did not begin before the last sending had ended, nor before the station had heard Idle.
+abbrev pub DeferIsSound : ℕ → Option ℕ → ℕ → Defer → Type 0
+DeferIsSound t last_end loud_from Watch = IsAway last_end 192 t
+DeferIsSound t last_end loud_from (Busy was) = IsAway last_end 0 t
+DeferIsSound t last_end loud_from (Gap k was) = IsAway last_end k t × (t < loud_from + k) × (1 ≤ k)
 
 -- what the states of a sender keep
 pub record IsSender (s : Sender) : Type 0 where
   pub few : length s.queue < 2 ^ 32
   pub time : s.t ≤ 2000000000
-  pub drawn : s.draws.made ≤ s.t
+  pub drawn : s.draws.made ≤ s.t + 2000000000
   pub first : 1 ≤ s.attempt
   pub last : s.attempt ≤ 16
   pub gap : gap_of s.defer ≤ 192
   pub place : s.place ≤ length s.queue
-  pub phase : PhaseIsSound s.t s.draws.made (nat_lt s.place (length s.queue)) s.phase
+  pub phase_sound : PhaseIsSound s.t s.draws.made (nat_lt s.place (length s.queue)) s.defer s.phase
+  pub defer_sound : DeferIsSound s.t s.last_end s.loud_from s.defer
+  pub loud : s.loud_from ≤ s.t

@@ -1,8 +1,9 @@
 //! The cases of a sender's half bit, on plain values.
-ghost use Rattle.std.specs.Prelude.{◌≡◌, ◌<◌, ◌≤◌, ◌^◌, length};
-ghost use Rattle.mac_transmit.specs.Sender.{jam_start, length_of, line_length, line_at, symbol_of, hit_at, is_sending, is_waiting};
+ghost use Rattle.std.specs.Prelude.{◌≡◌, ◌<◌, ◌≤◌, ◌+◌, ◌^◌, ◌==◌, ◌||◌, if◌then◌else◌, length, IfNone};
+ghost use Rattle.mac_transmit.specs.Laws.{loud_after};
+ghost use Rattle.mac_transmit.specs.Sender.{jam_start, length_of, line_length, line_at, symbol_of, hit_at, is_sending, is_waiting, phase_started, defer_started, phase_after};
 
-use crate::Phase;
+use crate::{Defer, Phase};
 use manchester_line::{Sym, jam_sym, line_sym};
 
 /// The half bits of the header.
@@ -27,8 +28,10 @@ pub fn start_of_jam(hit: u32) -> u64
 /// The half bits of a frame's line text.
 #[tactic(auto, unfolding(crate::specs::Sender::line_length), using(manchester_line::proofs::Places::length_line))]
 fn whole_length(octets: &[u8]) -> u64
-    requires { length octets.now ≤ 1600 }
+    requires least { 64 ≤ length octets.now }
+    requires most { length octets.now ≤ 1600 }
     ensures length { result ≡ line_length octets.now }
+    ensures least { 1152 ≤ result }
     ensures small { result < 2 ^ 33 }
 {
     128 + 16 * octets.len() as u64
@@ -36,8 +39,10 @@ fn whole_length(octets: &[u8]) -> u64
 
 /// The half bits of a sending.
 pub fn length_with(octets: &[u8], hit: Option<u32>) -> u64
-    requires { length octets.now ≤ 1600 }
+    requires least { 64 ≤ length octets.now }
+    requires most { length octets.now ≤ 1600 }
     ensures length { result ≡ length_of octets.now hit }
+    ensures whole { IfNone hit (1152 ≤ result) }
     ensures small { result < 2 ^ 34 }
 {
     match hit {
@@ -60,7 +65,7 @@ fn line_symbol(octets: &[u8], p: u64) -> Sym
 pub fn symbol_at(octets: &[u8], hit: Option<u32>, p: u64) -> Sym
     requires length { length octets.now ≤ 1600 }
     requires place { p < 2 ^ 32 }
-    ensures { result ≡ symbol_of octets.now hit p }
+    ensures symbol { result ≡ symbol_of octets.now hit p }
 {
     match hit {
         None => line_symbol(octets, p),
@@ -96,4 +101,57 @@ pub fn waiting(phase: Phase) -> bool
     ensures { result ≡ is_waiting phase }
 {
     matches!(phase, Phase::Waiting)
+}
+
+/// The phase after a station that is free or not could start in half bit `t`.
+pub fn phase_if_free(t: u64, phase: Phase, free: bool) -> Phase
+    ensures { result ≡ phase_started t phase free }
+{
+    match phase {
+        Phase::Waiting if free => Phase::Sending {
+            start: t,
+            hit: None,
+        },
+        _ => phase,
+    }
+}
+
+/// The state of deference after a station that is free or not could start.
+pub fn defer_if_free(phase: Phase, free: bool, defer: Defer) -> Defer
+    ensures { result ≡ defer_started phase free defer }
+{
+    match phase {
+        Phase::Waiting if free => Defer::Busy { was: true },
+        _ => defer,
+    }
+}
+
+/// The phase after half bit `t`, in which a sending may get its hit.
+pub fn phase_with_hit(t: u64, phase: Phase, carrier: bool) -> Phase
+    requires { t < 2 ^ 32 }
+    ensures { result ≡ phase_after t phase carrier }
+{
+    match phase {
+        Phase::Sending { start, hit } => Phase::Sending {
+            start,
+            hit: new_hit(hit, carrier, t.saturating_sub(start)),
+        },
+        _ => phase,
+    }
+}
+
+/// The first of the half bits one after another, up to `t`, in which something was heard.
+pub fn loud_since(from: u64, t: u64, carrier: bool) -> u64
+    requires { t < 2 ^ 32 }
+    ensures { result ≡ loud_after from t carrier }
+{
+    if carrier { from } else { t + 1 }
+}
+
+/// The same after `n` half bits from `t` on, in each of which something was heard, or Idle in each.
+pub fn loud_leapt(from: u64, t: u64, n: u64, carrier: bool) -> u64
+    requires { t + n < 2 ^ 32 }
+    ensures { result ≡ (if carrier || n == 0 then from else t + n) }
+{
+    if carrier || n == 0 { from } else { t + n }
 }

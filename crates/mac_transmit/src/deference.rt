@@ -1,6 +1,11 @@
 //! Deference, by its table.
-ghost use Rattle.std.specs.Prelude.{◌≡◌, ◌≤◌, false};
-ghost use Rattle.mac_transmit.specs.Deference.{deferred, free_of, gap_of};
+ghost use Rattle.std.specs.Prelude.{◌≡◌, ◌≤◌, ◌==◌, ◌||◌, if◌then◌else◌, false};
+ghost use Rattle.mac_transmit.specs.Deference.{deferred, free_of, gap_of, watched};
+ghost use Rattle.mac_transmit.specs.Calm.{gap_left, gap_at, waited};
+ghost use Rattle.mac_transmit.specs.Sender.{is_sending};
+
+use crate::Phase;
+use crate::cases::sending;
 
 /// The half bits of the interframe gap (IEEE 802.3, 4.4.2.1).
 const GAP: u32 = 192;
@@ -83,5 +88,74 @@ pub fn next_deference(state: Defer, carrier: bool, sending: bool, waiting: bool)
                 }
             }
         }
+    }
+}
+
+/// The half bits until a station that waits is free, where it hears something in each, or Idle in each; none where it
+/// is never free.
+pub fn gap_to_wait(state: Defer, carrier: bool) -> Option<u64>
+    requires { gap_of state ≤ 192 }
+    ensures { result ≡ gap_left carrier state }
+{
+    match state {
+        Defer::Gap { k, was } => {
+            if k < GAP_PART_1 && !was && carrier {
+                None
+            } else {
+                Some(u64::from(GAP - k))
+            }
+        }
+        _ if carrier => None,
+        Defer::Watch => Some(0),
+        Defer::Busy { .. } => Some(u64::from(GAP)),
+    }
+}
+
+/// The state `k` half bits after the gap began, with or without carrier behind its end.
+fn gap_after(k: u32, was: bool, carrier: bool) -> Defer
+    ensures { result ≡ gap_at carrier k was }
+{
+    if k <= GAP {
+        Defer::Gap { k, was }
+    } else {
+        from_watch(carrier).next
+    }
+}
+
+/// Deference after `n` half bits, at least one and at most 4,096, in which the station doesn't send.
+fn deference_after(state: Defer, n: u32, carrier: bool) -> Defer
+    requires gap { gap_of state ≤ 192 }
+    requires most { n ≤ 4096 }
+    ensures { result ≡ waited carrier state n }
+{
+    match state {
+        Defer::Watch => from_watch(carrier).next,
+        Defer::Busy { was } => {
+            if carrier {
+                state
+            } else {
+                gap_after(n, was, carrier)
+            }
+        }
+        Defer::Gap { k, was } => {
+            if k < GAP_PART_1 && !was && carrier {
+                Defer::Busy { was: false }
+            } else {
+                gap_after(k + n, was, carrier)
+            }
+        }
+    }
+}
+
+/// Deference after `n` half bits, at most 4,096, in which the phase stays as it is.
+pub fn defer_leapt(phase: Phase, state: Defer, n: u64, carrier: bool) -> Defer
+    requires gap { gap_of state ≤ 192 }
+    requires most { n ≤ 4096 }
+    ensures { result ≡ (if is_sending phase || n == 0 then state else waited carrier state n) }
+{
+    if sending(phase) || n == 0 {
+        state
+    } else {
+        deference_after(state, n as u32, carrier)
     }
 }

@@ -3,11 +3,16 @@
 
 mod cases;
 mod deference;
+mod laws;
 mod phase;
+mod state;
 mod transmitter;
+mod turn;
 
 pub use deference::Defer;
+pub use laws::{deaf_gaps_are_kept, gaps_are_kept};
 pub use phase::Phase;
+pub use state::SenderState;
 pub use transmitter::{SendStep, Transmitter};
 
 #[cfg(test)]

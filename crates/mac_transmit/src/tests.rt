@@ -1,11 +1,11 @@
-ghost use Rattle.std.specs.Prelude.{◌≡◌, ◌≤◌, IfOk};
+ghost use Rattle.std.specs.Prelude.{◌≡◌, ◌<◌, ◌≤◌, length, IfOk};
 
-use crate::{Phase, Transmitter};
+use crate::{Defer, Phase, SenderState, Transmitter};
 use backoff_draw::Draws;
 use collision_log::Body;
 use frame_layout::{Frame, Queue, build};
 use lists::OutOfMemory;
-use manchester_line::Sym;
+use manchester_line::{Sym, jam_sym};
 use std::alloc::Global;
 
 /// The 14 octets of a frame of 64 octets with pad and FCS, whose line text has 1,152 half bits.
@@ -27,14 +27,21 @@ fn with_one(alloc: Global, at: u64) -> Result<Transmitter, OutOfMemory>
     Ok(Transmitter::new(queue, Draws::new(1, 0)))
 }
 
-/// A new sender with two frames that are ready at once.
-fn with_two(alloc: Global) -> Result<Transmitter, OutOfMemory>
-    ensures { IfOk result (λ s. s.t ≡ 0) }
+/// Two frames that are ready at once.
+fn two_frames(alloc: Global) -> Result<Queue, OutOfMemory>
+    ensures { IfOk result (λ queue. length queue ≡ 2) }
 {
     let mut queue = Queue::new(alloc);
     queue.push(0, frame(alloc)?)?;
     queue.push(0, frame(alloc)?)?;
-    Ok(Transmitter::new(queue, Draws::new(1, 0)))
+    Ok(queue)
+}
+
+/// A new sender with two frames that are ready at once.
+fn with_two(alloc: Global) -> Result<Transmitter, OutOfMemory>
+    ensures { IfOk result (λ s. s.t ≡ 0) }
+{
+    Ok(Transmitter::new(two_frames(alloc)?, Draws::new(1, 0)))
 }
 
 /// The first event of a sender that hears Hi at these half bits and else Idle, with its half bit.
@@ -139,5 +146,126 @@ fn a_frame_is_given_up_at_its_sixteenth_collision(rt: HostRuntime) -> Result<(),
     };
     assert_eq!(rt; collisions, 15);
     assert_eq!(rt; start.saturating_sub(end), 192);
+    Ok(())
+}
+
+/// The first half bit at which a sender that hears Hi at 1,151 and else Idle doesn't emit the jam from 1,152 on, or
+/// anything from 1,216 on.
+fn first_wrong_jam(mut sender: Transmitter) -> Option<u64>
+    requires { sender.t ≡ 0 }
+{
+    for t in 0..1300 {
+        let heard = if t == 1151 { Sym::Hi } else { Sym::Idle };
+        let want = match t {
+            1152..=1215 => jam_sym((t - 1152) as u32),
+            _ => Sym::Idle,
+        };
+        let emitted = sender.step(t, heard).emitted;
+        if t >= 1152 && emitted != want {
+            return Some(t);
+        }
+    }
+    None
+}
+
+#[test]
+fn a_hit_at_the_end_is_followed_by_the_jam(rt: HostRuntime) -> Result<(), OutOfMemory> {
+    assert_eq!(rt; first_wrong_jam(with_one(rt.alloc(), 0)?), None);
+    Ok(())
+}
+
+#[test]
+fn a_sender_is_calm_until_its_frame_is_ready(rt: HostRuntime) -> Result<(), OutOfMemory> {
+    for (at, carrier, calm) in [
+        (100, false, 100),
+        (100, true, 100),
+        (0, false, 0),
+        (4097, false, 4096),
+    ] {
+        let sender = with_one(rt.alloc(), at)?;
+        assert_eq!(rt; sender.calm(0, carrier), calm, "ready at {at}");
+    }
+    Ok(())
+}
+
+/// The first event of a sender that hears nothing and leaps wherever it is calm, with its half bit.
+fn event_by_leaps(mut sender: Transmitter) -> Option<(u64, Body)>
+    requires { sender.t ≡ 0 }
+{
+    let mut t = 0u64;
+    for _leap in 0..20u64 {
+        let n = sender.calm(t, false);
+        sender.leap(t, n, false);
+        t += n;
+        if let Some(body) = sender.step(t, Sym::Idle).event {
+            return Some((t, body));
+        }
+        t += 1;
+    }
+    None
+}
+
+#[test]
+fn a_sending_comes_to_its_end_by_leaps(rt: HostRuntime) -> Result<(), OutOfMemory> {
+    for at in [0, 100, 10_000] {
+        let sent = Body::Sent {
+            frame: 1,
+            start: at,
+            attempt: 1,
+        };
+        let sender = with_one(rt.alloc(), at)?;
+        assert_eq!(rt;
+            event_by_leaps(sender),
+            Some((at + 1152, sent)),
+            "ready at {at}"
+        );
+    }
+    Ok(())
+}
+
+/// The sender hears nothing in the half bits below `end`.
+fn hear_nothing(sender: &mut Transmitter, end: u64)
+    requires start { sender.old.t ≡ 0 }
+    requires end { end ≤ 2000000000 }
+    ensures { sender.new.t ≡ end }
+{
+    for t in 0..end {
+        sender.step(t, Sym::Idle);
+    }
+}
+
+/// The first event, before half bit `end`, of a sender that hears nothing from half bit `from` on, with its half bit.
+fn quiet_event(sender: &mut Transmitter, from: u64, end: u64) -> Option<(u64, Body)>
+    requires start { sender.old.t ≡ from }
+    requires order { from ≤ end }
+    requires end { end ≤ 2000000000 }
+{
+    for t in from..end {
+        if let Some(body) = sender.step(t, Sym::Idle).event {
+            return Some((t, body));
+        }
+    }
+    None
+}
+
+#[test]
+fn a_sender_goes_on_from_its_state(rt: HostRuntime) -> Result<(), OutOfMemory> {
+    let state = SenderState {
+        phase: Phase::Waiting,
+        defer: Defer::Gap { k: 48, was: true },
+        attempt: 1,
+        place: 1,
+        drawn: 0,
+    };
+    let mut sender = with_two(rt.alloc())?;
+    hear_nothing(&mut sender, 1200);
+    assert_eq!(rt; sender.state(), state);
+    let mut resumed = Transmitter::resume(two_frames(rt.alloc())?, Draws::at(1, 0, 0), 1200, state);
+    let sent = Body::Sent {
+        frame: 2,
+        start: 1344,
+        attempt: 1,
+    };
+    assert_eq!(rt; quiet_event(&mut resumed, 1200, 3000), Some((2496, sent)));
     Ok(())
 }

@@ -1,10 +1,14 @@
 //! A station's sender.
-ghost use Rattle.std.specs.Prelude.{◌≡◌, ◌<◌, ◌≤◌, ◌&&◌, nat_lt, nat_le, length};
-ghost use Rattle.mac_transmit.specs.Sender.{frame_at, ready_at};
+ghost use Rattle.std.specs.Prelude.{◌≡◌, ◌<◌, ◌≤◌, ◌^◌, ◌&&◌, nat_lt, nat_le, length};
+ghost use Rattle.manchester_line.specs.declared.Sym.{Sym};
+ghost use Rattle.manchester_line.specs.declared.Sym.TheVariants.{Idle};
+ghost use Rattle.mac_transmit.specs.Sender.{frame_at, ready_at, IsWithin, symbol_emitted};
+ghost use Rattle.mac_transmit.specs.Calm.{up_to_most};
 
-use crate::cases::{length_with, new_hit, sending, symbol_at, waiting};
-use crate::deference::next_deference;
-use crate::{Defer, Phase};
+use crate::cases::{length_with, loud_leapt, loud_since, new_hit, phase_with_hit, symbol_at};
+use crate::deference::{defer_leapt, gap_to_wait};
+use crate::turn::take_turn;
+use crate::{Defer, Phase, SenderState};
 use backoff_draw::Draws;
 use collision_log::Body;
 use frame_layout::{Frame, Queue};
@@ -13,6 +17,9 @@ use std::marker::Model;
 
 /// The attempts after which a frame is given up (IEEE 802.3, 4.4.2.1).
 const ATTEMPT_LIMIT: u32 = 16;
+
+/// The most half bits of a leap (profile).
+const MOST_CALM: u64 = 4096;
 
 /// The half bits of the slot time (IEEE 802.3, 4.4.2.1).
 const SLOT_TIME: u64 = 1024;
@@ -29,21 +36,25 @@ pub struct SendStep {
 pub struct Transmitter {
     queue: Queue,
     draws: Draws,
+    drawn: u32,
     t: u64,
     place: u32,
     phase: Phase,
     defer: Defer,
     attempt: u32,
+    last_end: Option<u64>,
+    loud_from: u64,
 }
 
 impl Model for Transmitter {
+    ghost use Rattle.std.specs.Prelude.{◌≡◌};
     ghost use Rattle.mac_transmit.specs.Sender.{Sender, IsSender};
 
     ghost Value = { Sender };
 
-    ghost view = { λ s. record { queue = s.queue; draws = s.draws; t = s.t; place = s.place; phase = s.phase; defer = s.defer; attempt = s.attempt } };
+    ghost view = { λ s. record { queue = s.queue; draws = s.draws; t = s.t; place = s.place; phase = s.phase; defer = s.defer; attempt = s.attempt; last_end = s.last_end; loud_from = s.loud_from } };
 
-    ghost invariant = { λ s. IsSender (record { queue = s.queue; draws = s.draws; t = s.t; place = s.place; phase = s.phase; defer = s.defer; attempt = s.attempt }) };
+    ghost invariant = { λ s. IsSender (record { queue = s.queue; draws = s.draws; t = s.t; place = s.place; phase = s.phase; defer = s.defer; attempt = s.attempt; last_end = s.last_end; loud_from = s.loud_from }) × (s.drawn ≡ s.draws.made) };
 }
 
 /// The octets of the frame at a place of a queue.
@@ -51,6 +62,7 @@ impl Model for Transmitter {
 fn frame_octets(queue: &Queue, place: u32) -> &[u8]
     requires { place < length queue.now }
     ensures octets { result.now ≡ frame_at queue.now place }
+    ensures least { 64 ≤ length result.now }
     ensures short { length result.now ≤ 1600 }
 {
     queue.get(place).frame.octets()
@@ -64,9 +76,38 @@ fn is_ready(queue: &Queue, place: u32, t: u64) -> bool
     place < queue.len() && queue.get(place).at <= t
 }
 
+fn at_most(change: Option<u64>) -> u64
+    ensures number { result ≡ up_to_most change }
+    ensures within { result ≤ 4096 }
+{
+    match change {
+        None => MOST_CALM,
+        Some(n) => n.min(MOST_CALM),
+    }
+}
+
+/// The symbol that a station in this phase emits in half bit `t`.
+#[tactic(auto, unfolding(crate::specs::Sender::symbol_emitted))]
+fn emission(queue: &Queue, place: u32, t: u64, phase: Phase, carrier: bool) -> Sym
+    requires time { t < 2 ^ 32 }
+    requires frame { IsWithin (nat_lt place (length queue.now)) phase }
+    ensures { result ≡ symbol_emitted (frame_at queue.now place) t phase carrier }
+{
+    let Phase::Sending { start, hit } = phase else {
+        return Sym::Idle;
+    };
+    let p = t.saturating_sub(start);
+    symbol_at(frame_octets(queue, place), new_hit(hit, carrier, p), p)
+}
+
 impl Transmitter {
-    ghost use Rattle.std.specs.Prelude.{◌≡◌, ◌<◌, ◌≤◌, ◌+◌, ◌&&◌, nat_lt, nat_le, length, IfSome, IsNone, ◌↔◌};
-    ghost use Rattle.mac_transmit.specs.Sender.{new_sender, finished, event_from, promoted, deferring, is_free, started, emitted_from, emitting, before_emission, hears, sent, cut_of, frame_at, ready_at};
+    ghost use Rattle.std.specs.Prelude.{◌≡◌, ◌≢◌, ◌<◌, ◌≤◌, ◌+◌, ◌&&◌, nat_lt, nat_le, true, false, length, IfSome, IsNone, ◌↔◌};
+    ghost use Rattle.manchester_line.specs.declared.Sym.TheVariants.{Clash};
+    ghost use Rattle.mac_transmit.specs.Laws.{end_after, loud_after, StartsAt, IsAway, IsLongEnough};
+    ghost use Rattle.mac_transmit.specs.Calm.{change_in, calm_of, AllHeardAs, AreCalm, after_all, leapt};
+    ghost use Rattle.std.specs.Prelude.{List};
+    ghost use Rattle.mac_transmit.specs.Resuming.{state_of, resumed, IsStateOf};
+    ghost use Rattle.mac_transmit.specs.Sender.{new_sender, finished, event_from, promoted, after_turn, emitted_from, emitting, hears, sent, cut_of, frame_at, ready_at, is_sending, IsSender};
 
     /// The sender of a queue before half bit 0, with draws of which none was made yet.
     pub fn new(queue: Queue, draws: Draws) -> Transmitter
@@ -76,28 +117,72 @@ impl Transmitter {
         Transmitter {
             queue,
             draws,
+            drawn: 0,
             t: 0,
             place: 0,
             phase: Phase::Rest,
             defer: Defer::Watch,
             attempt: 1,
+            last_end: None,
+            loud_from: 0,
+        }
+    }
+
+    /// The state from which a sender can go on later, given a half bit, its queue and its draws. A sender that isn't
+    /// sending, and that made at most 2,000,000,000 draws, can.
+    pub fn state(&self) -> SenderState
+        ensures state { result ≡ state_of self.now }
+        ensures ranges { is_sending self.now.phase ≡ false → self.now.draws.made ≤ 2000000000 → IsStateOf self.now.queue result }
+    {
+        SenderState {
+            phase: self.phase,
+            defer: self.defer,
+            attempt: self.attempt,
+            place: self.place,
+            drawn: self.drawn,
+        }
+    }
+
+    /// The sender of a queue before half bit `t` that goes on from this state, with draws whose next is the one that the
+    /// state numbers. What its laws say of earlier sendings and of what was heard begins anew.
+    pub fn resume(queue: Queue, draws: Draws, t: u64, state: SenderState) -> Transmitter
+        requires in_time { t ≤ 2000000000 }
+        requires next_draw { draws.made ≡ state.drawn }
+        requires ranges { IsStateOf queue state }
+        ensures { result ≡ resumed queue draws t state }
+    {
+        Transmitter {
+            queue,
+            draws,
+            drawn: state.drawn,
+            t,
+            place: state.place,
+            phase: state.phase,
+            defer: state.defer,
+            attempt: state.attempt,
+            last_end: None,
+            loud_from: t,
         }
     }
 
     /// A sending whose length is reached gives its event.
-    #[tactic(auto, unfolding(crate::specs::Sender::finished, crate::specs::Sender::event_from))]
+    #[tactic(auto, unfolding(crate::specs::Sender::finished, crate::specs::Sender::event_from), using(crate::proofs::Keeping::draw_below))]
     fn finish(&mut self) -> Option<Body>
         ensures state { self.new ≡ finished self.old }
         ensures time { self.new.t ≡ self.old.t }
         ensures event { result ≡ event_from self.old self.old.phase }
+        ensures end { self.new.last_end ≡ end_after self.old.last_end self.old.t result }
+        ensures loud { self.new.loud_from ≡ self.old.loud_from }
+        ensures length { IsLongEnough self.old.t result }
     {
         let Phase::Sending { start, hit } = self.phase else {
             return None;
         };
         let length = length_with(frame_octets(&self.queue, self.place), hit);
-        if self.t != start + length {
+        if self.t < start + length {
             return None;
         }
+        self.last_end = Some(self.t);
         let frame = self.place + 1;
         let attempt = self.attempt;
         let Some(hit) = hit else {
@@ -115,6 +200,7 @@ impl Transmitter {
             return Some(Body::GivenUp { frame, start, hit });
         }
         let drawn = self.draws.draw(attempt);
+        self.drawn += 1;
         self.phase = Phase::Backoff {
             until: self.t + SLOT_TIME * u64::from(drawn),
         };
@@ -133,6 +219,8 @@ impl Transmitter {
     fn promote(&mut self)
         ensures state { self.new ≡ promoted self.old }
         ensures time { self.new.t ≡ self.old.t }
+        ensures end { self.new.last_end ≡ self.old.last_end }
+        ensures loud { self.new.loud_from ≡ self.old.loud_from }
     {
         match self.phase {
             Phase::Rest => {
@@ -150,58 +238,31 @@ impl Transmitter {
         }
     }
 
-    /// Deference, and whether the station is free.
-    #[tactic(auto, unfolding(crate::specs::Sender::deferring, crate::specs::Sender::is_free))]
-    fn heed(&mut self, carrier: bool) -> bool
-        ensures state { self.new ≡ deferring self.old carrier }
-        ensures time { self.new.t ≡ self.old.t }
-        ensures free { result ≡ is_free self.old carrier }
-    {
-        let step = next_deference(
-            self.defer,
-            carrier,
-            sending(self.phase),
-            waiting(self.phase),
-        );
-        self.defer = step.next;
-        step.free
-    }
-
-    /// A waiting station that is free starts.
-    #[tactic(auto, unfolding(crate::specs::Sender::started))]
-    fn start(&mut self, free: bool)
-        ensures state { self.new ≡ started self.old free }
-        ensures time { self.new.t ≡ self.old.t }
-    {
-        if free && waiting(self.phase) {
-            self.phase = Phase::Sending {
-                start: self.t,
-                hit: None,
-            };
-            self.defer = Defer::Busy { was: true };
-        }
-    }
-
-    /// What is emitted, and a new hit.
-    #[tactic(auto, unfolding(crate::specs::Sender::emitting, crate::specs::Sender::emitted_from))]
-    fn emit(&mut self, carrier: bool) -> Sym
+    /// Deference, the start of a waiting station that is free, and what is emitted.
+    #[tactic(auto, unfolding(crate::specs::Sender::deferring, crate::specs::Sender::is_free, crate::specs::Sender::started, crate::specs::Sender::emitting, crate::specs::Sender::emitted_from))]
+    fn go_on(&mut self, carrier: bool) -> Sym
         requires { self.old.t < 2000000000 }
-        ensures state { self.new ≡ emitting self.old carrier }
+        ensures state { self.new ≡ emitting (after_turn self.old carrier) carrier }
         ensures time { self.new.t ≡ self.old.t + 1 }
-        ensures emitted { result ≡ emitted_from self.old self.old.phase carrier }
+        ensures emitted { result ≡ emitted_from (after_turn self.old carrier) (after_turn self.old carrier).phase carrier }
+        ensures end { self.new.last_end ≡ self.old.last_end }
+        ensures loud { self.new.loud_from ≡ loud_after self.old.loud_from self.old.t carrier }
+        ensures gap { StartsAt self.old.t self.new.phase → IsAway self.old.last_end 192 self.old.t }
+        ensures deaf_gap { StartsAt self.old.t self.new.phase → carrier ≡ true → self.old.t < self.old.loud_from + 192 }
+        ensures no_clash { result ≢ Clash }
     {
         let t = self.t;
+        let turn = take_turn(t, self.phase, self.defer, carrier);
+        let emitted = emission(&self.queue, self.place, t, turn.phase, carrier);
+        self.phase = phase_with_hit(t, turn.phase, carrier);
+        self.defer = turn.defer;
+        self.loud_from = loud_since(self.loud_from, t, carrier);
         self.t = t + 1;
-        let Phase::Sending { start, hit } = self.phase else {
-            return Sym::Idle;
-        };
-        let p = t - start;
-        let hit = new_hit(hit, carrier, p);
-        self.phase = Phase::Sending { start, hit };
-        symbol_at(frame_octets(&self.queue, self.place), hit, p)
+        emitted
     }
 
-    /// Half bit `t`, the one after the last that was stepped, in which the station hears this symbol.
+    /// Half bit `t`, the one after the last that was stepped or leapt, in which the station hears this symbol
+    /// (IEEE 802.3, 4.2.3 and 4.2.8). It begins at 0, or where the sender goes on, and is below 2,000,000,000.
     #[tactic(auto, unfolding(crate::specs::Sender::sent))]
     pub fn step(&mut self, t: u64, heard: Sym) -> SendStep
         requires time { t ≡ self.old.t }
@@ -210,14 +271,91 @@ impl Transmitter {
         ensures time { self.new.t ≡ self.old.t + 1 }
         ensures emitted { result.emitted ≡ (sent self.old heard).emitted }
         ensures event { result.event ≡ (sent self.old heard).event }
+
+        // What a sender keeps follows the half bits, and the laws of its starts speak of it.
+        ensures last_end { self.new.last_end ≡ end_after self.old.last_end t result.event }
+        ensures loud_from { self.new.loud_from ≡ loud_after self.old.loud_from t (hears heard) }
+        ensures gap { StartsAt t self.new.phase → IsAway self.new.last_end 192 t }
+        ensures deaf_gap { StartsAt t self.new.phase → hears heard ≡ true → t < self.new.loud_from + 192 }
+
+        // A sending that ends was long enough, and no clash is sent.
+        ensures length { IsLongEnough t result.event }
+        ensures no_clash { result.emitted ≢ Clash }
     {
         let carrier = heard != Sym::Idle;
         let event = self.finish();
         self.promote();
-        let free = self.heed(carrier);
-        self.start(free);
-        let emitted = self.emit(carrier);
+        let emitted = self.go_on(carrier);
         SendStep { emitted, event }
+    }
+
+    /// The half bits, from the present one on, until one that gives an event, another phase or a new hit, where the
+    /// station hears something in each, or Idle in each; none where that never comes.
+    #[tactic(auto, unfolding(crate::specs::Calm::change_in, crate::specs::Sender::ready_at))]
+    fn change(&self, carrier: bool) -> Option<u64>
+        ensures change { result ≡ change_in self.now carrier }
+        ensures valid { IsSender self.now }
+    {
+        match self.phase {
+            Phase::Rest => {
+                if self.place < self.queue.len() {
+                    Some(self.queue.get(self.place).at.saturating_sub(self.t))
+                } else {
+                    None
+                }
+            }
+            Phase::Waiting => gap_to_wait(self.defer, carrier),
+            Phase::Sending { start, hit } => {
+                if hit.is_none() && carrier {
+                    return Some(0);
+                }
+                let length = length_with(frame_octets(&self.queue, self.place), hit);
+                Some((start + length).saturating_sub(self.t))
+            }
+            Phase::Backoff { until } => Some(until.saturating_sub(self.t)),
+        }
+    }
+
+    /// The greatest number up to 4,096 of half bits from `t` on, the one after the last that was stepped or leapt, that
+    /// give no event, no change of phase and no new hit, where the station hears something in each, as `carrier` says, or
+    /// Idle in each. A sending that goes on is calm, though it emits.
+    pub fn calm(&self, t: u64, carrier: bool) -> u64
+        requires time { t ≡ self.now.t }
+        requires in_time { t < 2000000000 }
+        ensures number { result ≡ calm_of self.now carrier }
+        ensures within { result ≤ 4096 }
+        ensures exact { (hs : List Sym) → AllHeardAs carrier hs → length hs ≤ 4096 → (AreCalm self.now hs ↔ (length hs ≤ result)) }
+    {
+        at_most(self.change(carrier))
+    }
+
+    /// Goes over `n` half bits from `t` on in which nothing happens.
+    #[tactic(auto, unfolding(crate::specs::Calm::leapt))]
+    fn leap_over(&mut self, t: u64, n: u64, carrier: bool)
+        requires calm { n ≤ calm_of self.old carrier }
+        requires time { t ≡ self.old.t }
+        requires in_time { t + n ≤ 2000000000 }
+        ensures state { self.new ≡ leapt self.old carrier n }
+        ensures phase { self.new.phase ≡ self.old.phase }
+        ensures time { self.new.t ≡ self.old.t + n }
+        ensures valid { IsSender self.old }
+    {
+        self.defer = defer_leapt(self.phase, self.defer, n, carrier);
+        self.loud_from = loud_leapt(self.loud_from, t, n, carrier);
+        self.t = t + n;
+    }
+
+    /// The state after `n` half bits from `t` on, the one after the last that was stepped, at most as many as `calm`
+    /// answers, in each of which the station hears something, or Idle in each. It takes as long as one half bit.
+    pub fn leap(&mut self, t: u64, n: u64, carrier: bool)
+        requires calm { n ≤ calm_of self.old carrier }
+        requires time { t ≡ self.old.t }
+        requires in_time { t + n ≤ 2000000000 }
+        ensures state { (hs : List Sym) → AllHeardAs carrier hs → length hs ≡ n → self.new ≡ after_all self.old hs }
+        ensures phase { self.new.phase ≡ self.old.phase }
+        ensures time { self.new.t ≡ self.old.t + n }
+    {
+        self.leap_over(t, n, carrier);
     }
 
     /// The row of the sending that is under way; none exactly where no sending is.

@@ -10,7 +10,7 @@ use Rattle.layout_file.specs.declared.layout.Layout.{Layout}
 use Rattle.layout_file.specs.declared.layout.StationLine.{StationLine}
 use Rattle.layout_file.specs.declared.layout.RepeaterLine.{RepeaterLine}
 use Rattle.layout_file.specs.declared.layout.SendLine.{SendLine}
-use Rattle.layout_file.specs.Form.{is_plain_station, are_plain_stations, is_plain_send, are_plain_sends, is_plain_run, is_first_form}
+use Rattle.netsim.specs.Forms.{is_plain_station, are_plain_stations, is_plain_send, are_plain_sends, is_plain_run, is_first_form}
 use Rattle.netsim.specs.Logs.{device_names}
 
 -- the ranges of a station

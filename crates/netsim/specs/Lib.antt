@@ -1,6 +1,9 @@
 pub mod Reading
 pub mod Requests
+pub mod Forms
+pub mod Judging
 pub mod Texts
+pub mod Verdicts
 pub mod Logs
 pub mod Ended
 pub mod Statuses

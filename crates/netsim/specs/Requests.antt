@@ -3,8 +3,9 @@ use Rattle.std.specs.Prelude.{ℕ, List, [], ◌∷◌, length, Bool, ◌&&◌, 
 use Rattle.netsim.specs.declared.words.Request.{Request}
 use Rattle.netsim.specs.declared.words.Request.TheVariants as request
 
--- a run by half bits, with the names of the layout and of what is written, or a fixed text
+-- the path verdict of a layout, a run by half bits with the names of the layout and of what is written, or a fixed text
 pub data Asked : Type 0 where
+  Check : (layout : List ℕ) → Asked
   Plain : (layout prefix : List ℕ) → Asked
   Help : Asked
   Version : Asked
@@ -13,17 +14,26 @@ pub data Asked : Type 0 where
 abbrev pub is_file_name : List ℕ → Bool
 is_file_name word = nat_le 1 (length word) && nat_le (length word) 200
 
-abbrev pub asked_plain : List ℕ → List ℕ → Option Asked
-asked_plain layout prefix = if is_file_name layout && is_file_name prefix then Some (Plain layout prefix) else None
+-- the forms are: --help; --version; check LAYOUT; plain LAYOUT PREFIX
+abbrev pub asked_text : List ℕ → Option Asked
+asked_text word = if bytes_eq word (codes "--help") then Some Help else if bytes_eq word (codes "--version") then Some Version else None
 
--- the forms are: plain LAYOUT PREFIX; --help; --version
+abbrev pub asked_check : List ℕ → List ℕ → Option Asked
+asked_check word layout = if bytes_eq word (codes "check") && is_file_name layout then Some (Check layout) else None
+
+abbrev pub asked_plain : List ℕ → List ℕ → List ℕ → Option Asked
+asked_plain word layout prefix =
+    if bytes_eq word (codes "plain") && is_file_name layout && is_file_name prefix then Some (Plain layout prefix) else None
+
 abbrev pub asked : List (List ℕ) → Option Asked
-asked (word ∷ layout ∷ prefix ∷ []) = if bytes_eq word (codes "plain") then asked_plain layout prefix else None
-asked (word ∷ []) = if bytes_eq word (codes "--help") then Some Help else if bytes_eq word (codes "--version") then Some Version else None
+asked (word ∷ layout ∷ prefix ∷ []) = asked_plain word layout prefix
+asked (word ∷ layout ∷ []) = asked_check word layout
+asked (word ∷ []) = asked_text word
 asked words = None
 
 -- what a request of the program asks for
 abbrev pub asked_of : Request → Asked
+asked_of (request.Check layout) = Check layout.now
 asked_of (request.Plain layout prefix) = Plain layout.now prefix.now
 asked_of request.Help = Help
 asked_of request.Version = Version

@@ -1,8 +1,11 @@
 //! The top call: what the program does with its words, over a store, a sink and a gate.
 #![tactic(auto)]
 
+mod check;
 mod ended;
 mod files;
+mod form;
+mod judge;
 mod log;
 mod plain;
 mod run;

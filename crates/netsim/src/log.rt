@@ -1,6 +1,6 @@
 //! The text of a log.
 ghost use Rattle.std.specs.Prelude.{◌≡◌, ◌≤◌, ◌++◌, [], length, map, All, IfOk, OnOk, slice_get, unwrap_or, IsTrue};
-ghost use Rattle.layout_file.specs.Form.{is_first_form};
+ghost use Rattle.netsim.specs.Forms.{is_first_form};
 ghost use Rattle.netsim.specs.Logs.{IsLogOf, device_names, line_of_row, lines_of_rows, log_of_rows};
 
 use collision_log::{Row, row_text};

@@ -3,32 +3,23 @@ ghost use Rattle.std.specs.Prelude.{◌≡◌, ◌⊎◌, ◌↔◌, Some, None,
 ghost use Rattle.outside.specs.Files.{IsAbsent, Rose};
 ghost use Rattle.layout_file.specs.declared.fault.LayoutFault.{LayoutFault};
 ghost use Rattle.layout_file.specs.declared.layout.Layout.{Layout};
-ghost use Rattle.netsim.specs.Ended.{IsEnd, IsText, IsJudged, HasFault};
+ghost use Rattle.netsim.specs.Ended.{IsEnd, IsJudged, HasFault};
 ghost use Rattle.netsim.specs.Reading.{IsSaid, IsCutShort, added};
 ghost use Rattle.netsim.specs.Requests.{asked};
-ghost use Rattle.netsim.specs.Statuses.{IsPlainWith, IfPlain, IfText, IsRefusal, IsDoneOrMemory, IsFaultStatus, IsLogHeld, IsLogBroken};
+ghost use Rattle.netsim.specs.Statuses.{IsLayoutWith, IfLayout, IfCheck, IfPlain, IfText, IsRefusal, IsDoneOrMemory, IsFaultStatus, IsLogHeld, IsLogBroken, IsVerdictAdded, IsVerdictCut};
 ghost use Rattle.netsim.specs.Texts.{line_of_words_fault, line_of_fault, line_of_read_fault};
 
+use crate::check::check;
 use crate::ended::Ended;
+use crate::judge::Purpose;
 use crate::plain::plain;
-use crate::said::{say, write_text};
+use crate::said::{say, write_line};
 use crate::texts::{HELP, VERSION, WORDS_FAULT};
 use crate::words::{Request, Words, read_words};
-use outside::{Gate, Sink, SinkFail, Store};
+use outside::{Gate, Sink, Store};
 use std::alloc::Global;
 use std::sync::Wait;
 use std::thread::Threads;
-
-/// Writes a fixed text to the sink.
-fn write_fixed<K: Sink>(out: &mut K, text: &str) -> Ended
-    ensures { IsText text.now (K.written out.old) (K.written out.new) (K.faults out.old) (K.faults out.new) result }
-{
-    match write_text(out, text.as_bytes()) {
-        Ok(()) => Ended::Done,
-        Err(SinkFail::Failed) => Ended::Write,
-        Err(SinkFail::OutOfMemory) => Ended::Memory,
-    }
-}
 
 /// What the words ask for, without a thread: this always returns.
 pub fn run_words<S: Store, K: Sink>(
@@ -43,9 +34,10 @@ pub fn run_words<S: Store, K: Sink>(
         result }
 {
     match read_words(words) {
+        Some(Request::Check { layout }) => check(alloc, layout, store, out),
         Some(Request::Plain { layout, prefix }) => plain(alloc, layout, prefix, store, out),
-        Some(Request::Help) => write_fixed(out, HELP),
-        Some(Request::Version) => write_fixed(out, VERSION),
+        Some(Request::Help) => write_line(out, HELP.as_bytes()),
+        Some(Request::Version) => write_line(out, VERSION.as_bytes()),
         None => {
             say(out, WORDS_FAULT.as_bytes());
             Ended::Words
@@ -55,10 +47,11 @@ pub fn run_words<S: Store, K: Sink>(
 
 /// The top call: does what the words ask for, and answers the program's status.
 ///
-/// `plain LAYOUT PREFIX` runs the network of the layout by half bits and writes PREFIX.log. `--help` and
-/// `--version` write a fixed text to the sink. LAYOUT and PREFIX have 1 to 200 octets. The statuses are 0 for
-/// done, 1 for words of no form, 2 for a layout with a fault, 4 for a layout that can't be read, 5 for a failed
-/// write and 6 for want of memory, which alone is free.
+/// `check LAYOUT` writes the path verdict of the layout to the sink. `plain LAYOUT PREFIX` runs the network of
+/// the layout by half bits and writes PREFIX.log. `--help` and `--version` write a fixed text to the sink.
+/// LAYOUT and PREFIX have 1 to 200 octets. The statuses are 0 for done, 1 for words of no form, 2 for a layout
+/// with a fault, 4 for a layout that can't be read, 5 for a failed write and 6 for want of memory, which alone
+/// is free.
 pub fn netsim<R: Threads + Wait + Sync, S: Store, K: Sink, G: Gate>(
     _rt: &R,
     alloc: Global,
@@ -72,41 +65,51 @@ pub fn netsim<R: Threads + Wait + Sync, S: Store, K: Sink, G: Gate>(
     ensures words_line { result ≡ 1 → IsSaid line_of_words_fault (K.written out.old) (K.written out.new) (K.refused out.old) (K.refused out.new) }
 
     // Status 2 exactly where the layout held at entry has a fault, but for a failed read and want of memory.
-    ensures fault { result ≡ 2 → IsPlainWith (asked words.now) (λ layout prefix. HasFault layout (S.held store.old)) }
-    ensures fault_line { result ≡ 2 → IsPlainWith (asked words.now) (λ layout prefix. (f : LayoutFault) × IsJudged layout (S.held store.old) (Err f)
+    ensures fault { result ≡ 2 → IsLayoutWith (asked words.now) (λ purpose layout. HasFault purpose layout (S.held store.old)) }
+    ensures fault_line { result ≡ 2 → IsLayoutWith (asked words.now) (λ purpose layout. (f : LayoutFault) × IsJudged purpose layout (S.held store.old) (Err f)
         × IsSaid (line_of_fault f) (K.written out.old) (K.written out.new) (K.refused out.old) (K.refused out.new)) }
-    ensures fault_only { IfPlain (asked words.now) (λ layout prefix. IfSome (S.held store.old) (λ files. HasFault layout (Some files)
+    ensures fault_only { IfLayout (asked words.now) (λ purpose layout. IfSome (S.held store.old) (λ files. HasFault purpose layout (Some files)
         → IsFaultStatus result (S.read_faults store.old) (S.read_faults store.new))) }
 
     // Status 4 where the layout isn't held, but for want of memory, and else only where a read failed.
-    ensures read { result ≡ 4 → IsPlainWith (asked words.now) (λ layout prefix. IsAbsent layout (S.held store.old) ⊎ Rose (S.read_faults store.old) (S.read_faults store.new)) }
-    ensures read_line { result ≡ 4 → IsPlainWith (asked words.now) (λ layout prefix.
+    ensures read { result ≡ 4 → IsLayoutWith (asked words.now) (λ purpose layout. IsAbsent layout (S.held store.old) ⊎ Rose (S.read_faults store.old) (S.read_faults store.new)) }
+    ensures read_line { result ≡ 4 → IsLayoutWith (asked words.now) (λ purpose layout.
         IsSaid (line_of_read_fault layout) (K.written out.old) (K.written out.new) (K.refused out.old) (K.refused out.new)) }
-    ensures read_only { IfPlain (asked words.now) (λ layout prefix. IsAbsent layout (S.held store.old) → (result ≡ 4) ⊎ (result ≡ 6)) }
+    ensures read_only { IfLayout (asked words.now) (λ purpose layout. IsAbsent layout (S.held store.old) → (result ≡ 4) ⊎ (result ≡ 6)) }
 
     // With the statuses 1, 2 and 4 every file is as at entry.
     ensures refusal { IsRefusal result → S.held store.new ≡ S.held store.old }
 
-    // Status 5 only where a write to the store failed, or to the sink for a fixed text.
+    // Status 5 only where a write to the store failed, or to the sink for a verdict or a fixed text.
     ensures write { result ≡ 5 → IfPlain (asked words.now) (λ layout prefix. Rose (S.write_faults store.old) (S.write_faults store.new)) }
+    ensures check_write { result ≡ 5 → IfCheck (asked words.now) (λ layout. Rose (K.faults out.old) (K.faults out.new)) }
     ensures text_write { result ≡ 5 → IfText (asked words.now) (λ text. Rose (K.faults out.old) (K.faults out.new)) }
 
-    // Done: the store holds the log of the run of the layout held at entry, and nothing else is changed.
+    // Done: the store holds the log of the run of the layout held at entry, and nothing else is changed; or the
+    // sink got the line of the layout's path verdict; or it got the fixed text.
     ensures done { result ≡ 0 → IfPlain (asked words.now) (λ layout prefix. IsLogHeld layout prefix (S.held store.old) (S.held store.new)) }
+    ensures check_done { result ≡ 0 → IfCheck (asked words.now) (λ layout. IsVerdictAdded layout (S.held store.old) (K.written out.old) (K.written out.new)) }
     ensures text_done { result ≡ 0 → IfText (asked words.now) (λ text. K.written out.new ≡ added text (K.written out.old)) }
 
-    // After a failed write or want of memory the log's file is as it was or a front of the log; or nothing was begun.
+    // After a failed write or want of memory the log's file is as it was or a front of the log, and the sink got a
+    // front of the verdict's line or of the text; or nothing was begun.
     ensures broken { result ≡ 5 → IfPlain (asked words.now) (λ layout prefix. IsLogBroken layout prefix (S.held store.old) (S.held store.new)) }
     ensures memory { result ≡ 6 → IfPlain (asked words.now) (λ layout prefix. (S.held store.new ≡ S.held store.old) ⊎ IsLogBroken layout prefix (S.held store.old) (S.held store.new)) }
+    ensures check_broken { result ≡ 5 → IfCheck (asked words.now) (λ layout. IsVerdictCut layout (S.held store.old) (K.written out.old) (K.written out.new)) }
+    ensures check_memory { result ≡ 6 → IfCheck (asked words.now) (λ layout. (K.written out.new ≡ K.written out.old) ⊎ IsVerdictCut layout (S.held store.old) (K.written out.old) (K.written out.new)) }
     ensures text_cut { IfText (asked words.now) (λ text. (result ≡ 0) ⊎ IsCutShort text (K.written out.old) (K.written out.new)) }
 
-    // The sink is as at entry where a log was to be written and no fault of the layout was said, and every file where a text was.
+    // The sink is as at entry where a log was to be written and no fault of the layout was said, and every file
+    // where a verdict or a text was.
     ensures silent { IfPlain (asked words.now) (λ layout prefix. IsRefusal result ⊎ (K.written out.new ≡ K.written out.old)) }
+    ensures check_held { IfCheck (asked words.now) (λ layout. S.held store.new ≡ S.held store.old) }
     ensures text_held { IfText (asked words.now) (λ text. S.held store.new ≡ S.held store.old) }
 
     // Complete: a layout that is held without fault, and no count that rose, give status 0 or 6.
-    ensures complete { IfPlain (asked words.now) (λ layout prefix. IfSome (S.held store.old) (λ files. (network : Layout) → IsJudged layout (Some files) (Ok network)
+    ensures complete { IfPlain (asked words.now) (λ layout prefix. IfSome (S.held store.old) (λ files. (network : Layout) → IsJudged Purpose.Run layout (Some files) (Ok network)
         → ¬ Rose (S.read_faults store.old) (S.read_faults store.new) → ¬ Rose (S.write_faults store.old) (S.write_faults store.new) → IsDoneOrMemory result)) }
+    ensures check_complete { IfCheck (asked words.now) (λ layout. IfSome (S.held store.old) (λ files. (network : Layout) → IsJudged Purpose.Check layout (Some files) (Ok network)
+        → ¬ Rose (S.read_faults store.old) (S.read_faults store.new) → ¬ Rose (K.faults out.old) (K.faults out.new) → IsDoneOrMemory result)) }
     ensures text_complete { IfText (asked words.now) (λ text. ¬ Rose (K.faults out.old) (K.faults out.new) → IsDoneOrMemory result) }
 {
     match run_words(alloc, words, store, out) {

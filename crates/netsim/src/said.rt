@@ -1,8 +1,10 @@
 //! Texts to a sink.
 ghost use Rattle.std.specs.Prelude.{◌≡◌, ◌≤◌, OnOk, OnErr, IsErrOf};
 ghost use Rattle.outside.specs.Files.{Rose};
+ghost use Rattle.netsim.specs.Ended.{IsText};
 ghost use Rattle.netsim.specs.Reading.{IsSaid, added, IsCutShort};
 
+use crate::ended::Ended;
 use outside::{Sink, SinkFail};
 
 /// Writes a text, or a front of it where the sink refuses.
@@ -32,5 +34,16 @@ pub(crate) fn say<K: Sink>(out: &mut K, line: &[u8])
 {
     match write_text(out, line) {
         Ok(()) | Err(_) => {}
+    }
+}
+
+/// Writes the line that a call is made for.
+pub(crate) fn write_line<K: Sink>(out: &mut K, line: &[u8]) -> Ended
+    ensures { IsText line.now (K.written out.old) (K.written out.new) (K.faults out.old) (K.faults out.new) result }
+{
+    match write_text(out, line) {
+        Ok(()) => Ended::Done,
+        Err(SinkFail::Failed) => Ended::Write,
+        Err(SinkFail::OutOfMemory) => Ended::Memory,
     }
 }

@@ -11,13 +11,13 @@ pub const WORDS_FAULT: &str = "words fault\n";
 
 /// What the program is called with.
 pub const HELP: &str =
-    "netsim plain LAYOUT PREFIX: runs the network of LAYOUT by half bits and writes PREFIX.log\nnetsim --help: writes this text\nnetsim --version: writes the name and the version\n";
+    "netsim check LAYOUT: writes whether the worst round trip of LAYOUT is within the slot time\nnetsim plain LAYOUT PREFIX: runs the network of LAYOUT by half bits and writes PREFIX.log\nnetsim --help: writes this text\nnetsim --version: writes the name and the version\n";
 
 /// The program's name and version.
 pub const VERSION: &str = "netsim 0.1.0\n";
 
 /// Puts a number in decimal at the end of a line.
-fn add_number(line: &mut List<u8>, number: u32) -> Result<(), OutOfMemory>
+pub(crate) fn add_number(line: &mut List<u8>, number: u32) -> Result<(), OutOfMemory>
     ensures ok { OnOk result (line.new ≡ line.old ++ decimal number) }
 {
     line.extend(itoa::Buffer::new().format(number).as_bytes())

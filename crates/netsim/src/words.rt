@@ -1,6 +1,6 @@
 //! The words of the command line.
 ghost use Rattle.std.specs.Prelude.{◌≡◌, option_map};
-ghost use Rattle.netsim.specs.Requests.{asked, asked_of, is_file_name, asked_plain};
+ghost use Rattle.netsim.specs.Requests.{asked, asked_of, is_file_name, asked_text, asked_check, asked_plain};
 
 use lists::{List, Text};
 
@@ -13,6 +13,8 @@ const MOST_NAME: usize = 200;
 /// What the words ask for.
 #[derive(Clone, Copy, Debug)]
 pub(crate) enum Request<'a> {
+    /// Says the path verdict of a layout.
+    Check { layout: &'a str },
     /// Runs the network of a layout by half bits and writes the files of a prefix.
     Plain { layout: &'a str, prefix: &'a str },
     /// What the program is called with.
@@ -32,19 +34,37 @@ pub(crate) fn read_words(words: &Words) -> Option<Request<'_>>
     ensures { option_map asked_of result ≡ asked words.now }
 {
     match words.as_slice() {
-        [word, layout, prefix] if word.as_str() == "plain" => {
-            read_plain(layout.as_str(), prefix.as_str())
-        }
-        [word] if word.as_str() == "--help" => Some(Request::Help),
-        [word] if word.as_str() == "--version" => Some(Request::Version),
+        [word] => read_text(word.as_str()),
+        [word, layout] => read_check(word.as_str(), layout.as_str()),
+        [word, layout, prefix] => read_plain(word.as_str(), layout.as_str(), prefix.as_str()),
         _ => None,
     }
 }
 
-fn read_plain<'a>(layout: &'a str, prefix: &'a str) -> Option<Request<'a>>
-    ensures { option_map asked_of result ≡ asked_plain layout.now prefix.now }
+fn read_text(word: &str) -> Option<Request<'static>>
+    ensures { option_map asked_of result ≡ asked_text word.now }
 {
-    if is_file_name(layout) && is_file_name(prefix) {
+    match word {
+        "--help" => Some(Request::Help),
+        "--version" => Some(Request::Version),
+        _ => None,
+    }
+}
+
+fn read_check<'a>(word: &str, layout: &'a str) -> Option<Request<'a>>
+    ensures { option_map asked_of result ≡ asked_check word.now layout.now }
+{
+    if word == "check" && is_file_name(layout) {
+        Some(Request::Check { layout })
+    } else {
+        None
+    }
+}
+
+fn read_plain<'a>(word: &str, layout: &'a str, prefix: &'a str) -> Option<Request<'a>>
+    ensures { option_map asked_of result ≡ asked_plain word.now layout.now prefix.now }
+{
+    if word == "plain" && is_file_name(layout) && is_file_name(prefix) {
         Some(Request::Plain { layout, prefix })
     } else {
         None

@@ -3,4 +3,9 @@ pub mod Turning
 pub mod Long
 pub mod Wishes
 pub mod Lawful
-pub mod Settled
+pub mod Fading
+pub mod Fronts
+pub mod Rings
+pub mod Silent
+pub mod Quiet
+pub mod Still

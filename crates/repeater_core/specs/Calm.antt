@@ -1,9 +1,12 @@
 -- Half bits in which no port hears anything.
-use Rattle.std.specs.Prelude.{◌≡◌, Bool, false, ◌==◌, ◌&&◌, not, length, replicate, List}
+use Rattle.std.specs.Prelude.{ℕ, ◌≡◌, ◌<◌, ◌≤◌, true, false, length, replicate, List}
 use Rattle.std.specs.List.{All}
+use Rattle.std.specs.Fn.{iterate}
 use Rattle.manchester_line.specs.declared.Sym.{Sym}
 use Rattle.manchester_line.specs.declared.Sym.TheVariants as sym
-use Rattle.port_partition.specs.Guard.{Guard}
+use Rattle.repeater_core.specs.declared.modes.Mode.TheVariants.{Idle}
+use Rattle.repeater_core.specs.Counts.{resting_count}
+use Rattle.repeater_core.specs.Silence.{is_settled}
 use Rattle.repeater_core.specs.Step.{State, after, emitted_by, decided_by, clash_begins, closed_mask, opened_mask, halted_mask}
 
 -- every port hears Idle
@@ -23,6 +26,14 @@ pub record IsQuiet (r : State) : Type 0 where
   pub none_opens : opened_mask (silence r) r ≡ 0
   pub none_halted : halted_mask (silence r) r ≡ 0
 
--- a guard that a quiet half bit leaves as it is
-abbrev pub is_settled : Guard → Bool
-is_settled g = not (g.closed && g.mend) && (not g.struck && (g.clash_run == 0 && g.clean_run == 0))
+-- each of the next n such half bits is quiet, for an n of at most 4,096
+pub record IsCalm (r : State) (n : ℕ) : Type 0 where
+  pub at_most : n ≤ 4096
+  pub quiet : (k : ℕ) → k < n → IsQuiet (iterate silent_step k r)
+
+-- a repeater that a half bit of silence leaves as it is
+pub record IsStill (r : State) : Type 0 where
+  pub mode : r.mode ≡ Idle
+  pub guards : All (λ g. is_settled g ≡ true) r.guards
+  pub counts : All (λ c. c ≡ resting_count 0) r.counts
+  pub rows : All (λ s. s ≡ sym.Idle) r.line.rows

@@ -3,4 +3,5 @@ pub mod Counts
 pub mod Delayed
 pub mod Laws
 pub mod Step
+pub mod Silence
 pub mod Calm

@@ -1,7 +1,9 @@
 //! What a port makes of the wishes for it.
 ghost use Rattle.std.specs.Prelude.{◌≡◌, ◌≤◌, map, IfOk};
 ghost use Rattle.std.specs.List.{All};
+ghost use Rattle.std.specs.Fn.{iterate};
 ghost use Rattle.repeater_core.specs.Counts.{choice, resting_count};
+ghost use Rattle.repeater_core.specs.Silence.{quiet_count};
 
 use lists::OutOfMemory;
 use manchester_line::Sym;
@@ -81,6 +83,20 @@ impl PortCount {
             symbol = wished;
         }
         Decision { symbol, halted }
+    }
+
+    /// So many half bits in each of which the port rests or nothing is wished for it.
+    #[tactic(auto, using(crate::proofs::Fading::rested_for))]
+    pub fn be_quiet(&mut self, n: u64)
+        ensures { self.new ≡ iterate quiet_count n self.old }
+    {
+        if n == 0 {
+            return;
+        }
+        let rests = n <= u64::from(self.rest);
+        self.rest = if rests { self.rest - n as u32 } else { 0 };
+        self.run = 0;
+        self.after_rest = rests;
     }
 }
 

@@ -2,6 +2,8 @@
 ghost use Rattle.std.specs.Prelude.{◌≡◌, ◌<◌, ◌≤◌, ◌+◌, length, slice_index_or};
 ghost use Rattle.manchester_line.specs.declared.Sym.TheVariants as sym;
 ghost use Rattle.repeater_core.specs.declared.modes.Activity.TheVariants.{Nobody, One, Several};
+ghost use Rattle.std.specs.Fn.{iterate};
+ghost use Rattle.repeater_core.specs.Silence.{sends_for, sends_to, quiet_mode, IsFading};
 ghost use Rattle.repeater_core.specs.Modes.{is_busy, joined, activity_at, count_of, jams_of, next_count, mode_after, activity_from, is_tx_clash, wish_of};
 
 use manchester_line::{Sym, header_sym, jam_sym};
@@ -9,6 +11,9 @@ use port_partition::PortGuard;
 
 /// The count from which a mode goes round in periods of the jam, and at which output is long enough (profile).
 const LONG_ENOUGH: u32 = 192;
+
+/// The count up to which a mode sends in silence.
+const LAST_SENT: u32 = 191;
 
 /// The greatest count of a mode.
 const LAST_COUNT: u32 = 195;
@@ -160,6 +165,67 @@ pub fn next_mode(mode: Mode, active: Activity) -> Mode
         Activity::One { n, heard } => with_one(mode, n, heard),
         Activity::Several => with_several(mode),
     }
+}
+
+/// The half bits of silence in which a mode goes on sending.
+pub fn sends_for(mode: Mode) -> u32
+    ensures { result ≡ sends_for mode }
+{
+    match mode {
+        Mode::Idle | Mode::OnePort { .. } => 0,
+        Mode::Repeat { i, .. } => LAST_SENT.saturating_sub(i),
+        Mode::Extend { i, .. } => LAST_SENT.saturating_sub(i),
+        Mode::RxClash { i, .. } => LAST_SENT.saturating_sub(i),
+        Mode::TxClash { i } => LAST_SENT.saturating_sub(i),
+    }
+}
+
+/// Whether a mode that sends does so to this port, counted from 0.
+pub fn sends_to(mode: Mode, port: u32) -> bool
+    ensures { result ≡ sends_to mode port }
+{
+    match mode {
+        Mode::Idle => false,
+        Mode::TxClash { .. } => true,
+        Mode::Repeat { n, .. } => n != port,
+        Mode::Extend { n, .. } => n != port,
+        Mode::RxClash { n, .. } => n != port,
+        Mode::OnePort { n, .. } => n != port,
+    }
+}
+
+/// A mode that silence led to, after so many half bits more of silence.
+#[tactic(auto, using(crate::proofs::Fading::later_is))]
+fn faded(mode: Mode, n: u32) -> Mode
+    requires fading { IsFading mode }
+    requires jams { jams_of mode ≤ count_of mode }
+    requires few { n ≤ 4096 }
+    ensures { result ≡ iterate quiet_mode n mode }
+{
+    match mode {
+        Mode::Extend { n: port, i, j } if i + n < LONG_ENOUGH => Mode::Extend {
+            n: port,
+            i: i + n,
+            j: j + n,
+        },
+        Mode::RxClash { n: port, i } if i + n < LONG_ENOUGH => Mode::RxClash { n: port, i: i + n },
+        Mode::TxClash { i } if i + n < LONG_ENOUGH => Mode::TxClash { i: i + n },
+        _ => Mode::Idle,
+    }
+}
+
+/// A mode after so many half bits in which no port is active.
+#[tactic(auto, using(crate::proofs::Fading::fading, crate::proofs::Fading::jams_stay))]
+pub fn quiet_mode(mode: Mode, n: u32) -> Mode
+    requires counts { count_of mode < 196 }
+    requires jams { jams_of mode ≤ count_of mode }
+    requires few { n ≤ 4096 }
+    ensures { result ≡ iterate quiet_mode n mode }
+{
+    if n == 0 {
+        return mode;
+    }
+    faded(without_activity(mode), n - 1)
 }
 
 /// Whether several ports collide.

@@ -1,25 +1,26 @@
 //! A repeater.
-ghost use Rattle.std.specs.Prelude.{◌≡◌, ◌<◌, ◌≤◌, length, map, slice_get, slice_index_or, Some, IfOk, IsTrue, ℕ};
+ghost use Rattle.std.specs.Prelude.{◌≡◌, ◌<◌, ◌≤◌, length, map, slice_get, slice_index_or, Some, IfOk, IsTrue};
 ghost use Rattle.std.specs.Fn.{iterate};
-ghost use Rattle.repeater_core.specs.Calm.{silent_step, IsQuiet};
+ghost use Rattle.repeater_core.specs.Calm.{silent_step, IsQuiet, IsCalm, IsStill};
 ghost use Rattle.std.specs.List.{All};
+ghost use Rattle.repeater_core.specs.declared.modes.Mode.TheVariants.{Idle};
 ghost use Rattle.repeater_core.specs.Counts.{resting_count};
 ghost use Rattle.repeater_core.specs.Step.{State, new_state, resumed, after, emitted_by, decided_by, clash_begins, closed_mask, opened_mask, halted_mask, resting_by};
 ghost use Rattle.repeater_core.specs.Laws.{HasNoClash, Repeats, EndsLong};
 
-use crate::calm::{counts_settled, guards_settled};
+use crate::calm::{
+    all_idle, any_opens, counts_fresh, fill_idle, guards_settled, ports_calm, quiet_counts,
+    quiet_guards,
+};
 use crate::counts::{PortCount, resting_counts};
 use crate::line::DelayLine;
-use crate::modes::{Mode, active_ports, collision, next_mode};
+use crate::modes::{Mode, active_ports, collision, next_mode, quiet_mode};
 use crate::ports::{decide_all, guard_all};
 use lists::OutOfMemory;
 use manchester_line::Sym;
 use port_partition::PortGuard;
 use std::alloc::Global;
 use std::marker::Model;
-
-/// The most ports of a repeater.
-const MOST_PORTS: usize = 32;
 
 /// What happened in a half bit: whether a collision of ports began, and the ports whose guards closed or
 /// opened and that were halted, where bit p, counted from 0, stands for port p.
@@ -119,7 +120,6 @@ impl Repeater {
 
     /// One half bit, in which the ports hear these symbols: writes what each port emits, which was decided
     /// `delay` half bits ago, and what is decided for it now (clause 9, with the profile's transitions).
-    #[tactic(auto, unfolding(crate::specs::Step::mode_next, crate::specs::Step::chosen))]
     pub fn step(&mut self, hears: &[Sym], emits: &mut [Sym], decided: &mut [Sym]) -> RepeaterEvents
         requires hears_len { length hears.now ≡ length self.old.guards }
         requires emits_len { length emits.old ≡ length self.old.guards }
@@ -137,10 +137,51 @@ impl Repeater {
         ensures no_clash_emitted { HasNoClash emits.new }
         ensures no_clash_decided { HasNoClash decided.new }
     {
+        if self.mode == Mode::Idle && all_idle(hears) && self.is_still() {
+            fill_idle(emits);
+            fill_idle(decided);
+            return RepeaterEvents {
+                clash: false,
+                closed: 0,
+                opened: 0,
+                halted: 0,
+            };
+        }
+        self.step_through(hears, emits, decided)
+    }
+
+    /// Whether, in mode Idle, a half bit in which no port hears anything is known to leave all as it is.
+    fn is_still(&self) -> bool
+        requires { self.now.mode ≡ Idle }
+        ensures { IsTrue result → IsStill self.now }
+    {
+        self.line.is_idle() && counts_fresh(&self.counts) && guards_settled(&self.guards)
+    }
+
+    /// One half bit, by a pass over all ports.
+    #[tactic(auto, unfolding(crate::specs::Step::mode_next, crate::specs::Step::chosen))]
+    fn step_through(
+        &mut self,
+        hears: &[Sym],
+        emits: &mut [Sym],
+        decided: &mut [Sym],
+    ) -> RepeaterEvents
+        requires hears_len { length hears.now ≡ length self.old.guards }
+        requires emits_len { length emits.old ≡ length self.old.guards }
+        requires decided_len { length decided.old ≡ length self.old.guards }
+        ensures state { self.new ≡ after hears.now self.old }
+        ensures ports { length self.new.guards ≡ length self.old.guards }
+        ensures emits { emits.new ≡ emitted_by self.old }
+        ensures decided { decided.new ≡ decided_by hears.now self.old }
+        ensures clash { result.clash ≡ clash_begins hears.now self.old }
+        ensures closed { result.closed ≡ closed_mask hears.now self.old }
+        ensures opened { result.opened ≡ opened_mask hears.now self.old }
+        ensures halted { result.halted ≡ halted_mask hears.now self.old }
+    {
         let collided = collision(self.mode);
         self.mode = next_mode(self.mode, active_ports(&self.guards, hears));
         let halted = decide_all(self.mode, hears, &mut self.counts, decided);
-        self.line.step(decided, emits);
+        self.line.step(self.mode == Mode::Idle, decided, emits);
         let changes = guard_all(&mut self.guards, hears, emits);
         RepeaterEvents {
             clash: collision(self.mode) && !collided,
@@ -150,46 +191,31 @@ impl Repeater {
         }
     }
 
-    /// Whether a half bit in which no port hears anything changes nothing.
-    fn is_settled(&self) -> bool
-        ensures { IsTrue result → silent_step self.now ≡ self.now }
+    /// The greatest n up to 4,096 such that n half bits in which every port hears Idle emit only Idle, decide only Idle
+    /// and give no event.
+    pub fn calm(&self) -> u64
+        ensures calm { IsCalm self.now result }
+        ensures greatest { result < 4096 → ¬ IsQuiet (iterate silent_step result self.now) }
     {
-        if self.mode != Mode::Idle {
-            return false;
+        if any_opens(&self.guards) {
+            return 0;
         }
-        if !counts_settled(&self.counts) {
-            return false;
-        }
-        if !guards_settled(&self.guards) {
-            return false;
-        }
-        self.line.is_idle()
+        ports_calm(self.mode, &self.counts).min(self.line.calm())
     }
 
-    /// One half bit in which no port hears anything.
-    #[tactic(auto, unfolding(crate::specs::Calm::silent_step))]
-    fn step_silent(&mut self)
-        ensures { self.new ≡ silent_step self.old }
-    {
-        let ports = self.guards.len();
-        let hears = [Sym::Idle; MOST_PORTS];
-        let mut emits = [Sym::Idle; MOST_PORTS];
-        let mut decided = [Sym::Idle; MOST_PORTS];
-        self.step(&hears[..ports], &mut emits[..ports], &mut decided[..ports]);
-    }
-
-    /// The state after `n` half bits in which no port hears anything, at most 4,096, each of which emits only Idle,
-    /// decides only Idle and gives no event.
+    /// The state after `n` half bits in which every port hears Idle, at most as many as `calm` tells. Its time does not
+    /// grow with `n`.
     pub fn leap(&mut self, n: u64)
-        requires within { n ≤ 4096 }
-        requires calm { (k : ℕ) → k < n → IsQuiet (iterate silent_step k self.old) }
-        ensures { self.new ≡ iterate silent_step n self.old }
+        requires { IsCalm self.old n }
+        ensures state { self.new ≡ iterate silent_step n self.old }
+        ensures ports { length self.new.guards ≡ length self.old.guards }
     {
-        for k in 0..n {
-            if self.is_settled() {
-                return;
-            }
-            self.step_silent();
+        if n == 0 {
+            return;
         }
+        self.mode = quiet_mode(self.mode, n as u32);
+        quiet_guards(&mut self.guards);
+        quiet_counts(&mut self.counts, n);
+        self.line.leap(n);
     }
 }

@@ -1,10 +1,6 @@
 use Rattle.std.proofs.Common.{append_assoc, refl}
 use Rattle.collision_log.proofs.texts.write_body.Goals as goal
 
-pub returns-in-Collided-clause-text : goal.returns-in-Collided-clause-text
-returns-in-Collided-clause-text c =
-    rw (c.in-Collided.is, c.field-in-Collided-5.ensures.text, c.field-in-Collided-4.ensures.text, c.field-in-Collided-3.ensures.text, c.field-in-Collided-2.ensures.text, c.field-in-Collided.ensures.text, c.from-in-Collided.ensures, c.from-in-Collided-2.ensures, c.from-in-Collided-3.ensures, c.from-in-Collided-4.ensures) (simp append_assoc refl)
-
 pub returns-in-GivenUp-clause-text : goal.returns-in-GivenUp-clause-text
 returns-in-GivenUp-clause-text c =
     rw (c.in-GivenUp.is, c.field-in-GivenUp-3.ensures.text, c.field-in-GivenUp-2.ensures.text, c.field-in-GivenUp.ensures.text, c.from-in-GivenUp.ensures, c.from-in-GivenUp-2.ensures) (simp append_assoc refl)

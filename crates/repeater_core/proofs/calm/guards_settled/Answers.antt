@@ -4,7 +4,7 @@ use Rattle.std.proofs.lemmas.List.Elements.{All-more}
 use Rattle.std.proofs.lemmas.Grind.{common_steps}
 use Rattle.std.specs.List.{All}
 use Rattle.port_partition.specs.Guard.{new_guard}
-use Rattle.repeater_core.specs.Calm.{is_settled}
+use Rattle.repeater_core.specs.Silence.{is_settled}
 use Rattle.repeater_core.proofs.calm.guards_settled.Goals as goal
 
 pub loop-k-preserved : goal.loop-k-preserved

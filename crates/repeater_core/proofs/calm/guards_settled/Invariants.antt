@@ -1,6 +1,6 @@
 use Rattle.std.proofs.Common.{◌≡◌, take, true}
 use Rattle.std.specs.List.{All}
-use Rattle.repeater_core.specs.Calm.{is_settled}
+use Rattle.repeater_core.specs.Silence.{is_settled}
 use Rattle.repeater_core.proofs.calm.guards_settled.Given as goal
 
 abbrev pub invariant-loop-k : goal.invariant-loop-k

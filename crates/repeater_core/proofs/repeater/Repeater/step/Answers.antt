@@ -1,35 +1,40 @@
-use Rattle.std.proofs.Common.{map, sym, subst, rules, arith}
-use Rattle.std.proofs.lemmas.Grind.{common_steps}
-use Rattle.repeater_core.specs.Laws.{HasNoClash, Repeats, EndsLong}
-use Rattle.repeater_core.specs.Step.{IsState, mode_next, chosen, resting_by}
-use Rattle.repeater_core.proofs.Lawful.{step_state, repeats, ends_long, no_clash}
+use Rattle.std.proofs.Common.{◌∙◌, replicate, ap, subst, refl}
+use Rattle.manchester_line.specs.declared.Sym.TheVariants.{Idle}
+use Rattle.repeater_core.specs.Step.{IsState}
+use Rattle.repeater_core.proofs.Still.{still_is, law_repeats, law_ends_long, law_no_clash, law_no_clash_emitted}
 use Rattle.repeater_core.proofs.repeater.Repeater.step.Goals as goal
 
-pub invariant_of-self : goal.invariant_of-self
-invariant_of-self c =
-    let q = c.self.inside in
-    step_state _ _ _ _ c.args.hears.now (record { mode = q.mode; guards = q.guards.items; counts = q.counts.items; line = q.line })
-    (search rules) (grind (arith, common_steps)) (grind (arith, common_steps)) (search rules) c.self.invariant
-
-pub returns-clause-decided : goal.returns-clause-decided
-unfolding mode_next chosen
-returns-clause-decided c = search rules
-
 pub returns-clause-repeats : goal.returns-clause-repeats
-unfolding mode_next chosen
-returns-clause-repeats c =
-    let r = c.args.self.now in
-    subst (Repeats (map (λ g. g.closed) r.guards) c.args.hears.now (resting_by c.args.hears.now r)) (sym (returns-clause-decided c)) (repeats r.guards c.args.hears.now r.mode r.counts c.requires.hears_len)
+returns-clause-repeats c = law_repeats c.args.self.now c.args.hears.now c.step_through.new.decided c.requires.hears_len c.step_through.ensures.decided
 
 pub returns-clause-ends_long : goal.returns-clause-ends_long
-unfolding mode_next chosen
-returns-clause-ends_long c =
-    let r = c.args.self.now in
-    let h = subst IsState c.self.view_is c.self.invariant in
-    subst (EndsLong r.counts) (sym (returns-clause-decided c)) (ends_long r.mode r.guards c.args.hears.now r.counts h.long h.silence)
+returns-clause-ends_long c = law_ends_long c.args.self.now c.args.hears.now c.step_through.new.decided (subst IsState c.self.view_is c.self.invariant) c.step_through.ensures.decided
+
+pub returns-clause-no_clash_emitted : goal.returns-clause-no_clash_emitted
+returns-clause-no_clash_emitted c = law_no_clash_emitted c.args.self.now c.step_through.new.emits (subst IsState c.self.view_is c.self.invariant) c.step_through.ensures.emits
 
 pub returns-clause-no_clash_decided : goal.returns-clause-no_clash_decided
-unfolding mode_next chosen
-returns-clause-no_clash_decided c =
+returns-clause-no_clash_decided c = law_no_clash c.args.self.now c.args.hears.now c.step_through.new.decided c.step_through.ensures.decided
+
+pub returns-then-is_still : goal.returns-then-is_still
+returns-then-is_still c =
     let r = c.args.self.now in
-    subst HasNoClash (sym (returns-clause-decided c)) (no_clash r.mode r.guards c.args.hears.now r.counts)
+    let ss = c.args.hears.now in
+    let h = subst IsState c.self.view_is c.self.invariant in
+    let emits = c.fill_idle.ensures ∙ ap (λ n. replicate n Idle) c.requires.emits_len in
+    let decided = c.fill_idle-then-is_still.ensures ∙ ap (λ n. replicate n Idle) c.requires.decided_len in
+    let still = still_is ss r c.fill_idle.new.symbols c.fill_idle-then-is_still.new.symbols h (c.is_still.ensures c.if-is_still.true) (c.all_idle.ensures c.if-all_idle.true) c.requires.hears_len emits decided in
+    record {
+      state = still.state;
+      ports = refl;
+      emits = still.emits;
+      decided = still.decided;
+      clash = still.clash;
+      closed = still.closed;
+      opened = still.opened;
+      halted = still.halted;
+      repeats = law_repeats r ss c.fill_idle-then-is_still.new.symbols c.requires.hears_len still.decided;
+      ends_long = law_ends_long r ss c.fill_idle-then-is_still.new.symbols h still.decided;
+      no_clash_emitted = law_no_clash_emitted r c.fill_idle.new.symbols h still.emits;
+      no_clash_decided = law_no_clash r ss c.fill_idle-then-is_still.new.symbols still.decided;
+    }

@@ -1,0 +1,4 @@
+pub mod Names
+pub mod Captures
+pub mod Reading
+pub mod Writing

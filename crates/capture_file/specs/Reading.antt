@@ -1,0 +1,65 @@
+-- What a reader keeps of a capture that comes in pieces.
+use Rattle.std.specs.Prelude.{◌≡◌, ℕ, ◌+◌, nat_lt, if◌then◌else◌, List, [], ◌∷◌, ◌++◌, length, drop, Result, Ok, Err}
+use Rattle.capture_file.specs.declared.entries.Record.{Record}
+use Rattle.capture_file.specs.declared.fault.CaptureFault.{CaptureFault}
+use Rattle.capture_file.specs.declared.fault.CaptureFault.TheVariants.{Length, TooLarge, Short, CutRecord}
+use Rattle.capture_file.specs.declared.form.Form.{Form}
+use Rattle.capture_file.specs.declared.reading.Stage.{Stage}
+use Rattle.capture_file.specs.declared.reading.Stage.TheVariants.{Header, Entries, Faulty}
+use Rattle.capture_file.specs.declared.reading.Reading.{Reading}
+use Rattle.capture_file.specs.Captures.{header, is_long, is_too_large, records_in, rest_in}
+
+-- nothing has come yet
+abbrev pub new_reading : Reading
+new_reading = record { stage = Header; records = []; rest = [] }
+
+-- a fault stands that no further octets can mend
+abbrev pub failed : CaptureFault → Reading
+failed fault = record { stage = Faulty fault; records = []; rest = [] }
+
+abbrev pub ended : Form → List Record → List ℕ → Reading
+ended form records rest =
+    if is_long form rest then failed (Length (length records + 1))
+    else record { stage = Entries form; records = records; rest = rest }
+
+-- these octets come after the records so far
+unfoldable pub walked : Form → List Record → List ℕ → Reading
+walked form records octets = ended form (records ++ records_in form 0 octets) (rest_in form 0 octets)
+
+abbrev pub opened : Result Form CaptureFault → List Record → List ℕ → Reading
+opened (Err fault) records octets = record { stage = Faulty fault; records = records; rest = [] }
+opened (Ok form) records octets = walked form records octets
+
+-- these octets come after the records so far, and before the header is whole they are all that came
+unfoldable pub read_on : Stage → List Record → List ℕ → Reading
+read_on (Faulty fault) records octets = record { stage = Faulty fault; records = records; rest = [] }
+read_on Header records octets =
+    if nat_lt (length octets) 24 then record { stage = Header; records = records; rest = octets }
+    else opened (header octets) records (drop 24 octets)
+read_on (Entries form) records octets = walked form records octets
+
+-- a reader: how many octets came, and 67,108,865 where there were more than a capture may have; and what is
+-- kept of them
+pub record Reader : Type 0 where
+  pub seen : ℕ
+  pub reading : Reading
+
+abbrev pub new_reader : Reader
+new_reader = record { seen = 0; reading = new_reading }
+
+-- one more piece
+unfoldable pub fed : Reader → List ℕ → Reader
+fed r piece =
+    if is_too_large (r.seen + length piece) then record { seen = 67108865; reading = failed TooLarge }
+    else record { seen = r.seen + length piece; reading = read_on r.reading.stage r.reading.records (r.reading.rest ++ piece) }
+
+-- what a reader is after these octets, however they came
+pub record Reads (octets : List ℕ) (r : Reader) : Type 0 where
+  pub same : r ≡ fed new_reader octets
+
+-- what a reading answers at the end
+abbrev pub answer_of : Stage → List Record → List ℕ → Result (List Record) CaptureFault
+answer_of (Faulty fault) records rest = Err fault
+answer_of Header records rest = Err Short
+answer_of (Entries form) records [] = Ok records
+answer_of (Entries form) records (x ∷ xs) = Err (CutRecord (length records + 1))

@@ -1,0 +1,5 @@
+pub mod Symbols
+pub mod Keeping
+pub mod Calming
+pub mod Resumes
+pub mod Going

@@ -1,0 +1,119 @@
+//! A layout file, read and judged.
+ghost use Rattle.std.specs.Prelude.{◌≡◌, ◌≤◌, Ok, Err, IfOk, IfErr, OnOk, OnErr, IsTrue};
+ghost use Rattle.layout_file.specs.Faults.{IsMemory};
+//ghost use Rattle.layout_file.specs.Sound.{IsSound};
+ghost use Rattle.netsim.specs.Ended.{IsJudged, IsEarly};
+ghost use Rattle.netsim.specs.Forms.{is_first_form};
+ghost use Rattle.netsim.specs.Judging.{judged_for, unbuilt};
+ghost use Rattle.netsim.specs.Reading.{IsSaid};
+ghost use Rattle.netsim.specs.Texts.{line_of_fault, line_of_read_fault};
+
+use crate::ended::Ended;
+use crate::files::read_file;
+use crate::form::is_first_form;
+use crate::said::say;
+use crate::texts::{line_of_fault, line_of_read_fault};
+use layout_file::{Key, Layout, LayoutCode, LayoutFault, Place, Table, read_layout};
+use lists::OutOfMemory;
+use outside::{Sink, Store, StoreFail};
+use std::alloc::Global;
+
+/// The most octets of a layout file without a fault (profile).
+const MOST_LAYOUT: usize = 1_048_576;
+
+/// What a layout is read for.
+#[derive(Clone, Copy, Debug, PartialEq, Eq)]
+pub enum Purpose {
+    /// Its path verdict: every layout has one.
+    Check,
+    /// A run: not every form is run so far.
+    Run,
+}
+
+/// The fault of a layout of a form that isn't run so far.
+fn unbuilt() -> LayoutFault
+    ensures { result ≡ unbuilt }
+{
+    LayoutFault {
+        code: LayoutCode::Unbuilt,
+        place: Place {
+            table: Table::File,
+            row: 0,
+            port: 0,
+            key: Key::None,
+        },
+    }
+}
+
+/// The layout that the octets are, or why it doesn't serve the purpose. Want of memory alone is free.
+fn judge(alloc: Global, purpose: Purpose, octets: &[u8]) -> Result<Layout, LayoutFault>
+    ensures layout { IfOk result (λ layout. judged_for purpose octets.now ≡ Ok layout) }
+    ensures fault { IfErr result (λ fault. ¬ IsMemory fault → judged_for purpose octets.now ≡ Err fault) }
+    //    ensures sound { IfOk result (λ layout. IsSound layout) }
+    ensures first_form { IfOk result (λ layout. purpose ≡ Purpose.Run → IsTrue (is_first_form layout)) }
+{
+    let layout = read_layout(alloc, octets)?;
+    match purpose {
+        Purpose::Check => Ok(layout),
+        Purpose::Run if is_first_form(&layout) => Ok(layout),
+        Purpose::Run => Err(unbuilt()),
+    }
+}
+
+/// Says that a layout has a fault.
+fn say_fault<K: Sink>(alloc: Global, fault: &LayoutFault, out: &mut K) -> Result<(), OutOfMemory>
+    ensures said { OnOk result (IsSaid (line_of_fault fault.now) (K.written out.old) (K.written out.new) (K.refused out.old) (K.refused out.new)) }
+    ensures silent { OnErr result (K.written out.new ≡ K.written out.old) }
+{
+    let line = line_of_fault(alloc, fault)?;
+    say(out, line.as_slice());
+    Ok(())
+}
+
+/// Says that a file can't be read.
+fn say_read_fault<K: Sink>(alloc: Global, name: &str, out: &mut K) -> Result<(), OutOfMemory>
+    ensures said { OnOk result (IsSaid (line_of_read_fault name.now) (K.written out.old) (K.written out.new) (K.refused out.old) (K.refused out.new)) }
+    ensures silent { OnErr result (K.written out.new ≡ K.written out.old) }
+{
+    let line = line_of_read_fault(alloc, name)?;
+    say(out, line.as_slice());
+    Ok(())
+}
+
+/// Reads and judges a layout file, or says why there is no layout for the purpose.
+pub(crate) fn read_network<S: Store, K: Sink>(
+    alloc: Global,
+    purpose: Purpose,
+    name: &str,
+    store: &mut S,
+    out: &mut K,
+) -> Result<Layout, Ended>
+    ensures judged { IfOk result (λ layout. IsJudged purpose name.now (S.held store.old) (Ok layout)) }
+    //    ensures sound { IfOk result (λ layout. IsSound layout) }
+    ensures first_form { IfOk result (λ layout. purpose ≡ Purpose.Run → IsTrue (is_first_form layout)) }
+    ensures silent { OnOk result (K.written out.new ≡ K.written out.old) }
+    ensures early { IfErr result (λ e. IsEarly purpose name.now
+        (record { held = S.held store.old; reads = S.read_faults store.old; writes = S.write_faults store.old; written = K.written out.old; faults = K.faults out.old; refused = K.refused out.old })
+        (record { held = S.held store.new; reads = S.read_faults store.new; writes = S.write_faults store.new; written = K.written out.new; faults = K.faults out.new; refused = K.refused out.new })
+        e) }
+    ensures held { S.held store.new ≡ S.held store.old }
+    ensures writes { S.write_faults store.old ≤ S.write_faults store.new }
+    ensures faults { OnOk result (K.faults out.new ≡ K.faults out.old) }
+{
+    let octets = match read_file(alloc, store, name, MOST_LAYOUT) {
+        Ok(octets) => octets,
+        Err(StoreFail::OutOfMemory) => return Err(Ended::Memory),
+        Err(_) => match say_read_fault(alloc, name, out) {
+            Ok(()) => return Err(Ended::Read),
+            Err(OutOfMemory) => return Err(Ended::Memory),
+        },
+    };
+    match judge(alloc, purpose, octets.as_slice()) {
+        Ok(layout) => Ok(layout),
+        Err(fault) if fault.code == LayoutCode::OutOfMemory => Err(Ended::Memory),
+        Err(fault) => match say_fault(alloc, &fault, out) {
+            Ok(()) => Err(Ended::Layout),
+            Err(OutOfMemory) => Err(Ended::Memory),
+        },
+    }
+}

@@ -1,0 +1,5 @@
+pub mod Beside
+pub mod Farthest
+pub mod Rooms
+pub mod Tables
+pub mod Worst

@@ -1,0 +1,148 @@
+//! The station that is farthest from a tap.
+ghost use Rattle.std.specs.Prelude.{◌≡◌, ℕ, ◌+◌, ◌^◌, ◌<◌, ◌≤◌, Some};
+ghost use Rattle.std.specs.Option.{ForSome};
+ghost use Rattle.layout_file.specs.Sound.{IsSound};
+ghost use Rattle.layout_file.specs.Paths.{delay_of, step_length, other_way};
+ghost use Rattle.path_checker.specs.Stops.{IsNetworkOf};
+ghost use Rattle.path_checker.specs.Far.{IsStop, HasRoom, IsOnward, IsFarthest, IsRight, is_same_tap, farther_of, lengthened};
+
+use crate::stops::{Network, Stop};
+use crate::table::{Entry, Table, entry_of, set_entry};
+use layout_file::{Layout, Tap, Way};
+
+/// A station, and how far it is in half bits.
+#[derive(Clone, Copy, Debug, PartialEq, Eq)]
+pub struct Far {
+    pub length: u32,
+    pub station: u32,
+}
+
+fn other_way(way: Way) -> Way
+    ensures { result ≡ other_way way }
+{
+    match way {
+        Way::Cable => Way::Repeater,
+        Way::Repeater => Way::Cable,
+    }
+}
+
+/// The delay of a port's repeater.
+fn delay_of(layout: &Layout, tap: Tap) -> u32
+    ensures { result ≡ delay_of layout.now tap }
+{
+    match tap {
+        Tap::Station(_) => 0,
+        Tap::Port { repeater, .. } => {
+            if (repeater as usize) < layout.repeaters.len() {
+                layout.repeaters.get(repeater as usize).delay
+            } else {
+                0
+            }
+        }
+    }
+}
+
+fn step_length(layout: &Layout, way: Way, from: &Stop, to: &Stop) -> u32
+    requires from { IsStop layout.now from.now }
+    requires to { IsStop layout.now to.now }
+    ensures { result ≡ step_length layout.now way from.now.tap to.now.tap }
+{
+    match way {
+        Way::Cable => from.at.abs_diff(to.at),
+        Way::Repeater => delay_of(layout, from.tap),
+    }
+}
+
+/// `==` of taps.
+fn is_same_tap(a: Tap, b: Tap) -> bool
+    ensures { result ≡ is_same_tap a b }
+{
+    match (a, b) {
+        (Tap::Station(k), Tap::Station(j)) => k == j,
+        (
+            Tap::Port {
+                repeater: r,
+                port: p,
+            },
+            Tap::Port {
+                repeater: s,
+                port: q,
+            },
+        ) => r == s && p == q,
+        _ => false,
+    }
+}
+
+/// The farther one, and of two equally far the lower station.
+fn farther(a: Option<Far>, b: Option<Far>) -> Option<Far>
+    ensures { result ≡ farther_of a b }
+{
+    match (a, b) {
+        (None, _) => b,
+        (Some(_), None) => a,
+        (Some(x), Some(y)) => {
+            if x.length < y.length {
+                return b;
+            }
+            if y.length < x.length {
+                return a;
+            }
+            if y.station < x.station { b } else { a }
+        }
+    }
+}
+
+fn lengthened(by: u32, far: Option<Far>) -> Option<Far>
+    requires { ForSome far (λ f. by + f.length < 2 ^ 32) }
+    ensures { result ≡ lengthened by far }
+{
+    match far {
+        None => None,
+        Some(f) => Some(Far {
+            length: by + f.length,
+            station: f.station,
+        }),
+    }
+}
+
+/// The farthest station from a tap by this way. The table has what is known of the ports, and gets what is found.
+/// `room` bounds the steps of any walk from there.
+pub fn farthest(
+    layout: &Layout,
+    network: &Network,
+    table: &mut Table,
+    way: Way,
+    from: &Stop,
+    room: u32,
+) -> Option<Far>
+    requires sound { IsSound layout.now }
+    requires network { IsNetworkOf layout.now network.now }
+    requires table { IsRight layout.now table.old }
+    requires from { IsStop layout.now from.now }
+    requires room { HasRoom layout.now way from.now.tap room }
+    requires most { room ≤ 5120 }
+    ensures far { IsFarthest (IsOnward layout.now way from.now.tap) result }
+    ensures table { IsRight layout.now table.new }
+{
+    match entry_of(table, way, from.tap) {
+        Entry::Found(far) => return far,
+        Entry::Open => {}
+    }
+    let near = network.beside(way, from);
+    let mut best = None;
+    for k in 0..near.len() {
+        let stop = near[k];
+        if is_same_tap(stop.tap, from.tap) {
+            continue;
+        }
+        let step = step_length(layout, way, from, &stop);
+        if let Tap::Station(station) = stop.tap {
+            best = farther(best, lengthened(step, Some(Far { length: 0, station })));
+            continue;
+        }
+        let there = farthest(layout, network, table, other_way(way), &stop, room - 1);
+        best = farther(best, lengthened(step, there));
+    }
+    set_entry(table, way, from.tap, best);
+    best
+}

@@ -1,0 +1,165 @@
+//! The taps of a network, by their segments and by their repeaters.
+ghost use Rattle.std.specs.Prelude.{◌≡◌, ◌≤◌, ◌++◌, All, OnOk, IfOk, map, length};
+ghost use Rattle.layout_file.specs.Joined.{counted_up};
+ghost use Rattle.layout_file.specs.Sound.{IsSound};
+ghost use Rattle.path_checker.specs.Stops.{station_stops, port_stops, repeater_stops, all_stops, stops_on, repeater_lists, stops_by, list_at, IsNetworkOf};
+
+use layout_file::{Layout, PortLine, RepeaterLine, StationLine, Tap, Way};
+use lists::{List, OutOfMemory};
+use std::alloc::Global;
+
+/// A tap, with its segment's number from 0 and its place there in half bits.
+#[derive(Clone, Copy, Debug, PartialEq, Eq)]
+pub struct Stop {
+    pub tap: Tap,
+    pub segment: u32,
+    pub at: u32,
+}
+
+pub type Stops = List<Stop>;
+
+/// The taps of each segment and of each repeater, in the file's order.
+#[derive(Debug, Drop)]
+pub struct Network {
+    pub segments: List<Stops>,
+    pub repeaters: List<Stops>,
+}
+
+fn push_stations(stops: &mut Stops, stations: &[StationLine]) -> Result<(), OutOfMemory>
+    requires { length stations.now ≤ 1024 }
+    ensures { OnOk result (stops.new ≡ stops.old ++ station_stops 0 stations.now) }
+{
+    for k in 0..stations.len() {
+        let station = &stations[k];
+        stops.push(Stop {
+            tap: Tap::Station(k as u32),
+            segment: station.segment,
+            at: station.at,
+        })?;
+    }
+    Ok(())
+}
+
+fn push_ports(stops: &mut Stops, repeater: u32, ports: &[PortLine]) -> Result<(), OutOfMemory>
+    requires { length ports.now ≤ 32 }
+    ensures { OnOk result (stops.new ≡ stops.old ++ port_stops repeater 0 ports.now) }
+{
+    for k in 0..ports.len() {
+        let port = ports[k];
+        stops.push(Stop {
+            tap: Tap::Port {
+                repeater,
+                port: k as u32,
+            },
+            segment: port.segment,
+            at: port.at,
+        })?;
+    }
+    Ok(())
+}
+
+fn push_all_ports(stops: &mut Stops, repeaters: &[RepeaterLine]) -> Result<(), OutOfMemory>
+    requires count { length repeaters.now ≤ 128 }
+    requires ports { All (λ r. length r.ports ≤ 32) repeaters.now }
+    ensures { OnOk result (stops.new ≡ stops.old ++ repeater_stops 0 repeaters.now) }
+{
+    for k in 0..repeaters.len() {
+        push_ports(stops, k as u32, repeaters[k].ports.as_slice())?;
+    }
+    Ok(())
+}
+
+#[tactic(auto, unfolding(crate::specs::Stops::all_stops))]
+fn all_stops(alloc: Global, layout: &Layout) -> Result<Stops, OutOfMemory>
+    requires { IsSound layout.now }
+    ensures { IfOk result (λ stops. stops ≡ all_stops layout.now) }
+{
+    let mut stops = List::new(alloc);
+    push_stations(&mut stops, layout.stations.as_slice())?;
+    push_all_ports(&mut stops, layout.repeaters.as_slice())?;
+    Ok(stops)
+}
+
+fn on_segment(alloc: Global, all: &[Stop], segment: u32) -> Result<Stops, OutOfMemory>
+    ensures { IfOk result (λ stops. stops ≡ stops_on all.now segment) }
+{
+    let mut stops = List::new(alloc);
+    for stop in all {
+        if stop.segment != segment {
+            continue;
+        }
+        stops.push(*stop)?;
+    }
+    Ok(stops)
+}
+
+fn segment_lists(alloc: Global, all: &[Stop], count: usize) -> Result<List<Stops>, OutOfMemory>
+    requires { count ≤ 256 }
+    ensures { IfOk result (λ lists. lists ≡ map (stops_on all.now) (counted_up count)) }
+{
+    let mut lists = List::new(alloc);
+    for segment in 0..count {
+        lists.push(on_segment(alloc, all, segment as u32)?)?;
+    }
+    Ok(lists)
+}
+
+fn ports_of(alloc: Global, repeater: u32, ports: &[PortLine]) -> Result<Stops, OutOfMemory>
+    requires { length ports.now ≤ 32 }
+    ensures { IfOk result (λ stops. stops ≡ port_stops repeater 0 ports.now) }
+{
+    let mut stops = List::new(alloc);
+    push_ports(&mut stops, repeater, ports)?;
+    Ok(stops)
+}
+
+fn repeater_lists(alloc: Global, repeaters: &[RepeaterLine]) -> Result<List<Stops>, OutOfMemory>
+    requires count { length repeaters.now ≤ 128 }
+    requires ports { All (λ r. length r.ports ≤ 32) repeaters.now }
+    ensures { IfOk result (λ lists. lists ≡ repeater_lists 0 repeaters.now) }
+{
+    let mut lists = List::new(alloc);
+    for k in 0..repeaters.len() {
+        lists.push(ports_of(alloc, k as u32, repeaters[k].ports.as_slice())?)?;
+    }
+    Ok(lists)
+}
+
+/// The network of a layout.
+pub fn network_of(alloc: Global, layout: &Layout) -> Result<Network, OutOfMemory>
+    requires { IsSound layout.now }
+    ensures { IfOk result (IsNetworkOf layout.now) }
+{
+    let all = all_stops(alloc, layout)?;
+    let segments = segment_lists(alloc, all.as_slice(), layout.segments.len())?;
+    let repeaters = repeater_lists(alloc, layout.repeaters.as_slice())?;
+    Ok(Network {
+        segments,
+        repeaters,
+    })
+}
+
+fn list_at(lists: &List<Stops>, n: u32) -> &[Stop]
+    ensures { result.now ≡ list_at lists.now n }
+{
+    if (n as usize) < lists.len() {
+        lists.get(n as usize).as_slice()
+    } else {
+        &[]
+    }
+}
+
+impl Network {
+    /// The taps that share a tap's segment or, for a port, its repeater.
+    pub fn beside(&self, way: Way, stop: &Stop) -> &[Stop]
+        ensures { result.now ≡ stops_by self.now way stop.now }
+    {
+        match way {
+            Way::Cable => list_at(&self.segments, stop.segment),
+            Way::Repeater => match stop.tap {
+                Tap::Station(_) => &[],
+                Tap::Port { repeater, .. } => list_at(&self.repeaters, repeater),
+            },
+        }
+    }
+}

@@ -1,0 +1,124 @@
+//! The worst round trip of a layout, judged against the slot time.
+ghost use Rattle.std.specs.Prelude.{◌≡◌, ◌<◌, ◌≤◌, ◌↔◌, IfOk, length};
+ghost use Rattle.std.specs.Option.{ForSome};
+ghost use Rattle.layout_file.specs.Sound.{IsSound};
+ghost use Rattle.path_checker.specs.Far.{IsFarthest, IsRight};
+ghost use Rattle.path_checker.specs.Verdicts.{IsVerdict, IsApart, IsWorstBelow, longer_of, verdict_of};
+ghost use Rattle.path_checker.specs.Stops.{IsNetworkOf};
+
+use crate::far::{Far, farthest};
+use crate::stops::{Network, Stop, network_of};
+use crate::table::{Table, open_table};
+use layout_file::{Layout, Tap, Way};
+use lists::OutOfMemory;
+use std::alloc::Global;
+
+/// The slot time in half bits.
+const SLOT: u32 = 1_024;
+
+/// How long a jam is in half bits.
+const JAM: u32 = 192;
+
+/// As many taps as a layout can have.
+const MOST_TAPS: u32 = 5_120;
+
+/// The worst round trip of a layout in half bits, with the first pair of stations that has it: `a` is below `b`.
+#[derive(Clone, Copy, Debug, PartialEq, Eq)]
+pub enum PathVerdict {
+    /// Below the slot time.
+    Within { worst: u32, a: u32, b: u32 },
+    /// The slot time or more.
+    Over { worst: u32, a: u32, b: u32 },
+    /// There are fewer than two stations.
+    NoPair,
+}
+
+/// Two stations, and how far apart they are in half bits.
+#[derive(Clone, Copy, Debug, PartialEq, Eq)]
+pub struct Worst {
+    pub length: u32,
+    pub a: u32,
+    pub b: u32,
+}
+
+/// The station that is farthest from a station.
+fn farthest_of(layout: &Layout, network: &Network, table: &mut Table, station: u32) -> Option<Far>
+    requires sound { IsSound layout.now }
+    requires network { IsNetworkOf layout.now network.now }
+    requires table { IsRight layout.now table.old }
+    requires station { station < length layout.now.stations }
+    ensures far { IsFarthest (IsApart layout.now station) result }
+    ensures table { IsRight layout.now table.new }
+{
+    let line = layout.stations.get(station as usize);
+    let from = Stop {
+        tap: Tap::Station(station),
+        segment: line.segment,
+        at: line.at,
+    };
+    farthest(layout, network, table, Way::Cable, &from, MOST_TAPS)
+}
+
+/// The pair that is farther apart, the earlier one of two that are equally far.
+fn longer(worst: Option<Worst>, a: u32, far: Option<Far>) -> Option<Worst>
+    ensures { result ≡ longer_of worst a far }
+{
+    let Some(far) = far else {
+        return worst;
+    };
+    let next = Worst {
+        length: far.length,
+        a,
+        b: far.station,
+    };
+    match worst {
+        None => Some(next),
+        Some(w) => {
+            if w.length < next.length {
+                Some(next)
+            } else {
+                Some(w)
+            }
+        }
+    }
+}
+
+fn worst_pair(layout: &Layout, network: &Network, table: &mut Table) -> Option<Worst>
+    requires sound { IsSound layout.now }
+    requires network { IsNetworkOf layout.now network.now }
+    requires table { IsRight layout.now table.old }
+    ensures { IsWorstBelow layout.now (length layout.now.stations) result }
+{
+    let mut worst = None;
+    for station in 0..layout.stations.len() {
+        let far = farthest_of(layout, network, table, station as u32);
+        worst = longer(worst, station as u32, far);
+    }
+    worst
+}
+
+fn verdict_of(worst: Option<Worst>) -> PathVerdict
+    requires { ForSome worst (λ w. w.length ≤ 10240000) }
+    ensures { result ≡ verdict_of worst }
+{
+    let Some(Worst { length, a, b }) = worst else {
+        return PathVerdict::NoPair;
+    };
+    let worst = 2 * length + JAM;
+    if worst < SLOT {
+        PathVerdict::Within { worst, a, b }
+    } else {
+        PathVerdict::Over { worst, a, b }
+    }
+}
+
+/// Judges a layout that `read_layout` answered. The only error is want of memory.
+pub fn check_paths(alloc: Global, layout: &Layout) -> Result<PathVerdict, OutOfMemory>
+    requires { IsSound layout.now }
+    ensures no_pair { IfOk result (λ v. (v ≡ PathVerdict.NoPair) ↔ (length layout.now.stations < 2)) }
+    ensures verdict { IfOk result (IsVerdict layout.now) }
+{
+    let network = network_of(alloc, layout)?;
+    let mut table = open_table(alloc, layout.repeaters.len())?;
+    Ok(verdict_of(worst_pair(layout, &network, &mut table)))
+}
