@@ -1,6 +1,3 @@
-ghost use Rattle.std.specs.Prelude.{IfOk};
-ghost use Rattle.net_step.specs.Runnable.{IsRunnable};
-
 use crate::{Outputs, PlainNet, run_plain};
 use backoff_draw::Draws;
 use collision_log::{Body, Row, Why};
@@ -64,9 +61,7 @@ send = [{ station = "a", at = 0, octets = "ffffffffffff0200000000010800" }]
 "#;
 
 /// A plan of a layout without loads. A layout with a fault, which none here has, counts as no memory.
-fn plan_of(alloc: Global, layout: &str) -> Result<Plan, OutOfMemory>
-    ensures { IfOk result (λ plan. IsRunnable plan.layout) }
-{
+fn plan_of(alloc: Global, layout: &str) -> Result<Plan, OutOfMemory> {
     match read_layout(alloc, layout.as_bytes()) {
         Ok(layout) if layout.format == 1 => plan_of_sends(alloc, layout),
         _ => Err(OutOfMemory),
