@@ -180,22 +180,34 @@ fn heard(whole: &PlainNet, device: u32, port: u32) -> Sym {
     whole.heard(device, port)
 }
 
-/// What a sends at half bit 0 comes to the repeater's first port after 20 half bits, and from its second port,
-/// after 16 half bits of delay, to b after 30.
+/// The network after so many half bits.
+fn stepped(alloc: Global, plan: &Plan, half_bits: u64) -> Result<PlainNet, OutOfMemory>
+    requires { half_bits < 2000000000 }
+{
+    let mut whole = PlainNet::new(alloc, plan)?;
+    for t in 0..half_bits {
+        whole.step()?;
+    }
+    Ok(whole)
+}
+
+/// What a sends from half bit 0 on comes to the repeater's first port after 20 half bits, and from its second port,
+/// after 16 half bits of delay, to b after 30. What b sends from 65 on comes to the second port after 30.
 #[test]
 fn a_tap_hears_what_comes_to_it(rt: HostRuntime) -> Result<(), OutOfMemory> {
     let alloc = rt.alloc();
     let plan = plan_of(alloc, TWO_HOPS)?;
-    let mut whole = PlainNet::new(alloc, &plan)?;
-    for t in 0..66 {
-        let want = if t < 20 { Sym::Idle } else { Sym::Lo };
-        if t <= 20 {
-            assert_eq!(rt; heard(&whole, 2, 0), want);
-        }
-        assert_eq!(rt; heard(&whole, 1, 0), Sym::Idle);
-        whole.step()?;
-    }
+    let whole = stepped(alloc, &plan, 19)?;
+    assert_eq!(rt; heard(&whole, 2, 0), Sym::Idle);
+    let whole = stepped(alloc, &plan, 20)?;
+    assert_eq!(rt; heard(&whole, 2, 0), Sym::Lo);
+    let whole = stepped(alloc, &plan, 65)?;
+    assert_eq!(rt; heard(&whole, 1, 0), Sym::Idle);
+    let whole = stepped(alloc, &plan, 66)?;
     assert_eq!(rt; heard(&whole, 1, 0), Sym::Lo);
+    let whole = stepped(alloc, &plan, 94)?;
     assert_eq!(rt; heard(&whole, 2, 1), Sym::Idle);
+    let whole = stepped(alloc, &plan, 95)?;
+    assert_eq!(rt; heard(&whole, 2, 1), Sym::Lo);
     Ok(())
 }
