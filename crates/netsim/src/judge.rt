@@ -1,7 +1,7 @@
 //! A layout file, read and judged.
 ghost use Rattle.std.specs.Prelude.{◌≡◌, ◌≤◌, Ok, Err, IfOk, IfErr, OnOk, OnErr, IsTrue};
 ghost use Rattle.layout_file.specs.Faults.{IsMemory};
-//ghost use Rattle.layout_file.specs.Sound.{IsSound};
+ghost use Rattle.layout_file.specs.Sound.{IsSound};
 ghost use Rattle.netsim.specs.Ended.{IsJudged, IsEarly};
 ghost use Rattle.netsim.specs.Forms.{is_first_form};
 ghost use Rattle.netsim.specs.Judging.{judged_for, unbuilt};
@@ -49,7 +49,7 @@ fn unbuilt() -> LayoutFault
 fn judge(alloc: Global, purpose: Purpose, octets: &[u8]) -> Result<Layout, LayoutFault>
     ensures layout { IfOk result (λ layout. judged_for purpose octets.now ≡ Ok layout) }
     ensures fault { IfErr result (λ fault. ¬ IsMemory fault → judged_for purpose octets.now ≡ Err fault) }
-    //    ensures sound { IfOk result (λ layout. IsSound layout) }
+    ensures sound { IfOk result (λ layout. IsSound layout) }
     ensures first_form { IfOk result (λ layout. purpose ≡ Purpose.Run → IsTrue (is_first_form layout)) }
 {
     let layout = read_layout(alloc, octets)?;
@@ -89,7 +89,7 @@ pub(crate) fn read_network<S: Store, K: Sink>(
     out: &mut K,
 ) -> Result<Layout, Ended>
     ensures judged { IfOk result (λ layout. IsJudged purpose name.now (S.held store.old) (Ok layout)) }
-    //    ensures sound { IfOk result (λ layout. IsSound layout) }
+    ensures sound { IfOk result (λ layout. IsSound layout) }
     ensures first_form { IfOk result (λ layout. purpose ≡ Purpose.Run → IsTrue (is_first_form layout)) }
     ensures silent { OnOk result (K.written out.new ≡ K.written out.old) }
     ensures early { IfErr result (λ e. IsEarly purpose name.now

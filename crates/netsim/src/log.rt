@@ -1,5 +1,6 @@
 //! The text of a log.
 ghost use Rattle.std.specs.Prelude.{◌≡◌, ◌≤◌, ◌++◌, [], length, map, All, IfOk, OnOk, slice_get, unwrap_or, IsTrue};
+ghost use Rattle.layout_file.specs.Sound.{IsSound};
 ghost use Rattle.netsim.specs.Forms.{is_first_form};
 ghost use Rattle.netsim.specs.Logs.{IsLogOf, device_names, line_of_row, lines_of_rows, log_of_rows};
 
@@ -89,7 +90,8 @@ pub(crate) fn log_of_rows(
 /// The log of the whole run of a network by half bits.
 #[tactic(auto, using(crate::proofs::FirstForms::least))]
 pub(crate) fn log_of(alloc: Global, network: Layout) -> Result<List<u8>, OutOfMemory>
-    requires { IsTrue (is_first_form network) }
+    requires sound { IsSound network }
+    requires first_form { IsTrue (is_first_form network) }
     ensures { IfOk result (λ text. IsLogOf network text) }
 {
     let plan = plan_of_sends(alloc, network)?;

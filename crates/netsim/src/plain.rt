@@ -1,5 +1,6 @@
 //! The form that runs a network by half bits.
 ghost use Rattle.std.specs.Prelude.{◌≡◌, IfOk, IsTrue, string_bytes};
+ghost use Rattle.layout_file.specs.Sound.{IsSound};
 ghost use Rattle.netsim.specs.Ended.{IsRunEnd, IsPlainEnd};
 ghost use Rattle.netsim.specs.Forms.{is_first_form};
 ghost use Rattle.netsim.specs.Logs.{IsLogOf};
@@ -17,7 +18,8 @@ use std::alloc::Global;
 
 /// Makes the log of a layout's run, with its name.
 fn make_log(alloc: Global, layout: Layout, prefix: &str) -> Result<(String, List<u8>), OutOfMemory>
-    requires { IsTrue (is_first_form layout) }
+    requires sound { IsSound layout }
+    requires first_form { IsTrue (is_first_form layout) }
     ensures name { IfOk result (λ log. string_bytes log.0 ≡ name_of_log prefix.now) }
     ensures text { IfOk result (λ log. IsLogOf layout log.1) }
 {
@@ -28,7 +30,8 @@ fn make_log(alloc: Global, layout: Layout, prefix: &str) -> Result<(String, List
 
 /// Runs the network of a layout and writes its log.
 fn run_network<S: Store>(alloc: Global, layout: Layout, prefix: &str, store: &mut S) -> Ended
-    requires { IsTrue (is_first_form layout) }
+    requires sound { IsSound layout }
+    requires first_form { IsTrue (is_first_form layout) }
     ensures { IsRunEnd layout prefix.now (S.held store.old) (S.held store.new) (S.write_faults store.old) (S.write_faults store.new) result }
 {
     let (name, text) = match make_log(alloc, layout, prefix) {
