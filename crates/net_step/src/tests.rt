@@ -1,9 +1,12 @@
+ghost use Rattle.std.specs.Prelude.{◌≡◌, ◌≤◌, All, IfOk, length};
+
 use crate::{Outputs, PlainNet, run_plain};
 use backoff_draw::Draws;
+use capture_file::Records;
 use collision_log::{Body, Row, Why};
 use layout_file::read_layout;
 use lists::OutOfMemory;
-use load_plan::{Plan, plan_of_sends};
+use load_plan::{Plan, RecordsList, make_plan};
 use manchester_line::Sym;
 use std::alloc::Global;
 
@@ -60,11 +63,26 @@ repeater = [{ name = "r", delay = 1, port = [{ segment = "x", at = 1 }, { segmen
 send = [{ station = "a", at = 0, octets = "ffffffffffff0200000000010800" }]
 "#;
 
+/// No records for so many stations.
+fn no_loads(alloc: Global, stations: usize) -> Result<RecordsList, OutOfMemory>
+    ensures count { IfOk result (λ loads. length loads ≡ stations) }
+    ensures few { IfOk result (λ loads. All (λ rs. length rs ≤ 4000000000) loads) }
+{
+    let mut loads = RecordsList::new(alloc);
+    for _station in 0..stations {
+        loads.push(Records::new(alloc))?;
+    }
+    Ok(loads)
+}
+
 /// A plan of a layout without loads. A layout with a fault, which none here has, counts as no memory.
 fn plan_of(alloc: Global, layout: &str) -> Result<Plan, OutOfMemory> {
     match read_layout(alloc, layout.as_bytes()) {
-        Ok(layout) if layout.format == 1 => plan_of_sends(alloc, layout),
-        _ => Err(OutOfMemory),
+        Ok(layout) => {
+            let loads = no_loads(alloc, layout.stations.len())?;
+            make_plan(alloc, layout, loads)
+        }
+        Err(_) => Err(OutOfMemory),
     }
 }
 
