@@ -303,5 +303,9 @@ fn read_often(alloc: Global, bytes: &[u8]) -> Result<u64, OutOfMemory> {
         };
         records = records.saturating_add(count);
     }
-    Ok((bytes.len() as u64).saturating_mul(10).saturating_add(records as u64 % 2))
+    Ok(
+        (bytes.len() as u64)
+            .saturating_mul(10)
+            .saturating_add(records as u64 % 2),
+    )
 }

@@ -9,12 +9,13 @@ ghost use Rattle.cable_segment.specs.Cable.{silent, told, told_at, advanced};
 
 use lists::OutOfMemory;
 use manchester_line::Sym;
-use rows::{heard_in, slide};
+use rows::{heard_in, relist, slide, wake};
 use std::alloc::Global;
 use std::marker::Model;
 
 /// A segment of cable. It keeps what each tap emitted in the last 2,000 half bits and what it was told
-/// ahead: a window of rows, one symbol a tap, that slides down a buffer of twice its size.
+/// ahead: a window of rows, one symbol a tap, that slides down a buffer of twice its size. `next` skips
+/// taps that were silent all the time.
 #[derive(Drop)]
 pub struct Cable {
     positions: Vec<u32>,
@@ -23,18 +24,21 @@ pub struct Cable {
     start: usize,
     span: usize,
     slots: Vec<Sym>,
+    next: Vec<usize>,
 }
 
 impl Model for Cable {
     ghost use Rattle.std.specs.Prelude.{◌≡◌, ◌≤◌, ◌<◌, ◌+◌, ◌*◌, length, take, drop, All, ℕ};
     ghost use Rattle.cable_segment.specs.Cable.{Told};
+    ghost use Rattle.cable_segment.specs.Skips.{Skips};
 
     ghost Value = { Told };
 
     ghost view = { λ c. record { positions = c.positions.items; ahead = c.ahead; past = c.past; rows = take c.span (drop c.start c.slots.items) } };
 
     ghost invariant = { λ c. (0 < length c.positions.items) × (All (λ p. p ≤ 2000) c.positions.items) × (c.ahead ≤ 4296) × (c.past ≤ 2000)
-        × (c.span ≡ (c.ahead + 2001) * length c.positions.items) × (c.start + c.span ≤ length c.slots.items) × (c.span + c.span ≤ length c.slots.items) };
+        × (c.span ≡ (c.ahead + 2001) * length c.positions.items) × (c.start + c.span ≤ length c.slots.items) × (c.span + c.span ≤ length c.slots.items)
+        × Skips c.next.items (take c.span (drop c.start c.slots.items)) (length c.positions.items) };
 }
 
 impl Cable {
@@ -50,6 +54,7 @@ impl Cable {
         let span = rows.checked_mul(positions.len()).ok_or(OutOfMemory)?;
         let room = span.checked_add(span).ok_or(OutOfMemory)?;
         let slots = vec![in alloc; Sym::Idle; room]?;
+        let next = vec![in alloc; positions.len(); positions.len() + 1]?;
         Ok(Cable {
             positions: positions.to_vec(alloc)?,
             ahead,
@@ -57,6 +62,7 @@ impl Cable {
             start: span,
             span,
             slots,
+            next,
         })
     }
 
@@ -80,6 +86,7 @@ impl Cable {
             &self.slots[self.start..self.start + self.span],
             self.ahead,
             tap,
+            &self.next,
         )
     }
 
@@ -90,6 +97,7 @@ impl Cable {
     {
         let at = self.start + row as usize * self.positions.len() + tap as usize;
         self.slots[at] = s;
+        wake(&mut self.next, tap, s);
     }
 
     /// Tells the tap's symbol in the present half bit.
@@ -124,8 +132,16 @@ impl Cable {
         ensures { self.new ≡ advanced self.old }
     {
         let taps = self.positions.len();
+        let before = self.start;
         self.start = slide(&mut self.slots, self.start, self.span, taps);
         self.past = (self.past + 1).min(2000);
+        relist(
+            before < self.start,
+            &self.slots[self.start..self.start + self.span],
+            taps,
+            self.ahead as usize + 2001,
+            &mut self.next,
+        );
     }
 }
 

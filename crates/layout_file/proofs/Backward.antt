@@ -1,5 +1,5 @@
 -- A walk leads back over the same taps, and is as long.
-use Rattle.std.proofs.Common.{◌≡◌, refl, sym, ◌∙◌, ap, subst, ℕ, ◌+◌, ◌-◌, List, [], ◌∷◌, None, Some, arith}
+use Rattle.std.proofs.Common.{◌≡◌, refl, sym, ◌∙◌, ap, subst, ℕ, ◌+◌, List, [], ◌∷◌, Some, arith}
 use Rattle.layout_file.specs.declared.layout.Layout.{Layout}
 use Rattle.layout_file.specs.declared.ways.Tap.{Tap}
 use Rattle.layout_file.specs.declared.ways.Tap.TheVariants.{Station, Port}

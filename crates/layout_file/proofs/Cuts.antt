@@ -79,8 +79,7 @@ kept_off : (l : Layout) (f : Tap) (c : Way → Tap → Bool) → IsCut l f c →
 kept_off l f c cut e w a [] b walk avoids far = tt
 kept_off l f c cut e w a (t ∷ ts) b walk avoids far =
     let here : c w a ≡ c w t = cut.along w a t walk.0 in
-    let next : c (other_way w) t ≡ c w a = uncut l f c cut t (steps_to l w a t walk.0) avoids.0 (other_way w) w ∙ sym here in
-    (
+    let next : c (other_way w) t ≡ c w a = uncut l f c cut t (steps_to l w a t walk.0) avoids.0 (other_way w) w ∙ sym here in (
       λ (same : t ≡ e). far w (subst (λ (x : Tap). c w x ≡ c w a) same (sym here)),
       kept_off l f c cut e (other_way w) t ts b walk.1 avoids.1 (λ v near. far v (near ∙ next)),
     )
@@ -113,11 +112,10 @@ stays l cuts w a (t ∷ ts) b walk e tap touches head =
     let there : IsTap l t = steps_to l w a t walk.0 in
     let c : Way → Tap → Bool = (cuts t there).0 in
     let cut : IsCut l t c = (cuts t there).1 in
-    let off : Avoids t ts = stays l cuts (other_way w) t ts b walk.1 t there (λ f d k. refl) (begins l (other_way w) t ts b walk.1) in
-    (
+    let off : Avoids t ts = stays l cuts (other_way w) t ts b walk.1 t there (λ f d k. refl) (begins l (other_way w) t ts b walk.1) in (
       head,
       kept_off l t c cut e (other_way w) t ts b walk.1 off (λ v near.
-        crossing l t c cut w (sym (cut.along w a t walk.0) ∙ sym (touches t c cut) ∙ uncut l t c cut e tap (λ same. head (sym same)) w v ∙ near)),
+          crossing l t c cut w (sym (cut.along w a t walk.0) ∙ sym (touches t c cut) ∙ uncut l t c cut e tap (λ same. head (sym same)) w v ∙ near)),
     )
 
 -- nor over the tap from which it comes
@@ -154,9 +152,9 @@ one_walk l cuts w a (t ∷ ts) [] b walk other = absurd (never_round l cuts w a 
 one_walk l cuts w a (t ∷ ts) (u ∷ us) b walk other =
     elim (same_tap u t) [
       | inl same ↦
-        let next : IsWalk l (other_way w) t us b = subst (λ (x : Tap). IsWalk l (other_way w) x us b) same other.1 in
-        let rest : ts ≡ us = one_walk l cuts (other_way w) t ts us b walk.1 next in
-        cc
+          let next : IsWalk l (other_way w) t us b = subst (λ (x : Tap). IsWalk l (other_way w) x us b) same other.1 in
+          let rest : ts ≡ us = one_walk l cuts (other_way w) t ts us b walk.1 next in
+          cc
       | inr apart ↦ absurd (part_ways l cuts w a t u ts us b walk other apart)
     ]
 
@@ -179,8 +177,8 @@ pub paths_same : (l : Layout) → HasCuts l → (a b : Tap) → a ≢ b → (p q
 paths_same l cuts a b apart p q walk other =
     elim (same_way q.begins p.begins) [
       | inl same ↦
-        let again : IsWalk l p.begins a q.taps b = subst (λ (w : Way). IsWalk l w a q.taps b) same other in
-        let taps : p.taps ≡ q.taps = one_walk l cuts p.begins a p.taps q.taps b walk again in
-        same_path p.begins q.begins p.taps q.taps (sym same) taps
+          let again : IsWalk l p.begins a q.taps b = subst (λ (w : Way). IsWalk l w a q.taps b) same other in
+          let taps : p.taps ≡ q.taps = one_walk l cuts p.begins a p.taps q.taps b walk again in
+          same_path p.begins q.begins p.taps q.taps (sym same) taps
       | inr turned ↦ absurd (one_way l cuts p.begins a p.taps q.taps b apart walk (subst (λ (w : Way). IsWalk l w a q.taps b) turned other))
     ]

@@ -3,10 +3,10 @@ use Rattle.std.proofs.Common.{refl, sym, ◌∙◌, ap, ℕ}
 use Rattle.layout_file.specs.declared.layout.Layout.{Layout}
 use Rattle.layout_file.specs.declared.ways.Tap.{Tap}
 use Rattle.layout_file.specs.Networks.{IsTree}
-use Rattle.layout_file.specs.Paths.{Path, IsPath, length_of, IsDistance, HasOnePath, HasOneDistance, StandsOnSegments}
+use Rattle.layout_file.specs.Paths.{Path, IsPath, length_of, IsDistance, HasOnePath, HasOneDistance}
 use Rattle.layout_file.proofs.Cuts.{paths_same}
 use Rattle.layout_file.proofs.Reach.{some_path}
-use Rattle.layout_file.proofs.Sides.{tree_has_cuts}
+use Rattle.layout_file.proofs.Sides.{StandsOnSegments, tree_has_cuts}
 
 pub one_path_of : (l : Layout) → StandsOnSegments l → IsTree l → HasOnePath l
 one_path_of l stands tree = record { some = some_path l stands tree; same = paths_same l (tree_has_cuts l stands tree) }

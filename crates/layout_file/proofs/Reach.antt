@@ -13,10 +13,10 @@ use Rattle.layout_file.specs.declared.ways.Way.{Way}
 use Rattle.layout_file.specs.declared.ways.Way.TheVariants as way
 use Rattle.layout_file.specs.Joined.{colours, is_joined}
 use Rattle.layout_file.specs.Networks.{edge_at, edges_from, network_edges, parts_of, IsTree}
-use Rattle.layout_file.specs.Paths.{place, IsTap, part_by, IsStep, other_way, IsWalk, Path, IsPath, StandsOnSegments}
+use Rattle.layout_file.specs.Paths.{place, IsTap, part_by, IsStep, other_way, IsWalk, Path, IsPath}
 use Rattle.layout_file.proofs.Cuts.{same_tap, same_way}
 use Rattle.layout_file.proofs.Joins.{Links, Touch, Joined, here, next, joined_from}
-use Rattle.layout_file.proofs.Sides.{IsPortOf, port_placed, network_within}
+use Rattle.layout_file.proofs.Sides.{StandsOnSegments, IsPortOf, port_placed, network_within}
 
 -- the number of a segment or a repeater among the network's parts
 abbrev part_number : Layout → Way → ℕ → ℕ
@@ -89,9 +89,9 @@ begun_before l w a f b part on too ne apart far v (t ∷ ts) (inl same) walk =
     elim (same_tap a t) [
       | inl e ↦ (record { begins = other_way w; taps = ts }, subst (λ (x : Tap). IsWalk l (other_way w) x ts b) (sym e) after)
       | inr unlike ↦
-        let from_a : part_by l w a ≡ Some first.part = on.of_tap ∙ ap (λ (n : ℕ). Some n) (one_number l w on.number too.number (on.is_part ∙ sym too.is_part)) ∙ sym too.of_tap ∙ first.from in
-        let s : IsStep l w a t = record { different = unlike; part = first.part; from = from_a; to = first.to } in
-        (record { begins = w; taps = t ∷ ts }, (s, after))
+          let from_a : part_by l w a ≡ Some first.part = on.of_tap ∙ ap (λ (n : ℕ). Some n) (one_number l w on.number too.number (on.is_part ∙ sym too.is_part)) ∙ sym too.of_tap ∙ first.from in
+          let s : IsStep l w a t = record { different = unlike; part = first.part; from = from_a; to = first.to } in
+          (record { begins = w; taps = t ∷ ts }, (s, after))
     ]
 
 lead_over : (l : Layout) → StandsOnSegments l → (w : Way) (f b : Tap) (part beyond : ℕ) → IsOn l w f part → IsOn l (other_way w) f beyond → Leads l beyond b → Leads l part b
@@ -100,11 +100,11 @@ lead_over l stands w f b part beyond on over leads a v at ne =
     elim (same_tap f b) [
       | inl e ↦ direct l w a b (step_on l w a b part on_a (subst (λ (x : Tap). IsOn l w x part) e on) ne)
       | inr far ↦
-        let path : (p : Path) × IsPath l f p b = leads f (other_way w) over far in
-        elim (same_tap a f) [
-          | inl e ↦ (path.0, subst (λ (x : Tap). IsPath l x path.0 b) (sym e) path.1)
-          | inr apart ↦ begun_before l w a f b part on_a on ne apart far path.0.begins path.0.taps (same_way path.0.begins w) path.1
-        ]
+          let path : (p : Path) × IsPath l f p b = leads f (other_way w) over far in
+          elim (same_tap a f) [
+            | inl e ↦ (path.0, subst (λ (x : Tap). IsPath l x path.0 b) (sym e) path.1)
+            | inr apart ↦ begun_before l w a f b part on_a on ne apart far path.0.begins path.0.taps (same_way path.0.begins w) path.1
+          ]
     ]
 
 -- where an edge of the network touches two parts a port stands on both
@@ -134,12 +134,12 @@ touch_from part [] u v h = absurd h
 touch_from part (x ∷ xs) u v h =
     elim (touch_ports part x.ports (edges_from (suc part) xs) u v h) [
       | inl (p, line, e, links) ↦
-        let same : part ≡ part + 0 = omega arith in
-        record { r = zero; p = p; line = line; is = record { row = x; of_row = refl; of_port = e }; links = subst (λ (n : ℕ). Links (edge_at n line) u v) same links }
+          let same : part ≡ part + 0 = omega arith in
+          record { r = zero; p = p; line = line; is = record { row = x; of_row = refl; of_port = e }; links = subst (λ (n : ℕ). Links (edge_at n line) u v) same links }
       | inr later ↦
-        let found : IsEdgeBetween (suc part) xs u v = touch_from (suc part) xs u v later in
-        let same : suc part + found.r ≡ part + suc found.r = omega arith in
-        record { r = suc found.r; p = found.p; line = found.line; is = record { row = found.is.row; of_row = found.is.of_row; of_port = found.is.of_port }; links = subst (λ (n : ℕ). Links (edge_at n found.line) u v) same found.links }
+          let found : IsEdgeBetween (suc part) xs u v = touch_from (suc part) xs u v later in
+          let same : suc part + found.r ≡ part + suc found.r = omega arith in
+          record { r = suc found.r; p = found.p; line = found.line; is = record { row = found.is.row; of_row = found.is.of_row; of_port = found.is.of_port }; links = subst (λ (n : ℕ). Links (edge_at n found.line) u v) same found.links }
     ]
 
 on_segment : (l : Layout) (r p : ℕ) (line : PortLine) → place l (Port r p) ≡ Some line → IsOn l way.Cable (Port r p) line.segment
@@ -154,17 +154,17 @@ port_between l u v h =
     let at : place l (Port found.r found.p) ≡ Some found.line = port_placed l found.r found.p found.line found.is in
     elim found.links [
       | inl (from, to) ↦ record {
-          port = Port found.r found.p;
-          by = way.Repeater;
-          on = subst (λ (n : ℕ). IsOn l way.Repeater (Port found.r found.p) n) from (on_repeater l found.r found.p found.line at);
-          over = subst (λ (n : ℕ). IsOn l way.Cable (Port found.r found.p) n) to (on_segment l found.r found.p found.line at);
-        }
+        port = Port found.r found.p;
+        by = way.Repeater;
+        on = subst (λ (n : ℕ). IsOn l way.Repeater (Port found.r found.p) n) from (on_repeater l found.r found.p found.line at);
+        over = subst (λ (n : ℕ). IsOn l way.Cable (Port found.r found.p) n) to (on_segment l found.r found.p found.line at);
+      }
       | inr (from, to) ↦ record {
-          port = Port found.r found.p;
-          by = way.Cable;
-          on = subst (λ (n : ℕ). IsOn l way.Cable (Port found.r found.p) n) to (on_segment l found.r found.p found.line at);
-          over = subst (λ (n : ℕ). IsOn l way.Repeater (Port found.r found.p) n) from (on_repeater l found.r found.p found.line at);
-        }
+        port = Port found.r found.p;
+        by = way.Cable;
+        on = subst (λ (n : ℕ). IsOn l way.Cable (Port found.r found.p) n) to (on_segment l found.r found.p found.line at);
+        over = subst (λ (n : ℕ). IsOn l way.Repeater (Port found.r found.p) n) from (on_repeater l found.r found.p found.line at);
+      }
     ]
 
 lead_along : (l : Layout) → StandsOnSegments l → (w : Way) (b : Tap) {u v : ℕ} → Joined (network_edges l) u v → IsOn l w b v → Leads l u b

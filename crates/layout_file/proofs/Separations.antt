@@ -172,12 +172,12 @@ module _ (cs : List ℕ) (xs : List PortEdge) (e : PortEdge) (tells : Tell (edge
       elim (among_cases f e xs h) [
         | inr new ↦ (beyond, newest f new)
         | inl old ↦
-          let d : ℕ → Bool = (all f old).0 in
-          let parts : Separates xs f d = (all f old).1 in
-          elim (bool_cases (d e.edge.from) (d e.edge.to)) [
-            | inl same ↦ (d, whole f d parts same)
-            | inr differ ↦ (turned d, turned_whole f d old parts differ)
-          ]
+            let d : ℕ → Bool = (all f old).0 in
+            let parts : Separates xs f d = (all f old).1 in
+            elim (bool_cases (d e.edge.from) (d e.edge.to)) [
+              | inl same ↦ (d, whole f d parts same)
+              | inr differ ↦ (turned d, turned_whole f d old parts differ)
+            ]
       ]
 
 within_left : (n : ℕ) (es fs : List Edge) → AreWithin n (es ++ fs) → AreWithin n es

@@ -12,10 +12,14 @@ use Rattle.layout_file.specs.declared.ways.Tap.TheVariants.{Station, Port}
 use Rattle.layout_file.specs.declared.ways.Way.{Way}
 use Rattle.layout_file.specs.declared.ways.Way.TheVariants as way
 use Rattle.layout_file.specs.Networks.{edge_at, edges_from, network_edges, parts_of, IsTree}
-use Rattle.layout_file.specs.Paths.{place, IsTap, part_by, StandsOnSegments}
+use Rattle.layout_file.specs.Paths.{place, IsTap, part_by}
 use Rattle.layout_file.proofs.Cuts.{IsCut, HasCuts}
 use Rattle.layout_file.proofs.Joins.{AreWithin}
 use Rattle.layout_file.proofs.Separations.{PortEdge, Among, Separates, AllSeparate, edges_separate, named_from, edges_named, edges_named-from, edge_among}
+
+-- each tap stands on a segment of the layout
+abbrev pub StandsOnSegments : Layout → Type 0
+StandsOnSegments l = (t : Tap) (p : PortLine) → place l t ≡ Some p → p.segment < length l.segments
 
 -- a port and its row
 pub record IsPortOf (rows : List RepeaterLine) (r p : ℕ) (line : PortLine) : Type 0 where
@@ -45,8 +49,8 @@ within_from n part (x ∷ xs) low all =
 pub network_within : (l : Layout) → StandsOnSegments l → AreWithin (parts_of l) (network_edges l)
 network_within l stands =
     within_from (parts_of l) (length l.segments) l.repeaters (omega arith) (λ r p line is.
-      let low : line.segment < length l.segments = stands (Port r p) line (port_placed l r p line is) in
-      omega arith)
+    let low : line.segment < length l.segments = stands (Port r p) line (port_placed l r p line is) in
+    omega arith)
 
 -- the colours for a station: it alone stands behind its tap
 abbrev alone : ℕ → Way → Tap → Bool
@@ -121,12 +125,14 @@ by_parts_others l d r p line parts (Port s q) (other, h) ne =
 port_cut : (l : Layout) → StandsOnSegments l → IsTree l → (r p : ℕ) (line : PortLine) → place l (Port r p) ≡ Some line → (c : Way → Tap → Bool) × IsCut l (Port r p) c
 port_cut l stands tree r p line h =
     let all : AllSeparate (port_edges l) = network_separates l stands tree in
-    let found : (d : ℕ → Bool) × Separates (port_edges l) (port_edge l r p line) d = all (port_edge l r p line) (port_edge_among l r p line h) in
-    (by_parts l found.0, record {
-      crosses = λ e. found.1.crosses (sym e ∙ ap found.0 (segment_number_is l (Port r p) line h));
-      others = λ g is ne. by_parts_others l found.0 r p line found.1 g is ne;
-      along = λ w a b s. by_parts_along l found.0 w a b s.part s.from s.to;
-    })
+    let found : (d : ℕ → Bool) × Separates (port_edges l) (port_edge l r p line) d = all (port_edge l r p line) (port_edge_among l r p line h) in (
+      by_parts l found.0,
+      record {
+        crosses = λ e. found.1.crosses (sym e ∙ ap found.0 (segment_number_is l (Port r p) line h));
+        others = λ g is ne. by_parts_others l found.0 r p line found.1 g is ne;
+        along = λ w a b s. by_parts_along l found.0 w a b s.part s.from s.to;
+      },
+    )
 
 pub tree_has_cuts : (l : Layout) → StandsOnSegments l → IsTree l → HasCuts l
 tree_has_cuts l stands tree (Station k) is = (alone k, station_cut l k)

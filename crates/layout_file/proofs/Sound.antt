@@ -1,13 +1,15 @@
 -- A layout without a fault is sound.
-use Rattle.std.proofs.Common.{◌≡◌, ◌⊎◌, ℕ, zero, suc, ◌/◌, ◌%◌, ◌≤◌, ◌==◌, Bool, true, false, ◌&&◌, List, [], ◌∷◌, ◌++◌, map, length, get_or, None, refl, sym, ap, ◌∙◌, inl, inr, arith}
+use Rattle.std.proofs.Common.{◌≡◌, ◌⊎◌, ℕ, zero, suc, ◌/◌, ◌%◌, ◌≤◌, ◌==◌, Bool, true, false, ◌&&◌, List, [], ◌∷◌, ◌++◌, map, length, get_or, Option, None, Some, Ok, refl, subst, sym, ap, ◌∙◌, inl, inr, arith}
 use Rattle.std.specs.List.{list_all}
-use Rattle.std.proofs.lemmas.Bool.{and_parts}
+use Rattle.std.proofs.lemmas.Bool.{and_parts, cases_Bool}
 use Rattle.std.proofs.lemmas.List.{length-map}
 use Rattle.std.proofs.lemmas.List.Elements.{All-map}
 use Rattle.toml.specs.Data.{Members}
 use Rattle.layout_file.specs.declared.fault.Key.TheVariants as key
 use Rattle.layout_file.specs.declared.rules.Shape.TheVariants as shape
-use Rattle.layout_file.specs.Faults.{around_of, first_fault}
+use Rattle.layout_file.specs.Faults.{around_of, first_fault, document, is_too_long, judged_tree, judged_document, judged}
+use Rattle.layout_file.specs.declared.fault.LayoutFault.{LayoutFault}
+use Rattle.layout_file.specs.declared.layout.Layout.{Layout}
 use Rattle.layout_file.specs.JointFaults.{first_same, first_same_name, same_segment_fault, same_device_fault}
 use Rattle.layout_file.specs.Lines.{segment_of, station_of, port_of, repeater_of, send_of, layout_of}
 use Rattle.layout_file.specs.Names.{name_of_key}
@@ -181,3 +183,22 @@ pub sound : (ms : Members) → first_fault ms ≡ None → IsSound (layout_of ms
 sound ms h =
     let free = faultless ms h in
     sound_parts ms free (clean_rows ms free) (few_rows ms free.crowds) (names_differ ms free.same)
+
+tree_sound : (ms : Members) (fault : Option LayoutFault) (l : Layout) → first_fault ms ≡ fault → judged_tree ms fault ≡ Ok l → IsSound l
+tree_sound ms None l none h =
+    let e : layout_of ms ≡ l = cc in
+    subst IsSound e (sound ms none)
+tree_sound ms (Some f) l none h = absurd (cc)
+
+document_sound : (o : Option Members) (l : Layout) → judged_document o ≡ Ok l → IsSound l
+document_sound None l h = absurd (cc)
+document_sound (Some ms) l h = tree_sound ms (first_fault ms) l refl h
+
+-- the same of the layout that octets are
+pub judged_sound : (bytes : List ℕ) (l : Layout) → judged bytes ≡ Ok l → IsSound l
+unfolding judged
+judged_sound bytes l h =
+    elim (cases_Bool (is_too_long bytes)) [
+      | inl long ↦ let e = rw long at h in absurd (cc)
+      | inr short ↦ document_sound (document bytes) l (rw short at h)
+    ]

@@ -10,11 +10,11 @@ use Rattle.layout_file.specs.declared.ways.Tap.{Tap}
 use Rattle.layout_file.specs.declared.ways.Tap.TheVariants.{Station, Port}
 use Rattle.layout_file.specs.declared.ways.Way.{Way}
 use Rattle.layout_file.specs.declared.ways.Way.TheVariants as way
-use Rattle.layout_file.specs.Paths.{place, station_place, distance, at_of, delay_of, step_length, other_way, walk_length, StandsOnSegments, HasOnePath, HasOneDistance}
+use Rattle.layout_file.specs.Paths.{place, station_place, distance, at_of, delay_of, step_length, other_way, walk_length, HasOnePath, HasOneDistance}
 use Rattle.layout_file.specs.Sound.{IsSound, IsSoundStation, IsSoundPort, IsSoundRepeater}
 use Rattle.layout_file.proofs.Cuts.{mapped, HasCuts}
 use Rattle.layout_file.proofs.OneDistance.{one_path_of, one_distance_of}
-use Rattle.layout_file.proofs.Sides.{IsPortOf, port_of, tree_has_cuts}
+use Rattle.layout_file.proofs.Sides.{StandsOnSegments, IsPortOf, port_of, tree_has_cuts}
 
 pub at_all : {X : Type 0} (P : X → Type 0) (xs : List X) (k : ℕ) (x : X) → All P xs → slice_get xs k ≡ Some x → P x
 at_all P xs k x all h = subst P (get_or_from_slice_get xs k x x h) (all k x (slice_get_within xs k x h))

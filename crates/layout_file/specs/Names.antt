@@ -50,7 +50,6 @@ number_of_code code.Loop = 12
 number_of_code code.Apart = 13
 number_of_code code.BadFrame = 14
 number_of_code code.OutOfMemory = 15
-number_of_code code.Unbuilt = 16
 
 -- a code's printed name (profile)
 abbrev pub name_of_code : LayoutCode → List ℕ
@@ -69,4 +68,3 @@ name_of_code code.Loop = codes "Loop"
 name_of_code code.Apart = codes "Apart"
 name_of_code code.BadFrame = codes "BadFrame"
 name_of_code code.OutOfMemory = codes "OutOfMemory"
-name_of_code code.Unbuilt = codes "Unbuilt"

@@ -1,6 +1,6 @@
 -- Paths from tap to tap, which go along a segment's cable and through a repeater by turns, and their lengths (profile).
 -- Places on a cable, delays and lengths are half bits; stations, segments, repeaters and ports have numbers from 0.
-use Rattle.std.specs.Prelude.{◌≡◌, ◌≢◌, ℕ, ◌+◌, ◌-◌, ◌<◌, length, List, [], ◌∷◌, Option, None, Some, slice_get, option_map, option_and_then, unwrap_or}
+use Rattle.std.specs.Prelude.{◌≡◌, ◌≢◌, ℕ, ◌+◌, ◌-◌, List, [], ◌∷◌, Option, None, Some, slice_get, option_map, option_and_then, unwrap_or}
 use Rattle.layout_file.specs.declared.layout.Layout.{Layout}
 use Rattle.layout_file.specs.declared.layout.PortLine.{PortLine}
 use Rattle.layout_file.specs.declared.layout.StationLine.{StationLine}
@@ -87,10 +87,6 @@ pub record IsDistance (l : Layout) (a b : Tap) (n : ℕ) : Type 0 where
 pub record HasOnePath (l : Layout) : Type 0 where
   pub some : (a b : Tap) → IsTap l a → IsTap l b → a ≢ b → (p : Path) × IsPath l a p b
   pub same : (a b : Tap) → a ≢ b → (p q : Path) → IsPath l a p b → IsPath l a q b → p ≡ q
-
--- each tap stands on a segment of the layout
-abbrev pub StandsOnSegments : Layout → Type 0
-StandsOnSegments l = (t : Tap) (p : PortLine) → place l t ≡ Some p → p.segment < length l.segments
 
 -- two different taps have exactly one distance
 pub record HasOneDistance (l : Layout) : Type 0 where

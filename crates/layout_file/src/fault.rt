@@ -108,8 +108,6 @@ pub enum LayoutCode {
     BadFrame,
     /// An allocation was refused.
     OutOfMemory,
-    /// The layout has no fault, but it is of a form that isn't run yet. Reading a layout never answers this.
-    Unbuilt,
 }
 
 impl LayoutCode {
@@ -135,7 +133,6 @@ impl LayoutCode {
             LayoutCode::Apart => 13,
             LayoutCode::BadFrame => 14,
             LayoutCode::OutOfMemory => 15,
-            LayoutCode::Unbuilt => 16,
         }
     }
 
@@ -159,7 +156,6 @@ impl LayoutCode {
             LayoutCode::Apart => "Apart",
             LayoutCode::BadFrame => "BadFrame",
             LayoutCode::OutOfMemory => "OutOfMemory",
-            LayoutCode::Unbuilt => "Unbuilt",
         }
     }
 }

@@ -9,7 +9,6 @@ use Rattle.layout_file.specs.Rules.{most_octets}
 use Rattle.load_plan.specs.declared.loads.Fate.{Fate}
 use Rattle.load_plan.specs.declared.loads.Fate.TheVariants.{Sent, Snapped, Short, Long}
 use Rattle.load_plan.specs.declared.plan.Skips.{Skips}
-use Rattle.load_plan.specs.Plans.{sends_of}
 
 -- what becomes of a record, by the most octets of a frame, in this order: octets of the frame were not kept; there are
 -- fewer than a frame's addresses and type have; there are more than a frame may have
@@ -82,6 +81,9 @@ abbrev pub offers_of_load : ℕ → ℕ → List Record → List Offer
 offers_of_load start most rs = map (offer_of_record start) (filter (λ r. is_sent (fate_of most r)) rs)
 
 -- the sends of a station, numbered from 0, in the file's order
+abbrev pub sends_of : ℕ → List SendLine → List SendLine
+sends_of station sends = filter (λ s. s.station == station) sends
+
 abbrev pub offers_of_sends : ℕ → List SendLine → List Offer
 offers_of_sends station sends = map offer_of_send (sends_of station sends)
 

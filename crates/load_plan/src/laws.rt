@@ -5,5 +5,4 @@ ghost use Rattle.load_plan.specs.declared.plan.Plan.{Plan};
 /// The layout of a plan is sound.
 pub fn a_plan_is_sound()
     ensures { (plan : Plan) → IsSound plan.layout }
-{
-}
+{}

@@ -7,7 +7,7 @@ mod make;
 mod plan;
 
 pub use make::{RecordsList, make_plan};
-pub use plan::{Plan, Queues, SkipList, Skips, plan_of_sends};
+pub use plan::{Plan, Queues, SkipList, Skips};
 
 #[cfg(test)]
 mod tests;

@@ -15,7 +15,7 @@ struct Told {
     kept: u32,
 }
 
-const OCTETS: [u8; 1519] = [0xa5; 1519];
+const OCTETS: [u8; 2962] = [0xa5; 2962];
 
 /// Why there is no plan.
 #[derive(Debug, PartialEq, Eq, Drop)]
@@ -38,7 +38,7 @@ fn records_of(alloc: Global, load: &[Told]) -> Result<Records, OutOfMemory>
     let mut records = Records::new(alloc);
     for told in load {
         let mut octets = Octets::new(alloc);
-        octets.extend(&OCTETS[..(told.kept as usize).min(1519)])?;
+        octets.extend(&OCTETS[..(told.kept as usize).min(2962)])?;
         records.push(Record {
             nanos: told.nanos,
             original: told.original,
@@ -138,6 +138,20 @@ fn records_are_skipped_and_counted(rt: HostRuntime) -> Result<(), NoPlan> {
     assert!(rt; has_queue(&plan, 0, 3) && has_frame(&plan, 0, 0, 3, 64));
     assert!(rt; has_frame(&plan, 0, 1, 21, 1518) && has_frame(&plan, 0, 2, 21, 64));
     assert!(rt; has_queue(&plan, 1, 2) && has_frame(&plan, 1, 0, 30, 64));
+    Ok(())
+}
+
+#[test]
+fn one_record_of_three_is_sent(rt: HostRuntime) -> Result<(), NoPlan> {
+    let a = [seen(7, 60, 60), seen(7, 2962, 2962), seen(7, 1000, 96)];
+    let plan = plan_of(rt.alloc(), FORMAT_ONE, &a, &[])?;
+    let skips = Skips {
+        short: 0,
+        long: 1,
+        snapped: 1,
+    };
+    assert!(rt; has_skips(&plan, 0, skips));
+    assert!(rt; has_queue(&plan, 0, 1) && has_frame(&plan, 0, 0, 0, 64));
     Ok(())
 }
 

@@ -6,6 +6,6 @@ pub mod Masks
 pub mod OnSegment
 pub mod Standing
 pub mod Whole
+pub mod Soundness
 pub mod Lines
 pub mod Times
-pub mod Soundness

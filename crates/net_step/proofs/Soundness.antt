@@ -8,11 +8,13 @@ use Rattle.layout_file.specs.declared.layout.PortLine.{PortLine}
 use Rattle.layout_file.specs.declared.layout.RepeaterLine.{RepeaterLine}
 use Rattle.layout_file.specs.declared.layout.StationLine.{StationLine}
 use Rattle.layout_file.specs.Sound as sound
+use Rattle.load_plan.specs.declared.plan.Plan.{Plan}
+use Rattle.load_plan.proofs.Soundness.{sound_of_plan}
 use Rattle.net_step.specs.Runnable.{IsRunnable}
 use Rattle.net_step.specs.Taps.{tap_of, taps_of}
 use Rattle.net_step.specs.Times.{AreApart}
 
-pub runnable : (l : Layout) → sound.IsSound l → IsRunnable l
+runnable : (l : Layout) → sound.IsSound l → IsRunnable l
 runnable l s = record {
   few_stations = s.stations_most;
   few_repeaters = s.repeaters_most;
@@ -27,6 +29,10 @@ runnable l s = record {
   ports_on = λ k d h. λ i e m. ((s.repeaters k d h).ports i e m).segment;
   ports_near = λ k d h. λ i e m. ((s.repeaters k d h).ports i e m).at;
 }
+
+-- what each plan's layout gives
+pub runnable_plan : (plan : Plan) → IsRunnable plan.layout
+runnable_plan plan = runnable plan.layout (sound_of_plan plan)
 
 -- the taps in the words of sound layouts
 stations_alike : (xs : List StationLine) → map sound.tap_of_port (map tap_of xs) ≡ map sound.tap_of_station xs
@@ -44,7 +50,7 @@ taps_alike l =
     ∙ ap₂ (λ xs ys. xs ++ ys) (stations_alike l.stations) (repeaters_alike l.repeaters)
 
 -- two taps that have the same segment and place are one
-pub apart : (l : Layout) → sound.IsSound l → AreApart (taps_of l)
+apart : (l : Layout) → sound.IsSound l → AreApart (taps_of l)
 apart l s = λ p q d hp hq ne segment at.
     let taps = taps_of l in
     let none = sound.tap_of_port d in
@@ -62,3 +68,6 @@ apart l s = λ p q d hp hq ne segment at.
   where
     same_tap : {s s' a a' : ℕ} → s ≡ s' → a ≡ a' → ◌≡◌ {A = sound.Tap} (record { segment = s; at = a }) (record { segment = s'; at = a' })
     same_tap e f = cc
+
+pub apart_plan : (plan : Plan) → AreApart (taps_of plan.layout)
+apart_plan plan = apart plan.layout (sound_of_plan plan)

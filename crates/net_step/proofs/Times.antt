@@ -14,10 +14,10 @@ use Rattle.layout_file.specs.declared.layout.RepeaterLine.{RepeaterLine}
 use Rattle.load_plan.specs.declared.plan.Plan.{Plan}
 use Rattle.mac_transmit.specs.Sender.{Sender, SendOutcome}
 use Rattle.repeater_core.specs.Step.{emitted_by}
-use Rattle.net_step.specs.Runnable.{IsRunnable}
 use Rattle.net_step.specs.Taps.{tap_of, taps_of, heard_of, heard_by}
 use Rattle.net_step.specs.Net.{Net, net, next, new_net, new_senders, emitted_before, heard_in, stations_hear, ports_hear, stations_emit, sendings, sendings_in, emitted_in, decided_in}
-use Rattle.net_step.specs.Times.{heard, emitted, decided, earlier, port_delays, AreApart}
+use Rattle.net_step.specs.Times.{heard, emitted, decided, earlier, port_delays}
+use Rattle.net_step.proofs.Soundness.{runnable_plan, apart_plan}
 use Rattle.net_step.proofs.Lines.{LinesUp, AllDelayed, delayed_from_All, all_ports, ports-lined, lines_next, lines_new, lines_emit, delays}
 
 if_true : {m n : ℕ} (x y : Sym) → m ≤ n → cond (leb m n) x y ≡ x
@@ -87,9 +87,10 @@ heard_of_alike told told' p here d q (x ∷ xs) away same = ap₂ mix_of one (he
     ]
 
 -- what a tap hears in half bit t, by what the others emitted
-pub heard_is : (plan : Plan) (t p : ℕ) (d : PortLine) → AreApart (taps_of plan.layout) → p < length (taps_of plan.layout) →
+pub heard_is : (plan : Plan) (t p : ℕ) (d : PortLine) → p < length (taps_of plan.layout) →
     heard plan p t ≡ heard_of (λ back q. earlier (emitted plan q) t back) p (get_or (taps_of plan.layout) p d) 0 (taps_of plan.layout)
-heard_is plan t p d away h =
+heard_is plan t p d h =
+    let away = apart_plan plan in
     let all = taps_of plan.layout in
     let n = net plan t in
     let told = emitted_before n.emitted in
@@ -167,13 +168,13 @@ some_delay (l ∷ ls) e late h =
     ]
 
 -- what a port emits in half bit t was decided as many half bits earlier as its repeater's delay says
-pub port_emits : (plan : Plan) (t e : ℕ) → IsRunnable plan.layout → e < all_ports plan.layout.repeaters →
+pub port_emits : (plan : Plan) (t e : ℕ) → e < all_ports plan.layout.repeaters →
     emitted plan (length plan.layout.stations + e) t ≡ earlier (decided plan e) t (get_or (port_delays plan.layout) e 0)
-port_emits plan t e run h =
+port_emits plan t e h =
     let n = net plan t in
     let ls = plan.layout.repeaters in
     let s = length plan.layout.stations in
-    let late = delayed_from_All ls run.some_delay in
+    let late = delayed_from_All ls (runnable_plan plan).some_delay in
     let shape = shaped plan t late in
     let stations : length (stations_emit n) ≡ s = length-map (sendings_in n) (λ (o : SendOutcome). o.emitted) ∙ sends_all plan t shape ∙ shape.senders in
     let place : s + e - s ≡ e = omega arith in

@@ -1,4 +1,4 @@
--- The network stepped half bit by half bit, all devices at once.
+-- The network stepped half bit by half bit, all devices at once (profile).
 use Rattle.std.specs.Prelude.{ℕ, zero, suc, ◌+◌, ◌-◌, Bool, List, [], ◌∷◌, ◌++◌, map, flat_map, length, take, drop, slice_index_or, ◌==◌, if◌then◌else◌, Option, Some, None}
 use Rattle.manchester_line.specs.declared.Sym.{Sym}
 use Rattle.manchester_line.specs.declared.Sym.TheVariants.{Idle}

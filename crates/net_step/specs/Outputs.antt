@@ -1,4 +1,4 @@
--- What a run of a plan gives: its rows and captures.
+-- What a run of a plan gives: its rows and captures (profile).
 use Rattle.std.specs.Prelude.{ℕ, ◌+◌, ◌*◌, List, [], ◌∷◌, ◌++◌}
 use Rattle.collision_log.specs.declared.row.Row.{Row}
 use Rattle.load_plan.specs.declared.plan.Plan.{Plan}

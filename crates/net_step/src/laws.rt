@@ -1,13 +1,10 @@
 //! Laws of the definitions.
 ghost use Rattle.std.specs.Prelude.{◌≡◌, ◌≤◌, ◌<◌, ◌+◌, ℕ, length, flat_map, slice_index, slice_index_or};
-ghost use Rattle.layout_file.specs.declared.layout.Layout.{Layout};
 ghost use Rattle.layout_file.specs.declared.layout.PortLine.{PortLine};
-ghost use Rattle.layout_file.specs.Sound.{IsSound};
 ghost use Rattle.load_plan.specs.declared.plan.Plan.{Plan};
 ghost use Rattle.net_step.specs.Net.{net, emitted_before};
-ghost use Rattle.net_step.specs.Runnable.{IsRunnable};
 ghost use Rattle.net_step.specs.Taps.{taps_of, heard_of};
-ghost use Rattle.net_step.specs.Times.{heard, emitted, decided, earlier, port_delays, AreApart};
+ghost use Rattle.net_step.specs.Times.{heard, emitted, decided, earlier, port_delays};
 
 /// What a tap emitted `back` half bits before half bit `t` it emitted in half bit `t - back`, and before
 /// half bit 0 every tap emitted Idle; and so for what was decided for a port.
@@ -19,19 +16,13 @@ pub fn history_is_time()
 /// What a tap hears in half bit `t` is the mix, over the other taps of its segment, of what each emitted as many
 /// half bits before `t` as it is away, and Idle before half bit 0 (profile).
 pub fn taps_hear_others()
-    ensures { (plan : Plan) (t p : ℕ) (d : PortLine) → AreApart (taps_of plan.layout) → p < length (taps_of plan.layout) →
+    ensures { (plan : Plan) (t p : ℕ) (d : PortLine) → p < length (taps_of plan.layout) →
         heard plan p t ≡ heard_of (λ back q. earlier (emitted plan q) t back) p (slice_index_or (taps_of plan.layout) p d) 0 (taps_of plan.layout) }
 {}
 
 /// What a repeater's port, counted from 0 over all ports, emits in half bit `t` was decided as many half bits before
 /// `t` as its repeater's delay, and is Idle before there is such a half bit (profile).
 pub fn ports_emit_late()
-    ensures { (plan : Plan) (t e : ℕ) → IsRunnable plan.layout → e < length (flat_map (λ r. r.ports) plan.layout.repeaters) →
+    ensures { (plan : Plan) (t e : ℕ) → e < length (flat_map (λ r. r.ports) plan.layout.repeaters) →
         emitted plan (length plan.layout.stations + e) t ≡ earlier (decided plan e) t (slice_index (port_delays plan.layout) e) }
-{}
-
-/// A sound layout can be run, and different taps of one of its segments are at different places.
-pub fn sound_layouts_run()
-    ensures runnable { (l : Layout) → IsSound l → IsRunnable l }
-    ensures apart { (l : Layout) → IsSound l → AreApart (taps_of l) }
 {}

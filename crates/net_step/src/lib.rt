@@ -11,7 +11,7 @@ mod relay;
 mod rows;
 mod segment;
 
-pub use laws::{history_is_time, ports_emit_late, sound_layouts_run, taps_hear_others};
+pub use laws::{history_is_time, ports_emit_late, taps_hear_others};
 pub use outputs::{Captures, Outputs, Taken, TakenList};
 pub use plain::{PlainNet, run_plain};
 

@@ -1,7 +1,6 @@
 //! The network on one thread.
 ghost use Rattle.std.specs.Prelude.{◌≡◌, ◌<◌, ◌≤◌, ◌+◌, ◌*◌, ◌^◌, ◌++◌, [], All, List, length, map, take, IfOk, OnOk};
 ghost use Rattle.net_step.specs.Outputs.{cut_rows, half_bits, rows, captures};
-ghost use Rattle.net_step.specs.Runnable.{IsRunnable};
 ghost use Rattle.net_step.specs.Kept.{ports_of, tap_number};
 
 use crate::devices::{
@@ -105,17 +104,16 @@ fn tap_number(stations: usize, relays: &[Relay], device: usize, port: usize) -> 
 }
 
 impl PlainNet {
-    ghost use Rattle.std.specs.Prelude.{◌≡◌, ◌<◌, ◌≤◌, ◌+◌, ◌-◌, ◌^◌, ◌++◌, length, All, OnOk, IfOk, slice_index_or};
+    ghost use Rattle.std.specs.Prelude.{◌≡◌, ◌<◌, ◌≤◌, ◌+◌, ◌-◌, ◌^◌, ◌++◌, length, All, OnOk, IfOk, IsTrue, slice_index_or};
     ghost use Rattle.load_plan.specs.declared.plan.Plan.{Plan};
     ghost use Rattle.manchester_line.specs.declared.Sym.TheVariants.{Idle};
-    ghost use Rattle.net_step.specs.Runnable.{IsRunnable};
     ghost use Rattle.net_step.specs.Net.{Net, net, next, heard_in};
     ghost use Rattle.net_step.specs.Outputs.{cut_rows};
     ghost use Rattle.net_step.specs.Kept.{GoesOn, Stands, IsTap, tap_number};
 
     /// The network of a plan before half bit 0.
+    #[tactic(auto, using(crate::proofs::Soundness::runnable_plan))]
     pub fn new(alloc: Global, plan: &Plan) -> Result<PlainNet, OutOfMemory>
-        requires { IsRunnable plan.now.layout }
         ensures stands { IfOk result (λ made. Stands (net plan.now 0) made) }
         ensures time { IfOk result (λ made. made.t ≡ 0) }
     {
@@ -155,6 +153,22 @@ impl PlainNet {
         let tap = tap_number(stations, &self.relays, device as usize, port as usize);
         let place = self.places[tap];
         self.segments[place.segment as usize].heard(place.local)
+    }
+
+    /// Whether there is such a tap.
+    #[cfg(test)]
+    pub(crate) fn has_tap(&self, device: u32, port: u32) -> bool
+        ensures { IsTrue result → IsTap self.now device port }
+    {
+        let device = device as usize;
+        let stations = self.senders.len();
+        if device < stations {
+            return port == 0;
+        }
+        if self.relays.len() <= device - stations {
+            return false;
+        }
+        (port as usize) < self.relays[device - stations].ports()
     }
 
     /// The next half bit. After an `Err` the net is only dropped.
@@ -243,9 +257,8 @@ impl PlainNet {
 }
 
 /// Runs a plan to its end.
-#[tactic(auto, unfolding(crate::specs::Outputs::rows, crate::specs::Outputs::captures))]
+#[tactic(auto, unfolding(crate::specs::Outputs::rows, crate::specs::Outputs::captures), using(crate::proofs::Soundness::runnable_plan))]
 pub fn run_plain(alloc: Global, plan: &Plan) -> Result<Outputs, OutOfMemory>
-    requires { IsRunnable plan.now.layout }
     ensures rows { IfOk result (λ outputs. outputs.rows ≡ rows plan.now) }
     ensures captures { IfOk result (λ outputs. outputs.captures ≡ captures plan.now) }
 {

@@ -1,12 +1,12 @@
-ghost use Rattle.std.specs.Prelude.{IfOk};
-ghost use Rattle.net_step.specs.Runnable.{IsRunnable};
+ghost use Rattle.std.specs.Prelude.{◌≡◌, ◌≤◌, All, IfOk, length};
 
 use crate::{Outputs, PlainNet, run_plain};
 use backoff_draw::Draws;
+use capture_file::Records;
 use collision_log::{Body, Row, Why};
 use layout_file::read_layout;
 use lists::OutOfMemory;
-use load_plan::{Plan, plan_of_sends};
+use load_plan::{Plan, RecordsList, make_plan};
 use manchester_line::Sym;
 use std::alloc::Global;
 
@@ -63,13 +63,26 @@ repeater = [{ name = "r", delay = 1, port = [{ segment = "x", at = 1 }, { segmen
 send = [{ station = "a", at = 0, octets = "ffffffffffff0200000000010800" }]
 "#;
 
-/// A plan of a layout without loads. A layout with a fault, which none here has, counts as no memory.
-fn plan_of(alloc: Global, layout: &str) -> Result<Plan, OutOfMemory>
-    ensures { IfOk result (λ plan. IsRunnable plan.layout) }
+/// No records for so many stations.
+fn no_loads(alloc: Global, stations: usize) -> Result<RecordsList, OutOfMemory>
+    ensures count { IfOk result (λ loads. length loads ≡ stations) }
+    ensures few { IfOk result (λ loads. All (λ rs. length rs ≤ 4000000000) loads) }
 {
+    let mut loads = RecordsList::new(alloc);
+    for _station in 0..stations {
+        loads.push(Records::new(alloc))?;
+    }
+    Ok(loads)
+}
+
+/// A plan of a layout without loads. A layout with a fault, which none here has, counts as no memory.
+fn plan_of(alloc: Global, layout: &str) -> Result<Plan, OutOfMemory> {
     match read_layout(alloc, layout.as_bytes()) {
-        Ok(layout) if layout.format == 1 => plan_of_sends(alloc, layout),
-        _ => Err(OutOfMemory),
+        Ok(layout) => {
+            let loads = no_loads(alloc, layout.stations.len())?;
+            make_plan(alloc, layout, loads)
+        }
+        Err(_) => Err(OutOfMemory),
     }
 }
 
@@ -177,24 +190,42 @@ fn a_repeater_of_the_least_delay(rt: HostRuntime) -> Result<(), OutOfMemory> {
     Ok(())
 }
 
-/// What a sends at half bit 0 comes to the repeater's first port after 20 half bits, and from its second port,
-/// after 16 half bits of delay, to b after 30.
+/// What a tap hears, and Clash, which no tap here hears, where there is no such tap.
+fn heard(whole: &PlainNet, device: u32, port: u32) -> Sym {
+    if !whole.has_tap(device, port) {
+        return Sym::Clash;
+    }
+    whole.heard(device, port)
+}
+
+/// The network after so many half bits.
+fn stepped(alloc: Global, plan: &Plan, half_bits: u64) -> Result<PlainNet, OutOfMemory>
+    requires { half_bits < 2000000000 }
+{
+    let mut whole = PlainNet::new(alloc, plan)?;
+    for t in 0..half_bits {
+        whole.step()?;
+    }
+    Ok(whole)
+}
+
+/// What a sends from half bit 0 on comes to the repeater's first port after 20 half bits, and from its second port,
+/// after 16 half bits of delay, to b after 30. What b sends from 65 on comes to the second port after 30.
 #[test]
 fn a_tap_hears_what_comes_to_it(rt: HostRuntime) -> Result<(), OutOfMemory> {
     let alloc = rt.alloc();
     let plan = plan_of(alloc, TWO_HOPS)?;
-    let mut whole = PlainNet::new(alloc, &plan)?;
-    for _ in 0..20 {
-        assert_eq!(rt; whole.heard(2, 0), Sym::Idle);
-        whole.step()?;
-    }
-    assert_eq!(rt; whole.heard(2, 0), Sym::Lo);
-    assert_eq!(rt; whole.heard(2, 1), Sym::Idle);
-    for _ in 0..46 {
-        assert_eq!(rt; whole.heard(1, 0), Sym::Idle);
-        whole.step()?;
-    }
-    assert_eq!(rt; whole.heard(1, 0), Sym::Lo);
-    assert_eq!(rt; whole.heard(2, 1), Sym::Idle);
+    let whole = stepped(alloc, &plan, 19)?;
+    assert_eq!(rt; heard(&whole, 2, 0), Sym::Idle);
+    let whole = stepped(alloc, &plan, 20)?;
+    assert_eq!(rt; heard(&whole, 2, 0), Sym::Lo);
+    let whole = stepped(alloc, &plan, 65)?;
+    assert_eq!(rt; heard(&whole, 1, 0), Sym::Idle);
+    let whole = stepped(alloc, &plan, 66)?;
+    assert_eq!(rt; heard(&whole, 1, 0), Sym::Lo);
+    let whole = stepped(alloc, &plan, 94)?;
+    assert_eq!(rt; heard(&whole, 2, 1), Sym::Idle);
+    let whole = stepped(alloc, &plan, 95)?;
+    assert_eq!(rt; heard(&whole, 2, 1), Sym::Lo);
     Ok(())
 }

@@ -21,6 +21,11 @@ fn verdict(alloc: Global, text: &str) -> Result<PathVerdict, Fail> {
     Ok(check_paths(alloc, &layout)?)
 }
 
+/// The verdict for the first two stations.
+fn within(worst: u32) -> PathVerdict {
+    PathVerdict::Within { worst, a: 0, b: 1 }
+}
+
 /// The rows of two stations on one segment, the one at 0.
 fn two_stations(alloc: Global, at: u32) -> Result<String, Fail> {
     Ok(format!(in alloc;
@@ -32,32 +37,12 @@ fn two_stations(alloc: Global, at: u32) -> Result<String, Fail> {
 #[test]
 fn two_stations_are_judged(rt: HostRuntime) -> Result<(), Fail> {
     let alloc = rt.alloc();
-    let cases = [
-        (
-            10,
-            PathVerdict::Within {
-                worst: 212,
-                a: 0,
-                b: 1,
-            },
-        ),
-        (
-            415,
-            PathVerdict::Within {
-                worst: 1022,
-                a: 0,
-                b: 1,
-            },
-        ),
-        (
-            416,
-            PathVerdict::Over {
-                worst: 1024,
-                a: 0,
-                b: 1,
-            },
-        ),
-    ];
+    let over = PathVerdict::Over {
+        worst: 1024,
+        a: 0,
+        b: 1,
+    };
+    let cases = [(10, within(212)), (415, within(1022)), (416, over)];
     for (at, wanted) in cases {
         let text = two_stations(alloc, at)?;
         assert_eq!(rt; verdict(alloc, &text)?, wanted, "{at}");
@@ -65,63 +50,68 @@ fn two_stations_are_judged(rt: HostRuntime) -> Result<(), Fail> {
     Ok(())
 }
 
-#[test]
-fn layouts_are_judged(rt: HostRuntime) -> Result<(), Fail> {
-    let alloc = rt.alloc();
-    let cases = [
-        // no stations
-        (
-            "format = 1\nseed = 1\nuntil_bits = 700\nsegment = [{name = \"x\"}]\n",
-            PathVerdict::NoPair,
-        ),
-        // one station
-        (
-            "format = 1\nseed = 1\nuntil_bits = 700\nsegment = [{name = \"x\"}]\n\
-             station = [{name = \"a\", segment = \"x\", at = 0}]\n",
-            PathVerdict::NoPair,
-        ),
-        // the second format, of a receiver that loses bits
-        (
-            "format = 2\nseed = 1\nuntil_bits = 700\nsegment = [{name = \"x\"}]\nstation = [\
-             {name = \"a\", segment = \"x\", at = 0},\
-             {name = \"b\", segment = \"x\", at = 10, lose_bits = 48}]\n",
-            PathVerdict::Within {
-                worst: 212,
-                a: 0,
-                b: 1,
-            },
-        ),
-        // two segments and a repeater
-        (
-            "format = 1\nseed = 1\nuntil_bits = 130\nsegment = [{name = \"x\"}, {name = \"y\"}]\n\
-             station = [{name = \"a\", segment = \"x\", at = 0}, {name = \"b\", segment = \"y\", at = 30}]\n\
-             repeater = [{name = \"r\", delay = 16, port = [\
-             {segment = \"x\", at = 20}, {segment = \"y\", at = 0}]}]\n",
-            PathVerdict::Within {
-                worst: 324,
-                a: 0,
-                b: 1,
-            },
-        ),
-        // three segments on one repeater: all pairs are as far apart
-        (
-            "format = 1\nseed = 1\nuntil_bits = 130\n\
-             segment = [{name = \"x\"}, {name = \"y\"}, {name = \"z\"}]\nstation = [\
-             {name = \"a\", segment = \"x\", at = 10}, {name = \"b\", segment = \"y\", at = 10},\
-             {name = \"c\", segment = \"z\", at = 10}]\nrepeater = [{name = \"r\", delay = 1, port = [\
-             {segment = \"x\", at = 0}, {segment = \"y\", at = 0}, {segment = \"z\", at = 0}]}]\n",
-            PathVerdict::Within {
-                worst: 234,
-                a: 0,
-                b: 1,
-            },
-        ),
-    ];
-    for (text, wanted) in cases {
-        assert_eq!(rt; verdict(alloc, text)?, wanted, "{text}");
-    }
-    Ok(())
-}
+/// One segment.
+const NO_STATION: &str = "format = 1\nseed = 1\nuntil_bits = 700\nsegment = [{name = \"x\"}]\n";
+
+/// One segment with one station.
+const ONE_STATION: &str = "\
+format = 1
+seed = 1
+until_bits = 700
+segment = [{name = \"x\"}]
+station = [{name = \"a\", segment = \"x\", at = 0}]
+";
+
+/// One segment, of whose three stations the last two are farthest apart.
+const THREE_STATIONS: &str = "\
+format = 1
+seed = 1
+until_bits = 700
+segment = [{name = \"x\"}]
+station = [
+    {name = \"a\", segment = \"x\", at = 10},
+    {name = \"b\", segment = \"x\", at = 0},
+    {name = \"c\", segment = \"x\", at = 20},
+]
+";
+
+/// A layout of the second format, in which a receiver loses bits.
+const SECOND_FORMAT: &str = "\
+format = 2
+seed = 1
+until_bits = 700
+segment = [{name = \"x\"}]
+station = [
+    {name = \"a\", segment = \"x\", at = 0},
+    {name = \"b\", segment = \"x\", at = 10, lose_bits = 48},
+]
+";
+
+/// Two segments that a repeater joins.
+const TWO_SEGMENTS: &str = "\
+format = 1
+seed = 1
+until_bits = 130
+segment = [{name = \"x\"}, {name = \"y\"}]
+station = [{name = \"a\", segment = \"x\", at = 0}, {name = \"b\", segment = \"y\", at = 30}]
+repeater = [{name = \"r\", delay = 16, port = [{segment = \"x\", at = 20}, {segment = \"y\", at = 0}]}]
+";
+
+/// Three segments at one repeater: any two of the stations are as far apart.
+const STAR: &str = "\
+format = 1
+seed = 1
+until_bits = 130
+segment = [{name = \"x\"}, {name = \"y\"}, {name = \"z\"}]
+station = [
+    {name = \"a\", segment = \"x\", at = 10},
+    {name = \"b\", segment = \"y\", at = 10},
+    {name = \"c\", segment = \"z\", at = 10},
+]
+repeater = [{name = \"r\", delay = 1, port = [
+    {segment = \"x\", at = 0}, {segment = \"y\", at = 0}, {segment = \"z\", at = 0},
+]}]
+";
 
 /// Five segments in a row, with a repeater between neighbours.
 const FIVE_SEGMENTS: &str = "\
@@ -144,12 +134,24 @@ repeater = [
 ";
 
 #[test]
-fn five_segments_are_judged(rt: HostRuntime) -> Result<(), Fail> {
-    let wanted = PathVerdict::Within {
-        worst: 856,
-        a: 0,
-        b: 1,
+fn layouts_are_judged(rt: HostRuntime) -> Result<(), Fail> {
+    let alloc = rt.alloc();
+    let last = PathVerdict::Within {
+        worst: 232,
+        a: 1,
+        b: 2,
     };
-    assert_eq!(rt; verdict(rt.alloc(), FIVE_SEGMENTS)?, wanted);
+    let cases = [
+        (NO_STATION, PathVerdict::NoPair),
+        (ONE_STATION, PathVerdict::NoPair),
+        (THREE_STATIONS, last),
+        (SECOND_FORMAT, within(212)),
+        (TWO_SEGMENTS, within(324)),
+        (STAR, within(234)),
+        (FIVE_SEGMENTS, within(856)),
+    ];
+    for (text, wanted) in cases {
+        assert_eq!(rt; verdict(alloc, text)?, wanted, "{text}");
+    }
     Ok(())
 }

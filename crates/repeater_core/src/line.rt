@@ -42,9 +42,10 @@ fn turn_row(slots: &mut [Sym], head: usize, decided: &[Sym], emits: &mut [Sym])
     ensures emits { emits.new ≡ take (length decided.now) (rotated head slots.old) }
     ensures rows { rotated (head + length decided.now) slots.new ≡ drop (length decided.now) (rotated head slots.old) ++ decided.now }
 {
-    let end = head + decided.len();
-    emits.copy_from_slice(&slots[head..end]);
-    slots[head..end].copy_from_slice(decided);
+    for k in 0..decided.len() {
+        emits[k] = slots[head + k];
+        slots[head + k] = decided[k];
+    }
 }
 
 /// The Idle symbols before the first signal in a ring that is read from `head` on.

@@ -1,11 +1,10 @@
 -- Sums with one more device.
-use Rattle.std.proofs.Common.{◌≡◌, ℕ, suc, ◌+◌, ◌<◌, List, [], ◌∷◌, ◌++◌, length, get_or, take, refl, sym, ap, ◌∙◌, arith}
+use Rattle.std.proofs.Common.{◌≡◌, ℕ, suc, ◌+◌, ◌<◌, List, [], ◌∷◌, ◌++◌, length, get_or, take, sym, ap, ◌∙◌, arith}
 use Rattle.std.proofs.Math.Seq.{take-suc}
 use Rattle.std.proofs.lemmas.List.Sums.{sum_by_push}
-use Rattle.collision_log.specs.Counters.{left_of}
 use Rattle.collision_log.specs.declared.counters.Counters.{Counters}
 use Rattle.run_texts.specs.Counting.{with_counts}
-use Rattle.run_texts.specs.Counts.{dropped_of, totals}
+use Rattle.run_texts.specs.Counts.{totals}
 use Rattle.run_texts.specs.declared.totals.Sums.{Sums}
 
 pub totals_push : (cs : List Counters) (c : Counters) → totals (cs ++ c ∷ []) ≡ with_counts (totals cs) c

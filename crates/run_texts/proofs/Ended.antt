@@ -6,7 +6,7 @@ use Rattle.manchester_line.specs.declared.Sym.TheVariants as sym
 use Rattle.frame_layout.specs.Frame.{verdict_of}
 use Rattle.frame_layout.specs.declared.verdict.Verdict.{Verdict}
 use Rattle.frame_layout.specs.declared.verdict.Verdict.TheVariants.{Good, Fragment, TooLong, FcsError, AlignError}
-use Rattle.collision_log.specs.Counters.{with_row, with_dropped, late_count}
+use Rattle.collision_log.specs.Counters.{with_row, with_dropped}
 use Rattle.collision_log.specs.declared.counters.Counters.{Counters}
 use Rattle.collision_log.specs.declared.row.Body.{Body}
 use Rattle.collision_log.specs.declared.row.Body.TheVariants.{Sent, Collided, GivenUp, Cut, Received, Dropped, Clash, Closed, Opened, Halted}

@@ -1,5 +1,5 @@
 -- In a network no sender ends more frames than its queue has.
-use Rattle.std.proofs.Common.{◌≡◌, ℕ, zero, suc, ◌+◌, ◌-◌, ◌*◌, ◌<◌, ◌≤◌, Option, None, List, [], ◌∷◌, ◌++◌, map, length, get_or, refl, sym, ap, subst, ◌∙◌, inl, inr, arith}
+use Rattle.std.proofs.Common.{◌≡◌, ℕ, zero, suc, ◌+◌, ◌-◌, ◌<◌, ◌≤◌, Option, None, List, [], ◌∷◌, ◌++◌, map, length, get_or, refl, sym, ap, subst, ◌∙◌, inl, inr, arith}
 use Rattle.std.specs.Prelude.{replicate}
 use Rattle.std.proofs.lemmas.Bool.{cases_lt}
 use Rattle.std.proofs.lemmas.List.{get_or_past, length-map}
@@ -14,9 +14,9 @@ use Rattle.collision_log.specs.declared.row.Row.{Row}
 use Rattle.load_plan.specs.declared.plan.Plan.{Plan}
 use Rattle.load_plan.specs.declared.plan.Skips.{Skips}
 use Rattle.mac_transmit.specs.Sender.{Sender, SendOutcome, new_sender, sent}
-use Rattle.net_step.specs.Net.{Net, each_repeater, bodies_of, net, new_net, new_senders, next, ports_hear, receptions_in, repeater_rows, rows_in, rows_of, sendings, sendings_in, stations_emit, stations_hear}
+use Rattle.net_step.specs.Net.{Net, each_repeater, bodies_of, net, new_senders, next, ports_hear, receptions_in, repeater_rows, rows_of, sendings, sendings_in, stations_emit, stations_hear}
 use Rattle.net_step.specs.Outputs.{cut_rows, half_bits, rows}
-use Rattle.run_texts.specs.Counts.{AreLeft, all_counts_after, counts_of, first_counts, rows_of_device, station_counts, stations_counts}
+use Rattle.run_texts.specs.Counts.{AreLeft, all_counts_after, counts_of, first_counts, station_counts, stations_counts}
 use Rattle.run_texts.proofs.Ended.{counts_end, cuts_calm, ended_of, ends, ends-append, ends_at, receptions_calm, repeaters_quiet}
 use Rattle.run_texts.proofs.Standing.{IsStanding, Rises, place_within, sender_rises}
 
@@ -111,7 +111,7 @@ few_end plan i =
     let cut = cut_rows (half_bits plan) 0 n.senders in
     omega (arith, ends-append i n.rows cut, cuts_calm (half_bits plan) 0 i n.senders, (all_hold plan (half_bits plan)).few i)
 
-abbrev IsLeft : Counters → Type 0
+abbrev pub IsLeft : Counters → Type 0
 IsLeft c = c.sent + c.given_up ≤ c.queued
 
 repeaters_left : (k n : ℕ) (rows : List Row) → ((i : ℕ) → k ≤ i → ends i rows ≡ 0) → AreLeft (all_counts_after k (replicate n no_counts) rows)

@@ -5,3 +5,4 @@ pub mod Ended
 pub mod Standing
 pub mod Left
 pub mod Shorts
+pub mod Stations

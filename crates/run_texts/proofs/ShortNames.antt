@@ -1,5 +1,5 @@
 -- The names of the devices of a sound layout are short.
-use Rattle.std.proofs.Common.{◌≡◌, inl, inr, ℕ, ◌<◌, ◌≤◌, List, [], ◌++◌, map, length, get_or, All, subst, lit≤, Bor}
+use Rattle.std.proofs.Common.{inl, inr, ℕ, ◌<◌, ◌≤◌, List, [], map, length, get_or, All, subst, lit≤, Bor}
 use Rattle.std.proofs.lemmas.List.{get_or-map, length-map}
 use Rattle.std.specs.Prelude.{slice_get, unwrap_or}
 use Rattle.std.proofs.lemmas.List.Elements.{All-map, All-append}

@@ -1,25 +1,24 @@
 -- What a network's stations capture is short.
-use Rattle.std.proofs.Common.{◌≡◌, ℕ, zero, suc, ◌+◌, ◌-◌, ◌*◌, ◌<◌, ◌≤◌, Bool, true, false, cond, eqb, ltb, Option, Some, None, List, [], ◌∷◌, ◌++◌, map, length, get_or, take, All, refl, sym, ap, subst, ◌∙◌, arith}
+use Rattle.std.proofs.Common.{◌≡◌, ℕ, zero, suc, ◌+◌, ◌-◌, ◌<◌, ◌≤◌, Bool, true, false, cond, eqb, ltb, Option, Some, None, List, [], ◌∷◌, ◌++◌, map, length, take, All, refl, subst, arith}
 use Rattle.std.proofs.lemmas.Bool.{cond_both, ltb-false}
 use Rattle.std.proofs.lemmas.List.{length-take}
-use Rattle.std.proofs.lemmas.List.Elements.{All-append, All-cons, All-head, All-map, All-nil, All-tail, All-weaker}
+use Rattle.std.proofs.lemmas.List.Elements.{All-append, All-cons, All-head, All-map, All-nil, All-tail}
 use Rattle.manchester_line.specs.Reading.{reading, octets_of_bits, spare_of_bits}
 use Rattle.manchester_line.specs.declared.Sym.{Sym}
 use Rattle.manchester_line.specs.declared.Sym.TheVariants as sym
-use Rattle.frame_layout.specs.Frame.{has_right_fcs, verdict_of}
+use Rattle.frame_layout.specs.Frame.{verdict_of}
 use Rattle.frame_layout.specs.declared.verdict.Verdict.{Verdict}
 use Rattle.frame_layout.specs.declared.verdict.Verdict.TheVariants.{Good, Fragment, TooLong, FcsError, AlignError}
 use Rattle.collision_log.specs.declared.row.Body.{Body}
 use Rattle.collision_log.specs.declared.row.Body.TheVariants.{Sent, Collided, GivenUp, Cut, Received, Dropped, Clash, Closed, Opened, Halted}
 use Rattle.layout_file.specs.Sound.{IsSound}
-use Rattle.layout_file.specs.declared.layout.StationLine.{StationLine}
 use Rattle.load_plan.specs.declared.plan.Plan.{Plan}
 use Rattle.mac_transmit.specs.Sender.{hears}
 use Rattle.mac_receive.specs.Receiver.{Receiving, Reception, ended, extended, judged_octets, left_halves, new_receiving, quiet, reading_octets, received}
-use Rattle.net_step.specs.Net.{Net, captured, most_octets, net, new_net, next, receptions, receptions_in, stations_emit, stations_hear, taken_by}
+use Rattle.net_step.specs.Net.{Net, captured, most_octets, net, next, receptions, receptions_in, stations_emit, stations_hear, taken_by}
 use Rattle.net_step.specs.Outputs.{captures, half_bits}
 use Rattle.net_step.specs.declared.outputs.Taken.{Taken}
-use Rattle.run_texts.specs.Captures.{AreShort, IsShort}
+use Rattle.run_texts.specs.Captures.{AreShort}
 
 -- octets that are judged good are no more than the most and a check sequence
 judged_few : (v : Verdict) (octets : List ℕ) (most : ℕ) → (v ≡ Good → length octets ≤ most + 4) → length (judged_octets v octets) ≤ most + 4

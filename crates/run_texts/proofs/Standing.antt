@@ -1,12 +1,12 @@
 -- A sender's place in its queue rises by the frames that end.
-use Rattle.std.proofs.Common.{◌≡◌, ℕ, ◌+◌, ◌*◌, ◌<◌, ◌≤◌, Bool, true, false, cond, ltb, leb, eqb, ◌&&◌, Option, Some, None, List, length, refl, sym, subst, ap, ◌∙◌, arith, add-zero}
-use Rattle.std.proofs.lemmas.Bool.{and_parts, cond_both, ltb-true}
+use Rattle.std.proofs.Common.{◌≡◌, ℕ, ◌+◌, ◌*◌, ◌<◌, ◌≤◌, Bool, true, false, cond, ltb, leb, eqb, ◌&&◌, Option, Some, None, length, refl, ◌∙◌, arith}
+use Rattle.std.proofs.lemmas.Bool.{and_parts, ltb-true}
 use Rattle.backoff_draw.specs.Draws.{draw_of, drawn}
 use Rattle.manchester_line.specs.declared.Sym.{Sym}
-use Rattle.collision_log.specs.declared.row.Body.TheVariants.{Sent, Collided, GivenUp}
+use Rattle.collision_log.specs.declared.row.Body.TheVariants.{Collided, GivenUp}
 use Rattle.mac_transmit.specs.declared.phase.Phase.{Phase}
 use Rattle.mac_transmit.specs.declared.phase.Phase.TheVariants.{Rest, Waiting, Sending, Backoff}
-use Rattle.mac_transmit.specs.Sender.{Sender, after_turn, before_emission, deferring, emitting, end_event, ended, event_from, finished, finished_from, has_ended, hears, is_free, phase_after, phase_started, promoted, promoted_from, ready_at, sent, started}
+use Rattle.mac_transmit.specs.Sender.{Sender, deferring, emitting, end_event, ended, event_from, finished, finished_from, has_ended, hears, is_free, phase_after, phase_started, promoted, promoted_from, ready_at, sent, started}
 use Rattle.run_texts.proofs.Ended.{ended_of, ends_by}
 
 -- a frame that is under way, or waits, is in the queue

@@ -1,5 +1,5 @@
 -- The texts of a run (profile).
-use Rattle.std.specs.Prelude.{◌≡◌, ℕ, ◌+◌, ◌*◌, Bool, nat_le, List, [], ◌∷◌, ◌++◌, map, length, slice_get, unwrap_or, codes, decimal}
+use Rattle.std.specs.Prelude.{ℕ, ◌+◌, ◌*◌, nat_le, List, [], ◌∷◌, ◌++◌, length, slice_get, unwrap_or, codes, decimal}
 use Rattle.collision_log.specs.Counters.{counters_line}
 use Rattle.collision_log.specs.Rows.{row_line}
 use Rattle.collision_log.specs.declared.counters.Counters.{Counters}
@@ -33,22 +33,22 @@ unfoldable pub counters_of_rows : Plan → List Row → List ℕ
 counters_of_rows plan rows = lines_of_counts (length plan.layout.stations) 0 (device_names plan.layout) (counts_of plan rows)
 
 -- what was sent, over all devices
-abbrev pub sending_words : Sums → List ℕ
-sending_words t =
+abbrev pub sending_totals : Sums → List ℕ
+sending_totals t =
     codes "sent " ++ decimal t.sent ++ codes " collided " ++ decimal t.collided
     ++ codes " late " ++ decimal t.late ++ codes " given_up " ++ decimal t.given_up
     ++ codes " cut " ++ decimal t.cut ++ codes " left " ++ decimal t.left
 
 -- what was received and repeated, over all devices
-abbrev pub receiving_words : Sums → List ℕ
-receiving_words t =
+abbrev pub receiving_totals : Sums → List ℕ
+receiving_totals t =
     codes " received " ++ decimal t.received ++ codes " dropped " ++ decimal t.dropped
     ++ codes " clash " ++ decimal t.clash ++ codes " closed " ++ decimal t.closed
     ++ codes " opened " ++ decimal t.opened
 
 -- the line of the sums over all devices
 abbrev pub totals_line : Sums → List ℕ
-totals_line t = sending_words t ++ receiving_words t ++ codes "\n"
+totals_line t = sending_totals t ++ receiving_totals t ++ codes "\n"
 
 -- the half bits of a plan's run, two for each bit, and the sums over the rows that it gave
 unfoldable pub totals_of_rows : Plan → List Row → List ℕ

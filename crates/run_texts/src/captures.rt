@@ -31,8 +31,8 @@ fn add_taken(capture: &mut CaptureWriter, taken: &Taken) -> Result<(), OutOfMemo
     }
 }
 
-/// The capture of the frames that a station received, in their order, where each has at most 1,518 octets and came
-/// in one of the first 2,000,000,000 half bits (profile).
+/// The capture of the frames that a station received, in their order, whose octets are its `bytes`. Each frame has at
+/// most 1,518 octets and came at half bit 2,000,000,000 at the latest (profile).
 #[tactic(auto, unfolding(crate::specs::Captures::pcap_of_taken))]
 pub fn pcap_of(alloc: Global, taken: &TakenList) -> Result<CaptureWriter, OutOfMemory>
     requires { AreShort taken.now }

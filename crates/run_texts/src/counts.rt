@@ -118,11 +118,7 @@ fn lines_of_counts(
 /// The counters of a plan's run that gave these rows: a line for each device, where the layout is sound, and no
 /// station sent and gave up more frames than its queue has (profile).
 #[tactic(auto, unfolding(crate::specs::Texts::counters_of_rows))]
-pub fn counters_of_rows(
-    alloc: Global,
-    plan: &Plan,
-    rows: &[Row],
-) -> Result<List<u8>, OutOfMemory>
+pub fn counters_of_rows(alloc: Global, plan: &Plan, rows: &[Row]) -> Result<List<u8>, OutOfMemory>
     requires sound { IsSound plan.now.layout }
     requires left { AreLeft (counts_of plan.now rows.now) }
     ensures { IfOk result (λ text. text ≡ counters_of_rows plan.now rows.now) }

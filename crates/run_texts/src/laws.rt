@@ -1,5 +1,5 @@
 //! Laws of a run's counts and captures: calls without a body, whose contracts are the laws.
-ghost use Rattle.std.specs.Prelude.{◌<◌, All};
+ghost use Rattle.std.specs.Prelude.{◌≡◌, ◌<◌, All, length};
 ghost use Rattle.layout_file.specs.Sound.{IsSound};
 ghost use Rattle.net_step.specs.Outputs.{captures, half_bits, rows};
 ghost use Rattle.run_texts.specs.Captures.{AreShort};
@@ -18,4 +18,9 @@ pub fn captures_are_short(plan: &Plan)
     requires { IsSound plan.now.layout }
     ensures short { All AreShort (captures plan.now) }
     ensures time { All (All (λ taken. taken.t < half_bits plan.now)) (captures plan.now) }
+{}
+
+/// Each station of a plan has a capture.
+pub fn stations_have_captures(plan: &Plan)
+    ensures { length (captures plan.now) ≡ length plan.now.layout.stations }
 {}

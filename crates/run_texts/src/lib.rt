@@ -1,11 +1,14 @@
-//! The texts of a run: its log, the counters of its devices, and their sums.
+//! The texts of a run: its log, the counters of its devices and their sums, and the captures of its stations.
+//! `laws` says that a run's rows and captures can be written so.
 #![tactic(auto)]
 
 mod captures;
 mod counts;
-mod log;
 pub mod laws;
+mod log;
 mod names;
+#[cfg(test)]
+mod tests;
 mod totals;
 
 pub use captures::pcap_of;

@@ -2,7 +2,7 @@
 ghost use Rattle.std.specs.Prelude.{◌≡◌, ◌+◌, ◌++◌, IfOk, OnOk, decimal};
 ghost use Rattle.collision_log.specs.Counters.{left_of};
 ghost use Rattle.run_texts.specs.Counts.{counts_of, dropped_of, totals};
-ghost use Rattle.run_texts.specs.Texts.{receiving_words, sending_words, totals_line, totals_of_rows};
+ghost use Rattle.run_texts.specs.Texts.{receiving_totals, sending_totals, totals_line, totals_of_rows};
 
 use crate::counts::counts_of;
 use collision_log::{Counters, Row};
@@ -116,7 +116,7 @@ fn add_field(line: &mut List<u8>, word: &str, number: u64) -> Result<(), OutOfMe
 
 /// Puts what was sent, over all devices, at the end of a text.
 fn add_sending(text: &mut List<u8>, sums: &Sums) -> Result<(), OutOfMemory>
-    ensures { OnOk result (text.new ≡ text.old ++ sending_words sums.now) }
+    ensures { OnOk result (text.new ≡ text.old ++ sending_totals sums.now) }
 {
     add_field(text, "sent ", sums.sent)?;
     add_field(text, " collided ", sums.collided)?;
@@ -128,7 +128,7 @@ fn add_sending(text: &mut List<u8>, sums: &Sums) -> Result<(), OutOfMemory>
 
 /// Puts what was received and repeated, over all devices, at the end of a text.
 fn add_receiving(text: &mut List<u8>, sums: &Sums) -> Result<(), OutOfMemory>
-    ensures { OnOk result (text.new ≡ text.old ++ receiving_words sums.now) }
+    ensures { OnOk result (text.new ≡ text.old ++ receiving_totals sums.now) }
 {
     add_field(text, " received ", sums.received)?;
     add_field(text, " dropped ", sums.dropped)?;
@@ -149,17 +149,17 @@ fn add_totals(text: &mut List<u8>, sums: &Sums) -> Result<(), OutOfMemory>
 /// The last two lines of a run's summary: its half bits, and the sums over the rows that it gave. A sum that passes 64
 /// bits is answered as want of memory (profile).
 #[tactic(auto, unfolding(crate::specs::Texts::totals_of_rows))]
-pub fn totals_of_rows(
-    alloc: Global,
-    plan: &Plan,
-    rows: &[Row],
-) -> Result<List<u8>, OutOfMemory>
+pub fn totals_of_rows(alloc: Global, plan: &Plan, rows: &[Row]) -> Result<List<u8>, OutOfMemory>
     ensures { IfOk result (λ text. text ≡ totals_of_rows plan.now rows.now) }
 {
     let counts = counts_of(alloc, plan, rows)?;
     let sums = totals(counts.as_slice())?;
     let mut text = List::new(alloc);
-    add_field(&mut text, "half_bits ", sum(plan.layout.until_bits, plan.layout.until_bits)?)?;
+    add_field(
+        &mut text,
+        "half_bits ",
+        sum(plan.layout.until_bits, plan.layout.until_bits)?,
+    )?;
     text.extend(b"\n")?;
     add_totals(&mut text, &sums)?;
     Ok(text)

@@ -1,4 +1,4 @@
-use Rattle.std.proofs.Common.{◌≡◌, ◌++◌, drop, length}
+use Rattle.std.proofs.Common.{◌≡◌, ◌++◌, drop}
 use Rattle.std.specs.Prelude.{replicate}
 use Rattle.collision_log.specs.Counters.{no_counts}
 use Rattle.run_texts.specs.Counts.{stations_counts}

@@ -9,17 +9,18 @@ use Rattle.net_step.specs.Wires.{new_wire, places_from}
 use Rattle.net_step.specs.Kept.{AllHear}
 use Rattle.net_step.proofs.Standing.{stands_new, taps_near, taps_on, few_taps}
 use Rattle.net_step.proofs.Whole.{whole_new, stations_within}
+use Rattle.net_step.proofs.Soundness.{runnable_plan}
 use Rattle.net_step.proofs.plain.PlainNet.new.Goals as goal
 
 pub new_segments-requires-clause-few : goal.new_segments-requires-clause-few
-new_segments-requires-clause-few c = omega (arith, few_taps c.args.plan.now.layout c.requires, ap length (c.deref.ensures.value ∙ c.in_ok-taps.ensures))
+new_segments-requires-clause-few c = omega (arith, few_taps c.args.plan.now.layout (runnable_plan c.args.plan.now), ap length (c.deref.ensures.value ∙ c.in_ok-taps.ensures))
 
 pub new_segments-requires-clause-near : goal.new_segments-requires-clause-near
 new_segments-requires-clause-near c =
-    subst (All (λ (x : PortLine). x.at ≤ 2000)) (sym (c.deref.ensures.value ∙ c.in_ok-taps.ensures)) (taps_near c.args.plan.now.layout c.requires)
+    subst (All (λ (x : PortLine). x.at ≤ 2000)) (sym (c.deref.ensures.value ∙ c.in_ok-taps.ensures)) (taps_near c.args.plan.now.layout (runnable_plan c.args.plan.now))
 
 pub places_of-requires : goal.places_of-requires
-places_of-requires c = omega (arith, few_taps c.args.plan.now.layout c.requires, ap length (c.deref-2.ensures.value ∙ c.in_ok-taps.ensures))
+places_of-requires c = omega (arith, few_taps c.args.plan.now.layout (runnable_plan c.args.plan.now), ap length (c.deref-2.ensures.value ∙ c.in_ok-taps.ensures))
 
 pub invariant_of-result : goal.invariant_of-result
 invariant_of-result c =
@@ -45,7 +46,7 @@ invariant_of-result c =
     let sent : length c.in_ok-vec-5.field-0.items ≡ length l.stations = search rules in
     let received : length c.in_ok-vec-6.field-0.items ≡ length l.stations = search rules in
     let events : length c.in_ok-vec-7.field-0.items ≡ length l.repeaters = search rules in
-    whole_new l _ _ _ _ _ _ _ _ c.requires senders receivers captures repeaters wires places heard emitted ports row sent received events times steps
+    whole_new l _ _ _ _ _ _ _ _ (runnable_plan c.args.plan.now) senders receivers captures repeaters wires places heard emitted ports row sent received events times steps
 
 pub returns-clause-stands : goal.returns-clause-stands
 returns-clause-stands c =
@@ -58,4 +59,4 @@ returns-clause-stands c =
     let captures : c.in_ok-no_captures.field-0.items ≡ map (λ s. []) l.stations = search rules in
     let senders : c.in_ok-new_transmitters.field-0.items ≡ new_senders l.seed 0 plan.queues = search rules in
     let receivers : AllHear (map (new_receiver (most_octets l.format)) l.stations) c.in_ok-new_receivers.field-0.items = search rules in
-    stands_new plan _ (taps_near l c.requires) (taps_on l c.requires) refl senders receivers repeaters wires places c.new.ensures captures
+    stands_new plan _ (taps_near l (runnable_plan c.args.plan.now)) (taps_on l (runnable_plan c.args.plan.now)) refl senders receivers repeaters wires places c.new.ensures captures

@@ -1,0 +1,5 @@
+use Rattle.run_texts.proofs.Stations.{length-captures}
+use Rattle.run_texts.proofs.laws.stations_have_captures.Goals as goal
+
+pub returns : goal.returns
+returns c = length-captures c.args.plan.now

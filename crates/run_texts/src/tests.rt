@@ -1,0 +1,234 @@
+ghost use Rattle.std.specs.Prelude.{◌≤◌, ◌+◌, IfOk, IsTrue};
+ghost use Rattle.layout_file.specs.Sound.{IsSound};
+ghost use Rattle.run_texts.specs.Captures.{AreShort, IsShort};
+ghost use Rattle.run_texts.specs.Counts.{AreLeft};
+
+use crate::counts::counts_of;
+use crate::{counters_of_rows, log_of_rows, pcap_of, totals_of_rows};
+use capture_file::CaptureWriter;
+use collision_log::{Body, Counters, Row};
+use frame_layout::{Queue, build};
+use layout_file::{Layout, Octets, read_layout};
+use lists::{List, OutOfMemory};
+use load_plan::{Plan, Queues, SkipList, Skips};
+use net_step::{Taken, TakenList};
+use std::alloc::Global;
+
+/// Two segments that a repeater joins, with a station on each.
+const TWO_HOP: &str = "\
+format = 1
+seed = 1
+until_bits = 130
+[[segment]]
+name = \"x\"
+[[segment]]
+name = \"y\"
+[[station]]
+name = \"a\"
+segment = \"x\"
+at = 0
+[[station]]
+name = \"b\"
+segment = \"y\"
+at = 30
+[[repeater]]
+name = \"r\"
+delay = 16
+[[repeater.port]]
+segment = \"x\"
+at = 20
+[[repeater.port]]
+segment = \"y\"
+at = 0
+";
+
+/// The 14 octets of a frame of 60 octets with pad and without FCS.
+const HEADER_ALONE: [u8; 14] = [255, 255, 255, 255, 255, 255, 2, 0, 0, 0, 0, 1, 8, 0];
+
+/// What a capture begins with.
+const HEADER: [u8; 24] = [
+    0x4d, 0x3c, 0xb2, 0xa1, 2, 0, 4, 0, 0, 0, 0, 0, 0, 0, 0, 0, 0, 0, 4, 0, 1, 0, 0, 0,
+];
+
+fn layout(alloc: Global) -> Result<Layout, OutOfMemory>
+    ensures { IfOk result (λ layout. IsSound layout) }
+{
+    match read_layout(alloc, TWO_HOP.as_bytes()) {
+        Ok(layout) => Ok(layout),
+        Err(_) => Err(OutOfMemory),
+    }
+}
+
+fn one_frame(alloc: Global) -> Result<Queue, OutOfMemory> {
+    let mut queue = Queue::new(alloc);
+    match build(alloc, &HEADER_ALONE) {
+        Ok(frame) => queue.push(0, frame)?,
+        Err(_) => return Err(OutOfMemory),
+    }
+    Ok(queue)
+}
+
+/// The plan in which each station has one frame, and skipped records.
+fn plan(alloc: Global) -> Result<Plan, OutOfMemory>
+    ensures { IfOk result (λ plan. IsSound plan.layout) }
+{
+    let layout = layout(alloc)?;
+    let mut queues = Queues::new(alloc);
+    let mut skips = SkipList::new(alloc);
+    for _station in layout.stations.as_slice() {
+        queues.push(one_frame(alloc)?)?;
+        skips.push(Skips {
+            short: 3,
+            long: 4,
+            snapped: 5,
+        })?;
+    }
+    Ok(Plan {
+        layout,
+        queues,
+        skips,
+    })
+}
+
+fn row(t: u64, device: u32, body: Body) -> Row {
+    Row { t, device, body }
+}
+
+/// A collision over two hops, and what the station b received and sent later.
+fn rows() -> [Row; 5] {
+    [
+        row(95, 2, Body::Clash),
+        row(
+            196,
+            0,
+            Body::Collided {
+                frame: 1,
+                start: 0,
+                attempt: 1,
+                hit: 131,
+                drawn: 0,
+            },
+        ),
+        row(
+            257,
+            1,
+            Body::GivenUp {
+                frame: 1,
+                start: 65,
+                hit: 1_024,
+            },
+        ),
+        row(1_162, 1, Body::Received { octets: 64 }),
+        row(1_348, 2, Body::Closed { port: 2 }),
+    ]
+}
+
+fn is_left(counts: &Counters) -> bool
+    ensures { IsTrue result → counts.now.sent + counts.now.given_up ≤ counts.now.queued }
+{
+    match counts.sent.checked_add(counts.given_up) {
+        Some(ended) => ended <= counts.queued,
+        None => false,
+    }
+}
+
+fn are_left(counts: &[Counters]) -> bool
+    ensures { IsTrue result → AreLeft counts.now }
+{
+    for one in counts {
+        if !is_left(one) {
+            return false;
+        }
+    }
+    true
+}
+
+fn counters(alloc: Global, plan: &Plan, rows: &[Row]) -> Result<List<u8>, OutOfMemory>
+    requires { IsSound plan.now.layout }
+{
+    if !are_left(counts_of(alloc, plan, rows)?.as_slice()) {
+        return Err(OutOfMemory);
+    }
+    counters_of_rows(alloc, plan, rows)
+}
+
+/// The frame of the header alone with its pad, received at half bit t.
+fn taken_at(alloc: Global, t: u64) -> Result<Taken, OutOfMemory>
+    requires { t ≤ 2000000000 }
+    ensures { IfOk result (λ taken. IsShort taken) }
+{
+    let mut octets = Octets::new(alloc);
+    octets.extend(&HEADER_ALONE)?;
+    octets.extend(&[0; 46])?;
+    Ok(Taken { t, octets })
+}
+
+fn two_taken(alloc: Global) -> Result<TakenList, OutOfMemory>
+    ensures { IfOk result (λ taken. AreShort taken) }
+{
+    let mut taken = TakenList::new(alloc);
+    taken.push(taken_at(alloc, 1_162)?)?;
+    taken.push(taken_at(alloc, 2_506)?)?;
+    Ok(taken)
+}
+
+/// The octets of a capture from one place to another, or none where it is too short.
+fn part(capture: &CaptureWriter, from: usize, to: usize) -> &[u8] {
+    capture.bytes().get(from..to).unwrap_or(&[])
+}
+
+#[test]
+fn a_log_has_a_line_for_each_row(rt: HostRuntime) -> Result<(), OutOfMemory> {
+    let layout = layout(rt.alloc())?;
+    let text = log_of_rows(rt.alloc(), &layout, &rows())?;
+    let lines = "\
+95 repeater r clash
+196 station a collided frame 1 start 0 attempt 1 hit 131 draw 0
+257 station b given_up frame 1 start 65 hit 1024
+1162 station b received octets 64
+1348 repeater r closed port 2
+";
+    assert_eq!(rt; text.as_slice(), lines.as_bytes());
+    Ok(())
+}
+
+#[test]
+fn counters_have_a_line_for_each_device(rt: HostRuntime) -> Result<(), OutOfMemory> {
+    let plan = plan(rt.alloc())?;
+    let text = counters(rt.alloc(), &plan, &rows())?;
+    let lines = "\
+station a queued 1 short 3 long 4 snapped 5 sent 0 collided 1 late 0 given_up 0 cut 0 left 1 received 0 fragment 0 \
+too_long 0 fcs 0 align 0 damaged 0
+station b queued 1 short 3 long 4 snapped 5 sent 0 collided 1 late 1 given_up 1 cut 0 left 0 received 1 fragment 0 \
+too_long 0 fcs 0 align 0 damaged 0
+repeater r clash 1 closed 1 opened 0 halted 0
+";
+    assert_eq!(rt; text.as_slice(), lines.as_bytes());
+    Ok(())
+}
+
+#[test]
+fn totals_are_over_all_devices(rt: HostRuntime) -> Result<(), OutOfMemory> {
+    let plan = plan(rt.alloc())?;
+    let text = totals_of_rows(rt.alloc(), &plan, &rows())?;
+    let lines = "\
+half_bits 260
+sent 0 collided 2 late 1 given_up 1 cut 0 left 1 received 1 dropped 0 clash 1 closed 1 opened 0
+";
+    assert_eq!(rt; text.as_slice(), lines.as_bytes());
+    Ok(())
+}
+
+#[test]
+fn a_capture_has_a_record_for_each_frame(rt: HostRuntime) -> Result<(), OutOfMemory> {
+    let none = pcap_of(rt.alloc(), &TakenList::new(rt.alloc()))?;
+    assert_eq!(rt; none.bytes(), HEADER.as_slice());
+    let capture = pcap_of(rt.alloc(), &two_taken(rt.alloc())?)?;
+    assert_eq!(rt; capture.bytes().len(), 24 + 76 + 76);
+    let first = [0, 0, 0, 0, 0xf4, 0xe2, 0, 0, 0x3c, 0, 0, 0, 0x3c, 0, 0, 0];
+    assert_eq!(rt; part(&capture, 24, 40), first.as_slice());
+    assert_eq!(rt; part(&capture, 40, 54), HEADER_ALONE.as_slice());
+    let second = [0, 0, 0, 0, 0x74, 0xe9, 0x01, 0];
+    assert_eq!(rt; part(&capture, 100, 108), second.as_slice());
+    Ok(())
+}
