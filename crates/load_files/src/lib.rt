@@ -5,6 +5,5 @@ mod load;
 mod loads;
 mod stop;
 
-
-pub use loads::{RecordsList, read_loads};
+pub use loads::read_loads;
 pub use stop::LoadStop;

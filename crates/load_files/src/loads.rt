@@ -6,7 +6,8 @@ use crate::load::{Load, Unloaded, read_load};
 use crate::stop::LoadStop;
 use capture_file::Records;
 use layout_file::StationLine;
-use lists::{List, OutOfMemory};
+use lists::OutOfMemory;
+use load_plan::RecordsList;
 use outside::Store;
 use std::alloc::Global;
 
@@ -18,9 +19,6 @@ const MOST_OF_LOADS: usize = 268_435_456;
 
 /// The most octets that are read at once (profile).
 const PIECE: usize = 65_536;
-
-/// The records of the stations' loads, in the order of the stations.
-pub type RecordsList = List<Records>;
 
 impl From<OutOfMemory> for LoadStop {
     ghost use Rattle.std.specs.Prelude.{◌≡◌};

@@ -4,3 +4,4 @@ pub mod Lines
 pub mod Ends
 pub mod Known
 pub mod Told
+pub mod Filed

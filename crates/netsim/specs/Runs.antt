@@ -49,7 +49,7 @@ files_of prefix plan =
 pub record IsSummary (plan : Plan) (text : List ℕ) : Type 0 where
   pub verdict : PathVerdict
   pub right : IsVerdict plan.layout verdict
-  pub text : text ≡ line_of_verdict plan.layout verdict ++ totals_of_rows plan (rows plan)
+  pub is : text ≡ line_of_verdict plan.layout verdict ++ totals_of_rows plan (rows plan)
 
 -- the plan of a network with these loads
 pub record IsMadeOf (network : Layout) (loads : List (List Record)) (plan : Plan) : Type 0 where

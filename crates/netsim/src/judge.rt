@@ -45,7 +45,7 @@ pub(crate) fn read_network<S: Store, K: Sink>(
     out: &mut K,
 ) -> Result<Layout, Ended>
     ensures judged { IfOk result (λ layout. IsJudged name.now (S.held store.old) (Ok layout)) }
-    //    ensures sound { IfOk result (λ layout. IsSound layout) }
+    ensures sound { IfOk result (λ layout. IsSound layout) }
     ensures silent { OnOk result (K.written out.new ≡ K.written out.old) }
     ensures early { IfErr result (λ e. IsEarly name.now
         (record { held = S.held store.old; reads = S.read_faults store.old; writes = S.write_faults store.old; written = K.written out.old; faults = K.faults out.old; refused = K.refused out.old })

@@ -119,8 +119,9 @@ fn file_captures<S: Store>(
     ensures ended { IfErr result (λ e. IsFileEnd (S.write_faults store.old) (S.write_faults store.new) e) }
     ensures writes { S.write_faults store.old ≤ S.write_faults store.new }
 {
-    for (station, taken) in stations.iter().zip(captures) {
-        file_capture(alloc, station, taken, prefix, store)?;
+    let count = stations.len().min(captures.len());
+    for k in 0..count {
+        file_capture(alloc, &stations[k], &captures[k], prefix, store)?;
     }
     Ok(())
 }

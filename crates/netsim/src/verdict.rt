@@ -62,7 +62,7 @@ fn line_of_verdict(
 
 /// The line of a layout's verdict.
 pub(crate) fn verdict_line(alloc: Global, layout: &Layout) -> Result<List<u8>, OutOfMemory>
-    //    requires { IsSound layout.now }
+    requires { IsSound layout.now }
     ensures { IfOk result (λ line. IsVerdictLine layout.now line) }
 {
     let verdict = check_paths(alloc, layout)?;

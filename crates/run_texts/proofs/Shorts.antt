@@ -11,7 +11,7 @@ use Rattle.frame_layout.specs.declared.verdict.Verdict.{Verdict}
 use Rattle.frame_layout.specs.declared.verdict.Verdict.TheVariants.{Good, Fragment, TooLong, FcsError, AlignError}
 use Rattle.collision_log.specs.declared.row.Body.{Body}
 use Rattle.collision_log.specs.declared.row.Body.TheVariants.{Sent, Collided, GivenUp, Cut, Received, Dropped, Clash, Closed, Opened, Halted}
-use Rattle.layout_file.specs.Sound.{IsSound}
+use Rattle.load_plan.proofs.Soundness.{sound_of_plan}
 use Rattle.load_plan.specs.declared.plan.Plan.{Plan}
 use Rattle.mac_transmit.specs.Sender.{hears}
 use Rattle.mac_receive.specs.Receiver.{Receiving, Reception, ended, extended, judged_octets, left_halves, new_receiving, quiet, reading_octets, received}
@@ -168,7 +168,7 @@ captures_taken plan = subst (λ t. All (AreTaken t) (net plan (half_bits plan)).
 pub captures_before : (plan : Plan) → All (All (λ x. x.t < half_bits plan)) (captures plan)
 captures_before plan = λ k d lt i e within. (captures_taken plan k d lt i e within).time
 
-pub captures_are_short : (plan : Plan) → IsSound plan.layout → All AreShort (captures plan)
-captures_are_short plan sound = λ k d lt i e within.
+pub captures_are_short : (plan : Plan) → All AreShort (captures plan)
+captures_are_short plan = λ k d lt i e within.
     let x = captures_taken plan k d lt i e within in
-    record { few = x.few; time = omega (arith, x.time, sound.bits_most) }
+    record { few = x.few; time = omega (arith, x.time, (sound_of_plan plan).bits_most) }

@@ -1,7 +1,6 @@
 //! What the devices of a plan count, and the text of it.
 ghost use Rattle.std.specs.Prelude.{◌≡◌, ℕ, ◌≤◌, ◌+◌, ◌-◌, ◌++◌, ◌^◌, length, map, All, IfOk, OnOk};
 ghost use Rattle.collision_log.specs.Counters.{counters_line};
-ghost use Rattle.layout_file.specs.Sound.{IsSound};
 ghost use Rattle.run_texts.specs.Counting.{AreAtMost, counted};
 ghost use Rattle.run_texts.specs.Counts.{AreLeft, all_counts_after, counts_of, first_counts, station_counts};
 ghost use Rattle.run_texts.specs.Texts.{counters_of_rows, lines_of_counts};
@@ -115,12 +114,11 @@ fn lines_of_counts(
     Ok(text)
 }
 
-/// The counters of a plan's run that gave these rows: a line for each device, where the layout is sound, and no
-/// station sent and gave up more frames than its queue has (profile).
+/// The counters of a plan's run that gave these rows: a line for each device, where no station sent and gave up more
+/// frames than its queue has (profile).
 #[tactic(auto, unfolding(crate::specs::Texts::counters_of_rows))]
 pub fn counters_of_rows(alloc: Global, plan: &Plan, rows: &[Row]) -> Result<List<u8>, OutOfMemory>
-    requires sound { IsSound plan.now.layout }
-    requires left { AreLeft (counts_of plan.now rows.now) }
+    requires { AreLeft (counts_of plan.now rows.now) }
     ensures { IfOk result (λ text. text ≡ counters_of_rows plan.now rows.now) }
 {
     let names = device_names(alloc, &plan.layout)?;

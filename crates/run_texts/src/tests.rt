@@ -69,9 +69,7 @@ fn one_frame(alloc: Global) -> Result<Queue, OutOfMemory> {
 }
 
 /// The plan in which each station has one frame, and skipped records.
-fn plan(alloc: Global) -> Result<Plan, OutOfMemory>
-    ensures { IfOk result (λ plan. IsSound plan.layout) }
-{
+fn plan(alloc: Global) -> Result<Plan, OutOfMemory> {
     let layout = layout(alloc)?;
     let mut queues = Queues::new(alloc);
     let mut skips = SkipList::new(alloc);
@@ -143,9 +141,7 @@ fn are_left(counts: &[Counters]) -> bool
     true
 }
 
-fn counters(alloc: Global, plan: &Plan, rows: &[Row]) -> Result<List<u8>, OutOfMemory>
-    requires { IsSound plan.now.layout }
-{
+fn counters(alloc: Global, plan: &Plan, rows: &[Row]) -> Result<List<u8>, OutOfMemory> {
     if !are_left(counts_of(alloc, plan, rows)?.as_slice()) {
         return Err(OutOfMemory);
     }

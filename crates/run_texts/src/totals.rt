@@ -155,11 +155,8 @@ pub fn totals_of_rows(alloc: Global, plan: &Plan, rows: &[Row]) -> Result<List<u
     let counts = counts_of(alloc, plan, rows)?;
     let sums = totals(counts.as_slice())?;
     let mut text = List::new(alloc);
-    add_field(
-        &mut text,
-        "half_bits ",
-        sum(plan.layout.until_bits, plan.layout.until_bits)?,
-    )?;
+    let half_bits = 2 * plan.layout.until_bits;
+    add_field(&mut text, "half_bits ", half_bits)?;
     text.extend(b"\n")?;
     add_totals(&mut text, &sums)?;
     Ok(text)

@@ -1,0 +1,21 @@
+use Rattle.std.proofs.Common.{◌≡◌, ◌<◌, ◌+◌, ◌∷◌, [], drop, length, get_or, rules, arith}
+use Rattle.netsim.specs.Reading.{IsBroken}
+use Rattle.netsim.specs.Runs.{capture_files}
+use Rattle.netsim.specs.Texts.{name_of_capture}
+use Rattle.run_texts.specs.Captures.{pcap_of_taken}
+use Rattle.netsim.specs.declared.ended.Ended.{Ended}
+use Rattle.netsim.proofs.Filed.{captures-next, captures-end, left-broken, left-none, on-err}
+use Rattle.netsim.proofs.outputs.file_captures.Goals as goal
+
+pub returns-in_err-file_capture-clause-err : goal.returns-in_err-file_capture-clause-err
+returns-in_err-file_capture-clause-err g c =
+    let one : c.loop-k.k < length c.args.stations.now = search rules in
+    let two : c.loop-k.k < length c.args.captures.now = search rules in
+    let next = captures-next c.args.prefix.now c.args.stations.now c.args.captures.now c.loop-k.k c.index-stations-k.result c.index-captures-k.result one two c.index-stations-k.is c.index-captures-k.is in
+    on-err Ended c.from_residual.result _
+      (left-broken (capture_files c.args.prefix.now c.args.stations.now c.args.captures.now) _ _ _ (g.S.Store.held c.args.store.now) (g.S.Store.held c.loop-k.store) _ next c.loop-k.invariant.0 c.in_err-file_capture.ensures.err)
+
+pub returns-clause-ok : goal.returns-clause-ok
+returns-clause-ok g c =
+    left-none (capture_files c.args.prefix.now c.args.stations.now c.args.captures.now) _ (g.S.Store.held c.args.store.now) (g.S.Store.held c.loop-k.store)
+      (captures-end c.args.prefix.now c.args.stations.now c.args.captures.now c.loop-k.k (search rules)) c.loop-k.invariant.0

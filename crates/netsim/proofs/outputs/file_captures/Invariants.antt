@@ -1,0 +1,9 @@
+use Rattle.std.proofs.Common.{◌≡◌, ◌≤◌, drop}
+use Rattle.netsim.specs.Runs.{capture_files}
+use Rattle.netsim.proofs.Filed.{IsLeft}
+use Rattle.netsim.proofs.outputs.file_captures.Given as goal
+
+abbrev pub invariant-loop-k : goal.invariant-loop-k
+invariant-loop-k g l =
+    IsLeft (capture_files l.prefix l.stations l.captures) (capture_files l.prefix (drop l.k l.stations) (drop l.k l.captures)) (g.S.Store.held l.fn.store) (g.S.Store.held l.store)
+    × (g.S.Store.write_faults l.fn.store ≤ g.S.Store.write_faults l.store)
