@@ -17,7 +17,7 @@ use Rattle.netsim.specs.Runs.{IsPlanOf}
 use Rattle.netsim.specs.Statuses.{IfLayout, IfCheck, IfPlain, IsPlainWith, IsFaultStatus, IsDoneOrMemory, IsLoadFaultLine, HasLoadFault, HasAbsentLoad, IsNetworkWith, IsReadFault, IsRunHeld, IsRunBroken, AreRunFilesHeld}
 use Rattle.netsim.specs.Texts.{line_of_read_fault}
 
-absent_unjudged : (name : List ℕ) (held : Option Files) (verdict : Result Layout LayoutFault) → IsAbsent name held → IsJudged name held verdict → ⊥
+pub absent_unjudged : (name : List ℕ) (held : Option Files) (verdict : Result Layout LayoutFault) → IsAbsent name held → IsJudged name held verdict → ⊥
 unfolding front_of
 absent_unjudged name None verdict absent judged = absent
 absent_unjudged name (Some files) verdict absent judged = let e = rw absent at judged in cc
@@ -26,37 +26,16 @@ some_of : (held : Option Files) (P : Files → Type 0) → ((files : Files) → 
 some_of None P all = tt
 some_of (Some files) P all = all files
 
-same_network : (name : List ℕ) (files : Files) (a b : Layout) → IsJudged name (Some files) (Ok a) → IsJudged name (Some files) (Ok b) → a ≡ b
+pub same_network : (name : List ℕ) (files : Files) (a b : Layout) → IsJudged name (Some files) (Ok a) → IsJudged name (Some files) (Ok b) → a ≡ b
 same_network name files a b one two = cc
 
-good_or_faulty : (name : List ℕ) (files : Files) (a : Layout) (f : LayoutFault) → IsJudged name (Some files) (Ok a) → IsJudged name (Some files) (Err f) → ⊥
+pub good_or_faulty : (name : List ℕ) (files : Files) (a : Layout) (f : LayoutFault) → IsJudged name (Some files) (Ok a) → IsJudged name (Some files) (Err f) → ⊥
 good_or_faulty name files a f one two = cc
 
 -- a layout that was judged good has no fault
 no_fault_of : (X : Type 0) (name : List ℕ) (held : Option Files) (network : Layout) → IsJudged name held (Ok network) → IfSome held (λ files. HasFault name (Some files) → X)
 no_fault_of X name None network judged = tt
 no_fault_of X name (Some files) network judged = λ fault. absurd (good_or_faulty name files network fault.0 judged fault.1)
-
--- one with a fault isn't judged good
-no_network_of : (X : Layout → Type 0) (name : List ℕ) (held : Option Files) (fault : LayoutFault) → IsJudged name held (Err fault) → IfSome held (λ files. (network : Layout) → IsJudged name (Some files) (Ok network) → X network)
-no_network_of X name None fault judged = tt
-no_network_of X name (Some files) fault judged = λ network good. absurd (good_or_faulty name files network fault good judged)
-
--- nor one that isn't held
-absent_network : (X : Layout → Type 0) (name : List ℕ) (held : Option Files) → IsAbsent name held → IfSome held (λ files. (network : Layout) → IsJudged name (Some files) (Ok network) → X network)
-absent_network X name None absent = tt
-absent_network X name (Some files) absent = λ network good. absurd (absent_unjudged name (Some files) (Ok network) absent good)
-
--- the loads are what they are
-other_loads : (X : Layout → Loaded → Type 0) (name : List ℕ) (held : Option Files) (network : Layout) (l : Loaded) → IsJudged name held (Ok network) → IsLoaded held network.stations l
-    → ((other : Loaded) → l ≡ other → X network other) → IfSome held (λ files. (again : Layout) (other : Loaded) → IsJudged name (Some files) (Ok again) → loaded files again.stations ≡ other → X again other)
-other_loads X name None network l judged is on = tt
-other_loads X name (Some files) network l judged is on =
-    λ again other good so.
-      let same : network ≡ again = same_network name files network again judged good in
-      let there : loaded files network.stations ≡ other = rw (← same) at so in
-      let e : l ≡ other = sym is ∙ there in
-      subst (λ n. X n other) same (on other e)
 
 -- an end that came early
 module _ (layout : List ℕ) (before after : Moment) where
@@ -88,7 +67,7 @@ early_faulty layout before after ended.Words early = absurd early
 early_faulty layout before after ended.Layout early = some_of before.held _ (λ files fault. inl refl)
 early_faulty layout before after ended.Load early = absurd early
 early_faulty layout before after ended.Read early =
-    unread_status (IsFaultStatus 2 4 before.reads after.reads) layout before.held before.reads after.reads (HasFault layout) (absent_faulty layout) (λ rose. inr (inr (refl, rose))) early.0
+    unread_status (IsFaultStatus 2 4 before.reads after.reads) layout before.held before.reads after.reads (λ files. HasFault layout (Some files)) (absent_faulty layout) (λ rose. inr (inr (refl, rose))) early.0
 early_faulty layout before after ended.Write early = absurd early
 early_faulty layout before after ended.Memory early = some_of before.held _ (λ files fault. inr (inl refl))
 

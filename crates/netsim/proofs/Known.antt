@@ -143,32 +143,6 @@ load_only o before after e h =
       (λ layout prefix known. known_fault layout before.held (status_of e) before.reads after.reads known)
       (plain_known (FaultSays before.reads after.reads) o before after e (fault_says before.reads after.reads) (λ loads prefix plan filed station f is. whole_or _ loads station f is) h)
 
-abbrev AbsentSays : ℕ → Loaded → Type 0
-AbsentSays n l = (name : List ℕ) → l ≡ Absent name → (n ≡ 4) ⊎ (n ≡ 6)
-
-absent_says : (reads risen : ℕ) → Says AbsentSays reads risen
-absent_says reads risen = record {
-  memory = λ l name is. inr refl;
-  rose = λ l rose name is. inl refl;
-  absent = λ a name is. inl refl;
-  fault = λ s g name is. cc;
-}
-
-known_none : (layout : List ℕ) (held : Option Files) (n : ℕ) → IfKnown layout held (AbsentSays n) → IfSome held (λ files. (name : List ℕ) → HasAbsentLoad layout (Some files) name → (n ≡ 4) ⊎ (n ≡ 6))
-known_none layout None n known = tt
-known_none layout (Some files) n known = λ name has. known (Absent name) (record { network = has.0; judged = has.1; is = has.2 }) name refl
-
-whole_nor : (X : Type 0) (loads : List (List Record)) (name : List ℕ) → Whole loads ≡ Absent name → X
-whole_nor X loads name is = absurd (cc)
-
--- a load that isn't held stops the run
-pub read_load_only : (o : Option Asked) (before after : Moment) (e : Ended) → IsEndOf o before after e
-    → IfPlain o (λ layout prefix. IfSome before.held (λ files. (name : List ℕ) → HasAbsentLoad layout (Some files) name → (status_of e ≡ 4) ⊎ (status_of e ≡ 6)))
-read_load_only o before after e h =
-    if_plain o (λ layout prefix. IfKnown layout before.held (AbsentSays (status_of e))) _
-      (λ layout prefix known. known_none layout before.held (status_of e) known)
-      (plain_known AbsentSays o before after e (absent_says before.reads after.reads) (λ loads prefix plan filed name is. whole_nor _ loads name is) h)
-
 -- whole loads, and no fault of the outside
 abbrev WholeSays : ℕ → ℕ → ℕ → ℕ → ℕ → ℕ → ℕ → Loaded → Type 0
 WholeSays reads read writes written faults faulted n l =
@@ -207,3 +181,44 @@ complete o before after e h =
       (λ layout prefix known. known_whole layout before.held before.reads after.reads before.writes after.writes before.faults after.faults (status_of e) known)
       (plain_known (WholeSays before.reads after.reads before.writes after.writes before.faults after.faults) o before after e (whole_says before.reads after.reads before.writes after.writes before.faults after.faults)
         (λ loads prefix plan filed again is r w f. filed_whole prefix plan before after e filed w f) h)
+
+abbrev CheckSays : ℕ → ℕ → ℕ → ℕ → ℕ → Loaded → Type 0
+CheckSays reads read faults faulted n l = ¬ Rose reads read → ¬ Rose faults faulted → IsDoneOrMemory n
+
+known_check : (layout : List ℕ) (held : Option Files) (reads read faults faulted n : ℕ) → IfKnown layout held (CheckSays reads read faults faulted n)
+    → IfSome held (λ files. (network : Layout) → IsJudged layout (Some files) (Ok network) → ¬ Rose reads read → ¬ Rose faults faulted → IsDoneOrMemory n)
+known_check layout None reads read faults faulted n known = tt
+known_check layout (Some files) reads read faults faulted n known =
+    λ network good. known (loaded files network.stations) (record { network = network; judged = good; is = refl })
+
+text_whole : (text : List ℕ) (before after : Moment) (e : Ended) → IsText text before.written after.written before.faults after.faults e → ¬ Rose before.faults after.faults → IsDoneOrMemory (status_of e)
+text_whole text before after ended.Done written never = inl refl
+text_whole text before after ended.Words written never = absurd written
+text_whole text before after ended.Layout written never = absurd written
+text_whole text before after ended.Load written never = absurd written
+text_whole text before after ended.Read written never = absurd written
+text_whole text before after ended.Write written never = absurd (never written.1)
+text_whole text before after ended.Memory written never = inr refl
+
+early_checked : (layout : List ℕ) (before after : Moment) (e : Ended) → IsEarly layout before after e → IfKnown layout before.held (CheckSays before.reads after.reads before.faults after.faults (status_of e))
+early_checked layout before after ended.Done early = absurd early
+early_checked layout before after ended.Words early = absurd early
+early_checked layout before after ended.Layout early = known_faulty layout before.held (CheckSays before.reads after.reads before.faults after.faults 2) early.0 early.1
+early_checked layout before after ended.Load early = absurd early
+early_checked layout before after ended.Read early =
+    known_unread layout before.held before.reads after.reads (CheckSays before.reads after.reads before.faults after.faults 4) (λ l rose r f. absurd (r rose)) early.0
+early_checked layout before after ended.Write early = absurd early
+early_checked layout before after ended.Memory early = always layout before.held (CheckSays before.reads after.reads before.faults after.faults 6) (λ l r f. inr refl)
+
+-- a check that nothing hinders is done
+pub check_complete : (o : Option Asked) (before after : Moment) (e : Ended) → IsEndOf o before after e
+    → IfCheck o (λ layout. IfSome before.held (λ files. (network : Layout) → IsJudged layout (Some files) (Ok network) → ¬ Rose before.reads after.reads → ¬ Rose before.faults after.faults → IsDoneOrMemory (status_of e)))
+check_complete None before after e h = tt
+check_complete (Some Help) before after e h = tt
+check_complete (Some Version) before after e h = tt
+check_complete (Some (Plain layout prefix)) before after e h = tt
+check_complete (Some (Check layout)) before after e h =
+    known_check layout before.held before.reads after.reads before.faults after.faults (status_of e) (elim h.1 [
+      | inl early ↦ early_checked layout before after e early
+      | inr checked ↦ always layout before.held (CheckSays before.reads after.reads before.faults after.faults (status_of e)) (λ l r f. text_whole checked.line before after e checked.written f)
+    ])

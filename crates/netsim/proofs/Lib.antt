@@ -5,3 +5,4 @@ pub mod Ends
 pub mod Known
 pub mod Told
 pub mod Filed
+pub mod Ran

@@ -37,7 +37,7 @@ run_written layout prefix before after h =
 held_of : (layout prefix : List ℕ) (before after : Moment) → IsRun layout prefix before after ended.Done → IsRunHeld layout prefix before.held after.held before.written after.written
 held_of layout prefix before after run =
     elim run.filed [
-      | inl all ↦ record { network = run.network; judged = run.judged; plan = run.plan; planned = run.planned; holds = (all.0, all.1.0, all.1.1, all.1.2) }
+      | inl all ↦ record { network = run.network; judged = run.judged; plan = run.plan; planned = run.planned; holds = (all.0, (all.1.0, all.1.1, all.1.2)) }
       | inr some ↦ absurd some
     ]
 
@@ -51,7 +51,7 @@ done (Some (Plain layout prefix)) before after h = held_of layout prefix before 
 broken_of : (layout prefix : List ℕ) (before after : Moment) → IsRun layout prefix before after ended.Write → IsRunBroken layout prefix before.held after.held before.written after.written
 broken_of layout prefix before after run =
     elim run.filed [
-      | inl all ↦ record { network = run.network; judged = run.judged; plan = run.plan; planned = run.planned; holds = inr (all.0, all.1.0, all.1.1, all.1.2.0) }
+      | inl all ↦ record { network = run.network; judged = run.judged; plan = run.plan; planned = run.planned; holds = inr (all.0, (all.1.0, all.1.1, all.1.2.0)) }
       | inr some ↦ record { network = run.network; judged = run.judged; plan = run.plan; planned = run.planned; holds = inl (some.0, some.2) }
     ]
 
@@ -61,15 +61,6 @@ broken (Some Help) before after h = tt
 broken (Some Version) before after h = tt
 broken (Some (Check layout)) before after h = tt
 broken (Some (Plain layout prefix)) before after h = broken_of layout prefix before after (run_written layout prefix before after h)
-
-pub write : (o : Option Asked) (before after : Moment) → IsEndOf o before after ended.Write → IfPlain o (λ layout prefix. Rose before.writes after.writes ⊎ Rose before.faults after.faults)
-write None before after h = tt
-write (Some Help) before after h = tt
-write (Some Version) before after h = tt
-write (Some (Check layout)) before after h = tt
-write (Some (Plain layout prefix)) before after h =
-    let run : IsRun layout prefix before after ended.Write = run_written layout prefix before after h in
-    elim run.filed [ inl all ↦ inr all.1.2.1 | inr some ↦ inl some.1 ]
 
 pub write_files : (o : Option Asked) (before after : Moment) → IsEndOf o before after ended.Write → ¬ Rose before.writes after.writes → IfPlain o (λ layout prefix. AreRunFilesHeld layout prefix before.held after.held)
 write_files None before after h never = tt
@@ -83,19 +74,10 @@ write_files (Some (Plain layout prefix)) before after h never =
       | inr some ↦ absurd (never some.1)
     ]
 
-pub write_silent : (o : Option Asked) (before after : Moment) → IsEndOf o before after ended.Write → ¬ Rose before.faults after.faults → IfPlain o (λ layout prefix. after.written ≡ before.written)
-write_silent None before after h never = tt
-write_silent (Some Help) before after h never = tt
-write_silent (Some Version) before after h never = tt
-write_silent (Some (Check layout)) before after h never = tt
-write_silent (Some (Plain layout prefix)) before after h never =
-    let run : IsRun layout prefix before after ended.Write = run_written layout prefix before after h in
-    elim run.filed [ inl all ↦ absurd (never all.1.2.1) | inr some ↦ some.2 ]
-
 refused_of : (layout prefix : List ℕ) (before after : Moment) → IsRun layout prefix before after ended.Memory → IsRunBroken layout prefix before.held after.held before.written after.written
 refused_of layout prefix before after run =
     elim run.filed [
-      | inl all ↦ record { network = run.network; judged = run.judged; plan = run.plan; planned = run.planned; holds = inr (all.0, all.1.0, all.1.1, all.1.2) }
+      | inl all ↦ record { network = run.network; judged = run.judged; plan = run.plan; planned = run.planned; holds = inr (all.0, (all.1.0, all.1.1, all.1.2)) }
       | inr some ↦ record { network = run.network; judged = run.judged; plan = run.plan; planned = run.planned; holds = inl (some.0, some.1) }
     ]
 
@@ -113,68 +95,3 @@ memory (Some (Plain layout prefix)) before after h =
         | inr on ↦ elim on [ inl unrun ↦ inl (unrun.1, unrun.2) | inr run ↦ inr (refused_of layout prefix before after run) ]
       ]
     ]
-
--- status 3
-pub load : (o : Option Asked) (before after : Moment) → IsEndOf o before after ended.Load
-    → IsPlainWith o (λ layout prefix. IsLoadFaultLine layout before.held (λ line. IsSaid line before.written after.written before.refused after.refused))
-load None before after h = cc
-load (Some Help) before after h = absurd h.0
-load (Some Version) before after h = absurd h.0
-load (Some (Check layout)) before after h = elim h.1 [ inl early ↦ absurd early | inr checked ↦ absurd checked.written ]
-load (Some (Plain layout prefix)) before after h =
-    elim h [
-      | inl early ↦ absurd early.0
-      | inr later ↦ elim later [
-        | inl unloaded ↦ (let u = unloaded.0 in let s = u.said in record { network = u.network; judged = u.judged; station = s.station; fault = s.fault; loaded = s.loaded; name = s.name; named = s.named; holds = s.said })
-        | inr on ↦ elim on [ inl unrun ↦ never_unrun _ before after ended.Load (λ e. cc) unrun | inr run ↦ elim run.filed [ inl all ↦ absurd all.1.2 | inr some ↦ absurd some ] ]
-      ]
-    ]
-
--- status 4
-pub read : (o : Option Asked) (before after : Moment) → IsEndOf o before after ended.Read
-    → IsReadFault o before.held before.reads after.reads (λ name. IsSaid (line_of_read_fault name) before.written after.written before.refused after.refused)
-read None before after h = cc
-read (Some Help) before after h = absurd h.0
-read (Some Version) before after h = absurd h.0
-read (Some (Check layout)) before after h = elim h.1 [ inl early ↦ early | inr checked ↦ absurd checked.written ]
-read (Some (Plain layout prefix)) before after h =
-    elim h [
-      | inl early ↦ inl early.0
-      | inr later ↦ elim later [
-        | inl unloaded ↦ (let u = unloaded.0 in let s = u.said in inr (s.name, record { network = u.network; judged = u.judged; station = s.station; named = s.named; unread = s.unread }, s.said))
-        | inr on ↦ elim on [ inl unrun ↦ never_unrun _ before after ended.Read (λ e. cc) unrun | inr run ↦ elim run.filed [ inl all ↦ absurd all.1.2 | inr some ↦ absurd some ] ]
-      ]
-    ]
-
--- an end of a run with no file begun
-unbegun : (layout prefix : List ℕ) (before after : Moment) (e : Ended) → ((plan : Plan) → IsFiledEnd prefix plan before after e → ⊥) → IsPlainEnd layout prefix before after e → after.held ≡ before.held
-unbegun layout prefix before after e never h =
-    elim h [
-      | inl early ↦ early.1
-      | inr later ↦ elim later [
-        | inl unloaded ↦ unloaded.1
-        | inr on ↦ elim on [ inl unrun ↦ unrun.1 | inr run ↦ absurd (never run.plan run.filed) ]
-      ]
-    ]
-
--- with the statuses 2 to 4 every file is as at entry
-pub refused_layout : (o : Option Asked) (before after : Moment) → IsEndOf o before after ended.Layout → after.held ≡ before.held
-refused_layout None before after h = h.1
-refused_layout (Some Help) before after h = h.1
-refused_layout (Some Version) before after h = h.1
-refused_layout (Some (Check layout)) before after h = h.0
-refused_layout (Some (Plain layout prefix)) before after h = unbegun layout prefix before after ended.Layout (λ plan filed. elim filed [ inl all ↦ all.1.2 | inr some ↦ some ]) h
-
-pub refused_load : (o : Option Asked) (before after : Moment) → IsEndOf o before after ended.Load → after.held ≡ before.held
-refused_load None before after h = h.1
-refused_load (Some Help) before after h = h.1
-refused_load (Some Version) before after h = h.1
-refused_load (Some (Check layout)) before after h = h.0
-refused_load (Some (Plain layout prefix)) before after h = unbegun layout prefix before after ended.Load (λ plan filed. elim filed [ inl all ↦ all.1.2 | inr some ↦ some ]) h
-
-pub refused_read : (o : Option Asked) (before after : Moment) → IsEndOf o before after ended.Read → after.held ≡ before.held
-refused_read None before after h = h.1
-refused_read (Some Help) before after h = h.1
-refused_read (Some Version) before after h = h.1
-refused_read (Some (Check layout)) before after h = h.0
-refused_read (Some (Plain layout prefix)) before after h = unbegun layout prefix before after ended.Read (λ plan filed. elim filed [ inl all ↦ all.1.2 | inr some ↦ some ]) h

@@ -54,6 +54,8 @@ pub(crate) fn read_network<S: Store, K: Sink>(
     ensures held { S.held store.new ≡ S.held store.old }
     ensures writes { S.write_faults store.old ≤ S.write_faults store.new }
     ensures faults { OnOk result (K.faults out.new ≡ K.faults out.old) }
+    ensures refused { OnOk result (K.refused out.new ≡ K.refused out.old) }
+    ensures reads { S.read_faults store.old ≤ S.read_faults store.new }
 {
     let octets = match read_file(alloc, store, name, MOST_LAYOUT) {
         Ok(octets) => octets,

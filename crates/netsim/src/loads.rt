@@ -93,6 +93,7 @@ pub(crate) fn read_network_loads<S: Store, K: Sink>(
     ensures few { IfOk result (λ loads. All (λ rs. length rs ≤ 4194304) loads) }
     ensures silent { OnOk result (K.written out.new ≡ K.written out.old) }
     ensures faults { OnOk result (K.faults out.new ≡ K.faults out.old) }
+    ensures refused { OnOk result (K.refused out.new ≡ K.refused out.old) }
     ensures unloaded { IfErr result (λ e. IsUnloadedSaid network.now
         (record { held = S.held store.old; reads = S.read_faults store.old; writes = S.write_faults store.old; written = K.written out.old; faults = K.faults out.old; refused = K.refused out.old })
         (record { held = S.held store.new; reads = S.read_faults store.new; writes = S.write_faults store.new; written = K.written out.new; faults = K.faults out.new; refused = K.refused out.new })
