@@ -1,3 +1,5 @@
+ghost use Rattle.std.specs.Prelude.{◌<◌};
+
 use crate::{Outputs, PlainNet, run_plain};
 use backoff_draw::Draws;
 use collision_log::{Body, Row, Why};
@@ -172,23 +174,24 @@ fn a_repeater_of_the_least_delay(rt: HostRuntime) -> Result<(), OutOfMemory> {
     Ok(())
 }
 
-/// What a tap hears, and Clash, which no tap here hears, where there is no such tap.
-fn heard(whole: &PlainNet, device: u32, port: u32) -> Sym {
-    if !whole.has_tap(device, port) {
-        return Sym::Clash;
-    }
-    whole.heard(device, port)
-}
-
-/// The network after so many half bits.
-fn stepped(alloc: Global, plan: &Plan, half_bits: u64) -> Result<PlainNet, OutOfMemory>
-    requires { half_bits < 2000000000 }
+/// What a tap hears in a half bit, and Clash, which no tap here hears, where there is no such tap.
+fn heard(
+    alloc: Global,
+    plan: &Plan,
+    half_bit: u64,
+    device: u32,
+    port: u32,
+) -> Result<Sym, OutOfMemory>
+    requires { half_bit < 2000000000 }
 {
     let mut whole = PlainNet::new(alloc, plan)?;
-    for t in 0..half_bits {
+    for t in 0..half_bit {
         whole.step()?;
     }
-    Ok(whole)
+    if !whole.has_tap(device, port) {
+        return Ok(Sym::Clash);
+    }
+    Ok(whole.heard(device, port))
 }
 
 /// What a sends from half bit 0 on comes to the repeater's first port after 20 half bits, and from its second port,
@@ -197,17 +200,17 @@ fn stepped(alloc: Global, plan: &Plan, half_bits: u64) -> Result<PlainNet, OutOf
 fn a_tap_hears_what_comes_to_it(rt: HostRuntime) -> Result<(), OutOfMemory> {
     let alloc = rt.alloc();
     let plan = plan_of(alloc, TWO_HOPS)?;
-    let whole = stepped(alloc, &plan, 19)?;
-    assert_eq!(rt; heard(&whole, 2, 0), Sym::Idle);
-    let whole = stepped(alloc, &plan, 20)?;
-    assert_eq!(rt; heard(&whole, 2, 0), Sym::Lo);
-    let whole = stepped(alloc, &plan, 65)?;
-    assert_eq!(rt; heard(&whole, 1, 0), Sym::Idle);
-    let whole = stepped(alloc, &plan, 66)?;
-    assert_eq!(rt; heard(&whole, 1, 0), Sym::Lo);
-    let whole = stepped(alloc, &plan, 94)?;
-    assert_eq!(rt; heard(&whole, 2, 1), Sym::Idle);
-    let whole = stepped(alloc, &plan, 95)?;
-    assert_eq!(rt; heard(&whole, 2, 1), Sym::Lo);
+    let at_the_port = [
+        heard(alloc, &plan, 19, 2, 0)?,
+        heard(alloc, &plan, 20, 2, 0)?,
+        heard(alloc, &plan, 94, 2, 1)?,
+        heard(alloc, &plan, 95, 2, 1)?,
+    ];
+    assert_eq!(rt; at_the_port, [Sym::Idle, Sym::Lo, Sym::Idle, Sym::Lo]);
+    let at_b = [
+        heard(alloc, &plan, 65, 1, 0)?,
+        heard(alloc, &plan, 66, 1, 0)?,
+    ];
+    assert_eq!(rt; at_b, [Sym::Idle, Sym::Lo]);
     Ok(())
 }
