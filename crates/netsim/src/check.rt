@@ -1,6 +1,6 @@
 //! The form that says the path verdict of a layout.
 ghost use Rattle.std.specs.Prelude.{◌≡◌, ◌++◌, IfOk, OnOk};
-//ghost use Rattle.layout_file.specs.Sound.{IsSound};
+ghost use Rattle.layout_file.specs.Sound.{IsSound};
 ghost use Rattle.netsim.specs.Ended.{IsCheckEnd, IsText};
 ghost use Rattle.netsim.specs.Verdicts.{IsVerdictLine, line_of_verdict, name_of_station, text_of_pair};
 
@@ -67,7 +67,7 @@ fn line_of_verdict(
 
 /// The line of a layout's verdict.
 fn verdict_line(alloc: Global, layout: &Layout) -> Result<List<u8>, OutOfMemory>
-    //    requires { IsSound layout.now }
+    requires { IsSound layout.now }
     ensures { IfOk result (λ line. IsVerdictLine layout.now line) }
 {
     let verdict = check_paths(alloc, layout)?;
