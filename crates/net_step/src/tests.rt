@@ -39,6 +39,18 @@ send = [
 ]
 "#;
 
+/// Two stations that collide, with the least seed for which both draw 0.
+const TWICE: &str = r#"format = 1
+seed = 8
+until_bits = 300
+segment = [{ name = "x" }]
+station = [{ name = "a", segment = "x", at = 0 }, { name = "b", segment = "x", at = 10 }]
+send = [
+  { station = "a", at = 0, octets = "ffffffffffff0200000000010800" },
+  { station = "b", at = 0, octets = "ffffffffffff0200000000010800" },
+]
+"#;
+
 /// Two stations that collide over a repeater.
 const TWO_HOPS: &str = r#"format = 1
 seed = 1
@@ -143,6 +155,37 @@ fn a_third_station_drops_a_collision(rt: HostRuntime) -> Result<(), OutOfMemory>
         row(212, 2, dropped),
     ];
     assert_eq!(rt; outputs.rows.as_slice(), want.as_slice());
+    Ok(())
+}
+
+/// The row of a second collision, with the second draw of the seed 8.
+fn collided_again(device: u32) -> Row {
+    let mut draws = Draws::new(8, device);
+    draws.draw(1);
+    let body = Body::Collided {
+        frame: 1,
+        start: 394,
+        attempt: 2,
+        hit: 10,
+        drawn: draws.draw(2),
+    };
+    Row {
+        t: 586,
+        device,
+        body,
+    }
+}
+
+/// Both hear Idle from half bit 202 on, and start again 192 half bits later.
+#[test]
+fn two_stations_collide_again(rt: HostRuntime) -> Result<(), OutOfMemory> {
+    let outputs = run(rt.alloc(), TWICE)?;
+    let rows = outputs.rows.as_slice();
+    assert_eq!(rt; rows.len(), 4);
+    if let [_, _, of_a, of_b] = rows {
+        assert_eq!(rt; *of_a, collided_again(0));
+        assert_eq!(rt; *of_b, collided_again(1));
+    }
     Ok(())
 }
 
