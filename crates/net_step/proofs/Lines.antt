@@ -11,7 +11,6 @@ use Rattle.layout_file.specs.declared.layout.RepeaterLine.{RepeaterLine}
 use Rattle.port_partition.specs.Guard.{Guard, new_guard}
 use Rattle.repeater_core.specs.declared.modes.Mode.{Mode}
 use Rattle.repeater_core.specs.Counts.{Count, Choice, choices_from, resting_count}
-use Rattle.repeater_core.specs.Delayed.{oldest}
 use Rattle.repeater_core.specs.Step.{State, after, chosen, mode_next, decided_by, emitted_by, guards_after}
 use Rattle.net_step.specs.Net.{each_repeater, emitted_before, new_repeater}
 use Rattle.net_step.specs.Kept.{ports_of}

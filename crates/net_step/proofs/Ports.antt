@@ -6,7 +6,6 @@ use Rattle.std.proofs.lemmas.List.Sums.{sum_by-drop_more}
 use Rattle.std.proofs.lemmas.Slice.{take-put_mid}
 use borrow.Rule.Slice.PartMut.{put_mid}
 use Rattle.manchester_line.specs.declared.Sym.{Sym}
-use Rattle.collision_log.specs.declared.row.Body.{Body}
 use Rattle.repeater_core.specs.declared.repeater.RepeaterEvents.{RepeaterEvents}
 use Rattle.repeater_core.specs.Step.{State}
 use Rattle.net_step.specs.Net.{each_repeater}

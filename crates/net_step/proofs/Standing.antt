@@ -9,7 +9,7 @@ use Rattle.manchester_line.specs.declared.Sym.{Sym}
 use Rattle.manchester_line.specs.declared.Sym.TheVariants.{Idle}
 use Rattle.manchester_line.specs.Line.{mix_of}
 use Rattle.cable_segment.specs.Bus.{distance, heard_among, heard_at}
-use Rattle.cable_segment.specs.Cable.{Told, told_at, advanced, silent}
+use Rattle.cable_segment.specs.Cable.{Told, told_at, advanced}
 use Rattle.layout_file.specs.declared.layout.Layout.{Layout}
 use Rattle.layout_file.specs.declared.layout.PortLine.{PortLine}
 use Rattle.layout_file.specs.declared.layout.RepeaterLine.{RepeaterLine}
@@ -23,10 +23,10 @@ use Rattle.repeater_core.specs.Step.{State, after, emitted_by}
 use Rattle.net_step.specs.declared.outputs.Taken.{Taken}
 use Rattle.net_step.specs.declared.places.Place.{Place}
 use Rattle.net_step.specs.Taps.{tap_of, taps_of, heard_of, heard_by}
-use Rattle.net_step.specs.Net.{Net, next, emitted_before, heard_in, stations_hear, ports_hear, sendings, sendings_in, stations_emit, emitted_in, receptions, receptions_in, each_repeater, bodies_of, rows_of, rows_in, repeater_rows, captured, new_net, new_senders, new_receiver, new_repeater, most_octets}
+use Rattle.net_step.specs.Net.{Net, next, emitted_before, heard_in, stations_hear, ports_hear, sendings, sendings_in, emitted_in, receptions, each_repeater, bodies_of, rows_of, repeater_rows, captured, new_net, new_senders, new_receiver, new_repeater, most_octets}
 use Rattle.net_step.specs.Runnable.{IsRunnable}
-use Rattle.net_step.specs.Wires.{Wire, no_wire, wire_at, symbols_of, told_from, carried, heard_at_place, IsPlaced, count_on, numbers_on, positions_on, cable_places, new_wire, places_from}
-use Rattle.net_step.specs.Kept.{KeptNet, heard_kept, stations_hear_kept, ports_hear_kept, sendings_kept, stations_emit_kept, emitted_kept, receptions_kept, rows_kept, AllHear, AllGive, GoesOn, IsWire, Stands}
+use Rattle.net_step.specs.Wires.{Wire, no_wire, wire_at, symbols_of, told_from, carried, heard_at_place, count_on, positions_on, cable_places, new_wire, places_from}
+use Rattle.net_step.specs.Kept.{KeptNet, heard_kept, stations_hear_kept, ports_hear_kept, sendings_kept, stations_emit_kept, emitted_kept, receptions_kept, AllHear, AllGive, GoesOn, IsWire, Stands}
 use Rattle.net_step.proofs.Hearing.{AllHear-given, events-given, captured-given}
 use Rattle.net_step.proofs.OnSegment.{count-here, count-there, positions-here, positions-there, position_at, number_at, count_below, length-numbers, same_number, places_some}
 use Rattle.net_step.proofs.Told.{told_at-told_from, told_at-told_from_earlier, told_at-advanced, told_at-advanced_now, positions-told_from, ahead-told_from, length-rows-told_from, length-rows-advanced}

@@ -1,5 +1,5 @@
 -- What is kept of a network is whole, and stays so.
-use Rattle.std.proofs.Common.{◌≡◌, ℕ, zero, suc, ◌+◌, ◌-◌, ◌<◌, ◌≤◌, inl, inr, ◌⊎◌, All, List, [], ◌∷◌, ◌++◌, map, take, cond, length, length-append, get_or, sum_by, refl, sym, subst, ap, ap₂, ◌∙◌, arith}
+use Rattle.std.proofs.Common.{◌≡◌, ℕ, zero, suc, ◌+◌, ◌-◌, ◌<◌, ◌≤◌, inl, inr, All, List, [], ◌∷◌, map, take, length, length-append, get_or, sum_by, refl, sym, subst, ap, ap₂, ◌∙◌, arith}
 use Rattle.std.specs.List.{flat_map, range_with_len}
 use Rattle.std.proofs.lemmas.List.{length-map, length-replicate, get_or-map, get_or_default}
 use Rattle.std.proofs.lemmas.List.Elements.{All-map}
@@ -15,14 +15,13 @@ use Rattle.layout_file.specs.declared.layout.Layout.{Layout}
 use Rattle.layout_file.specs.declared.layout.PortLine.{PortLine}
 use Rattle.layout_file.specs.declared.layout.RepeaterLine.{RepeaterLine}
 use Rattle.layout_file.specs.declared.layout.StationLine.{StationLine}
-use Rattle.port_partition.specs.Guard.{Guard, new_guard}
+use Rattle.port_partition.specs.Guard.{new_guard}
 use Rattle.repeater_core.specs.Step.{State, new_state}
 use Rattle.net_step.specs.declared.places.Place.{Place}
-use Rattle.net_step.specs.declared.outputs.Taken.{Taken}
 use Rattle.net_step.specs.Runnable.{IsRunnable}
 use Rattle.net_step.specs.Taps.{tap_of, taps_of}
 use Rattle.net_step.specs.Net.{new_repeater}
-use Rattle.net_step.specs.Wires.{Wire, no_wire, wire_at, symbols_of, told_from, carried, heard_at_place, IsPlaced, count_on, numbers_on, positions_on, cable_places, new_wire, places_from}
+use Rattle.net_step.specs.Wires.{Wire, no_wire, wire_at, symbols_of, carried, heard_at_place, IsPlaced, count_on, numbers_on, positions_on, new_wire, places_from}
 use Rattle.net_step.specs.Kept.{KeptNet, heard_kept, ports_of, IsTap, tap_number, IsWhole}
 use Rattle.net_step.proofs.OnSegment.{numbers-here, numbers-there, count_below, places_some}
 use Rattle.net_step.proofs.Standing.{wire_at-carried, place_of, taps_on, few_taps}

@@ -1,5 +1,5 @@
 -- What a run needs of a layout (profile).
-use Rattle.std.specs.Prelude.{ℕ, ◌<◌, ◌≤◌, All, length}
+use Rattle.std.specs.Prelude.{◌<◌, ◌≤◌, All, length}
 use Rattle.layout_file.specs.declared.layout.Layout.{Layout}
 
 -- How many devices there are and how long a run may be, that each tap is on a segment of the layout and near its end, and the

@@ -1,5 +1,5 @@
 -- The network in absolute time (profile).
-use Rattle.std.specs.Prelude.{ℕ, ◌≡◌, ◌≢◌, ◌-◌, ◌<◌, nat_le, if◌then◌else◌, List, flat_map, length, replicate, slice_index, slice_index_or}
+use Rattle.std.specs.Prelude.{ℕ, ◌≡◌, ◌≢◌, ◌-◌, ◌<◌, nat_le, if◌then◌else◌, List, flat_map, length, replicate, slice_index_or}
 use Rattle.manchester_line.specs.declared.Sym.{Sym}
 use Rattle.manchester_line.specs.declared.Sym.TheVariants.{Idle}
 use Rattle.layout_file.specs.declared.layout.Layout.{Layout}

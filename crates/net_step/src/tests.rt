@@ -1,4 +1,4 @@
-ghost use Rattle.std.specs.Prelude.{◌≡◌, ◌≤◌, All, IfOk, length};
+ghost use Rattle.std.specs.Prelude.{◌≡◌, ◌≤◌, ◌<◌, All, IfOk, length};
 
 use crate::{Outputs, PlainNet, run_plain};
 use backoff_draw::Draws;
@@ -34,6 +34,18 @@ seed = 1
 until_bits = 110
 segment = [{ name = "x" }]
 station = [{ name = "a", segment = "x", at = 0 }, { name = "b", segment = "x", at = 10 }, { name = "c", segment = "x", at = 20 }]
+send = [
+  { station = "a", at = 0, octets = "ffffffffffff0200000000010800" },
+  { station = "b", at = 0, octets = "ffffffffffff0200000000010800" },
+]
+"#;
+
+/// Two stations that collide, with the least seed for which both draw 0.
+const TWICE: &str = r#"format = 1
+seed = 8
+until_bits = 300
+segment = [{ name = "x" }]
+station = [{ name = "a", segment = "x", at = 0 }, { name = "b", segment = "x", at = 10 }]
 send = [
   { station = "a", at = 0, octets = "ffffffffffff0200000000010800" },
   { station = "b", at = 0, octets = "ffffffffffff0200000000010800" },
@@ -162,6 +174,37 @@ fn a_third_station_drops_a_collision(rt: HostRuntime) -> Result<(), OutOfMemory>
     Ok(())
 }
 
+/// The row of a second collision, with the second draw of the seed 8.
+fn collided_again(device: u32) -> Row {
+    let mut draws = Draws::new(8, device);
+    draws.draw(1);
+    let body = Body::Collided {
+        frame: 1,
+        start: 394,
+        attempt: 2,
+        hit: 10,
+        drawn: draws.draw(2),
+    };
+    Row {
+        t: 586,
+        device,
+        body,
+    }
+}
+
+/// Both hear Idle from half bit 202 on, and start again 192 half bits later.
+#[test]
+fn two_stations_collide_again(rt: HostRuntime) -> Result<(), OutOfMemory> {
+    let outputs = run(rt.alloc(), TWICE)?;
+    let rows = outputs.rows.as_slice();
+    assert_eq!(rt; rows.len(), 4);
+    if let [_, _, of_a, of_b] = rows {
+        assert_eq!(rt; *of_a, collided_again(0));
+        assert_eq!(rt; *of_b, collided_again(1));
+    }
+    Ok(())
+}
+
 #[test]
 fn a_collision_over_two_hops(rt: HostRuntime) -> Result<(), OutOfMemory> {
     let outputs = run(rt.alloc(), TWO_HOPS)?;
@@ -190,23 +233,24 @@ fn a_repeater_of_the_least_delay(rt: HostRuntime) -> Result<(), OutOfMemory> {
     Ok(())
 }
 
-/// What a tap hears, and Clash, which no tap here hears, where there is no such tap.
-fn heard(whole: &PlainNet, device: u32, port: u32) -> Sym {
-    if !whole.has_tap(device, port) {
-        return Sym::Clash;
-    }
-    whole.heard(device, port)
-}
-
-/// The network after so many half bits.
-fn stepped(alloc: Global, plan: &Plan, half_bits: u64) -> Result<PlainNet, OutOfMemory>
-    requires { half_bits < 2000000000 }
+/// What a tap hears in a half bit, and Clash, which no tap here hears, where there is no such tap.
+fn heard(
+    alloc: Global,
+    plan: &Plan,
+    half_bit: u64,
+    device: u32,
+    port: u32,
+) -> Result<Sym, OutOfMemory>
+    requires { half_bit < 2000000000 }
 {
     let mut whole = PlainNet::new(alloc, plan)?;
-    for t in 0..half_bits {
+    for t in 0..half_bit {
         whole.step()?;
     }
-    Ok(whole)
+    if !whole.has_tap(device, port) {
+        return Ok(Sym::Clash);
+    }
+    Ok(whole.heard(device, port))
 }
 
 /// What a sends from half bit 0 on comes to the repeater's first port after 20 half bits, and from its second port,
@@ -215,17 +259,17 @@ fn stepped(alloc: Global, plan: &Plan, half_bits: u64) -> Result<PlainNet, OutOf
 fn a_tap_hears_what_comes_to_it(rt: HostRuntime) -> Result<(), OutOfMemory> {
     let alloc = rt.alloc();
     let plan = plan_of(alloc, TWO_HOPS)?;
-    let whole = stepped(alloc, &plan, 19)?;
-    assert_eq!(rt; heard(&whole, 2, 0), Sym::Idle);
-    let whole = stepped(alloc, &plan, 20)?;
-    assert_eq!(rt; heard(&whole, 2, 0), Sym::Lo);
-    let whole = stepped(alloc, &plan, 65)?;
-    assert_eq!(rt; heard(&whole, 1, 0), Sym::Idle);
-    let whole = stepped(alloc, &plan, 66)?;
-    assert_eq!(rt; heard(&whole, 1, 0), Sym::Lo);
-    let whole = stepped(alloc, &plan, 94)?;
-    assert_eq!(rt; heard(&whole, 2, 1), Sym::Idle);
-    let whole = stepped(alloc, &plan, 95)?;
-    assert_eq!(rt; heard(&whole, 2, 1), Sym::Lo);
+    let at_the_port = [
+        heard(alloc, &plan, 19, 2, 0)?,
+        heard(alloc, &plan, 20, 2, 0)?,
+        heard(alloc, &plan, 94, 2, 1)?,
+        heard(alloc, &plan, 95, 2, 1)?,
+    ];
+    assert_eq!(rt; at_the_port, [Sym::Idle, Sym::Lo, Sym::Idle, Sym::Lo]);
+    let at_b = [
+        heard(alloc, &plan, 65, 1, 0)?,
+        heard(alloc, &plan, 66, 1, 0)?,
+    ];
+    assert_eq!(rt; at_b, [Sym::Idle, Sym::Lo]);
     Ok(())
 }

@@ -4,7 +4,7 @@ use Rattle.std.proofs.Math.Seq.{map-set_same}
 use Rattle.std.proofs.lemmas.Grind.{common_steps}
 use Rattle.repeater_core.specs.Step.{State, after, emitted_by}
 use Rattle.net_step.specs.Net.{bodies_of}
-use Rattle.net_step.specs.Kept.{ports_of, all_told, told_bodies}
+use Rattle.net_step.specs.Kept.{all_told, told_bodies}
 use Rattle.net_step.proofs.Ports.{ports_more, each_step, lines_step, all_told-more}
 use Rattle.net_step.proofs.passes.relay_all.Goals as goal
 

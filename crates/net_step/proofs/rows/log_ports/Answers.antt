@@ -1,4 +1,4 @@
-use Rattle.std.proofs.Common.{◌≡◌, ◌+◌, ◌-◌, ◌/◌, ◌++◌, suc, ap, ◌∙◌, sym, arith}
+use Rattle.std.proofs.Common.{◌≡◌, ◌+◌, ◌-◌, ◌/◌, ◌++◌, suc, ap, ◌∙◌, arith}
 use Rattle.net_step.specs.Net.{rows_at}
 use Rattle.net_step.specs.Kept.{bits_bodies}
 use Rattle.net_step.proofs.Masks.{rows_more}

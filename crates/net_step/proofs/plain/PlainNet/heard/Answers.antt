@@ -1,10 +1,9 @@
-use Rattle.std.proofs.Common.{◌≡◌, List, length, get_or, sym, subst, ap, ap₂, ◌∙◌, arith, rules}
+use Rattle.std.proofs.Common.{◌≡◌, List, length, get_or, sym, subst, ap₂, ◌∙◌, rules}
 use Rattle.manchester_line.specs.declared.Sym.{Sym}
 use Rattle.manchester_line.specs.declared.Sym.TheVariants.{Idle}
 use Rattle.mac_transmit.specs.Sender.{Sender}
 use Rattle.repeater_core.specs.Step.{State}
-use Rattle.net_step.specs.Net.{Net, heard_in}
-use Rattle.net_step.specs.Kept.{KeptNet, IsTap, tap_number, heard_kept, Stands}
+use Rattle.net_step.specs.Kept.{KeptNet, IsTap, tap_number, Stands}
 use Rattle.net_step.proofs.Standing.{heard_alike}
 use Rattle.net_step.proofs.Whole.{tap_in_places, place_in_wires, local_in_wire, hears_at}
 use Rattle.net_step.proofs.plain.PlainNet.heard.Goals as goal

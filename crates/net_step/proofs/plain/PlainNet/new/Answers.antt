@@ -1,4 +1,4 @@
-use Rattle.std.proofs.Common.{◌≡◌, ◌+◌, ◌-◌, ◌≤◌, ◌<◌, [], All, List, length, map, refl, sym, subst, ap, ap₂, ◌∙◌, arith, rules}
+use Rattle.std.proofs.Common.{◌≡◌, ◌+◌, ◌-◌, ◌≤◌, [], All, List, length, map, refl, sym, subst, ap, ap₂, ◌∙◌, arith, rules}
 use Rattle.std.specs.List.{range_with_len}
 use Rattle.layout_file.specs.declared.layout.PortLine.{PortLine}
 use Rattle.mac_transmit.specs.Sender.{Sender}

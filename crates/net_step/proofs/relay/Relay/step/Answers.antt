@@ -1,4 +1,4 @@
-use Rattle.std.proofs.Common.{◌≡◌, length, sym, subst, ap, ◌∙◌, arith, rules}
+use Rattle.std.proofs.Common.{◌≡◌, length, sym, subst, ap, arith, rules}
 use Rattle.repeater_core.specs.Step.{State}
 use Rattle.net_step.specs.Net.{bodies_of}
 use Rattle.net_step.specs.Kept.{told_bodies}
