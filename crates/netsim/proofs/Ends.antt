@@ -48,7 +48,6 @@ module _ (layout : List ℕ) (before after : Moment) where
   early_absent ended.Write absent early = absurd early
   early_absent ended.Memory absent early = inr refl
 
-
 -- where a read failed or the layout isn't held
 unread_status : (X : Type 0) (layout : List ℕ) (held : Option Files) (reads risen : ℕ) (P : Files → Type 0) → ((files : Files) → IsAbsent layout (Some files) → P files → ⊥) → (Rose reads risen → X)
     → IsAbsent layout held ⊎ Rose reads risen → IfSome held (λ files. P files → X)

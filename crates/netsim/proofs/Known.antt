@@ -140,8 +140,8 @@ pub load_only : (o : Option Asked) (before after : Moment) (e : Ended) → IsEnd
     → IfPlain o (λ layout prefix. IfSome before.held (λ files. (station : ℕ) (f : CaptureFault) → HasLoadFault layout (Some files) station f → IsFaultStatus 3 (status_of e) before.reads after.reads))
 load_only o before after e h =
     if_plain o (λ layout prefix. IfKnown layout before.held (FaultSays before.reads after.reads (status_of e))) _
-      (λ layout prefix known. known_fault layout before.held (status_of e) before.reads after.reads known)
-      (plain_known (FaultSays before.reads after.reads) o before after e (fault_says before.reads after.reads) (λ loads prefix plan filed station f is. whole_or _ loads station f is) h)
+    (λ layout prefix known. known_fault layout before.held (status_of e) before.reads after.reads known)
+    (plain_known (FaultSays before.reads after.reads) o before after e (fault_says before.reads after.reads) (λ loads prefix plan filed station f is. whole_or _ loads station f is) h)
 
 -- whole loads, and no fault of the outside
 abbrev WholeSays : ℕ → ℕ → ℕ → ℕ → ℕ → ℕ → ℕ → Loaded → Type 0
@@ -158,7 +158,7 @@ whole_says reads read writes written faults faulted = record {
 
 known_whole : (layout : List ℕ) (held : Option Files) (reads read writes written faults faulted n : ℕ) → IfKnown layout held (WholeSays reads read writes written faults faulted n)
     → IfSome held (λ files. (network : Layout) → IsJudged layout (Some files) (Ok network) → (loads : List (List Record)) → IsLoaded (Some files) network.stations (Whole loads)
-      → ¬ Rose reads read → ¬ Rose writes written → ¬ Rose faults faulted → IsDoneOrMemory n)
+    → ¬ Rose reads read → ¬ Rose writes written → ¬ Rose faults faulted → IsDoneOrMemory n)
 known_whole layout None reads read writes written faults faulted n known = tt
 known_whole layout (Some files) reads read writes written faults faulted n known =
     λ network good loads is. known (Whole loads) (record { network = network; judged = good; is = is }) loads refl
@@ -175,12 +175,12 @@ filed_whole prefix plan before after ended.Memory filed w f = inr refl
 -- a run that nothing hinders is done
 pub complete : (o : Option Asked) (before after : Moment) (e : Ended) → IsEndOf o before after e
     → IfPlain o (λ layout prefix. IfSome before.held (λ files. (network : Layout) → IsJudged layout (Some files) (Ok network) → (loads : List (List Record)) → IsLoaded (Some files) network.stations (Whole loads)
-      → ¬ Rose before.reads after.reads → ¬ Rose before.writes after.writes → ¬ Rose before.faults after.faults → IsDoneOrMemory (status_of e)))
+    → ¬ Rose before.reads after.reads → ¬ Rose before.writes after.writes → ¬ Rose before.faults after.faults → IsDoneOrMemory (status_of e)))
 complete o before after e h =
     if_plain o (λ layout prefix. IfKnown layout before.held (WholeSays before.reads after.reads before.writes after.writes before.faults after.faults (status_of e))) _
-      (λ layout prefix known. known_whole layout before.held before.reads after.reads before.writes after.writes before.faults after.faults (status_of e) known)
-      (plain_known (WholeSays before.reads after.reads before.writes after.writes before.faults after.faults) o before after e (whole_says before.reads after.reads before.writes after.writes before.faults after.faults)
-        (λ loads prefix plan filed again is r w f. filed_whole prefix plan before after e filed w f) h)
+    (λ layout prefix known. known_whole layout before.held before.reads after.reads before.writes after.writes before.faults after.faults (status_of e) known)
+    (plain_known (WholeSays before.reads after.reads before.writes after.writes before.faults after.faults) o before after e (whole_says before.reads after.reads before.writes after.writes before.faults after.faults)
+    (λ loads prefix plan filed again is r w f. filed_whole prefix plan before after e filed w f) h)
 
 abbrev CheckSays : ℕ → ℕ → ℕ → ℕ → ℕ → Loaded → Type 0
 CheckSays reads read faults faulted n l = ¬ Rose reads read → ¬ Rose faults faulted → IsDoneOrMemory n

@@ -59,13 +59,13 @@ plain-ran layout prefix network loads before mid after e read judged loaded end 
     elim end [
       | inl unrun ↦ inr (inr (inl (unrun.0, rw read.held at unrun.1, rw read.written at unrun.2)))
       | inr ran ↦ (
-        let made : IsMadeOf network loads ran.0 = ran.1 in
-        let filed : IsFiledEnd prefix ran.0 before after e = elim ran.2 [
-          | inl all ↦ inl (rw read.held at all.0, (all.1.0, all.1.1, rw (read.written, read.faults) at all.1.2))
-          | inr un ↦ inr (unfiled_before prefix ran.0 before mid after e read un)
-        ] in
-        inr (inr (inr (record { network = network; judged = judged; plan = ran.0; planned = record { layout = made.layout; loads = loads; loaded = loaded; queues = made.queues; skips = made.skips }; filed = filed })))
-      )
+          let made : IsMadeOf network loads ran.0 = ran.1 in
+          let filed : IsFiledEnd prefix ran.0 before after e = elim ran.2 [
+            | inl all ↦ inl (rw read.held at all.0, (all.1.0, all.1.1, rw (read.written, read.faults) at all.1.2))
+            | inr un ↦ inr (unfiled_before prefix ran.0 before mid after e read un)
+          ] in
+          inr (inr (inr (record { network = network; judged = judged; plan = ran.0; planned = record { layout = made.layout; loads = loads; loaded = loaded; queues = made.queues; skips = made.skips }; filed = filed })))
+          )
     ]
 
 said_before : (line : List ℕ) (before mid after : Moment) → IsRead before mid → IsSaid line mid.written after.written mid.refused after.refused → IsSaid line before.written after.written before.refused after.refused

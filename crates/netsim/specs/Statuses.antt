@@ -131,7 +131,7 @@ IsRunHeld layout prefix held now written said =
 abbrev pub IsRunBroken : List ℕ → List ℕ → Option Files → Option Files → Option (List ℕ) → Option (List ℕ) → Type 0
 IsRunBroken layout prefix held now written said =
     IsPlanWith layout held (λ plan. (IsBrokenAmong (files_of prefix plan) held now × (said ≡ written))
-        ⊎ ((now ≡ put_all (files_of prefix plan) held) × ((text : List ℕ) × IsSummary plan text × IsCutShort text written said)))
+    ⊎ ((now ≡ put_all (files_of prefix plan) held) × ((text : List ℕ) × IsSummary plan text × IsCutShort text written said)))
 
 -- all files of the run are whole
 abbrev pub AreRunFilesHeld : List ℕ → List ℕ → Option Files → Option Files → Type 0

@@ -28,7 +28,11 @@ fn say_fault<K: Sink>(alloc: Global, fault: &LayoutFault, out: &mut K) -> Result
 }
 
 /// Says that a file can't be read.
-pub(crate) fn say_read_fault<K: Sink>(alloc: Global, name: &str, out: &mut K) -> Result<(), OutOfMemory>
+pub(crate) fn say_read_fault<K: Sink>(
+    alloc: Global,
+    name: &str,
+    out: &mut K,
+) -> Result<(), OutOfMemory>
     ensures said { OnOk result (IsSaid (line_of_read_fault name.now) (K.written out.old) (K.written out.new) (K.refused out.old) (K.refused out.new)) }
     ensures silent { OnErr result (K.written out.new ≡ K.written out.old) }
 {

@@ -118,7 +118,10 @@ fn load_line<R: AllocGlobal>(rt: &R, name: &str) -> Result<String, OutOfMemory> 
 fn layout_of<R: AllocGlobal>(rt: &R, case: &Case<'_>) -> Result<String, OutOfMemory> {
     let first = load_line(rt, case.names[0])?;
     let second = load_line(rt, case.names[1])?;
-    let layout = format!(in rt.alloc(); "format = {}\nseed = 1\nuntil_bits = {}\n[[segment]]\nname = \"x\"\n[[station]]\nname = \"a\"\nsegment = \"x\"\nat = 0\n{first}[[station]]\nname = \"b\"\nsegment = \"x\"\nat = 10\n{second}", case.format, case.until_bits)?;
+    let layout = format!(in rt.alloc();
+        "format = {}\nseed = 1\nuntil_bits = {}\n[[segment]]\nname = \"x\"\n[[station]]\nname = \"a\"\nsegment = \"x\"\nat = 0\n{first}[[station]]\nname = \"b\"\nsegment = \"x\"\nat = 10\n{second}",
+        case.format, case.until_bits
+    )?;
     Ok(layout)
 }
 
@@ -160,10 +163,16 @@ fn loads_are_sent(rt: HostRuntime) -> Result<(), OutOfMemory> {
         },
     ];
     for names in [["p.pcap", ""], ["out.a.pcap", ""]] {
-        let load = Load { records: &one, more: 0 };
+        let load = Load {
+            records: &one,
+            more: 0,
+        };
         assert!(rt; is_right(&rt, &Case { names, load, ..RUN })?);
     }
-    let load = Load { records: &three, more: 0 };
+    let load = Load {
+        records: &three,
+        more: 0,
+    };
     assert!(rt; is_right(&rt, &Case { load, ..RUN })?);
     Ok(())
 }
@@ -175,7 +184,10 @@ fn a_load_is_sent_by_two(rt: HostRuntime) -> Result<(), OutOfMemory> {
     let case = Case {
         until_bits: 110,
         names: ["p.pcap", "p.pcap"],
-        load: Load { records: &one, more: 0 },
+        load: Load {
+            records: &one,
+            more: 0,
+        },
         said: "within 212 a b\nhalf_bits 220\nsent 0 collided 2 late 0 given_up 0 cut 0 left 2 received 0 dropped 0 clash 0 closed 0 opened 0\n",
         log: "192 station a collided frame 1 start 0 attempt 1 hit 10 draw 1\n192 station b collided frame 1 start 0 attempt 1 hit 10 draw 0\n",
         ..RUN
@@ -191,7 +203,10 @@ fn tagged_frames(rt: HostRuntime) -> Result<(), OutOfMemory> {
     let two = Case {
         format: 2,
         until_bits: 13_000,
-        load: Load { records: &one, more: 0 },
+        load: Load {
+            records: &one,
+            more: 0,
+        },
         said: "within 212 a b\nhalf_bits 26000\nsent 1 collided 0 late 0 given_up 0 cut 0 left 0 received 1 dropped 0 clash 0 closed 0 opened 0\n",
         log: "24480 station a sent frame 1 start 0 attempt 1\n24490 station b received octets 1522\n",
         ..RUN
@@ -211,7 +226,10 @@ fn tagged_frames(rt: HostRuntime) -> Result<(), OutOfMemory> {
 fn loads_that_are_refused(rt: HostRuntime) -> Result<(), OutOfMemory> {
     let whole = [at_100(60)];
     let cut = Case {
-        load: Load { records: &whole, more: 10 },
+        load: Load {
+            records: &whole,
+            more: 10,
+        },
         said: "capture fault 6 CutRecord station a record 2\n",
         ..REFUSED
     };

@@ -63,12 +63,7 @@ fn load_of(stations: &[StationLine], station: u32) -> Option<&str>
 }
 
 /// Says that the load of a station, numbered from 0, can't be read.
-fn say_unread<K: Sink>(
-    alloc: Global,
-    stations: &[StationLine],
-    station: u32,
-    out: &mut K,
-) -> Ended
+fn say_unread<K: Sink>(alloc: Global, stations: &[StationLine], station: u32, out: &mut K) -> Ended
     ensures { IsUnreadEnd stations.now station (K.written out.old) (K.written out.new) (K.refused out.old) (K.refused out.new) result }
 {
     let Some(name) = load_of(stations, station) else {

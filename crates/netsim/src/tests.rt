@@ -24,9 +24,11 @@ const SHORT_HOP: &str =
 const THIRD: &str = "[[station]]\nname = \"c\"\nsegment = \"x\"\nat = 20\n";
 
 /// A frame of 14 octets that a sends at 0, and the same by b at 0 and at 65.
-const SEND_A: &str = "[[send]]\nstation = \"a\"\nat = 0\noctets = \"ffffffffffff0200000000010800\"\n";
+const SEND_A: &str =
+    "[[send]]\nstation = \"a\"\nat = 0\noctets = \"ffffffffffff0200000000010800\"\n";
 
-const SEND_B: &str = "[[send]]\nstation = \"b\"\nat = 0\noctets = \"ffffffffffff0200000000010800\"\n";
+const SEND_B: &str =
+    "[[send]]\nstation = \"b\"\nat = 0\noctets = \"ffffffffffff0200000000010800\"\n";
 
 const SEND_B_LATER: &str =
     "[[send]]\nstation = \"b\"\nat = 65\noctets = \"ffffffffffff0200000000010800\"\n";
@@ -232,19 +234,37 @@ fn sends_and_ends(rt: HostRuntime) -> Result<(), OutOfMemory> {
         said: "within 212 a b\nhalf_bits 2600\nsent 2 collided 0 late 0 given_up 0 cut 0 left 0 received 2 dropped 0 clash 0 closed 0 opened 0\n",
         ..RUN
     };
-    assert!(rt; is_log(&rt, &twice, "1152 station a sent frame 1 start 0 attempt 1\n1162 station b received octets 64\n2496 station a sent frame 2 start 1344 attempt 1\n2506 station b received octets 64\n")?);
+    assert!(rt;
+        is_log(
+            &rt,
+            &twice,
+            "1152 station a sent frame 1 start 0 attempt 1\n1162 station b received octets 64\n2496 station a sent frame 2 start 1344 attempt 1\n2506 station b received octets 64\n"
+        )?
+    );
     let cut = Case {
         until_bits: 576,
         said: "within 212 a b\nhalf_bits 1152\nsent 0 collided 0 late 0 given_up 0 cut 1 left 1 received 0 dropped 0 clash 0 closed 0 opened 0\n",
         ..RUN
     };
-    assert!(rt; is_log(&rt, &cut, "1152 station a cut frame 1 start 0 attempt 1 hit none\n")?);
+    assert!(rt;
+        is_log(
+            &rt,
+            &cut,
+            "1152 station a cut frame 1 start 0 attempt 1 hit none\n"
+        )?
+    );
     let sent = Case {
         until_bits: 577,
         said: "within 212 a b\nhalf_bits 1154\nsent 1 collided 0 late 0 given_up 0 cut 0 left 0 received 0 dropped 0 clash 0 closed 0 opened 0\n",
         ..RUN
     };
-    assert!(rt; is_log(&rt, &sent, "1152 station a sent frame 1 start 0 attempt 1\n")?);
+    assert!(rt;
+        is_log(
+            &rt,
+            &sent,
+            "1152 station a sent frame 1 start 0 attempt 1\n"
+        )?
+    );
     Ok(())
 }
 
@@ -252,25 +272,47 @@ fn sends_and_ends(rt: HostRuntime) -> Result<(), OutOfMemory> {
 fn collisions(rt: HostRuntime) -> Result<(), OutOfMemory> {
     let three = Case {
         until_bits: 110,
-        tables: [TWO, THIRD, "[[send]]\nstation = \"a\"\nat = 0\noctets = \"ffffffffffff0200000000010800\"\n[[send]]\nstation = \"b\"\nat = 0\noctets = \"ffffffffffff0200000000010800\"\n"],
+        tables: [
+            TWO,
+            THIRD,
+            "[[send]]\nstation = \"a\"\nat = 0\noctets = \"ffffffffffff0200000000010800\"\n[[send]]\nstation = \"b\"\nat = 0\noctets = \"ffffffffffff0200000000010800\"\n",
+        ],
         said: "within 232 a c\nhalf_bits 220\nsent 0 collided 2 late 0 given_up 0 cut 0 left 2 received 0 dropped 1 clash 0 closed 0 opened 0\n",
         ..RUN
     };
-    assert!(rt; is_log(&rt, &three, "192 station a collided frame 1 start 0 attempt 1 hit 10 draw 1\n192 station b collided frame 1 start 0 attempt 1 hit 10 draw 0\n212 station c dropped fragment halves 202\n")?);
+    assert!(rt;
+        is_log(
+            &rt,
+            &three,
+            "192 station a collided frame 1 start 0 attempt 1 hit 10 draw 1\n192 station b collided frame 1 start 0 attempt 1 hit 10 draw 0\n212 station c dropped fragment halves 202\n"
+        )?
+    );
     let hop = Case {
         until_bits: 130,
         tables: [HOP, SEND_A, SEND_B_LATER],
         said: "within 324 a b\nhalf_bits 260\nsent 0 collided 2 late 0 given_up 0 cut 0 left 2 received 0 dropped 0 clash 1 closed 0 opened 0\n",
         ..RUN
     };
-    assert!(rt; is_log(&rt, &hop, "95 repeater r clash\n196 station a collided frame 1 start 0 attempt 1 hit 131 draw 1\n257 station b collided frame 1 start 65 attempt 1 hit 1 draw 0\n")?);
+    assert!(rt;
+        is_log(
+            &rt,
+            &hop,
+            "95 repeater r clash\n196 station a collided frame 1 start 0 attempt 1 hit 131 draw 1\n257 station b collided frame 1 start 65 attempt 1 hit 1 draw 0\n"
+        )?
+    );
     let short = Case {
         until_bits: 600,
         tables: [SHORT_HOP, SEND_A, ""],
         said: "within 198 a b\nhalf_bits 1200\nsent 1 collided 0 late 0 given_up 0 cut 0 left 0 received 1 dropped 0 clash 0 closed 0 opened 0\n",
         ..RUN
     };
-    assert!(rt; is_log(&rt, &short, "1152 station a sent frame 1 start 0 attempt 1\n1155 station b received octets 64\n")?);
+    assert!(rt;
+        is_log(
+            &rt,
+            &short,
+            "1152 station a sent frame 1 start 0 attempt 1\n1155 station b received octets 64\n"
+        )?
+    );
     Ok(())
 }
 
@@ -341,7 +383,12 @@ fn is_broken_at<R: Threads + Wait + Sync + AllocGlobal>(
         (None, None) => true,
         _ => false,
     };
-    Ok(right && holds(&store, "out.log", Some(log)) && holds(&store, "out.counters", counters) && whole)
+    Ok(
+        right
+            && holds(&store, "out.log", Some(log))
+            && holds(&store, "out.counters", counters)
+            && whole,
+    )
 }
 
 #[test]

@@ -18,7 +18,7 @@ returns-in-Ok-read_network_loads g c =
       refused = c.in-Ok-read_network_loads.ensures.refused ∙ c.in-Ok.ensures.refused;
     } in
     plain-ran c.args.layout.now c.args.prefix.now c.in-Ok.network c.in-Ok-read_network_loads.loads before mid after _ read c.in-Ok.ensures.judged
-      (loaded-before _ _ c.in-Ok.network c.in-Ok-read_network_loads.loads c.read_network.ensures.held c.in-Ok-read_network_loads.ensures.loaded) c.run_network.ensures
+    (loaded-before _ _ c.in-Ok.network c.in-Ok-read_network_loads.loads c.read_network.ensures.held c.in-Ok-read_network_loads.ensures.loaded) c.run_network.ensures
 
 pub returns-in-Err-read_network_loads : goal.returns-in-Err-read_network_loads
 returns-in-Err-read_network_loads g c =
