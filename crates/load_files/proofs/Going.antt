@@ -1,13 +1,13 @@
 -- The loads of all stations, one after the other.
-use Rattle.std.proofs.Common.{◌≡◌, ◌⊎◌, inl, inr, ℕ, suc, ◌+◌, ◌-◌, ◌≤◌, ◌<◌, List, [], ◌∷◌, ◌++◌, drop, length, get_or, Option, None, Some, option_map, Result, Ok, Err, refl, sym, ap, ◌∙◌, arith, append_assoc, append-nil}
+use Rattle.std.proofs.Common.{◌≡◌, inl, inr, ℕ, suc, ◌+◌, ◌-◌, ◌≤◌, ◌<◌, List, [], ◌∷◌, ◌++◌, drop, length, get_or, Option, None, Some, option_map, Result, Ok, Err, refl, sym, ap, ◌∙◌, arith, append_assoc, append-nil}
 use Rattle.std.proofs.Math.Seq.{drop-cons}
 use Rattle.std.proofs.lemmas.Option.{slice_get-get_or}
-use Rattle.std.specs.Prelude.{IfOk, IfErr, slice_get, option_and_then, min, ◌^◌}
+use Rattle.std.specs.Prelude.{IfOk, IfErr, slice_get, min}
 use Rattle.outside.specs.Files.{Files, file_of, IsAbsent, Rose}
 use Rattle.capture_file.specs.declared.entries.Record.{Record}
 use Rattle.capture_file.specs.declared.fault.CaptureFault.{CaptureFault}
 use Rattle.layout_file.specs.declared.layout.StationLine.{StationLine}
-use Rattle.load_files.specs.Loaded.{Loaded, Whole, Faulty, Absent, IsFirstAbsent, IsJudgedLoad, IsLoadOf, IsLoaded, IsLoadedSo, IsLongAs, IsStopped, IsUnloaded, IsUnloadedOf, file_then, judged_load, load_of, load_then, loaded, loaded_from, most_after, most_of_load, most_of_loads, stop_at, verdict_then, with_before}
+use Rattle.load_files.specs.Loaded.{Loaded, Whole, Faulty, Absent, IsFirstAbsent, IsJudgedLoad, IsLoadOf, IsLoaded, IsLoadedSo, IsLongAs, IsStopped, IsUnloaded, IsUnloadedOf, file_then, judged_load, load_of, load_then, loaded, loaded_from, most_after, most_of_load, most_of_loads, stop_at, with_before}
 use Rattle.load_files.specs.declared.load.Load.{Load}
 use Rattle.load_files.specs.declared.load.Unloaded.{Unloaded}
 use Rattle.load_files.specs.declared.load.Unloaded.TheVariants as unloaded
