@@ -1,21 +1,15 @@
 -- What each end of a call says.
-use Rattle.std.proofs.Common.{◌≡◌, ◌⊎◌, ℕ, Option, None, Some, Result, Ok, Err, List, refl, sym, ap, subst, ◌∙◌, inl, inr}
+use Rattle.std.proofs.Common.{◌≡◌, ◌⊎◌, ℕ, Option, None, Some, Result, Ok, Err, List, refl, ap, inl, inr}
 use Rattle.std.specs.Prelude.{IfSome}
-use Rattle.capture_file.specs.declared.entries.Record.{Record}
-use Rattle.capture_file.specs.declared.fault.CaptureFault.{CaptureFault}
 use Rattle.outside.specs.Files.{Files, IsAbsent, Rose}
 use Rattle.layout_file.specs.declared.layout.Layout.{Layout}
 use Rattle.layout_file.specs.declared.fault.LayoutFault.{LayoutFault}
-use Rattle.load_files.specs.Loaded.{Loaded, IsLoaded, IsFirstAbsent, Whole, Faulty, Absent, loaded}
-use Rattle.load_plan.specs.declared.plan.Plan.{Plan}
 use Rattle.netsim.specs.declared.ended.Ended.{Ended}
 use Rattle.netsim.specs.declared.ended.Ended.TheVariants as ended
-use Rattle.netsim.specs.Ended.{Moment, IsEndOf, IsJudged, HasFault, IsEarly, IsUnloaded, IsUnrun, IsRun, IsChecked, IsCheckEnd, IsPlainEnd, IsText, IsFiledEnd, status_of}
-use Rattle.netsim.specs.Reading.{front_of, IsSaid, IsBrokenAmong, added}
+use Rattle.netsim.specs.Ended.{Moment, IsEndOf, IsJudged, HasFault, IsEarly, IsUnrun, status_of}
+use Rattle.netsim.specs.Reading.{front_of}
 use Rattle.netsim.specs.Requests.{Asked, Check, Plain, Help, Version}
-use Rattle.netsim.specs.Runs.{IsPlanOf}
-use Rattle.netsim.specs.Statuses.{IfLayout, IfCheck, IfPlain, IsPlainWith, IsFaultStatus, IsDoneOrMemory, IsLoadFaultLine, HasLoadFault, HasAbsentLoad, IsNetworkWith, IsReadFault, IsRunHeld, IsRunBroken, AreRunFilesHeld}
-use Rattle.netsim.specs.Texts.{line_of_read_fault}
+use Rattle.netsim.specs.Statuses.{IfLayout, IsFaultStatus}
 
 pub absent_unjudged : (name : List ℕ) (held : Option Files) (verdict : Result Layout LayoutFault) → IsAbsent name held → IsJudged name held verdict → ⊥
 unfolding front_of

@@ -1,5 +1,5 @@
 -- What the ends of a run say of its loads.
-use Rattle.std.proofs.Common.{◌≡◌, ◌⊎◌, ℕ, Option, None, Some, Result, Ok, Err, List, refl, sym, ap, subst, ◌∙◌, inl, inr}
+use Rattle.std.proofs.Common.{◌≡◌, ◌⊎◌, ℕ, Option, None, Some, Ok, Err, List, refl, sym, ap, subst, ◌∙◌, inl, inr}
 use Rattle.std.specs.Prelude.{IfSome}
 use Rattle.capture_file.specs.declared.entries.Record.{Record}
 use Rattle.capture_file.specs.declared.fault.CaptureFault.{CaptureFault}
@@ -10,9 +10,9 @@ use Rattle.load_files.specs.Loaded.{Loaded, IsLoaded, IsFirstAbsent, Whole, Faul
 use Rattle.load_plan.specs.declared.plan.Plan.{Plan}
 use Rattle.netsim.specs.declared.ended.Ended.{Ended}
 use Rattle.netsim.specs.declared.ended.Ended.TheVariants as ended
-use Rattle.netsim.specs.Ended.{Moment, IsEndOf, IsJudged, IsEarly, IsUnloadedSaid, IsUnrun, IsFiledEnd, AreFiled, IsUnfiled, IsText, status_of}
+use Rattle.netsim.specs.Ended.{Moment, IsEndOf, IsJudged, IsEarly, IsUnloadedSaid, IsUnrun, IsFiledEnd, IsText, status_of}
 use Rattle.netsim.specs.Requests.{Asked, Check, Plain, Help, Version}
-use Rattle.netsim.specs.Statuses.{IfCheck, IfPlain, IsFaultStatus, IsDoneOrMemory, HasLoadFault, HasAbsentLoad}
+use Rattle.netsim.specs.Statuses.{IfCheck, IfPlain, IsFaultStatus, IsDoneOrMemory, HasLoadFault}
 use Rattle.netsim.proofs.Ends.{absent_unjudged, good_or_faulty, same_network}
 
 -- some network was judged good, and its loads are these

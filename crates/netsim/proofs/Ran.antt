@@ -1,5 +1,5 @@
 -- The end of a run, from what was read and what was written.
-use Rattle.std.proofs.Common.{◌≡◌, ◌⊎◌, ℕ, ◌≤◌, Option, Some, Ok, List, refl, inl, inr, arith}
+use Rattle.std.proofs.Common.{◌≡◌, ℕ, ◌≤◌, Option, Ok, List, inl, inr, arith}
 use Rattle.capture_file.specs.declared.entries.Record.{Record}
 use Rattle.layout_file.specs.declared.layout.Layout.{Layout}
 use Rattle.load_files.specs.Loaded.{IsLoaded, Whole}

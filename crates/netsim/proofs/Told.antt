@@ -1,14 +1,11 @@
 -- What a call of a run leaves, by its end.
-use Rattle.std.proofs.Common.{◌≡◌, ◌⊎◌, ℕ, Option, None, Some, Result, Ok, Err, List, refl, ap, inl, inr}
-use Rattle.outside.specs.Files.{Files, IsAbsent, Rose}
-use Rattle.load_plan.specs.declared.plan.Plan.{Plan}
+use Rattle.std.proofs.Common.{◌≡◌, ◌⊎◌, ℕ, Option, None, Some, List, inl, inr}
+use Rattle.outside.specs.Files.{Rose}
 use Rattle.netsim.specs.declared.ended.Ended.{Ended}
 use Rattle.netsim.specs.declared.ended.Ended.TheVariants as ended
-use Rattle.netsim.specs.Ended.{Moment, IsEndOf, IsFiledEnd, IsPlainEnd, IsRun, IsUnrun}
-use Rattle.netsim.specs.Reading.{IsSaid}
+use Rattle.netsim.specs.Ended.{Moment, IsEndOf, IsPlainEnd, IsRun, IsUnrun}
 use Rattle.netsim.specs.Requests.{Asked, Check, Plain, Help, Version}
-use Rattle.netsim.specs.Statuses.{IfPlain, IsPlainWith, IsLoadFaultLine, IsReadFault, IsRunHeld, IsRunBroken, AreRunFilesHeld}
-use Rattle.netsim.specs.Texts.{line_of_read_fault}
+use Rattle.netsim.specs.Statuses.{IfPlain, IsRunHeld, IsRunBroken, AreRunFilesHeld}
 
 never_unrun : (X : Type 0) (before after : Moment) (e : Ended) → (e ≡ ended.Memory → ⊥) → IsUnrun before after e → X
 never_unrun X before after e never unrun = absurd (never unrun.0)

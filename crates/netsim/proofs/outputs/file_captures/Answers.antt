@@ -1,8 +1,5 @@
-use Rattle.std.proofs.Common.{◌≡◌, ◌<◌, ◌+◌, ◌∷◌, [], drop, length, get_or, rules, arith}
-use Rattle.netsim.specs.Reading.{IsBroken}
+use Rattle.std.proofs.Common.{◌<◌, length, rules}
 use Rattle.netsim.specs.Runs.{capture_files}
-use Rattle.netsim.specs.Texts.{name_of_capture}
-use Rattle.run_texts.specs.Captures.{pcap_of_taken}
 use Rattle.netsim.specs.declared.ended.Ended.{Ended}
 use Rattle.netsim.proofs.Filed.{captures-next, captures-end, left-broken, left-none, on-err}
 use Rattle.netsim.proofs.outputs.file_captures.Goals as goal

@@ -1,4 +1,4 @@
-use Rattle.std.proofs.Common.{◌≡◌, ◌≤◌, drop}
+use Rattle.std.proofs.Common.{◌≤◌, drop}
 use Rattle.netsim.specs.Runs.{capture_files}
 use Rattle.netsim.proofs.Filed.{IsLeft}
 use Rattle.netsim.proofs.outputs.file_captures.Given as goal

@@ -1,5 +1,4 @@
-use Rattle.std.proofs.Common.{refl, rules, ◌≡◌, ◌≤◌, ◌∙◌, arith}
-use Rattle.load_files.specs.Loaded.{IsLoaded, Whole}
+use Rattle.std.proofs.Common.{◌∙◌, arith}
 use Rattle.netsim.specs.Ended.{Moment}
 use Rattle.netsim.proofs.Ran.{IsRead, plain-ran, plain-unloaded, loaded-before}
 use Rattle.netsim.proofs.plain.plain.Goals as goal
