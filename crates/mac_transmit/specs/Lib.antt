@@ -4,3 +4,4 @@ pub mod Laws
 pub mod Resuming
 pub mod Sender
 pub mod Starts
+pub mod Attempts

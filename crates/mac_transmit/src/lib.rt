@@ -10,7 +10,7 @@ mod transmitter;
 mod turn;
 
 pub use deference::Defer;
-pub use laws::{deaf_gaps_are_kept, gaps_are_kept};
+pub use laws::{attempts_are_lawful, deaf_gaps_are_kept, gaps_are_kept};
 pub use phase::Phase;
 pub use state::SenderState;
 pub use transmitter::{SendStep, Transmitter};

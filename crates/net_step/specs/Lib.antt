@@ -5,3 +5,5 @@ pub mod Runnable
 pub mod Times
 pub mod Wires
 pub mod Kept
+pub mod Attempts
+pub mod Signals

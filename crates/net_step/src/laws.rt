@@ -3,6 +3,7 @@ ghost use Rattle.std.specs.Prelude.{◌≡◌, ◌≤◌, ◌<◌, ◌+◌, ℕ,
 ghost use Rattle.layout_file.specs.declared.layout.PortLine.{PortLine};
 ghost use Rattle.load_plan.specs.declared.plan.Plan.{Plan};
 ghost use Rattle.net_step.specs.Net.{net, emitted_before};
+ghost use Rattle.net_step.specs.Signals.{CablesCarry, RepeatersRepeat, AttemptsAreLawful, AttemptsAreLogged};
 ghost use Rattle.net_step.specs.Taps.{taps_of, heard_of};
 ghost use Rattle.net_step.specs.Times.{heard, emitted, decided, earlier, port_delays};
 
@@ -25,4 +26,26 @@ pub fn taps_hear_others()
 pub fn ports_emit_late()
     ensures { (plan : Plan) (t e : ℕ) → e < length (flat_map (λ r. r.ports) plan.layout.repeaters) →
         emitted plan (length plan.layout.stations + e) t ≡ earlier (decided plan e) t (slice_index (port_delays plan.layout) e) }
+{}
+
+/// What a tap emits, each other tap of its segment hears as many half bits later as it is away (clause 8, in the profile's
+/// half bits).
+pub fn cables_carry()
+    ensures { CablesCarry }
+{}
+
+/// What an open port of a repeater hears, each of its other ports that doesn't rest then emits, after the repeater's delay: a
+/// signal, though not that symbol (clause 9).
+pub fn repeaters_repeat()
+    ensures { RepeatersRepeat }
+{}
+
+/// Each attempt of a station in the network of a plan whose queues hold frames keeps what a sender promises.
+pub fn attempts_are_lawful()
+    ensures { AttemptsAreLawful }
+{}
+
+/// An attempt that ends within the run has its row among the rows of the run, in the half bit of its end.
+pub fn attempts_are_logged()
+    ensures { AttemptsAreLogged }
 {}

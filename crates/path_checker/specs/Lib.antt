@@ -1,3 +1,4 @@
 pub mod Stops
 pub mod Far
 pub mod Verdicts
+pub mod Propagation

@@ -2,6 +2,7 @@
 #![tactic(auto)]
 
 mod far;
+pub mod laws;
 mod stops;
 mod table;
 mod verdict;

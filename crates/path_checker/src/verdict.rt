@@ -3,6 +3,7 @@ ghost use Rattle.std.specs.Prelude.{◌≡◌, ◌<◌, ◌≤◌, ◌↔◌, If
 ghost use Rattle.std.specs.Option.{ForSome};
 ghost use Rattle.layout_file.specs.Sound.{IsSound};
 ghost use Rattle.path_checker.specs.Far.{IsFarthest, IsRight};
+ghost use Rattle.path_checker.specs.Propagation.{IsKept};
 ghost use Rattle.path_checker.specs.Verdicts.{IsVerdict, IsApart, IsWorstBelow, longer_of, verdict_of};
 ghost use Rattle.path_checker.specs.Stops.{IsNetworkOf};
 
@@ -117,6 +118,10 @@ pub fn check_paths(alloc: Global, layout: &Layout) -> Result<PathVerdict, OutOfM
     requires { IsSound layout.now }
     ensures no_pair { IfOk result (λ v. (v ≡ PathVerdict.NoPair) ↔ (length layout.now.stations < 2)) }
     ensures verdict { IfOk result (IsVerdict layout.now) }
+
+    // Where the verdict is Within, any two attempts of different stations that overlap over an open path are both hit below
+    // position 1,022, in every plan with this network.
+    ensures detected { IfOk result (IsKept layout.now) }
 {
     let network = network_of(alloc, layout)?;
     let mut table = open_table(alloc, layout.repeaters.len())?;

@@ -13,7 +13,7 @@ use Rattle.repeater_core.specs.Modes.{IsMode, count_of, jams_of, activity_from, 
 use Rattle.repeater_core.specs.Counts.{Count, Choice, choice, choice_awake, choices_from, resting_count}
 use Rattle.repeater_core.specs.Delayed.{Delayed, moved_on}
 use Rattle.repeater_core.specs.Laws.{HasNoClash, SendsNothing, IsLongFor, count_at, AreLong, RestInSilence, Repeats, EndsLong}
-use Rattle.repeater_core.specs.Step.{State, IsState, guards_after}
+use Rattle.repeater_core.specs.Step.{State, IsState, guards_after, SignalsAreRepeated}
 use Rattle.repeater_core.proofs.Wishes.{choose, IsWishFor, wish_is, IsRepeatable, repeatable, hears_as, Has, active, mode_sends, sends_to_others}
 use Rattle.repeater_core.proofs.Long.{output_is_long}
 
@@ -194,6 +194,10 @@ repeats gs ss mode cs len = λ p q lp lq d o h r.
     let wish = wish_is ss after' q (repeatable ss mode a (hears_as 0 gs ss)) in
     subst (λ s. s ≢ sy.Idle) (sym (at_port (λ c. c.symbol) after' ss cs q sy.Idle lc))
     (busy_choice (wish_of after' ss q) (count_at cs q) (λ e. sends (wish.nothing e)) (sym (at_port (λ c. c.rests) after' ss cs q true lc) ∙ r))
+
+pub signals : SignalsAreRepeated
+unfolding chosen mode_next
+signals r hears len = repeats r.guards hears r.mode r.counts len
 
 no_rest : (rest run : ℕ) → (0 < rest → run ≡ 0) → 0 < run → rest ≡ 0
 no_rest zero run f h = refl

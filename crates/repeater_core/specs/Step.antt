@@ -9,7 +9,7 @@ use Rattle.repeater_core.specs.declared.modes.Mode.{Mode}
 use Rattle.repeater_core.specs.declared.modes.Mode.TheVariants.{Idle}
 use Rattle.repeater_core.specs.Modes.{is_busy, IsMode, activity_from, mode_after, is_tx_clash}
 use Rattle.repeater_core.specs.Counts.{Count, resting_count, Choice, choices_from}
-use Rattle.repeater_core.specs.Laws.{HasNoClash, AreLong, RestInSilence}
+use Rattle.repeater_core.specs.Laws.{HasNoClash, AreLong, RestInSilence, Repeats}
 use Rattle.repeater_core.specs.Delayed.{Delayed, oldest, moved_on}
 
 -- a repeater: its mode, a guard and the counts of each port, and what is decided and not yet emitted
@@ -120,3 +120,9 @@ pub record IsState (r : State) : Type 0 where
   pub no_clash : HasNoClash r.line.rows
   pub long : AreLong r.mode r.counts
   pub silence : RestInSilence r.counts
+
+-- Whatever its ports hear, a repeater repeats it: what is decided for every other port that does not rest is not Idle.
+abbrev pub SignalsAreRepeated : Type 0
+SignalsAreRepeated =
+    (r : State) (hears : List Sym) → length hears ≡ length r.guards
+    → Repeats (map (λ g. g.closed) r.guards) hears (resting_by hears r) (decided_by hears r)

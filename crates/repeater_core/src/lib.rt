@@ -3,12 +3,14 @@
 
 mod calm;
 mod counts;
+mod laws;
 mod line;
 mod masks;
 mod modes;
 mod ports;
 mod repeater;
 
+pub use laws::signals_are_repeated;
 pub use modes::Mode;
 pub use repeater::{Repeater, RepeaterEvents};
 

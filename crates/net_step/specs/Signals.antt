@@ -1,0 +1,37 @@
+-- How a signal goes on in the network of a plan, and what is known of the attempts there.
+use Rattle.std.specs.Prelude.{ℕ, ◌≡◌, ◌≢◌, ◌+◌, ◌<◌, Contains}
+use Rattle.manchester_line.specs.declared.Sym.TheVariants.{Idle}
+use Rattle.collision_log.specs.declared.row.Row.{Row}
+use Rattle.layout_file.specs.declared.ways.Tap.{Tap}
+use Rattle.layout_file.specs.declared.ways.Way.TheVariants as way
+use Rattle.layout_file.specs.Paths.{IsStep, step_length}
+use Rattle.load_plan.specs.declared.plan.Plan.{Plan}
+use Rattle.mac_transmit.specs.Attempts.{Attempt, IsLawful}
+use Rattle.mac_transmit.specs.Sender.{end_event}
+use Rattle.net_step.specs.Attempts.{tap_number, sender_at, IsOpen, IsAwake, IsAttempt, HasFrames}
+use Rattle.net_step.specs.Outputs.{rows, half_bits}
+use Rattle.net_step.specs.Times.{heard, emitted}
+
+-- What a tap emits, each other tap of its segment hears as many half bits later as it is away.
+abbrev pub CablesCarry : Type 0
+CablesCarry =
+    (plan : Plan) (a b : Tap) (t : ℕ) → IsStep plan.layout way.Cable a b → emitted plan (tap_number plan.layout a) t ≢ Idle
+    → heard plan (tap_number plan.layout b) (t + step_length plan.layout way.Cable a b) ≢ Idle
+
+-- What an open port of a repeater hears, each other port that does not rest then emits after the repeater's delay.
+abbrev pub RepeatersRepeat : Type 0
+RepeatersRepeat =
+    (plan : Plan) (a b : Tap) (t : ℕ) → IsStep plan.layout way.Repeater a b → IsOpen plan a t → IsAwake plan b t → heard plan (tap_number plan.layout a) t ≢ Idle
+    → emitted plan (tap_number plan.layout b) (t + step_length plan.layout way.Repeater a b) ≢ Idle
+
+-- An attempt of a station in a network keeps what a sender promises.
+abbrev pub AttemptsAreLawful : Type 0
+AttemptsAreLawful = (plan : Plan) → HasFrames plan → (k : ℕ) (a : Attempt) → IsAttempt plan k a → IsLawful (emitted plan k) (heard plan k) a
+
+-- The row that the end of an attempt leaves.
+abbrev pub row_of_attempt : Plan → ℕ → Attempt → Row
+row_of_attempt plan k a = record { t = a.end; device = k; body = end_event (sender_at plan k a.end) a.start a.hit }
+
+-- An attempt that ends within the run has its row there.
+abbrev pub AttemptsAreLogged : Type 0
+AttemptsAreLogged = (plan : Plan) (k : ℕ) (a : Attempt) → IsAttempt plan k a → a.end < half_bits plan → Contains (rows plan) (row_of_attempt plan k a)
