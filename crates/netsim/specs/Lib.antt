@@ -5,3 +5,4 @@ pub mod Verdicts
 pub mod Runs
 pub mod Ended
 pub mod Statuses
+pub mod Detected

@@ -6,6 +6,7 @@ ghost use Rattle.outside.specs.Files.{IsAbsent, Rose};
 ghost use Rattle.layout_file.specs.declared.fault.LayoutFault.{LayoutFault};
 ghost use Rattle.layout_file.specs.declared.layout.Layout.{Layout};
 ghost use Rattle.load_files.specs.Loaded.{IsLoaded, Whole};
+ghost use Rattle.netsim.specs.Detected.{AreRunCollisionsDetected};
 ghost use Rattle.netsim.specs.Ended.{IsEnd, IsJudged, HasFault};
 ghost use Rattle.netsim.specs.Reading.{IsSaid, IsCutShort, added};
 ghost use Rattle.netsim.specs.Requests.{asked};
@@ -100,6 +101,10 @@ pub fn netsim<R: Threads + Wait + Sync, S: Store, K: Sink, G: Gate>(
     // Done: the store holds the files of the run of the layout and the loads held at entry, nothing else is changed, and the
     // sink got the summary; or the sink got the line of the layout's path verdict; or it got the fixed text.
     ensures done { result ≡ 0 → IfPlain (asked words.now) (λ layout prefix. IsRunHeld layout prefix (S.held store.old) (S.held store.new) (K.written out.old) (K.written out.new)) }
+
+    // In a layout that is within, of two attempts of different stations that overlap over an open path each that ends within
+    // the run has a line in the log, with a hit before the 512th bit.
+    ensures detected { result ≡ 0 → IfPlain (asked words.now) (λ layout prefix. AreRunCollisionsDetected layout (S.held store.old)) }
     ensures check_done { result ≡ 0 → IfCheck (asked words.now) (λ layout. IsVerdictAdded layout (S.held store.old) (K.written out.old) (K.written out.new)) }
     ensures text_done { result ≡ 0 → IfText (asked words.now) (λ text. K.written out.new ≡ added text (K.written out.old)) }
 
