@@ -13,7 +13,7 @@ use Rattle.repeater_core.specs.Modes.{IsMode, count_of, jams_of, activity_from, 
 use Rattle.repeater_core.specs.Counts.{Count, Choice, choice, choice_awake, choices_from, resting_count}
 use Rattle.repeater_core.specs.Delayed.{Delayed, moved_on}
 use Rattle.repeater_core.specs.Laws.{HasNoClash, SendsNothing, IsLongFor, count_at, AreLong, RestInSilence, Repeats, EndsLong}
-use Rattle.repeater_core.specs.Step.{State, IsState, guards_after, SignalsAreRepeated}
+use Rattle.repeater_core.specs.Step.{State, IsState, guards_after, mode_next, chosen, SignalsAreRepeated}
 use Rattle.repeater_core.proofs.Wishes.{choose, IsWishFor, wish_is, IsRepeatable, repeatable, hears_as, Has, active, mode_sends, sends_to_others}
 use Rattle.repeater_core.proofs.Long.{output_is_long}
 
