@@ -23,6 +23,17 @@ const SHORT_HOP: &str =
 /// A third station c at 20 of the one segment.
 const THIRD: &str = "[[station]]\nname = \"c\"\nsegment = \"x\"\nat = 20\n";
 
+/// Stations a and b of one segment as far apart as may be in a layout that is within, and c beside b.
+const FAR: &str =
+    "format = 1\nseed = 1\n[[segment]]\nname = \"x\"\n[[station]]\nname = \"a\"\nsegment = \"x\"\nat = 0\n[[station]]\nname = \"b\"\nsegment = \"x\"\nat = 415\n[[station]]\nname = \"c\"\nsegment = \"x\"\nat = 414\n";
+
+/// Frames that b sends just before a's signal comes to it, and that b and c send at once.
+const SEND_B_JUST_BEFORE: &str =
+    "[[send]]\nstation = \"b\"\nat = 414\noctets = \"ffffffffffff0200000000010800\"\n";
+
+const SEND_B_AND_C: &str =
+    "[[send]]\nstation = \"b\"\nat = 221\noctets = \"ffffffffffff0200000000010800\"\n[[send]]\nstation = \"c\"\nat = 221\noctets = \"ffffffffffff0200000000010800\"\n";
+
 /// A frame of 14 octets that a sends at 0, and the same by b at 0 and at 65.
 const SEND_A: &str =
     "[[send]]\nstation = \"a\"\nat = 0\noctets = \"ffffffffffff0200000000010800\"\n";
@@ -311,6 +322,40 @@ fn collisions(rt: HostRuntime) -> Result<(), OutOfMemory> {
             &rt,
             &short,
             "1152 station a sent frame 1 start 0 attempt 1\n1155 station b received octets 64\n"
+        )?
+    );
+    Ok(())
+}
+
+/// The path of a and b is 415 half bits long. The latest start of b before it hears a, at 414, gives the hits 414 + 415 and 1.
+/// The latest of all, at 415 + 191, comes where b is deaf to a in its gap, which began in half bit 414: its hit is 0, and a
+/// hears what c sent at 221 after 414 half bits.
+#[test]
+fn starts_at_the_limit(rt: HostRuntime) -> Result<(), OutOfMemory> {
+    let early = Case {
+        until_bits: 500,
+        tables: [FAR, SEND_A, SEND_B_JUST_BEFORE],
+        said: "within 1022 a b\nhalf_bits 1000\nsent 0 collided 2 late 0 given_up 0 cut 0 left 2 received 0 dropped 0 clash 0 closed 0 opened 0\n",
+        ..RUN
+    };
+    assert!(rt;
+        is_log(
+            &rt,
+            &early,
+            "606 station b collided frame 1 start 414 attempt 1 hit 1 draw 0\n894 station a collided frame 1 start 0 attempt 1 hit 829 draw 1\n"
+        )?
+    );
+    let late = Case {
+        until_bits: 400,
+        tables: [FAR, SEND_A, SEND_B_AND_C],
+        said: "within 1022 a b\nhalf_bits 800\nsent 0 collided 4 late 0 given_up 0 cut 0 left 3 received 0 dropped 0 clash 0 closed 0 opened 0\n",
+        ..RUN
+    };
+    assert!(rt;
+        is_log(
+            &rt,
+            &late,
+            "413 station b collided frame 1 start 221 attempt 1 hit 1 draw 0\n413 station c collided frame 1 start 221 attempt 1 hit 1 draw 0\n700 station a collided frame 1 start 0 attempt 1 hit 635 draw 1\n798 station b collided frame 1 start 606 attempt 2 hit 0 draw 0\n"
         )?
     );
     Ok(())
