@@ -9,3 +9,4 @@ pub mod Whole
 pub mod Soundness
 pub mod Lines
 pub mod Times
+pub mod Framed

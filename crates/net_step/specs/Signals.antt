@@ -1,10 +1,12 @@
 -- How a signal goes on in the network of a plan, and what is known of the attempts there.
-use Rattle.std.specs.Prelude.{ℕ, ◌≡◌, ◌≢◌, ◌+◌, ◌<◌, Contains}
+use Rattle.std.specs.Prelude.{ℕ, ◌≡◌, ◌≢◌, ◌+◌, ◌<◌, Contains, List}
+use Rattle.capture_file.specs.declared.entries.Record.{Record}
 use Rattle.manchester_line.specs.declared.Sym.TheVariants.{Idle}
 use Rattle.collision_log.specs.declared.row.Row.{Row}
 use Rattle.layout_file.specs.declared.ways.Tap.{Tap}
 use Rattle.layout_file.specs.declared.ways.Way.TheVariants as way
 use Rattle.layout_file.specs.Paths.{IsStep, step_length}
+use Rattle.load_plan.specs.Loads.{planned_queues}
 use Rattle.load_plan.specs.declared.plan.Plan.{Plan}
 use Rattle.mac_transmit.specs.Attempts.{Attempt, IsLawful}
 use Rattle.mac_transmit.specs.Sender.{end_event}
@@ -35,3 +37,7 @@ row_of_attempt plan k a = record { t = a.end; device = k; body = end_event (send
 -- An attempt that ends within the run has its row there.
 abbrev pub AttemptsAreLogged : Type 0
 AttemptsAreLogged = (plan : Plan) (k : ℕ) (a : Attempt) → IsAttempt plan k a → a.end < half_bits plan → Contains (rows plan) (row_of_attempt plan k a)
+
+-- The queues with which a plan is made hold frames.
+abbrev pub PlansHoldFrames : Type 0
+PlansHoldFrames = (plan : Plan) (loads : List (List Record)) → plan.queues ≡ planned_queues plan.layout loads → HasFrames plan

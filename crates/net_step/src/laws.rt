@@ -3,7 +3,7 @@ ghost use Rattle.std.specs.Prelude.{◌≡◌, ◌≤◌, ◌<◌, ◌+◌, ℕ,
 ghost use Rattle.layout_file.specs.declared.layout.PortLine.{PortLine};
 ghost use Rattle.load_plan.specs.declared.plan.Plan.{Plan};
 ghost use Rattle.net_step.specs.Net.{net, emitted_before};
-ghost use Rattle.net_step.specs.Signals.{CablesCarry, RepeatersRepeat, AttemptsAreLawful, AttemptsAreLogged};
+ghost use Rattle.net_step.specs.Signals.{CablesCarry, RepeatersRepeat, AttemptsAreLawful, AttemptsAreLogged, PlansHoldFrames};
 ghost use Rattle.net_step.specs.Taps.{taps_of, heard_of};
 ghost use Rattle.net_step.specs.Times.{heard, emitted, decided, earlier, port_delays};
 
@@ -48,4 +48,9 @@ pub fn attempts_are_lawful()
 /// An attempt that ends within the run has its row among the rows of the run, in the half bit of its end.
 pub fn attempts_are_logged()
     ensures { AttemptsAreLogged }
+{}
+
+/// The queues of a plan as it is made of a layout and its loads hold frames.
+pub fn plans_hold_frames()
+    ensures { PlansHoldFrames }
 {}

@@ -12,8 +12,8 @@ mod rows;
 mod segment;
 
 pub use laws::{
-    attempts_are_lawful, attempts_are_logged, cables_carry, history_is_time, ports_emit_late,
-    repeaters_repeat, taps_hear_others,
+    attempts_are_lawful, attempts_are_logged, cables_carry, history_is_time, plans_hold_frames,
+    ports_emit_late, repeaters_repeat, taps_hear_others,
 };
 pub use outputs::{Captures, Outputs, Taken, TakenList};
 pub use plain::{PlainNet, run_plain};
