@@ -1,9 +1,15 @@
 //! Worked examples, read from layout files.
-ghost use Rattle.std.specs.Prelude.{IfOk};
+ghost use Rattle.std.specs.Prelude.{◌≡◌, ◌≤◌, All, IfOk, length};
 ghost use Rattle.layout_file.specs.Sound.{IsSound};
+ghost use Rattle.path_checker.specs.Propagation.{CollisionsAreDetected};
 
 use crate::{PathVerdict, check_paths};
+use capture_file::Records;
+use collision_log::{Body, Row};
 use layout_file::{Layout, read_layout};
+use lists::OutOfMemory;
+use load_plan::{Plan, RecordsList, make_plan};
+use net_step::run_plain;
 use std::alloc::Global;
 use std::test::Fail;
 
@@ -152,6 +158,73 @@ fn layouts_are_judged(rt: HostRuntime) -> Result<(), Fail> {
     ];
     for (text, wanted) in cases {
         assert_eq!(rt; verdict(alloc, text)?, wanted, "{text}");
+    }
+    Ok(())
+}
+
+/// Stations a and b as far apart as may be in a layout that is within, and c beside b. All three send: b and c collide, and b
+/// starts again on top of a, to which it is deaf.
+const FAR: &str = "\
+format = 1
+seed = 1
+until_bits = 400
+segment = [{name = \"x\"}]
+station = [
+    {name = \"a\", segment = \"x\", at = 0},
+    {name = \"b\", segment = \"x\", at = 415},
+    {name = \"c\", segment = \"x\", at = 414},
+]
+send = [
+    {station = \"a\", at = 0, octets = \"ffffffffffff0200000000010800\"},
+    {station = \"b\", at = 221, octets = \"ffffffffffff0200000000010800\"},
+    {station = \"c\", at = 221, octets = \"ffffffffffff0200000000010800\"},
+]
+";
+
+/// No records for so many stations.
+fn no_loads(alloc: Global, stations: usize) -> Result<RecordsList, OutOfMemory>
+    ensures count { IfOk result (λ loads. length loads ≡ stations) }
+    ensures few { IfOk result (λ loads. All (λ rs. length rs ≤ 4000000000) loads) }
+{
+    let mut loads = RecordsList::new(alloc);
+    for _station in 0..stations {
+        loads.push(Records::new(alloc))?;
+    }
+    Ok(loads)
+}
+
+/// The plan of a layout that is within: its verdict promises that any two attempts of different stations that overlap over an
+/// open path are both hit in time, whatever a third one sends.
+fn plan_within(alloc: Global, text: &str) -> Result<Plan, Fail>
+    ensures { IfOk result CollisionsAreDetected }
+{
+    let layout = read(alloc, text)?;
+    let PathVerdict::Within { .. } = check_paths(alloc, &layout)? else {
+        return Err(Fail::from("not within"));
+    };
+    let loads = no_loads(alloc, layout.stations.len())?;
+    Ok(make_plan(alloc, layout, loads)?)
+}
+
+/// The hit of a row that ends an attempt of this station with a hit.
+fn hit_of(row: &Row, station: u32) -> Option<u32> {
+    match row.body {
+        Body::Collided { hit, .. } if row.device == station => Some(hit),
+        _ => None,
+    }
+}
+
+/// The attempts of a, and of b at its second start, overlap.
+#[test]
+fn a_plan_of_three_is_detected(rt: HostRuntime) -> Result<(), Fail> {
+    let alloc = rt.alloc();
+    let plan = plan_within(alloc, FAR)?;
+    let outputs = run_plain(alloc, &plan)?;
+    if let [_, _, of_a, of_b] = outputs.rows.as_slice() {
+        assert_eq!(rt; hit_of(of_a, 0), Some(635));
+        assert_eq!(rt; hit_of(of_b, 1), Some(0));
+    } else {
+        return Err(Fail::from("not four rows"));
     }
     Ok(())
 }
