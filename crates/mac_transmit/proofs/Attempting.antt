@@ -1,8 +1,7 @@
 -- What holds of a sender before each half bit of a run that has no end, given what it emitted and heard before.
-use Rattle.std.proofs.Common.{◌≡◌, ◌≢◌, ℕ, zero, suc, ◌+◌, ◌-◌, ◌*◌, ◌<◌, ◌≤◌, Bool, true, false, ltb, leb, eqb, ◌&&◌, not, Option, Some, None, List, length, get_or, refl, sym, ap, subst, ◌∙◌, inl, inr, arith}
+use Rattle.std.proofs.Common.{◌≡◌, ◌≢◌, ℕ, zero, suc, ◌+◌, ◌-◌, ◌*◌, ◌<◌, ◌≤◌, Bool, true, false, ltb, leb, eqb, ◌&&◌, not, Option, Some, None, List, length, refl, sym, ap, subst, ◌∙◌, inl, inr, arith}
 use Rattle.std.specs.Prelude.{◌⊎◌, if◌then◌else◌}
-use Rattle.std.proofs.lemmas.Bool.{cases_lt, and_parts, eqb-true}
-use Rattle.std.proofs.lemmas.Bool.Decides.{nat_tests}
+use Rattle.std.proofs.lemmas.Bool.{cases_lt, ltb-true, leb-true, leb-false, and_parts, eqb-true}
 use Rattle.manchester_line.specs.declared.Sym.{Sym}
 use Rattle.manchester_line.specs.declared.Sym.TheVariants.{Idle, Hi, Lo, Clash}
 use Rattle.frame_layout.specs.declared.queue.Ready.{Ready}
@@ -13,9 +12,10 @@ use Rattle.mac_transmit.specs.declared.phase.Phase.{Phase}
 use Rattle.mac_transmit.specs.declared.phase.Phase.TheVariants.{Rest, Waiting, Sending, Backoff}
 use Rattle.mac_transmit.specs.Deference.{deferred, free_of, watched}
 use Rattle.mac_transmit.specs.Laws.{loud_after}
-use Rattle.mac_transmit.specs.Sender.{Sender, new_sender, no_frame, frame_at, ready_at, line_length, length_of, symbol_of, hears, ended, has_ended, finished, promoted, deferring, is_free, started, hit_at, symbol_emitted, emitted_from, emitting, after_turn, sent}
+use Rattle.mac_transmit.specs.Sender.{Sender, new_sender, no_frame, frame_at, ready_at, line_length, length_of, symbol_of, hears, ended, finished, promoted, deferring, is_free, started, hit_at, symbol_emitted, emitted_from, emitting, after_turn, sent}
 use Rattle.mac_transmit.specs.Attempts.{Attempt, AreFrames, IsHitBy, IsLawful, Finishes, run, emits, AttemptsAreLawful}
 use Rattle.mac_transmit.proofs.Keeping.{choose, busy_stays}
+use Rattle.mac_transmit.proofs.Going.{sender}
 use Rattle.mac_transmit.proofs.Lines.{IsHitIn, jam_later, symbol_busy, length_least, length_enough}
 
 -- A station that starts hears Idle then, or heard Idle 192 half bits before.
@@ -51,9 +51,6 @@ record Holds (told heard : ℕ → Sym) (t : ℕ) (s : Sender) : Type 0 where
   frames : AreFrames s.queue
   phase : PhaseHolds told heard t (frame_at s.queue s.place) s.defer s.phase
   defer : DeferHolds heard t s.defer
-
-abbrev sender : List Ready → Drawing → ℕ → ℕ → Phase → Defer → ℕ → Option ℕ → ℕ → Sender
-sender q dr t pl p d at le lf = record { queue = q; draws = dr; t = t; place = pl; phase = p; defer = d; attempt = at; last_end = le; loud_from = lf }
 
 no_carrier : (s : Sym) → false ≡ hears s → s ≡ Idle
 no_carrier Idle e = refl
@@ -233,16 +230,13 @@ frame_of_queue : (q : List Ready) (pl : ℕ) → AreFrames q → pl < length q �
 unfolding frame_at
 frame_of_queue q pl frames l = frames pl no_frame l
 
-below_test : (p n : ℕ) → ltb p n ≡ true → p < n
-below_test p n e = grind (arith, nat_tests)
-
 promotes_from : (heard : ℕ → Sym) (t : ℕ) (q : List Ready) (dr : Drawing) (now pl : ℕ) (p : Phase) (d : Defer) (at : ℕ) (le : Option ℕ) (lf : ℕ)
     → IsStandingBy heard t (sender q dr now pl p d at le lf) → IsStandingBy heard t (promoted (sender q dr now pl p d at le lf))
 unfolding promoted
 promotes_from heard t q dr now pl Rest d at le lf h =
     let s : Sender = sender q dr now pl Rest d at le lf in
     choose (IsStandingBy heard t) (ltb pl (length q) && leb (ready_at q pl) now) (record s { phase = Waiting; attempt = 1 }) s
-    (λ e. record { time = h.time; frames = h.frames; phase = frame_of_queue q pl h.frames (below_test pl (length q) (and_parts _ _ e).0); defer = h.defer })
+    (λ e. record { time = h.time; frames = h.frames; phase = frame_of_queue q pl h.frames (ltb-true pl (length q) (and_parts _ _ e).0); defer = h.defer })
     (λ _. h)
 promotes_from heard t q dr now pl Waiting d at le lf h = h
 promotes_from heard t q dr now pl (Sending start hit) d at le lf h = absurd h.phase
@@ -279,9 +273,6 @@ ended_stands heard t s (Some hit) e frames text d =
 abbrev Follows : (ℕ → Sym) → (ℕ → Sym) → ℕ → Sender → Type 0
 Follows told heard t s = Emits told heard t (hears (heard t)) (after_turn (promoted s) (hears (heard t)))
 
-not_over : (n t : ℕ) → leb n t ≡ false → t < n
-not_over n t e = grind (arith, nat_tests)
-
 step_from : (told heard : ℕ → Sym) (q : List Ready) (dr : Drawing) (t pl : ℕ) (p : Phase) (d : Defer) (at : ℕ) (le : Option ℕ) (lf : ℕ)
     → Holds told heard t (sender q dr t pl p d at le lf) → Follows told heard t (finished (sender q dr t pl p d at le lf))
 unfolding finished promoted
@@ -298,7 +289,7 @@ step_from told heard q dr t pl (Sending start hit) d at le lf h =
     let s : Sender = sender q dr t pl (Sending start hit) d at le lf in
     choose (Follows told heard t) (leb (start + length_of (frame_at q pl) hit) t) (ended s hit) s
     (λ _. stands told heard t (promoted (ended s hit)) (promotes heard t (ended s hit) (ended_stands heard t s hit refl h.frames h.phase.0.text h.defer)))
-    (λ e. going_on told heard q dr t pl start hit d at le lf (hears (heard t)) refl h (not_over (start + length_of (frame_at q pl) hit) t e))
+    (λ e. going_on told heard q dr t pl start hit d at le lf (hears (heard t)) refl h (leb-false (start + length_of (frame_at q pl) hit) t e))
 
 -- one half bit
 step_holds : (told heard : ℕ → Sym) (t : ℕ) (s : Sender) → Holds told heard t s → told t ≡ (sent s (heard t)).emitted → Holds told heard (t + 1) (sent s (heard t)).state
@@ -326,9 +317,6 @@ deaf_gap heard start (inr e) u l hears = elim (cases_lt (u + 191) start) [
 under_way : (told heard : ℕ → Sym) (s : Sender) (t start : ℕ) (hit : Option ℕ) → s.phase ≡ Sending start hit → Holds told heard t s → IsUnderWay told heard t start hit (frame_at s.queue s.place)
 under_way told heard s t start hit e h = (let k : PhaseHolds told heard t (frame_at s.queue s.place) s.defer (Sending start hit) = subst (PhaseHolds told heard t (frame_at s.queue s.place) s.defer) e h.phase in k.0)
 
-over : (n t : ℕ) → leb n t ≡ true → n ≤ t
-over n t e = grind (arith, nat_tests)
-
 lawful : (told heard : ℕ → Sym) (a : Attempt) (octets : List ℕ) → IsUnderWay told heard a.end a.start a.hit octets → a.start + length_of octets a.hit ≤ a.end → IsLawful told heard a
 lawful told heard a octets h l =
     let within : a.end ≤ a.start + length_of octets a.hit = h.within in
@@ -342,7 +330,7 @@ lawful told heard a octets h l =
 
 finishes_lawful : (told heard : ℕ → Sym) (a : Attempt) (s : Sender) → Holds told heard a.end s → Finishes s a → IsLawful told heard a
 finishes_lawful told heard a s h is =
-    let done : a.start + length_of (frame_at s.queue s.place) a.hit ≤ s.t = over (a.start + length_of (frame_at s.queue s.place) a.hit) s.t is.over in
+    let done : a.start + length_of (frame_at s.queue s.place) a.hit ≤ s.t = leb-true (a.start + length_of (frame_at s.queue s.place) a.hit) s.t is.over in
     let time : s.t ≡ a.end = h.time in
     lawful told heard a (frame_at s.queue s.place) (under_way told heard s a.end a.start a.hit is.sending h) (omega arith)
 

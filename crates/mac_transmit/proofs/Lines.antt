@@ -1,7 +1,7 @@
 -- What a sending emits is never Idle, and how long it is.
-use Rattle.std.proofs.Common.{◌≡◌, ◌≢◌, ℕ, ◌+◌, ◌*◌, ◌/◌, ◌-◌, ◌%◌, ◌<◌, ◌≤◌, Bool, true, false, ltb, eqb, Option, Some, None, List, length, inl, inr, arith}
+use Rattle.std.proofs.Common.{◌≡◌, ◌≢◌, ℕ, ◌+◌, ◌*◌, ◌-◌, ◌%◌, ◌<◌, ◌≤◌, Bool, true, false, ltb, eqb, Option, Some, None, List, length, inl, inr, arith}
 use Rattle.std.specs.Prelude.{◌||◌}
-use Rattle.std.proofs.lemmas.Bool.{cond_both, cases_lt, ltb-false}
+use Rattle.std.proofs.lemmas.Bool.{cond_both, cases_lt, ltb-true}
 use Rattle.std.proofs.lemmas.Bool.Decides.{nat_tests}
 use Rattle.manchester_line.specs.declared.Sym.{Sym}
 use Rattle.manchester_line.specs.declared.Sym.TheVariants.{Idle, Hi, Lo}
@@ -50,14 +50,11 @@ line_busy octets p l =
       | inr high ↦ busy_at _ _ (line_at_octet octets p (p - 128) high (omega arith) (omega arith)) (half_busy _ _)
     ]
 
-below_test : (p n : ℕ) → ltb p n ≡ true → p < n
-below_test p n e = grind (arith, nat_tests)
-
 pub symbol_busy : (octets : List ℕ) (hit : Option ℕ) (p : ℕ) → IsHitIn hit (line_length octets) → p < length_of octets hit → symbol_of octets hit p ≢ Idle
 symbol_busy octets None p h l = line_busy octets p l
 symbol_busy octets (Some hit) p h l =
     cond_both (ltb p (jam_start hit)) (line_at octets p) (jam_at (p - jam_start hit)) (λ s. s ≢ Idle)
-    (λ e. line_busy octets p (let w : jam_start hit ≤ line_length octets = jam_within hit (line_length octets) (length octets) h (text_length octets) in (let b : p < jam_start hit = below_test p (jam_start hit) e in omega arith)))
+    (λ e. line_busy octets p (let w : jam_start hit ≤ line_length octets = jam_within hit (line_length octets) (length octets) h (text_length octets) in (let b : p < jam_start hit = ltb-true p (jam_start hit) e in omega arith)))
     (λ _. jam_busy (p - jam_start hit))
 
 pub length_least : (octets : List ℕ) (hit : Option ℕ) → 64 ≤ length octets → 192 ≤ length_of octets hit
