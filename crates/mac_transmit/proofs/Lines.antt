@@ -15,11 +15,11 @@ abbrev pub IsHitIn : Option ℕ → ℕ → Type 0
 IsHitIn None n = Unit {0}
 IsHitIn (Some hit) n = hit < n
 
-pub text_length : (octets : List ℕ) → line_length octets ≡ 128 + 16 * length octets
+text_length : (octets : List ℕ) → line_length octets ≡ 128 + 16 * length octets
 unfolding line_length
 text_length octets = length_line octets
 
-pub jam_least : (hit : ℕ) → 128 ≤ jam_start hit
+jam_least : (hit : ℕ) → 128 ≤ jam_start hit
 jam_least hit = grind (arith, nat_tests)
 
 pub jam_later : (hit : ℕ) → hit < jam_start hit
