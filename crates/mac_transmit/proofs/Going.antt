@@ -26,7 +26,7 @@ pub record Follows (s s' : Sender) (e : Option Body) : Type 0 where
   pub end : s'.last_end ≡ end_after s.last_end s.t e
   pub loud : s'.loud_from ≡ s.loud_from
 
-abbrev sender : List Ready → Drawing → ℕ → ℕ → Phase → Defer → ℕ → Option ℕ → ℕ → Sender
+abbrev pub sender : List Ready → Drawing → ℕ → ℕ → Phase → Defer → ℕ → Option ℕ → ℕ → Sender
 sender q dr t pl p d at le lf = record { queue = q; draws = dr; t = t; place = pl; phase = p; defer = d; attempt = at; last_end = le; loud_from = lf }
 
 busy_ends : (t loud : ℕ) (d : Defer) → d ≡ Busy true → DeferIsSound t (Some t) loud d

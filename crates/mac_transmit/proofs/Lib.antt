@@ -3,3 +3,5 @@ pub mod Keeping
 pub mod Calming
 pub mod Resumes
 pub mod Going
+pub mod Lines
+pub mod Attempting

@@ -56,13 +56,10 @@ pub record IsLawful (emitted heard : ℕ → Sym) (a : Attempt) : Type 0 where
   -- Length: at least 192 half bits, and 1,152 without a hit.
   pub long : a.start + 192 ≤ a.end
   pub goes_on : GoesOn a.hit a.start a.end
-
   -- It emits something in each of its half bits.
   pub busy : (t : ℕ) → IsSending a t → emitted t ≢ Idle
-
   -- It has a hit by each half bit in which the station hears something.
   pub heeds : (p : ℕ) → a.start + p < a.end → heard (a.start + p) ≢ Idle → IsHitBy a.hit p
-
   -- Deaf gap: where the station hears something from u up to the start, that is at most 191 half bits after u.
   pub deaf : (u : ℕ) → u < a.start → ((t : ℕ) → u ≤ t → t ≤ a.start → heard t ≢ Idle) → a.start ≤ u + 191
 

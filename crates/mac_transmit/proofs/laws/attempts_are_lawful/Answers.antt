@@ -1,0 +1,5 @@
+use Rattle.mac_transmit.proofs.Attempting.{attempts_are_lawful}
+use Rattle.mac_transmit.proofs.laws.attempts_are_lawful.Goals as goal
+
+pub returns : goal.returns
+returns c = attempts_are_lawful
