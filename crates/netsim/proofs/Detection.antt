@@ -14,18 +14,16 @@ use Rattle.load_plan.specs.Loads.{Offer, raised, offers_of_load, offers_of_sends
 use Rattle.load_plan.specs.declared.plan.Plan.{Plan}
 use Rattle.mac_transmit.specs.Attempts.{Attempt, AreFrames, IsHitBelow}
 use Rattle.mac_transmit.specs.Sender.{Sender, end_event}
-use Rattle.net_step.specs.Attempts.{IsAttempt, OverlapOpenly, HasFrames, sender_at}
+use Rattle.net_step.specs.Attempts.{IsAttempt, sender_at}
 use Rattle.net_step.specs.Outputs.{rows, half_bits}
-use Rattle.net_step.specs.Signals.{AttemptsAreLogged, row_of_attempt}
+use Rattle.net_step.specs.Signals.{row_of_attempt}
 use Rattle.outside.specs.Files.{Files}
-use Rattle.path_checker.specs.Propagation.{HasNetworkOf, IsKept}
-use Rattle.path_checker.specs.Verdicts.{IsVerdict}
-use Rattle.path_checker.specs.declared.verdict.PathVerdict.{PathVerdict}
+use Rattle.path_checker.specs.Propagation.{HasNetworkOf}
 use Rattle.path_checker.specs.declared.verdict.PathVerdict.TheVariants.{Within}
 use Rattle.run_texts.specs.Texts.{line_of_row, lines_of_rows, log_of_rows}
 use Rattle.netsim.specs.Detected.{ShowsHit, HasLine, IsDetected, AreDetected, IsWithin, AreRunCollisionsDetected}
 use Rattle.netsim.specs.Requests.{Asked, Check, Plain, Help, Version}
-use Rattle.netsim.specs.Runs.{IsPlanOf, log}
+use Rattle.netsim.specs.Runs.{IsPlanOf}
 use Rattle.netsim.specs.Statuses.{IfPlain}
 use Rattle.netsim.proofs.Foundations.{kept, logged}
 

@@ -2,13 +2,14 @@
 use Rattle.layout_file.specs.declared.layout.Layout.{Layout}
 use Rattle.net_step.proofs.Logged.{attempts_logged}
 use Rattle.net_step.specs.Signals.{AttemptsAreLogged}
-use Rattle.path_checker.proofs.Detect.{kept as verdicts_are_kept}
+use Rattle.path_checker.proofs.Alike.{is_kept}
+use Rattle.path_checker.proofs.Grounds.{carries, repeats, lawful}
 use Rattle.path_checker.specs.Propagation.{IsKept}
 use Rattle.path_checker.specs.Verdicts.{IsVerdict}
 use Rattle.path_checker.specs.declared.verdict.PathVerdict.{PathVerdict}
 
 pub kept : (l : Layout) (v : PathVerdict) → IsVerdict l v → IsKept l v
-kept = verdicts_are_kept
+kept = is_kept carries repeats lawful
 
 pub logged : AttemptsAreLogged
 logged = attempts_logged
