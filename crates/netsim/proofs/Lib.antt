@@ -6,3 +6,5 @@ pub mod Known
 pub mod Told
 pub mod Filed
 pub mod Ran
+pub mod Foundations
+pub mod Detection

@@ -1,5 +1,6 @@
 use Rattle.netsim.specs.Requests.{asked}
 use Rattle.netsim.specs.declared.ended.Ended.TheVariants as ended
+use Rattle.netsim.proofs.Detection.{detected}
 use Rattle.netsim.proofs.Ends.{fault_only, read_only}
 use Rattle.netsim.proofs.Known.{load_only, complete, check_complete}
 use Rattle.netsim.proofs.Told.{done, write_files, broken, memory}
@@ -19,6 +20,9 @@ returns-in-Write-clause-read_only g c = read_only (asked c.args.words.now) _ _ e
 
 pub returns-in-Done-clause-done : goal.returns-in-Done-clause-done
 returns-in-Done-clause-done g c = λ is. done (asked c.args.words.now) _ _ c.in-Done.ensures
+
+pub returns-in-Done-clause-detected : goal.returns-in-Done-clause-detected
+returns-in-Done-clause-detected g c = λ is. detected (asked c.args.words.now) _
 
 pub returns-in-Read-clause-fault_only : goal.returns-in-Read-clause-fault_only
 returns-in-Read-clause-fault_only g c = fault_only (asked c.args.words.now) _ _ ended.Read c.in-Read.ensures
