@@ -1,18 +1,12 @@
 -- Where a layout is within, of two attempts that overlap over an open path each that ends within the run has a line in the log.
 use Rattle.std.proofs.Common.{◌≡◌, ℕ, zero, suc, ◌+◌, ◌<◌, ◌≤◌, ◌==◌, Bool, true, false, if◌then◌else◌, All, Contains, Option, Some, None, List, [], ◌∷◌, ◌++◌, length, max, slice_index_or, refl, sym, ap, subst, ◌∙◌, append_assoc, arith}
-use Rattle.std.proofs.lemmas.List.Elements.{All-nil, All-cons}
-use Rattle.capture_file.specs.declared.entries.Record.{Record}
 use Rattle.collision_log.specs.declared.row.Body.TheVariants.{Collided, GivenUp}
 use Rattle.collision_log.specs.declared.row.Row.{Row}
-use Rattle.frame_layout.proofs.Frames.{length-frame_of}
-use Rattle.frame_layout.specs.Frame.{frame_of}
-use Rattle.frame_layout.specs.declared.queue.Ready.{Ready}
 use Rattle.layout_file.specs.Sound.{device_names}
 use Rattle.layout_file.specs.declared.layout.Layout.{Layout}
-use Rattle.layout_file.specs.declared.layout.SendLine.{SendLine}
-use Rattle.load_plan.specs.Loads.{Offer, raised, offers_of_load, offers_of_sends, queue_of_load, queues_from, most_of, start_of, planned_queues}
+use Rattle.load_plan.specs.Loads.{planned_queues}
 use Rattle.load_plan.specs.declared.plan.Plan.{Plan}
-use Rattle.mac_transmit.specs.Attempts.{Attempt, AreFrames, IsHitBelow}
+use Rattle.mac_transmit.specs.Attempts.{Attempt, IsHitBelow}
 use Rattle.mac_transmit.specs.Sender.{Sender, end_event}
 use Rattle.net_step.specs.Attempts.{IsAttempt, sender_at}
 use Rattle.net_step.specs.Outputs.{rows, half_bits}
@@ -25,31 +19,7 @@ use Rattle.netsim.specs.Detected.{ShowsHit, HasLine, IsDetected, AreDetected, Is
 use Rattle.netsim.specs.Requests.{Asked, Check, Plain, Help, Version}
 use Rattle.netsim.specs.Runs.{IsPlanOf}
 use Rattle.netsim.specs.Statuses.{IfPlain}
-use Rattle.netsim.proofs.Foundations.{kept, logged}
-
--- a frame has at least 64 octets
-frame_is_long : (octets : List ℕ) → 64 ≤ length (frame_of octets)
-frame_is_long octets = omega (arith, length-frame_of octets)
-
-raised_frames : (last : ℕ) (offers : List Offer) → AreFrames (raised last offers)
-raised_frames last [] = All-nil (λ (r : Ready). 64 ≤ length r.frame)
-raised_frames last (o ∷ os) =
-    let next : Ready = record { at = max last o.at; frame = frame_of o.octets } in
-    All-cons (λ (r : Ready). 64 ≤ length r.frame) next (raised (max last o.at) os) (frame_is_long o.octets) (raised_frames (max last o.at) os)
-
-queue_frames : (start most : ℕ) (sends : List SendLine) (station : ℕ) (rs : List Record) → AreFrames (queue_of_load start most sends station rs)
-unfolding queue_of_load
-queue_frames start most sends station rs = raised_frames 0 (offers_of_load start most rs ++ offers_of_sends station sends)
-
-queues_frames : (start most : ℕ) (sends : List SendLine) (station : ℕ) (loads : List (List Record)) → All AreFrames (queues_from start most sends station loads)
-queues_frames start most sends station [] = All-nil AreFrames
-queues_frames start most sends station (rs ∷ rss) =
-    All-cons AreFrames (queue_of_load start most sends station rs) (queues_from start most sends (station + 1) rss) (queue_frames start most sends station rs)
-    (queues_frames start most sends (station + 1) rss)
-
-planned_frames : (network : Layout) (loads : List (List Record)) → All AreFrames (planned_queues network loads)
-unfolding planned_queues
-planned_frames network loads = queues_frames (start_of loads) (most_of network) network.sends 0 loads
+use Rattle.netsim.proofs.Foundations.{frames, kept, logged}
 
 -- the plan of a layout has its network, and queues of frames
 has_network : (held : Option Files) (network : Layout) (plan : Plan) → IsPlanOf held network plan → HasNetworkOf network plan
@@ -57,7 +27,7 @@ has_network held network plan planned = record {
   segments = ap (λ (l : Layout). l.segments) planned.layout;
   stations = ap (λ (l : Layout). l.stations) planned.layout;
   repeaters = ap (λ (l : Layout). l.repeaters) planned.layout;
-  frames = subst (All AreFrames) (sym planned.queues) (planned_frames network planned.loads);
+  frames = frames plan planned.loads (planned.queues ∙ ap (λ (l : Layout). planned_queues l planned.loads) (sym planned.layout));
 }
 
 -- a text with a line in it

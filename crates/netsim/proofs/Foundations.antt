@@ -1,7 +1,9 @@
--- What the law of detected collisions stands on: verdicts keep what they promise, and attempts are logged.
+-- What the law of detected collisions stands on: verdicts keep what they promise, attempts are logged, and plans hold
+-- frames.
 use Rattle.layout_file.specs.declared.layout.Layout.{Layout}
+use Rattle.net_step.proofs.Framed.{plans_hold_frames}
 use Rattle.net_step.proofs.Logged.{attempts_logged}
-use Rattle.net_step.specs.Signals.{AttemptsAreLogged}
+use Rattle.net_step.specs.Signals.{AttemptsAreLogged, PlansHoldFrames}
 use Rattle.path_checker.proofs.Alike.{is_kept}
 use Rattle.path_checker.proofs.Grounds.{carries, repeats, lawful}
 use Rattle.path_checker.specs.Propagation.{IsKept}
@@ -13,3 +15,6 @@ kept = is_kept carries repeats lawful
 
 pub logged : AttemptsAreLogged
 logged = attempts_logged
+
+pub frames : PlansHoldFrames
+frames = plans_hold_frames
