@@ -19,7 +19,7 @@ use Rattle.netsim.specs.Detected.{ShowsHit, HasLine, IsDetected, AreDetected, Is
 use Rattle.netsim.specs.Requests.{Asked, Check, Plain, Help, Version}
 use Rattle.netsim.specs.Runs.{IsPlanOf}
 use Rattle.netsim.specs.Statuses.{IfPlain}
-use Rattle.netsim.proofs.Foundations.{frames, kept, logged}
+use Rattle.netsim.proofs.Foundations.{kept, logged, queues_hold_frames}
 
 -- the plan of a layout has its network, and queues of frames
 has_network : (held : Option Files) (network : Layout) (plan : Plan) → IsPlanOf held network plan → HasNetworkOf network plan
@@ -27,7 +27,7 @@ has_network held network plan planned = record {
   segments = ap (λ (l : Layout). l.segments) planned.layout;
   stations = ap (λ (l : Layout). l.stations) planned.layout;
   repeaters = ap (λ (l : Layout). l.repeaters) planned.layout;
-  frames = frames plan planned.loads (planned.queues ∙ ap (λ (l : Layout). planned_queues l planned.loads) (sym planned.layout));
+  frames = queues_hold_frames plan planned.loads (planned.queues ∙ ap (λ (l : Layout). planned_queues l planned.loads) (sym planned.layout));
 }
 
 -- a text with a line in it

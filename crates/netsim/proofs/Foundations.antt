@@ -16,5 +16,5 @@ kept = is_kept carries repeats lawful
 pub logged : AttemptsAreLogged
 logged = attempts_logged
 
-pub frames : PlansHoldFrames
-frames = plans_hold_frames
+pub queues_hold_frames : PlansHoldFrames
+queues_hold_frames = plans_hold_frames
