@@ -22,17 +22,18 @@ IsClear plan w a [] t = Unit {0}
 IsClear plan way.Cable a (b ∷ bs) t = IsClear plan way.Repeater b bs (t + step_length plan.layout way.Cable a b)
 IsClear plan way.Repeater a (b ∷ bs) t = IsOpen plan a t × IsAwake plan b t × IsClear plan way.Cable b bs (t + step_length plan.layout way.Repeater a b)
 
--- Wave: what station a emits in half bit t, station b hears as many half bits later as the path between them is long, where the
--- wave's way is clear.
+-- Wave: what station a emits in half bit t, another station b hears as many half bits later as the path between them is long,
+-- where the wave's way is clear.
 abbrev pub WavesArrive : Type 0
 WavesArrive =
-    (plan : Plan) (a b t : ℕ) (path : Path) → IsPath plan.layout (Station a) path (Station b) → IsClear plan path.begins (Station a) path.taps t
+    (plan : Plan) (a b t : ℕ) (path : Path) → a ≢ b → IsPath plan.layout (Station a) path (Station b) → IsClear plan path.begins (Station a) path.taps t
     → emitted plan a t ≢ Idle → heard plan b (t + length_of plan.layout (Station a) path) ≢ Idle
 
--- Attempts of two stations that are d half bits apart, where twice d and a jam are less than the slot time; that of station a
--- does not start after that of b, and their path is open from the one start to d half bits after the other.
+-- Attempts of two different stations that are d half bits apart, where twice d and a jam are less than the slot time; that of
+-- station a does not start after that of b, and their path is open from the one start to d half bits after the other.
 pub record ArePaired (plan : Plan) (a b d : ℕ) (x y : Attempt) : Type 0 where
   pub frames : HasFrames plan
+  pub different : a ≢ b
   pub first : IsAttempt plan a x
   pub second : IsAttempt plan b y
   pub path : Path
