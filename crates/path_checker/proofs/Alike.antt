@@ -1,18 +1,17 @@
 -- Layouts with the same stations and repeaters have the same walks, and a verdict within the slot time bounds them all.
-use Rattle.std.proofs.Common.{◌≡◌, ◌≢◌, refl, sym, ◌∙◌, ap, subst, ℕ, ◌+◌, ◌*◌, ◌<◌, ◌≤◌, List, [], ◌∷◌, Option, Some, slice_get, arith}
-use Rattle.std.specs.Option.{option_map, option_and_then, unwrap_or}
+use Rattle.std.proofs.Common.{◌≡◌, ◌≢◌, refl, sym, ◌∙◌, ap, ℕ, ◌+◌, ◌*◌, ◌<◌, ◌≤◌, List, [], ◌∷◌, Option, arith}
+use Rattle.std.specs.Option.{option_map, unwrap_or}
 use Rattle.layout_file.specs.declared.layout.Layout.{Layout}
 use Rattle.layout_file.specs.declared.layout.PortLine.{PortLine}
 use Rattle.layout_file.specs.declared.ways.Tap.{Tap}
 use Rattle.layout_file.specs.declared.ways.Tap.TheVariants.{Station, Port}
 use Rattle.layout_file.specs.declared.ways.Way.{Way}
 use Rattle.layout_file.specs.declared.ways.Way.TheVariants as way
-use Rattle.layout_file.specs.Paths.{station_place, place, part_by, IsStep, other_way, IsWalk, distance, at_of, delay_of, step_length, walk_length, Path, IsPath, length_of, IsDistance}
-use Rattle.load_plan.specs.declared.plan.Plan.{Plan}
+use Rattle.layout_file.specs.Paths.{place, part_by, IsStep, other_way, IsWalk, distance, at_of, delay_of, step_length, walk_length, Path, IsPath, length_of}
 use Rattle.net_step.specs.Signals.{CablesCarry, RepeatersRepeat, AttemptsAreLawful}
 use Rattle.path_checker.specs.declared.verdict.PathVerdict.{PathVerdict}
 use Rattle.path_checker.specs.declared.verdict.PathVerdict.TheVariants.{Within, Over, NoPair}
-use Rattle.path_checker.specs.Propagation.{CollisionsAreDetected, HasNetworkOf, IsKept}
+use Rattle.path_checker.specs.Propagation.{IsKept}
 use Rattle.path_checker.specs.Verdicts.{IsRoundTrip, IsVerdict}
 use Rattle.path_checker.proofs.Detect.{both_detected}
 
@@ -49,7 +48,10 @@ module _ (m l : Layout) (stations : m.stations ≡ l.stations) (repeaters : m.re
   same_sum w a (t ∷ ts) =
       ap (λ (x : ℕ). x + walk_length l (other_way w) t ts) (sym (same_length w a t)) ∙ ap (λ (y : ℕ). step_length m w a t + y) (same_sum (other_way w) t ts)
 
-  path_below : (worst a b : ℕ) → ((x y rt : ℕ) → x ≢ y → IsRoundTrip l x y rt → rt ≤ worst) → a ≢ b → (path : Path) → IsPath m (Station a) path (Station b) → 2 * length_of m (Station a) path + 192 ≤ worst
+  -- no round trip in m is greater than the worst of l
+  path_below :
+      (worst a b : ℕ) → ((x y rt : ℕ) → x ≢ y → IsRoundTrip l x y rt → rt ≤ worst) → a ≢ b
+      → (path : Path) → IsPath m (Station a) path (Station b) → 2 * length_of m (Station a) path + 192 ≤ worst
   path_below worst a b greatest ne path leads =
       greatest a b (2 * length_of m (Station a) path + 192) ne
       record {

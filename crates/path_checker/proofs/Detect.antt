@@ -4,10 +4,10 @@ use Rattle.std.proofs.lemmas.Bool.{cases_lt}
 use Rattle.manchester_line.specs.declared.Sym.{Sym}
 use Rattle.manchester_line.specs.declared.Sym.TheVariants.{Idle}
 use Rattle.layout_file.specs.declared.ways.Tap.TheVariants.{Station}
-use Rattle.layout_file.specs.Paths.{Path, IsPath, length_of}
+use Rattle.layout_file.specs.Paths.{length_of}
 use Rattle.load_plan.specs.declared.plan.Plan.{Plan}
 use Rattle.mac_transmit.specs.Attempts.{Attempt, IsHitBy, IsHitBelow, GoesOn, IsLawful}
-use Rattle.net_step.specs.Attempts.{IsOpenPath, Overlap, OverlapOpenly, HasFrames}
+use Rattle.net_step.specs.Attempts.{Overlap, OverlapOpenly, HasFrames}
 use Rattle.net_step.specs.Signals.{CablesCarry, RepeatersRepeat, AttemptsAreLawful}
 use Rattle.net_step.specs.Times.{heard, emitted}
 use Rattle.path_checker.specs.Propagation.{ArePaired, EarlyStart, LateStart}
@@ -44,29 +44,33 @@ still_sending d x y (inr (u, h)) t l = omega (arith, h.0.0, h.1.1)
 
 -- two attempts, d half bits apart, of which x does not start after y; the waves of x between the two starts come to y, and
 -- the wave of y's start comes to x
-module _ (ex hx ey hy : ℕ → Sym) (d : ℕ) (x y : Attempt) (sx : IsLawful ex hx x) (sy : IsLawful ey hy y) (short : 2 * d + 192 < 1024) (first : x.start ≤ y.start) (there : (t : ℕ) → x.start ≤ t → t ≤ y.start → ex t ≢ Idle → hy (t + d) ≢ Idle) (back : ey y.start ≢ Idle → hx (y.start + d) ≢ Idle) where
+module _
+    (ex hx ey hy : ℕ → Sym) (d : ℕ) (x y : Attempt) (sx : IsLawful ex hx x) (sy : IsLawful ey hy y) (short : 2 * d + 192 < 1024) (first : x.start ≤ y.start)
+    (there : (t : ℕ) → x.start ≤ t → t ≤ y.start → ex t ≢ Idle → hy (t + d) ≢ Idle) (back : ey y.start ≢ Idle → hx (y.start + d) ≢ Idle) where
   y_is_heard : (p : ℕ) → p < 1152 → x.start + p ≡ y.start + d → IsHitBy x.hit p
   y_is_heard p l e =
       let long : y.start + 192 ≤ y.end = sy.long in
       hit_at ex hx x sx p l (same_time hx (y.start + d) (x.start + p) (omega arith) (back (sy.busy y.start (omega arith, omega arith))))
 
-  pub early : y.start ≤ x.start + d → IsHitBy y.hit d × IsHitBy x.hit (2 * d)
+  early : y.start ≤ x.start + d → IsHitBy y.hit d × IsHitBy x.hit (2 * d)
   early close =
       let p = y.start + d - x.start in
       let q = x.start + d - y.start in
       let long : x.start + 192 ≤ x.end = sx.long in
-      let hears : hy (y.start + q) ≢ Idle = same_time hy (x.start + d) (y.start + q) (omega arith) (there x.start (omega arith) first (sx.busy x.start (omega arith, omega arith))) in
+      let come : hy (x.start + d) ≢ Idle = there x.start (omega arith) first (sx.busy x.start (omega arith, omega arith)) in
+      let hears : hy (y.start + q) ≢ Idle = same_time hy (x.start + d) (y.start + q) (omega arith) come in
       (hit_later y.hit q d (omega arith) (hit_at ey hy y sy q (omega arith) hears), hit_later x.hit p (2 * d) (omega arith) (y_is_heard p (omega arith) (omega arith)))
 
-  pub late : x.start + d < y.start → Overlap d x y → (y.start ≤ x.start + d + 191) × IsHitBy y.hit 0 × IsHitBy x.hit (2 * d + 191)
+  late : x.start + d < y.start → Overlap d x y → (y.start ≤ x.start + d + 191) × IsHitBy y.hit 0 × IsHitBy x.hit (2 * d + 191)
   late far over =
-      let hears = λ (t : ℕ) (l : x.start + d ≤ t) (m : t ≤ y.start). same_time hy (t - d + d) t (omega arith) (there (t - d) (omega arith) (omega arith) (sx.busy (t - d) (omega arith, still_sending d x y over (t - d) (omega arith)))) in
+      let come = λ (t : ℕ) (l : x.start + d ≤ t) (m : t ≤ y.start). there (t - d) (omega arith) (omega arith) (sx.busy (t - d) (omega arith, still_sending d x y over (t - d) (omega arith))) in
+      let hears = λ (t : ℕ) (l : x.start + d ≤ t) (m : t ≤ y.start). same_time hy (t - d + d) t (omega arith) (come t l m) in
       let gap : y.start ≤ x.start + d + 191 = sy.deaf (x.start + d) far hears in
       let p = y.start + d - x.start in
       let now : hy (y.start + 0) ≢ Idle = same_time hy y.start (y.start + 0) (omega arith) (hears y.start (omega arith) (omega arith)) in
       (gap, hit_at ey hy y sy 0 (omega arith) now, hit_later x.hit p (2 * d + 191) (omega arith) (y_is_heard p (omega arith) (omega arith)))
 
-  pub in_order : Overlap d x y → IsHitBelow x.hit 1022 × IsHitBelow y.hit 1022
+  in_order : Overlap d x y → IsHitBelow x.hit 1022 × IsHitBelow y.hit 1022
   in_order over = elim (cases_lt (x.start + d) y.start) [
     | inl far ↦
         let h : (y.start ≤ x.start + d + 191) × IsHitBy y.hit 0 × IsHitBy x.hit (2 * d + 191) = late far over in
@@ -78,7 +82,9 @@ module _ (ex hx ey hy : ℕ → Sym) (d : ℕ) (x y : Attempt) (sx : IsLawful ex
 
 module _ (carries : CablesCarry) (repeats : RepeatersRepeat) (lawful : AttemptsAreLawful) where
   -- the waves of a pair, both ways
-  there : (plan : Plan) (a b d : ℕ) (x y : Attempt) → ArePaired plan a b d x y → (t : ℕ) → x.start ≤ t → t ≤ y.start → emitted plan a t ≢ Idle → heard plan b (t + d) ≢ Idle
+  there :
+      (plan : Plan) (a b d : ℕ) (x y : Attempt) → ArePaired plan a b d x y → (t : ℕ) → x.start ≤ t → t ≤ y.start
+      → emitted plan a t ≢ Idle → heard plan b (t + d) ≢ Idle
   there plan a b d x y h t l m s =
       let long : length_of plan.layout (Station a) h.path ≡ d = h.long in
       same_time (heard plan b) (t + length_of plan.layout (Station a) h.path) (t + d) (omega arith)
@@ -92,13 +98,18 @@ module _ (carries : CablesCarry) (repeats : RepeatersRepeat) (lawful : AttemptsA
 
   pub early_start : EarlyStart
   early_start plan a b d x y h close =
-      early (emitted plan a) (heard plan a) (emitted plan b) (heard plan b) d x y (lawful plan h.frames a x h.first) (lawful plan h.frames b y h.second) h.short h.in_order (there plan a b d x y h) (back plan a b d x y h) close
+      early (emitted plan a) (heard plan a) (emitted plan b) (heard plan b) d x y (lawful plan h.frames a x h.first) (lawful plan h.frames b y h.second) h.short h.in_order
+      (there plan a b d x y h) (back plan a b d x y h) close
 
   pub late_start : LateStart
   late_start plan a b d x y h far over =
-      late (emitted plan a) (heard plan a) (emitted plan b) (heard plan b) d x y (lawful plan h.frames a x h.first) (lawful plan h.frames b y h.second) h.short h.in_order (there plan a b d x y h) (back plan a b d x y h) far over
+      late (emitted plan a) (heard plan a) (emitted plan b) (heard plan b) d x y (lawful plan h.frames a x h.first) (lawful plan h.frames b y h.second) h.short h.in_order
+      (there plan a b d x y h) (back plan a b d x y h) far over
 
-  pub both_detected : (plan : Plan) → HasFrames plan → (a b : ℕ) (x y : Attempt) (h : OverlapOpenly plan a b x y) → 2 * length_of plan.layout (Station a) h.path + 192 < 1024 → IsHitBelow x.hit 1022 × IsHitBelow y.hit 1022
+  -- a round trip below the slot time, and the starts in either order
+  pub both_detected :
+      (plan : Plan) → HasFrames plan → (a b : ℕ) (x y : Attempt) (h : OverlapOpenly plan a b x y) → 2 * length_of plan.layout (Station a) h.path + 192 < 1024
+      → IsHitBelow x.hit 1022 × IsHitBelow y.hit 1022
   both_detected plan frames a b x y h short =
       let d = length_of plan.layout (Station a) h.path in
       let from = min x.start y.start in

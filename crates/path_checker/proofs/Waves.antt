@@ -1,5 +1,5 @@
 -- A signal goes on along a walk from tap to tap, and back along the same taps.
-use Rattle.std.proofs.Common.{◌≡◌, ◌≢◌, refl, sym, ◌∙◌, ap, subst, ℕ, suc, ◌+◌, ◌<◌, ◌≤◌, List, [], ◌∷◌, length, get_or, None, Some, arith}
+use Rattle.std.proofs.Common.{◌≡◌, ◌≢◌, refl, sym, ◌∙◌, ap, subst, ℕ, suc, ◌+◌, ◌≤◌, List, [], ◌∷◌, Some, arith}
 use Rattle.std.specs.List.{All}
 use Rattle.manchester_line.specs.declared.Sym.TheVariants.{Idle}
 use Rattle.layout_file.specs.declared.layout.Layout.{Layout}
@@ -33,11 +33,15 @@ plus_back t x y = omega arith
 plus_none : (t : ℕ) → t ≡ t + 0
 plus_none t = omega arith
 
-by_cable : (plan : Plan) → CablesCarry → (a b : Tap) (t : ℕ) → IsStep plan.layout way.Cable a b → IsSignal plan way.Cable a t → IsSignal plan way.Repeater b (t + step_length plan.layout way.Cable a b)
+by_cable :
+    (plan : Plan) → CablesCarry → (a b : Tap) (t : ℕ) → IsStep plan.layout way.Cable a b → IsSignal plan way.Cable a t
+    → IsSignal plan way.Repeater b (t + step_length plan.layout way.Cable a b)
 unfolding IsSignal
 by_cable plan carries a b t step s = carries plan a b t step s
 
-by_repeater : (plan : Plan) → RepeatersRepeat → (a b : Tap) (t : ℕ) → IsStep plan.layout way.Repeater a b → IsOpen plan a t → IsAwake plan b t → IsSignal plan way.Repeater a t → IsSignal plan way.Cable b (t + step_length plan.layout way.Repeater a b)
+by_repeater :
+    (plan : Plan) → RepeatersRepeat → (a b : Tap) (t : ℕ) → IsStep plan.layout way.Repeater a b → IsOpen plan a t → IsAwake plan b t
+    → IsSignal plan way.Repeater a t → IsSignal plan way.Cable b (t + step_length plan.layout way.Repeater a b)
 unfolding IsSignal
 by_repeater plan repeats a b t step unclosed awake s = repeats plan a b t step unclosed awake s
 
@@ -46,7 +50,9 @@ abbrev way_after : Way → List Tap → Way
 way_after w [] = w
 way_after w (t ∷ ts) = way_after (other_way w) ts
 
-wave : (plan : Plan) → CablesCarry → RepeatersRepeat → (w : Way) (a b : Tap) (ts : List Tap) (t : ℕ) → IsWalk plan.layout w a ts b → IsClear plan w a ts t → IsSignal plan w a t → IsSignal plan (way_after w ts) b (t + walk_length plan.layout w a ts)
+wave :
+    (plan : Plan) → CablesCarry → RepeatersRepeat → (w : Way) (a b : Tap) (ts : List Tap) (t : ℕ) → IsWalk plan.layout w a ts b → IsClear plan w a ts t
+    → IsSignal plan w a t → IsSignal plan (way_after w ts) b (t + walk_length plan.layout w a ts)
 wave plan carries repeats w a b [] t walk clear s = later plan w b t (t + 0) (plus_none t) (subst (λ (x : Tap). IsSignal plan w x t) walk s)
 wave plan carries repeats way.Cable a b (c ∷ cs) t walk clear s =
     let x = step_length plan.layout way.Cable a c in
@@ -82,7 +88,9 @@ after : (from t x : ℕ) → from ≤ t → from ≤ t + x
 after from t x m = omega arith
 
 -- an open walk is clear
-clear_of : (plan : Plan) (from to : ℕ) (w : Way) (a : Tap) (ts : List Tap) (t : ℕ) → IsUsable plan from to a → All (IsUsable plan from to) ts → from ≤ t → t + walk_length plan.layout w a ts ≤ to → IsClear plan w a ts t
+clear_of :
+    (plan : Plan) (from to : ℕ) (w : Way) (a : Tap) (ts : List Tap) (t : ℕ) → IsUsable plan from to a → All (IsUsable plan from to) ts
+    → from ≤ t → t + walk_length plan.layout w a ts ≤ to → IsClear plan w a ts t
 clear_of plan from to w a [] t first rest l m = tt
 clear_of plan from to way.Cable a (c ∷ cs) t first rest l m =
     let x = step_length plan.layout way.Cable a c in
@@ -114,7 +122,10 @@ length_back l way.Cable a b s = distance_comm (at_of l a) (at_of l b)
 length_back l way.Repeater a b s = same_delay l a b s.part s.from s.to
 
 -- A signal at the end of a walk that is about to go back over its last step comes to the tap where the walk began.
-wave_back : (plan : Plan) → CablesCarry → RepeatersRepeat → (from to : ℕ) (w : Way) (a b : Tap) (ts : List Tap) (t : ℕ) → IsWalk plan.layout w a ts b → IsUsable plan from to a → All (IsUsable plan from to) ts → from ≤ t → t + walk_length plan.layout w a ts ≤ to → IsSignal plan (other_way (way_after w ts)) b t → IsSignal plan (other_way w) a (t + walk_length plan.layout w a ts)
+wave_back :
+    (plan : Plan) → CablesCarry → RepeatersRepeat → (from to : ℕ) (w : Way) (a b : Tap) (ts : List Tap) (t : ℕ) → IsWalk plan.layout w a ts b
+    → IsUsable plan from to a → All (IsUsable plan from to) ts → from ≤ t → t + walk_length plan.layout w a ts ≤ to
+    → IsSignal plan (other_way (way_after w ts)) b t → IsSignal plan (other_way w) a (t + walk_length plan.layout w a ts)
 wave_back plan carries repeats from to w a b [] t walk first rest l m s = later plan (other_way w) a t (t + 0) (plus_none t) (subst (λ (x : Tap). IsSignal plan (other_way w) x t) (sym walk) s)
 wave_back plan carries repeats from to way.Cable a b (c ∷ cs) t walk first rest l m s =
     let x = step_length plan.layout way.Cable a c in
@@ -170,11 +181,17 @@ waves_arrive carries repeats plan a b t path ne leads clear s =
     (wave plan carries repeats path.begins (Station a) (Station b) path.taps t leads clear (sent plan path.begins a t ways.begins s))
 
 -- waves both ways along an open path
-pub waves : CablesCarry → RepeatersRepeat → (plan : Plan) (a b : ℕ) (path : Path) → a ≢ b → IsPath plan.layout (Station a) path (Station b) → (from to : ℕ) → IsOpenPath plan from to path → (t : ℕ) → from ≤ t → t + length_of plan.layout (Station a) path ≤ to → emitted plan a t ≢ Idle → heard plan b (t + length_of plan.layout (Station a) path) ≢ Idle
+pub waves :
+    CablesCarry → RepeatersRepeat → (plan : Plan) (a b : ℕ) (path : Path) → a ≢ b → IsPath plan.layout (Station a) path (Station b)
+    → (from to : ℕ) → IsOpenPath plan from to path → (t : ℕ) → from ≤ t → t + length_of plan.layout (Station a) path ≤ to
+    → emitted plan a t ≢ Idle → heard plan b (t + length_of plan.layout (Station a) path) ≢ Idle
 waves carries repeats plan a b path ne leads from to clear t l m s =
     waves_arrive carries repeats plan a b t path ne leads (clear_of plan from to path.begins (Station a) path.taps t (λ u i j. (tt, tt)) clear l m) s
 
-pub waves_back : CablesCarry → RepeatersRepeat → (plan : Plan) (a b : ℕ) (path : Path) → a ≢ b → IsPath plan.layout (Station a) path (Station b) → (from to : ℕ) → IsOpenPath plan from to path → (t : ℕ) → from ≤ t → t + length_of plan.layout (Station a) path ≤ to → emitted plan b t ≢ Idle → heard plan a (t + length_of plan.layout (Station a) path) ≢ Idle
+pub waves_back :
+    CablesCarry → RepeatersRepeat → (plan : Plan) (a b : ℕ) (path : Path) → a ≢ b → IsPath plan.layout (Station a) path (Station b)
+    → (from to : ℕ) → IsOpenPath plan from to path → (t : ℕ) → from ≤ t → t + length_of plan.layout (Station a) path ≤ to
+    → emitted plan b t ≢ Idle → heard plan a (t + length_of plan.layout (Station a) path) ≢ Idle
 waves_back carries repeats plan a b path ne leads from to clear t l m s =
     let ways : IsCabled plan.layout path.begins path.taps = cabled plan.layout a b path.begins path.taps ne leads in
     come_to plan (other_way path.begins) a (t + length_of plan.layout (Station a) path) (ap other_way ways.begins)
