@@ -1,15 +1,15 @@
 -- How signals reach other stations, and why stations whose attempts overlap both notice it (profile, in the manner of
 -- IEEE 802.3, 4.1.2.2 and clause 13). Half bits count from 0, and so do stations.
-use Rattle.std.specs.Prelude.{ℕ, ◌≡◌, ◌≢◌, ◌+◌, ◌*◌, ◌<◌, ◌≤◌, All, List, [], ◌∷◌}
+use Rattle.std.specs.Prelude.{ℕ, ◌≡◌, ◌≢◌, ◌+◌, ◌*◌, ◌<◌, ◌≤◌, List, [], ◌∷◌}
 use Rattle.manchester_line.specs.declared.Sym.TheVariants.{Idle}
 use Rattle.layout_file.specs.declared.layout.Layout.{Layout}
 use Rattle.layout_file.specs.declared.ways.Tap.{Tap}
 use Rattle.layout_file.specs.declared.ways.Tap.TheVariants.{Station}
 use Rattle.layout_file.specs.declared.ways.Way.{Way}
 use Rattle.layout_file.specs.declared.ways.Way.TheVariants as way
-use Rattle.layout_file.specs.Paths.{Path, IsPath, other_way, step_length, length_of}
+use Rattle.layout_file.specs.Paths.{Path, IsPath, step_length, length_of}
 use Rattle.load_plan.specs.declared.plan.Plan.{Plan}
-use Rattle.mac_transmit.specs.Attempts.{Attempt, IsHitBy, IsHitBelow, AreFrames}
+use Rattle.mac_transmit.specs.Attempts.{Attempt, IsHitBy, IsHitBelow}
 use Rattle.net_step.specs.Attempts.{IsOpen, IsAwake, IsOpenPath, IsAttempt, Overlap, OverlapOpenly, HasFrames}
 use Rattle.net_step.specs.Times.{heard, emitted}
 use Rattle.path_checker.specs.declared.verdict.PathVerdict.{PathVerdict}
