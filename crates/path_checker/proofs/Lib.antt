@@ -1,5 +1,9 @@
+pub mod Alike
 pub mod Beside
+pub mod Detect
 pub mod Farthest
+pub mod Grounds
 pub mod Rooms
 pub mod Tables
+pub mod Waves
 pub mod Worst

@@ -1,15 +1,15 @@
 -- How signals reach other stations, and why stations whose attempts overlap both notice it (profile, in the manner of
 -- IEEE 802.3, 4.1.2.2 and clause 13). Half bits count from 0, and so do stations.
-use Rattle.std.specs.Prelude.{ℕ, ◌≡◌, ◌≢◌, ◌+◌, ◌*◌, ◌<◌, ◌≤◌, All, List, [], ◌∷◌}
+use Rattle.std.specs.Prelude.{ℕ, ◌≡◌, ◌≢◌, ◌+◌, ◌*◌, ◌<◌, ◌≤◌, List, [], ◌∷◌}
 use Rattle.manchester_line.specs.declared.Sym.TheVariants.{Idle}
 use Rattle.layout_file.specs.declared.layout.Layout.{Layout}
 use Rattle.layout_file.specs.declared.ways.Tap.{Tap}
 use Rattle.layout_file.specs.declared.ways.Tap.TheVariants.{Station}
 use Rattle.layout_file.specs.declared.ways.Way.{Way}
 use Rattle.layout_file.specs.declared.ways.Way.TheVariants as way
-use Rattle.layout_file.specs.Paths.{Path, IsPath, other_way, step_length, length_of}
+use Rattle.layout_file.specs.Paths.{Path, IsPath, step_length, length_of}
 use Rattle.load_plan.specs.declared.plan.Plan.{Plan}
-use Rattle.mac_transmit.specs.Attempts.{Attempt, IsHitBy, IsHitBelow, AreFrames}
+use Rattle.mac_transmit.specs.Attempts.{Attempt, IsHitBy, IsHitBelow}
 use Rattle.net_step.specs.Attempts.{IsOpen, IsAwake, IsOpenPath, IsAttempt, Overlap, OverlapOpenly, HasFrames}
 use Rattle.net_step.specs.Times.{heard, emitted}
 use Rattle.path_checker.specs.declared.verdict.PathVerdict.{PathVerdict}
@@ -22,17 +22,18 @@ IsClear plan w a [] t = Unit {0}
 IsClear plan way.Cable a (b ∷ bs) t = IsClear plan way.Repeater b bs (t + step_length plan.layout way.Cable a b)
 IsClear plan way.Repeater a (b ∷ bs) t = IsOpen plan a t × IsAwake plan b t × IsClear plan way.Cable b bs (t + step_length plan.layout way.Repeater a b)
 
--- Wave: what station a emits in half bit t, station b hears as many half bits later as the path between them is long, where the
--- wave's way is clear.
+-- Wave: what station a emits in half bit t, another station b hears as many half bits later as the path between them is long,
+-- where the wave's way is clear.
 abbrev pub WavesArrive : Type 0
 WavesArrive =
-    (plan : Plan) (a b t : ℕ) (path : Path) → IsPath plan.layout (Station a) path (Station b) → IsClear plan path.begins (Station a) path.taps t
+    (plan : Plan) (a b t : ℕ) (path : Path) → a ≢ b → IsPath plan.layout (Station a) path (Station b) → IsClear plan path.begins (Station a) path.taps t
     → emitted plan a t ≢ Idle → heard plan b (t + length_of plan.layout (Station a) path) ≢ Idle
 
--- Attempts of two stations that are d half bits apart, where twice d and a jam are less than the slot time; that of station a
--- does not start after that of b, and their path is open from the one start to d half bits after the other.
+-- Attempts of two different stations that are d half bits apart, where twice d and a jam are less than the slot time; that of
+-- station a does not start after that of b, and their path is open from the one start to d half bits after the other.
 pub record ArePaired (plan : Plan) (a b d : ℕ) (x y : Attempt) : Type 0 where
   pub frames : HasFrames plan
+  pub different : a ≢ b
   pub first : IsAttempt plan a x
   pub second : IsAttempt plan b y
   pub path : Path

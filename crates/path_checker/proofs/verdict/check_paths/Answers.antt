@@ -1,4 +1,6 @@
 use Rattle.std.proofs.Common.{length}
+use Rattle.path_checker.proofs.Alike.{is_kept}
+use Rattle.path_checker.proofs.Grounds.{carries, repeats, lawful}
 use Rattle.path_checker.proofs.Worst.{worst_low, is_verdict, no_pair_only}
 use Rattle.path_checker.proofs.verdict.check_paths.Goals as goal
 
@@ -11,3 +13,7 @@ returns-clause-no_pair c =
 
 pub returns-clause-verdict : goal.returns-clause-verdict
 returns-clause-verdict c = is_verdict c.args.layout.now c.requires c.worst_pair.result c.verdict_of.result c.worst_pair.ensures c.verdict_of.ensures
+
+pub returns-clause-detected : goal.returns-clause-detected
+returns-clause-detected c =
+    is_kept carries repeats lawful c.args.layout.now c.verdict_of.result (is_verdict c.args.layout.now c.requires c.worst_pair.result c.verdict_of.result c.worst_pair.ensures c.verdict_of.ensures)

@@ -1,0 +1,6 @@
+use Rattle.path_checker.proofs.Detect.{early_start}
+use Rattle.path_checker.proofs.Grounds.{carries, repeats, lawful}
+use Rattle.path_checker.proofs.laws.early_start.Goals as goal
+
+pub returns : goal.returns
+returns c = early_start carries repeats lawful
