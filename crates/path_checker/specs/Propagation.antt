@@ -29,8 +29,9 @@ WavesArrive =
     (plan : Plan) (a b t : ℕ) (path : Path) → a ≢ b → IsPath plan.layout (Station a) path (Station b) → IsClear plan path.begins (Station a) path.taps t
     → emitted plan a t ≢ Idle → heard plan b (t + length_of plan.layout (Station a) path) ≢ Idle
 
--- Attempts of two different stations that are d half bits apart, where twice d and a jam are less than the slot time; that of
--- station a does not start after that of b, and their path is open from the one start to d half bits after the other.
+-- Attempts of two different stations that are d half bits apart, where twice d and an interframe gap are less than the slot
+-- time; that of station a does not start after that of b, and their path is open from the one start to d half bits after the
+-- other.
 pub record ArePaired (plan : Plan) (a b d : ℕ) (x y : Attempt) : Type 0 where
   pub frames : HasFrames plan
   pub different : a ≢ b

@@ -12,7 +12,7 @@ use Rattle.path_checker.specs.declared.verdict.Worst.{Worst}
 abbrev pub IsPair : Layout → ℕ → ℕ → Type 0
 IsPair l a b = (a < b) × (b < length l.stations)
 
--- twice the distance of the two stations, and 192 half bits of jam
+-- twice the distance of the two stations, and 192 half bits of interframe gap
 pub record IsRoundTrip (l : Layout) (a b rt : ℕ) : Type 0 where
   pub distance : ℕ
   pub apart : IsDistance l (Station a) (Station b) distance

@@ -17,8 +17,8 @@ use std::alloc::Global;
 /// The slot time in half bits.
 const SLOT: u32 = 1_024;
 
-/// How long a jam is in half bits.
-const JAM: u32 = 192;
+/// The interframe gap in half bits.
+const GAP: u32 = 192;
 
 /// As many taps as a layout can have.
 const MOST_TAPS: u32 = 5_120;
@@ -105,7 +105,7 @@ fn verdict_of(worst: Option<Worst>) -> PathVerdict
     let Some(Worst { length, a, b }) = worst else {
         return PathVerdict::NoPair;
     };
-    let worst = 2 * length + JAM;
+    let worst = 2 * length + GAP;
     if worst < SLOT {
         PathVerdict::Within { worst, a, b }
     } else {
