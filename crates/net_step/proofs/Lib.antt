@@ -10,3 +10,6 @@ pub mod Soundness
 pub mod Lines
 pub mod Times
 pub mod Framed
+pub mod Numbers
+pub mod Carrying
+pub mod Repeating

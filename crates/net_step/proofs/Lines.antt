@@ -55,7 +55,7 @@ length-choices : (mode : Mode) (hs : List Sym) (q : ℕ) (cs : List Count) → l
 length-choices mode hs q [] = refl
 length-choices mode hs q (c ∷ cs) = ap suc (length-choices mode hs (q + 1) cs)
 
-length-chosen : (hs : List Sym) (r : State) → length (chosen hs r) ≡ length r.counts
+pub length-chosen : (hs : List Sym) (r : State) → length (chosen hs r) ≡ length r.counts
 unfolding chosen
 length-chosen hs r = length-choices (mode_next hs r) hs 0 r.counts
 

@@ -26,6 +26,10 @@ if_true x y h = grind (arith, nat_tests)
 if_false : {m n : ℕ} (x y : Sym) → n < m → cond (leb m n) x y ≡ y
 if_false x y h = grind (arith, nat_tests)
 
+-- what is said of half bit t, so many half bits later
+pub earlier_at : (f : ℕ → Sym) (t back : ℕ) → earlier f (t + back) back ≡ f t
+earlier_at f t back = let same : t + back - back ≡ t = omega arith in if_true {m = back} {n = t + back} (f (t + back - back)) Idle (omega arith) ∙ ap f same
+
 -- a history g that each half bit puts the row f before
 module _ (f : Net → List Sym) (g : Net → List (List Sym)) (start : (plan : Plan) → g (new_net plan) ≡ []) (more : (n : Net) → g (next n) ≡ f n ∷ g n) where
   length-history : (plan : Plan) (t : ℕ) → length (g (net plan t)) ≡ t
@@ -118,12 +122,12 @@ length-new_senders seed k [] = refl
 length-new_senders seed k (q ∷ qs) = ap suc (length-new_senders seed (k + 1) qs)
 
 -- one sender for each station, and repeaters whose lines are those of the decisions
-record IsShaped (plan : Plan) (n : Net) : Type 0 where
-  senders : length n.senders ≡ length plan.layout.stations
-  lines : LinesUp plan.layout.repeaters n.repeaters n.decided
+pub record IsShaped (plan : Plan) (n : Net) : Type 0 where
+  pub senders : length n.senders ≡ length plan.layout.stations
+  pub lines : LinesUp plan.layout.repeaters n.repeaters n.decided
 
 -- the stations' part of all taps, and the rest
-heard_sizes : (plan : Plan) (t : ℕ) → IsShaped plan (net plan t) → (length (net plan t).senders ≤ length (heard_in (net plan t))) × (length (ports_hear (net plan t)) ≡ all_ports plan.layout.repeaters)
+pub heard_sizes : (plan : Plan) (t : ℕ) → IsShaped plan (net plan t) → (length (net plan t).senders ≤ length (heard_in (net plan t))) × (length (ports_hear (net plan t)) ≡ all_ports plan.layout.repeaters)
 heard_sizes plan t shape =
     let n = net plan t in
     let l = plan.layout in
@@ -139,7 +143,7 @@ sends_all plan t shape =
     let fits = (heard_sizes plan t shape).0 in
     length-sendings (stations_hear n) n.senders (omega (arith, length-take-le (length n.senders) (heard_in n) fits))
 
-shaped : (plan : Plan) (t : ℕ) → AllDelayed plan.layout.repeaters → IsShaped plan (net plan t)
+pub shaped : (plan : Plan) (t : ℕ) → AllDelayed plan.layout.repeaters → IsShaped plan (net plan t)
 shaped plan zero late = record { senders = length-new_senders plan.layout.seed 0 plan.queues ∙ plan.queued; lines = lines_new plan.layout.repeaters }
 shaped plan (suc t) late =
     let n = net plan t in
