@@ -13,3 +13,5 @@ pub mod Framed
 pub mod Numbers
 pub mod Carrying
 pub mod Repeating
+pub mod Stations
+pub mod Logged

@@ -137,7 +137,7 @@ heard_sizes plan t shape =
     let stations = length-map l.stations tap_of in
     (omega (arith, senders, all, sum, stations), omega (arith, length-drop (length n.senders) (heard_in n), senders, all, sum, stations))
 
-sends_all : (plan : Plan) (t : ℕ) → IsShaped plan (net plan t) → length (sendings_in (net plan t)) ≡ length (net plan t).senders
+pub sends_all : (plan : Plan) (t : ℕ) → IsShaped plan (net plan t) → length (sendings_in (net plan t)) ≡ length (net plan t).senders
 sends_all plan t shape =
     let n = net plan t in
     let fits = (heard_sizes plan t shape).0 in
