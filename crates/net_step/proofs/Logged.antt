@@ -72,7 +72,16 @@ sent_event : (s : Sender) (h : Sym) → (sent s h).event ≡ event_from s s.phas
 unfolding sent
 sent_event s h = refl
 
--- the rows of the half bit in which an attempt ends
+event_at : (plan : Plan) (k : ℕ) (a : Attempt) → IsAttempt plan k a → get_or (map (λ s. s.event) (sendings_in (net plan a.end))) k None ≡ Some (end_event (sender_at plan k a.end) a.start a.hit)
+event_at plan k a is =
+    let l : k < length plan.layout.stations = is.station in
+    let sent_all : length (sendings_in (net plan a.end)) ≡ length plan.layout.stations = many_sendings plan a.end in
+    get_or-map (λ (o : SendOutcome). o.event) (sendings_in (net plan a.end)) k no_sending None (omega arith)
+    ∙ ap (λ (o : SendOutcome). o.event) (sends_at plan k a.end no_sending l)
+    ∙ sent_event (sender_at plan k a.end) (heard plan k a.end)
+    ∙ event_is (sender_at plan k a.end) a is.finishes
+
+-- the row of an attempt is among those of the half bit in which it ends
 now_has : (plan : Plan) (k : ℕ) (a : Attempt) → IsAttempt plan k a → Contains (rows_in (net plan a.end)) (row_of_attempt plan k a)
 now_has plan k a is =
     let n = net plan a.end in
@@ -84,18 +93,12 @@ now_has plan k a is =
     let rs : List (Option Body) = map (λ (r : Reception). r.event) (receptions_in n) in
     let many_es : length es ≡ length (sendings_in n) = length-map (sendings_in n) (λ (o : SendOutcome). o.event) in
     let many_rs : length rs ≡ length (receptions_in n) = length-map (receptions_in n) (λ (r : Reception). r.event) in
-    let event : get_or es k None ≡ Some (end_event s a.start a.hit) =
-        get_or-map (λ (o : SendOutcome). o.event) (sendings_in n) k no_sending None (omega arith)
-        ∙ ap (λ (o : SendOutcome). o.event) (sends_at plan k a.end no_sending l)
-        ∙ sent_event s (heard plan k a.end)
-        ∙ event_is s a is.finishes
-    in
     let row = row_of_attempt plan k a in
-    let there : Contains (rows_of a.end 0 es rs) row = rows_have a.end 0 k es rs (end_event s a.start a.hit) k (omega arith) (omega arith) (omega arith) event in
+    let there : Contains (rows_of a.end 0 es rs) row = rows_have a.end 0 k es rs (end_event s a.start a.hit) k (omega arith) (omega arith) (omega arith) (event_at plan k a is) in
     Contains-append_left (rows_of n.t 0 es rs) (repeater_rows n.t (length n.senders) (each_repeater bodies_of (ports_hear n) n.repeaters)) row
     (subst (λ u. Contains (rows_of u 0 es rs) row) (sym (time_is plan a.end)) there)
 
--- rows stay
+-- a row of a half bit before h is among the rows up to h
 rows_keep : (plan : Plan) (h t : ℕ) (row : Row) → t < h → Contains (rows_in (net plan t)) row → Contains (net plan h).rows row
 rows_keep plan zero t row l c = absurd (omega arith)
 rows_keep plan (suc h) t row l c = elim (cases_lt t h) [
