@@ -1,5 +1,5 @@
 -- The queues of plans hold frames.
-use Rattle.std.proofs.Common.{◌≡◌, ℕ, ◌+◌, ◌≤◌, max, All, List, [], ◌∷◌, ◌++◌, length, sym, subst, arith}
+use Rattle.std.proofs.Common.{ℕ, ◌+◌, ◌≤◌, max, All, List, [], ◌∷◌, ◌++◌, length, sym, subst, arith}
 use Rattle.std.proofs.lemmas.List.Elements.{All-nil, All-cons}
 use Rattle.capture_file.specs.declared.entries.Record.{Record}
 use Rattle.frame_layout.specs.declared.queue.Ready.{Ready}
