@@ -24,7 +24,8 @@ fn heard_of(positions: &[u32], rows: &[Sym], ahead: u32, tap: u32, q: usize) -> 
     rows[row * taps + q]
 }
 
-/// What a tap hears, where `rows` has a row for each half bit, the latest first, and `next` tells which taps to skip.
+/// What a tap hears, where `rows` has a row for each half bit, the latest first, and `next` tells which taps to skip. A clash
+/// stays one, whatever comes to it.
 pub fn heard_in(positions: &[u32], rows: &[Sym], ahead: u32, tap: u32, next: &[usize]) -> Sym
     requires near { All (λ p. p ≤ 2000) positions.now }
     requires window { ahead ≤ 4296 }
@@ -36,7 +37,7 @@ pub fn heard_in(positions: &[u32], rows: &[Sym], ahead: u32, tap: u32, next: &[u
     let taps = positions.len();
     let mut sound = Sym::Idle;
     let mut q = next[0];
-    while q < taps {
+    while q < taps && sound != Sym::Clash {
         sound = mix(sound, heard_of(positions, rows, ahead, tap, q));
         q = next[q + 1];
     }
