@@ -1,13 +1,12 @@
-ghost use Rattle.std.specs.Prelude.{◌≡◌, ◌≤◌};
+ghost use Rattle.std.specs.Prelude.{◌≡◌, ◌≤◌, ◌<◌};
+ghost use Rattle.mac_parameters.specs.Parameters.{attempt_limit};
 ghost use Rattle.backoff_draw.specs.Draws.{draw_of, drawn};
 
+use mac_parameters::BACKOFF_LIMIT;
 use rand_chacha::ChaCha8Rng;
 use rand_core::SeedableRng;
 use rand_core::utils::NextWord;
 use std::marker::Model;
-
-/// The greatest number of bits of a draw (IEEE 802.3, 4.2.3.2.5).
-const BACKOFF_LIMIT: u32 = 10;
 
 /// The draws of one station, each the low bits of the next word of a ChaCha8 stream: its key is the
 /// seed, and its number that of the station (profile).
@@ -50,11 +49,12 @@ impl Draws {
         Draws { rng, seed, station }
     }
 
-    /// The station's next draw, a number of slot times below 2^min(n, 10), after its attempt `n`.
+    /// The station's next draw, a number of slot times below 2^min(n, 10), after its attempt `n`, counted from 1 and not the
+    /// last (4.2.3.2.5).
     #[tactic(auto, unfolding(crate::specs::Draws::word))]
     pub fn draw(&mut self, n: u32) -> u32
         requires first { 1 ≤ n }
-        requires last { n ≤ 15 }
+        requires last { n < attempt_limit }
         ensures value { result ≡ draw_of self.old.seed self.old.station self.old.made n }
         ensures state { self.new ≡ drawn self.old }
     {

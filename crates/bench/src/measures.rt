@@ -6,6 +6,7 @@ use crate::segment::{leaps, segments};
 use capture_file::{CaptureFault, CaptureReader, CaptureWriter};
 use frame_layout::fcs;
 use lists::{OutOfMemory, Text};
+use mac_parameters::{HALF_BITS_AN_OCTET, MOST_OCTETS_TAGGED, PREAMBLE};
 use mac_receive::Receiver;
 use manchester_line::{Decoder, Sym, encode_into, half_of};
 use netsim::{Words, run_words};
@@ -98,11 +99,14 @@ impl Measure {
     }
 }
 
-/// The octets of the largest frame of format 1.
-const OCTETS: [u8; 1518] = [0xa5; 1518];
+/// How many octets the largest frame of format 1 has.
+const LARGEST: usize = MOST_OCTETS_TAGGED as usize;
+
+/// Its octets.
+const OCTETS: [u8; LARGEST] = [0xa5; LARGEST];
 
 /// The half bits of their line text.
-const LINE_TEXT: usize = 128 + 16 * 1518;
+const LINE_TEXT: usize = PREAMBLE as usize + HALF_BITS_AN_OCTET as usize * LARGEST;
 
 const TIMES: u32 = 20_000;
 
@@ -113,7 +117,7 @@ const REPEATED: u32 = 10_000_000;
 /// The octets of a captured frame.
 const CAPTURED: usize = 484;
 
-/// How many of them, with their headers, have 64,000,000 octets.
+/// How many of them have 64,000,000 octets, with the 16 that a capture adds to each.
 const RECORDS: u64 = 128_000;
 
 const PIECE: usize = 65_536;
@@ -147,12 +151,12 @@ pub fn run(alloc: Global, measure: Measure) -> Result<u64, OutOfMemory> {
 
 /// Encodes ever other octets, and answers how often the last half bit was Hi.
 fn encode_often(octets: &mut [u8], out: &mut [Sym]) -> u32
-    requires octets { length octets.old ≡ 1518 }
-    requires room { length out.old ≡ 24416 }
+    requires octets { length octets.old ≡ LARGEST }
+    requires room { length out.old ≡ LINE_TEXT }
 {
     let mut high = 0u32;
     for time in 0..TIMES {
-        octets[1517] = (time % 256) as u8;
+        octets[LARGEST - 1] = (time % 256) as u8;
         encode_into(octets, out);
         if out[LINE_TEXT - 1] == Sym::Hi {
             high = high.saturating_add(1);
@@ -162,7 +166,7 @@ fn encode_often(octets: &mut [u8], out: &mut [Sym]) -> u32
 }
 
 fn encode(alloc: Global) -> Result<u64, OutOfMemory> {
-    let mut octets = vec![in alloc; 0xa5u8; 1518]?;
+    let mut octets = vec![in alloc; 0xa5u8; LARGEST]?;
     let mut out = vec![in alloc; Sym::Idle; LINE_TEXT]?;
     let high = encode_often(&mut octets, &mut out);
     Ok(u64::from(TIMES) * LINE_TEXT as u64 + u64::from(high % 2))
@@ -177,7 +181,7 @@ fn signal(bit: bool, second: bool) -> Sym
 /// A piece of a line text, without an Idle.
 fn piece(alloc: Global) -> Result<Vec<Sym>, OutOfMemory>
     ensures signal { IfOk result (λ piece. All (λ s. s ≢ Idle) piece.items) }
-    ensures short { IfOk result (λ piece. length piece.items ≤ 24416) }
+    ensures short { IfOk result (λ piece. length piece.items ≤ LINE_TEXT) }
 {
     let mut piece = Vec::new(alloc);
     for i in 0..LINE_TEXT {
@@ -188,7 +192,7 @@ fn piece(alloc: Global) -> Result<Vec<Sym>, OutOfMemory>
 
 fn decode(piece: &[Sym]) -> u64
     requires signal { All (λ s. s ≢ Idle) piece.now }
-    requires short { length piece.now ≤ 24416 }
+    requires short { length piece.now ≤ LINE_TEXT }
 {
     let mut decoder = Decoder::new();
     for _time in 0..TIMES {
@@ -210,7 +214,7 @@ fn receive_idle() -> u64 {
 
 fn receive_take(piece: &[Sym]) -> u64
     requires signal { All (λ s. s ≢ Idle) piece.now }
-    requires short { length piece.now ≤ 24416 }
+    requires short { length piece.now ≤ LINE_TEXT }
 {
     for _time in 0..TIMES {
         let mut receiver = Receiver::new();

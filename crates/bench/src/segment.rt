@@ -1,16 +1,21 @@
 //! A segment of stations that are busy with frames.
 ghost use Rattle.std.specs.Prelude.{◌≡◌, ◌<◌, ◌≤◌, ◌+◌, ◌^◌, All, length, IfOk};
+ghost use Rattle.mac_parameters.specs.Parameters.{greatest_place};
 
 use backoff_draw::Draws;
 use cable_segment::Cable;
 use frame_layout::{Queue, build};
 use lists::OutOfMemory;
+use mac_parameters::MOST_OCTETS_UNTAGGED;
 use mac_transmit::Transmitter;
 use manchester_line::Sym;
 use std::alloc::Global;
 
-/// The octets of each station's frame.
-const OCTETS: [u8; 1514] = [0xa5; 1514];
+/// How many octets each station's frame has before its check sequence.
+const LARGEST: usize = MOST_OCTETS_UNTAGGED as usize;
+
+/// These octets.
+const OCTETS: [u8; LARGEST] = [0xa5; LARGEST];
 
 /// The half bits between two taps.
 const APART: u32 = 10;
@@ -43,7 +48,7 @@ fn stations(alloc: Global, seed: u64, count: u32) -> Result<Vec<Transmitter>, Ou
 
 fn places(alloc: Global, count: u32) -> Result<Vec<u32>, OutOfMemory>
     requires { count ≤ 200 }
-    ensures near { IfOk result (λ places. All (λ p. p ≤ 2000) places.items) }
+    ensures near { IfOk result (λ places. All (λ p. p ≤ greatest_place) places.items) }
     ensures count { IfOk result (λ places. length places.items ≡ count) }
 {
     let mut places = Vec::new(alloc);

@@ -7,7 +7,8 @@ use Rattle.std.proofs.lemmas.Nat.{same_from_place}
 use Rattle.manchester_line.specs.declared.Sym.{Sym}
 use Rattle.manchester_line.specs.declared.Sym.TheVariants.{Idle, Hi, Lo, Clash}
 use Rattle.manchester_line.specs.Line.{mix_of}
-use Rattle.cable_segment.specs.Bus.{distance, heard_among}
+use Rattle.cable_segment.specs.Bus.{heard_among}
+use Rattle.mac_parameters.specs.Distances.{distance}
 use Rattle.cable_segment.specs.Skips.{Skips}
 
 mix_assoc : (a b c : Sym) → mix_of (mix_of a b) c ≡ mix_of a (mix_of b c)

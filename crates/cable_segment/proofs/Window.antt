@@ -1,3 +1,4 @@
+-- A window of rows in a buffer: a write within it, and a row more before it.
 use Rattle.std.proofs.Common.{◌≡◌, ℕ, zero, suc, ◌+◌, ◌<◌, ◌≤◌, List, [], ◌∷◌, ◌++◌, length, take, drop, set, refl, ap, ap₂, ◌∙◌, arith, length-drop, length-take-le}
 use Rattle.std.proofs.lemmas.List.{take-take, drop-set-add}
 use Rattle.std.proofs.Math.Seq.{take-set-lt}

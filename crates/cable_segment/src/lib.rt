@@ -1,21 +1,27 @@
-//! A cable segment: a bus of taps with delays. Each tap is told what it emits, and answers what it hears.
+//! A cable segment: a bus of taps with delays (clause 8). Each tap is told what it emits, and answers what it hears.
 #![tactic(auto)]
 
 mod rows;
 
-ghost use Rattle.std.specs.Prelude.{◌≡◌, ◌<◌, ◌≤◌, ◌+◌, ◌-◌, length, All, IfOk, ℕ, slice_index};
-ghost use Rattle.cable_segment.specs.Bus.{distance, heard_at};
-ghost use Rattle.cable_segment.specs.Cable.{silent, told, told_at, advanced};
+ghost use Rattle.std.specs.Prelude.{◌≡◌, ◌<◌, ◌≤◌, ◌+◌, length, All, IfOk, ℕ, slice_index};
+ghost use Rattle.cable_segment.specs.Bus.{heard_at};
+ghost use Rattle.mac_parameters.specs.Distances.{distance};
+ghost use Rattle.mac_parameters.specs.Parameters.{greatest_place};
+ghost use Rattle.cable_segment.specs.Cable.{silent, told, told_at, advanced, most_ahead, rows_back};
 
 use lists::OutOfMemory;
+use mac_parameters::GREATEST_PLACE;
 use manchester_line::Sym;
 use rows::{heard_in, relist, slide, wake};
 use std::alloc::Global;
 use std::marker::Model;
 
-/// A segment of cable. It keeps what each tap emitted in the last 2,000 half bits and what it was told
-/// ahead: a window of rows, one symbol a tap, that slides down a buffer of twice its size. `next` skips
-/// taps that were silent all the time.
+/// The rows of the present half bit and of those before it, back to what the farthest tap of the longest cable emitted.
+const ROWS_BACK: u32 = GREATEST_PLACE + 1;
+
+/// A segment of cable. It keeps what each tap emitted in the last half bits, as many as a signal takes along the longest
+/// cable: a window of rows, one symbol a tap, that slides down a buffer of twice its size, with `ahead` rows of half bits
+/// to come before it. `next` skips taps that were silent all the time.
 #[derive(Drop)]
 pub struct Cable {
     positions: Vec<u32>,
@@ -29,28 +35,29 @@ pub struct Cable {
 
 impl Model for Cable {
     ghost use Rattle.std.specs.Prelude.{◌≡◌, ◌≤◌, ◌<◌, ◌+◌, ◌*◌, length, take, drop, All, ℕ};
-    ghost use Rattle.cable_segment.specs.Cable.{Told};
+    ghost use Rattle.mac_parameters.specs.Parameters.{greatest_place};
+    ghost use Rattle.cable_segment.specs.Cable.{Told, most_ahead, rows_back};
     ghost use Rattle.cable_segment.specs.Skips.{Skips};
 
     ghost Value = { Told };
 
     ghost view = { λ c. record { positions = c.positions.items; ahead = c.ahead; past = c.past; rows = take c.span (drop c.start c.slots.items) } };
 
-    ghost invariant = { λ c. (0 < length c.positions.items) × (All (λ p. p ≤ 2000) c.positions.items) × (c.ahead ≤ 4296) × (c.past ≤ 2000)
-        × (c.span ≡ (c.ahead + 2001) * length c.positions.items) × (c.start + c.span ≤ length c.slots.items) × (c.span + c.span ≤ length c.slots.items)
+    ghost invariant = { λ c. (0 < length c.positions.items) × (All (λ p. p ≤ greatest_place) c.positions.items) × (c.ahead ≤ most_ahead) × (c.past ≤ greatest_place)
+        × (c.span ≡ (c.ahead + rows_back) * length c.positions.items) × (c.start + c.span ≤ length c.slots.items) × (c.span + c.span ≤ length c.slots.items)
         × Skips c.next.items (take c.span (drop c.start c.slots.items)) (length c.positions.items) };
 }
 
 impl Cable {
     /// A cable with taps at these places, in half bits from one end, at time 0, where every tap has
-    /// emitted Idle. Symbols can be told up to `ahead` half bits before they are emitted.
+    /// emitted Idle. It keeps `ahead` rows of half bits to come.
     pub fn new(alloc: Global, positions: &[u32], ahead: u32) -> Result<Cable, OutOfMemory>
         requires some { 0 < length positions.now }
-        requires near { All (λ p. p ≤ 2000) positions.now }
-        requires window { ahead ≤ 4296 }
+        requires near { All (λ p. p ≤ greatest_place) positions.now }
+        requires window { ahead ≤ most_ahead }
         ensures { IfOk result (λ cable. cable ≡ silent positions.now ahead) }
     {
-        let rows = ahead as usize + 2001;
+        let rows = (ahead + ROWS_BACK) as usize;
         let span = rows.checked_mul(positions.len()).ok_or(OutOfMemory)?;
         let room = span.checked_add(span).ok_or(OutOfMemory)?;
         let slots = vec![in alloc; Sym::Idle; room]?;
@@ -90,8 +97,9 @@ impl Cable {
         )
     }
 
+    /// Sets the symbol of a tap in one row.
     fn put(&mut self, row: u32, tap: u32, s: Sym)
-        requires in_row { row < self.old.ahead + 2001 }
+        requires in_row { row < self.old.ahead + rows_back }
         requires tap_in { tap < length self.old.positions }
         ensures { self.new ≡ told self.old row tap s }
     {
@@ -108,25 +116,6 @@ impl Cable {
         self.put(self.ahead, tap, s);
     }
 
-    /// Tells the tap's symbol `by` half bits later.
-    pub fn emit_ahead(&mut self, tap: u32, by: u32, s: Sym)
-        requires tap_in { tap < length self.old.positions }
-        requires window { by ≤ self.old.ahead }
-        ensures { self.new ≡ told self.old (self.old.ahead - by) tap s }
-    {
-        self.put(self.ahead - by, tap, s);
-    }
-
-    /// Tells the tap's symbol `by` half bits earlier.
-    pub fn emit_behind(&mut self, tap: u32, by: u32, s: Sym)
-        requires tap_in { tap < length self.old.positions }
-        requires some { 1 ≤ by }
-        requires past { by ≤ self.old.past }
-        ensures { self.new ≡ told self.old (self.old.ahead + by) tap s }
-    {
-        self.put(self.ahead + by, tap, s);
-    }
-
     /// Goes on to the next half bit.
     pub fn advance(&mut self)
         ensures { self.new ≡ advanced self.old }
@@ -134,12 +123,12 @@ impl Cable {
         let taps = self.positions.len();
         let before = self.start;
         self.start = slide(&mut self.slots, self.start, self.span, taps);
-        self.past = (self.past + 1).min(2000);
+        self.past = (self.past + 1).min(GREATEST_PLACE);
         relist(
             before < self.start,
             &self.slots[self.start..self.start + self.span],
             taps,
-            self.ahead as usize + 2001,
+            (self.ahead + ROWS_BACK) as usize,
             &mut self.next,
         );
     }

@@ -2,18 +2,21 @@
 
 ghost use Rattle.std.specs.Prelude.{◌≡◌, ◌<◌, ◌≤◌, ◌+◌, ◌-◌, ◌*◌, ◌++◌, ◌≢◌, ◌==◌, if◌then◌else◌, min, IsTrue, length, take, drop, replicate, All, ℕ, slice_index, slice_index_or};
 ghost use Rattle.manchester_line.specs.declared.Sym.TheVariants.{Idle};
-ghost use Rattle.cable_segment.specs.Bus.{distance, heard_at};
+ghost use Rattle.cable_segment.specs.Bus.{heard_at};
+ghost use Rattle.mac_parameters.specs.Distances.{distance};
+ghost use Rattle.mac_parameters.specs.Parameters.{greatest_place};
+ghost use Rattle.cable_segment.specs.Cable.{most_ahead, rows_back};
 ghost use Rattle.cable_segment.specs.Skips.{Skips};
 
 use manchester_line::{Sym, mix};
 
 /// What a tap hears of tap `q`.
 fn heard_of(positions: &[u32], rows: &[Sym], ahead: u32, tap: u32, q: usize) -> Sym
-    requires near { All (λ p. p ≤ 2000) positions.now }
-    requires window { ahead ≤ 4296 }
+    requires near { All (λ p. p ≤ greatest_place) positions.now }
+    requires window { ahead ≤ most_ahead }
     requires tap_in { tap < length positions.now }
     requires q_in { q < length positions.now }
-    requires room { length rows.now ≡ (ahead + 2001) * length positions.now }
+    requires room { length rows.now ≡ (ahead + rows_back) * length positions.now }
     ensures { result ≡ (if q == tap then Idle else slice_index_or rows.now ((ahead + distance (slice_index positions.now tap) (slice_index positions.now q)) * length positions.now + q) Idle) }
 {
     let taps = positions.len();
@@ -27,10 +30,10 @@ fn heard_of(positions: &[u32], rows: &[Sym], ahead: u32, tap: u32, q: usize) -> 
 /// What a tap hears, where `rows` has a row for each half bit, the latest first, and `next` tells which taps to skip. A clash
 /// stays one, whatever comes to it.
 pub fn heard_in(positions: &[u32], rows: &[Sym], ahead: u32, tap: u32, next: &[usize]) -> Sym
-    requires near { All (λ p. p ≤ 2000) positions.now }
-    requires window { ahead ≤ 4296 }
+    requires near { All (λ p. p ≤ greatest_place) positions.now }
+    requires window { ahead ≤ most_ahead }
     requires tap_in { tap < length positions.now }
-    requires room { length rows.now ≡ (ahead + 2001) * length positions.now }
+    requires room { length rows.now ≡ (ahead + rows_back) * length positions.now }
     requires skips { Skips next.now rows.now (length positions.now) }
     ensures { result ≡ heard_at (λ back q. slice_index_or rows.now ((ahead + back) * length positions.now + q) Idle) positions.now tap }
 {

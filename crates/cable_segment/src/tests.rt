@@ -26,23 +26,3 @@ fn what_three_taps_hear(rt: HostRuntime) -> Result<(), OutOfMemory> {
     }
     Ok(())
 }
-
-/// A symbol that is told 3 half bits ahead or 2 behind is heard as if it had been told in its half bit.
-#[test]
-fn symbols_told_at_another_time(rt: HostRuntime) -> Result<(), OutOfMemory> {
-    let mut cable = Cable::new(rt.alloc(), &[0, 5], 3)?;
-    cable.emit_ahead(0, 3, Sym::Hi);
-    cable.advance();
-    cable.advance();
-    cable.emit_behind(0, 2, Sym::Lo);
-    let mut heard = [Sym::Idle; 9];
-    for slot in &mut heard {
-        *slot = cable.heard(1);
-        cable.advance();
-    }
-    let mut want = [Sym::Idle; 9];
-    want[3] = Sym::Lo;
-    want[6] = Sym::Hi;
-    assert_eq!(rt; heard, want);
-    Ok(())
-}

@@ -10,7 +10,7 @@ use Rattle.capture_file.specs.declared.fault.CaptureFault.TheVariants.{Length, T
 use Rattle.capture_file.specs.declared.form.Form.{Form}
 use Rattle.capture_file.specs.declared.reading.Stage.TheVariants.{Header, Entries}
 use Rattle.capture_file.specs.declared.reading.Reading.{Reading}
-use Rattle.capture_file.specs.Captures.{capture_fault, fault_after, header, is_long, is_too_large, records, records_after, records_in, rest_after, rest_fault, rest_in, rest_of, unless_long}
+use Rattle.capture_file.specs.Captures.{capture_fault, fault_after, header, is_overlong, is_too_large, records, records_after, records_in, rest_after, rest_fault, rest_in, rest_of, unless_long}
 use Rattle.capture_file.specs.Reading.{Reader, Reads, answer_of, ended, failed, fed, new_reader, opened, read_on, walked}
 use Rattle.capture_file.proofs.Walk.{goes_on, header-append, records_stop, rest_stop, stays_long}
 
@@ -18,10 +18,10 @@ use Rattle.capture_file.proofs.Walk.{goes_on, header-append, records_stop, rest_
 abbrev gone_on : Reading → List ℕ → Reading
 gone_on k piece = read_on k.stage k.records (k.rest ++ piece)
 
-ended_long : (form : Form) (rs : List Record) (rest : List ℕ) → is_long form rest ≡ true → ended form rs rest ≡ failed (Length (length rs + 1))
+ended_long : (form : Form) (rs : List Record) (rest : List ℕ) → is_overlong form rest ≡ true → ended form rs rest ≡ failed (Length (length rs + 1))
 ended_long form rs rest h = rw h refl
 
-ended_open : (form : Form) (rs : List Record) (rest : List ℕ) → is_long form rest ≡ false → ended form rs rest ≡ record { stage = Entries form; records = rs; rest = rest }
+ended_open : (form : Form) (rs : List Record) (rest : List ℕ) → is_overlong form rest ≡ false → ended form rs rest ≡ record { stage = Entries form; records = rs; rest = rest }
 ended_open form rs rest h = rw h refl
 
 -- the records so far and the rest, with more octets after them
@@ -37,7 +37,7 @@ unfolding walked
 walked_is form rs octets = refl
 
 -- nothing more comes after a record that is too long
-walked_long : (form : Form) (rs : List Record) (rest piece : List ℕ) → is_long form rest ≡ true → walked form rs (rest ++ piece) ≡ failed (Length (length rs + 1))
+walked_long : (form : Form) (rs : List Record) (rest piece : List ℕ) → is_overlong form rest ≡ true → walked form rs (rest ++ piece) ≡ failed (Length (length rs + 1))
 walked_long form rs rest piece h =
     let s = stays_long form rest piece h in
     walked_is form rs (rest ++ piece)
@@ -54,7 +54,7 @@ gone_on-open form rs rest piece = refl
 
 gone_on-ended : (form : Form) (rs : List Record) (rest piece : List ℕ) → gone_on (ended form rs rest) piece ≡ walked form rs (rest ++ piece)
 gone_on-ended form rs rest piece =
-    elim (cases_Bool (is_long form rest)) [
+    elim (cases_Bool (is_overlong form rest)) [
       | inl h ↦ ap (λ k. gone_on k piece) (ended_long form rs rest h) ∙ gone_on-failed (Length (length rs + 1)) piece ∙ sym (walked_long form rs rest piece h)
       | inr h ↦ ap (λ k. gone_on k piece) (ended_open form rs rest h) ∙ gone_on-open form rs rest piece
     ]
@@ -161,7 +161,7 @@ reads_more stream piece r s e h = record { same = e ∙ ap (λ x. fed x piece) h
 
 -- what the rest and the answer of a reading are
 rest_ended : (form : Form) (rs : List Record) (rest : List ℕ) → (ended form rs rest).rest ≡ unless_long form rest
-rest_ended form rs rest = elim (is_long form rest) as (λ b. (if b then failed (Length (length rs + 1)) else record { stage = Entries form; records = rs; rest = rest }).rest ≡ (if b then [] else rest)) [ true ↦ refl | false ↦ refl ]
+rest_ended form rs rest = elim (is_overlong form rest) as (λ b. (if b then failed (Length (length rs + 1)) else record { stage = Entries form; records = rs; rest = rest }).rest ≡ (if b then [] else rest)) [ true ↦ refl | false ↦ refl ]
 
 rest_opened : (head : Result Form CaptureFault) (octets : List ℕ) → (opened head [] octets).rest ≡ rest_after head octets
 unfolding walked
@@ -190,14 +190,14 @@ told (Some fault) rs = Err fault
 answer : Reading → Result (List Record) CaptureFault
 answer k = answer_of k.stage k.records k.rest
 
-not_long_nil : (form : Form) → is_long form [] ≡ false
-unfolding is_long
+not_long_nil : (form : Form) → is_overlong form [] ≡ false
+unfolding is_overlong
 not_long_nil form = refl
 
 answer_ended : (form : Form) (rs : List Record) (rest : List ℕ) → answer (ended form rs rest) ≡ told (rest_fault form (length rs + 1) rest) rs
 unfolding told answer
 answer_ended form rs [] = ap answer (ended_open form rs [] (not_long_nil form))
-answer_ended form rs (x ∷ xs) = elim (is_long form (x ∷ xs)) as (λ b. answer (if b then failed (Length (length rs + 1)) else record { stage = Entries form; records = rs; rest = x ∷ xs }) ≡ told (if b then Some (Length (length rs + 1)) else Some (CutRecord (length rs + 1))) rs) [ true ↦ refl | false ↦ refl ]
+answer_ended form rs (x ∷ xs) = elim (is_overlong form (x ∷ xs)) as (λ b. answer (if b then failed (Length (length rs + 1)) else record { stage = Entries form; records = rs; rest = x ∷ xs }) ≡ told (if b then Some (Length (length rs + 1)) else Some (CutRecord (length rs + 1))) rs) [ true ↦ refl | false ↦ refl ]
 
 answer_opened : (head : Result Form CaptureFault) (octets : List ℕ) → answer (opened head [] octets) ≡ told (fault_after head octets) (records_after head octets)
 unfolding walked told answer

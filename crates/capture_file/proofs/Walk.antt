@@ -9,7 +9,7 @@ use Rattle.capture_file.specs.declared.entries.Record.{Record}
 use Rattle.capture_file.specs.declared.form.Form.{Form}
 use Rattle.capture_file.specs.declared.form.Order.{Order}
 use Rattle.capture_file.specs.declared.form.Order.TheVariants.{Little, Big}
-use Rattle.capture_file.specs.Captures.{number, field, captured, is_whole, is_long, record_at, records_in, rest_in, unit, form_by, form_of, header, judged_form}
+use Rattle.capture_file.specs.Captures.{number, field, captured_length, is_whole, is_overlong, record_at, records_in, rest_in, unit, form_by, form_of, header, judged_form}
 
 -- passing over octets is dropping them
 pub records_in-drop : (form : Form) (n : ℕ) (xs : List ℕ) → records_in form n xs ≡ records_in form 0 (drop n xs)
@@ -25,8 +25,8 @@ rest_in-drop form (suc n) (x ∷ xs) = rest_in-drop form n xs
 -- what is known where a whole record stands in front
 pub record IsWhole (form : Form) (xs : List ℕ) : Type 0 where
   pub header : 16 ≤ length xs
-  pub few : captured form xs ≤ 262144
-  pub room : 16 + captured form xs ≤ length xs
+  pub few : captured_length form xs ≤ 262144
+  pub room : 16 + captured_length form xs ≤ length xs
 
 pub whole_parts : (form : Form) (xs : List ℕ) → is_whole form xs ≡ true → IsWhole form xs
 unfolding is_whole
@@ -41,17 +41,17 @@ unfolding is_whole
 is_whole-parts form xs h = grind (arith, nat_tests, h.header, h.few, h.room)
 
 -- the first record, where it is whole
-pub records_step : (form : Form) (xs : List ℕ) → is_whole form xs ≡ true → records_in form 0 xs ≡ record_at form xs ∷ records_in form 0 (drop (16 + captured form xs) xs)
+pub records_step : (form : Form) (xs : List ℕ) → is_whole form xs ≡ true → records_in form 0 xs ≡ record_at form xs ∷ records_in form 0 (drop (16 + captured_length form xs) xs)
 records_step form [] h = let w = whole_parts form [] h in grind (arith, w.header)
 records_step form (x ∷ xs) h =
-    let n = captured form (x ∷ xs) in
+    let n = captured_length form (x ∷ xs) in
     let e : 16 + n ≡ suc (15 + n) = omega arith in
     rw (h, records_in-drop form (15 + n) xs, e) refl
 
-pub rest_step : (form : Form) (xs : List ℕ) → is_whole form xs ≡ true → rest_in form 0 xs ≡ rest_in form 0 (drop (16 + captured form xs) xs)
+pub rest_step : (form : Form) (xs : List ℕ) → is_whole form xs ≡ true → rest_in form 0 xs ≡ rest_in form 0 (drop (16 + captured_length form xs) xs)
 rest_step form [] h = let w = whole_parts form [] h in grind (arith, w.header)
 rest_step form (x ∷ xs) h =
-    let n = captured form (x ∷ xs) in
+    let n = captured_length form (x ∷ xs) in
     let e : 16 + n ≡ suc (15 + n) = omega arith in
     rw (h, rest_in-drop form (15 + n) xs, e) refl
 
@@ -65,8 +65,8 @@ rest_stop form [] h = refl
 rest_stop form (x ∷ xs) h = rw h refl
 
 -- what is left is less than a record may have, unless one is too long
-pub rest_is_short : (form : Form) (xs : List ℕ) → is_whole form xs ≡ false → is_long form xs ≡ false → length xs ≤ 262159
-unfolding is_whole is_long
+pub rest_is_short : (form : Form) (xs : List ℕ) → is_whole form xs ≡ false → is_overlong form xs ≡ false → length xs ≤ 262159
+unfolding is_whole is_overlong
 rest_is_short form xs h l = grind (arith, nat_tests)
 
 -- a list that another one ends with
@@ -93,8 +93,8 @@ IsEnd-rest_in form zero [] = IsEnd-nil
 IsEnd-rest_in form (suc n) [] = IsEnd-nil
 IsEnd-rest_in form (suc n) (x ∷ xs) = IsEnd-cons (rest_in form n xs) x xs (IsEnd-rest_in form n xs)
 IsEnd-rest_in form zero (x ∷ xs) =
-    elim (is_whole form (x ∷ xs)) as (λ b. IsEnd (if b then rest_in form (15 + captured form (x ∷ xs)) xs else x ∷ xs) (x ∷ xs)) [
-      | true ↦ IsEnd-cons (rest_in form (15 + captured form (x ∷ xs)) xs) x xs (IsEnd-rest_in form (15 + captured form (x ∷ xs)) xs)
+    elim (is_whole form (x ∷ xs)) as (λ b. IsEnd (if b then rest_in form (15 + captured_length form (x ∷ xs)) xs else x ∷ xs) (x ∷ xs)) [
+      | true ↦ IsEnd-cons (rest_in form (15 + captured_length form (x ∷ xs)) xs) x xs (IsEnd-rest_in form (15 + captured_length form (x ∷ xs)) xs)
       | false ↦ IsEnd-refl (x ∷ xs)
     ]
 
@@ -121,7 +121,7 @@ field-append order n place xs ys h =
     ∙ number-append order n (drop place xs) ys (omega (arith, h, length-drop place xs))
 
 -- a whole record stays the first one
-captured-append : (form : Form) (xs ys : List ℕ) → 16 ≤ length xs → captured form (xs ++ ys) ≡ captured form xs
+captured-append : (form : Form) (xs ys : List ℕ) → 16 ≤ length xs → captured_length form (xs ++ ys) ≡ captured_length form xs
 captured-append form xs ys h = field-append form.order 4 8 xs ys (omega (arith, h))
 
 is_whole-append : (form : Form) (xs ys : List ℕ) → is_whole form xs ≡ true → is_whole form (xs ++ ys) ≡ true
@@ -141,7 +141,7 @@ same_record a b c d xs ys e f g = rw (e, f, g) refl
 record_at-append : (form : Form) (xs ys : List ℕ) → is_whole form xs ≡ true → record_at form (xs ++ ys) ≡ record_at form xs
 record_at-append form xs ys h =
     let w = whole_parts form xs h in
-    let n = captured form xs in
+    let n = captured_length form xs in
     let e = captured-append form xs ys w.header in
     let seconds = field-append form.order 4 0 xs ys (omega (arith, w.header)) in
     let fraction = field-append form.order 4 4 xs ys (omega (arith, w.header)) in
@@ -150,10 +150,10 @@ record_at-append form xs ys h =
     (field-append form.order 4 12 xs ys (omega (arith, w.header)))
     (ap₂ take e (drop-append-le 16 xs ys w.header) ∙ take-append-le n (drop 16 xs) ys (omega (arith, w.room, length-drop 16 xs)))
 
-drop-whole : (form : Form) (xs ys : List ℕ) → is_whole form xs ≡ true → drop (16 + captured form (xs ++ ys)) (xs ++ ys) ≡ drop (16 + captured form xs) xs ++ ys
+drop-whole : (form : Form) (xs ys : List ℕ) → is_whole form xs ≡ true → drop (16 + captured_length form (xs ++ ys)) (xs ++ ys) ≡ drop (16 + captured_length form xs) xs ++ ys
 drop-whole form xs ys h =
     let w = whole_parts form xs h in
-    ap (λ n. drop (16 + n) (xs ++ ys)) (captured-append form xs ys w.header) ∙ drop-append-le (16 + captured form xs) xs ys w.room
+    ap (λ n. drop (16 + n) (xs ++ ys)) (captured-append form xs ys w.header) ∙ drop-append-le (16 + captured_length form xs) xs ys w.room
 
 -- what comes later is read on from the rest
 pub record GoesOn (form : Form) (xs ys : List ℕ) : Type 0 where
@@ -166,7 +166,7 @@ goes_on_stopped form xs ys h =
     let rest = rest_stop form xs h in
     record { records = rw (none, rest) refl; rest = rw rest refl }
 
-goes_on_whole : (form : Form) (xs ys : List ℕ) → is_whole form xs ≡ true → GoesOn form (drop (16 + captured form xs) xs) ys → GoesOn form xs ys
+goes_on_whole : (form : Form) (xs ys : List ℕ) → is_whole form xs ≡ true → GoesOn form (drop (16 + captured_length form xs) xs) ys → GoesOn form xs ys
 goes_on_whole form xs ys h more =
     let whole = is_whole-append form xs ys h in
     let first = record_at-append form xs ys h in
@@ -190,8 +190,8 @@ goes_on_within (suc n) form xs ys h =
     elim (cases_Bool (is_whole form xs)) [
       | inl w ↦
           let parts = whole_parts form xs w in
-          let less : length (drop (16 + captured form xs) xs) ≤ n = omega (arith, parts.room, h, length-drop (16 + captured form xs) xs) in
-          goes_on_whole form xs ys w (goes_on_within n form (drop (16 + captured form xs) xs) ys less)
+          let less : length (drop (16 + captured_length form xs) xs) ≤ n = omega (arith, parts.room, h, length-drop (16 + captured_length form xs) xs) in
+          goes_on_whole form xs ys w (goes_on_within n form (drop (16 + captured_length form xs) xs) ys less)
       | inr w ↦ goes_on_stopped form xs ys w
     ]
 
@@ -209,33 +209,33 @@ rest_in-stops form (suc n) [] = not_whole_nil form
 rest_in-stops form (suc n) (x ∷ xs) = rest_in-stops form n xs
 rest_in-stops form zero (x ∷ xs) =
     elim (cases_Bool (is_whole form (x ∷ xs))) [
-      | inl w ↦ rw w (rest_in-stops form (15 + captured form (x ∷ xs)) xs)
+      | inl w ↦ rw w (rest_in-stops form (15 + captured_length form (x ∷ xs)) xs)
       | inr w ↦ rw w w
     ]
 
 -- a record that is too long stays so, and is never whole
 pub record StaysLong (form : Form) (xs ys : List ℕ) : Type 0 where
-  pub long : is_long form (xs ++ ys) ≡ true
+  pub long : is_overlong form (xs ++ ys) ≡ true
   pub whole : is_whole form (xs ++ ys) ≡ false
 
 -- what is known where a record's header says that it has too many octets
 pub record IsLong (form : Form) (xs : List ℕ) : Type 0 where
   pub header : 16 ≤ length xs
-  pub many : 262144 < captured form xs
+  pub many : 262144 < captured_length form xs
 
-long_parts : (form : Form) (xs : List ℕ) → is_long form xs ≡ true → IsLong form xs
-unfolding is_long
+long_parts : (form : Form) (xs : List ℕ) → is_overlong form xs ≡ true → IsLong form xs
+unfolding is_overlong
 long_parts form xs h = record { header = grind (arith, nat_tests); many = grind (arith, nat_tests) }
 
-long_again : (form : Form) (xs : List ℕ) → IsLong form xs → is_long form xs ≡ true
-unfolding is_long
+long_again : (form : Form) (xs : List ℕ) → IsLong form xs → is_overlong form xs ≡ true
+unfolding is_overlong
 long_again form xs h = grind (arith, nat_tests, h.header, h.many)
 
 long_is_not_whole : (form : Form) (xs : List ℕ) → IsLong form xs → is_whole form xs ≡ false
 unfolding is_whole
 long_is_not_whole form xs h = grind (arith, nat_tests, h.header, h.many)
 
-pub stays_long : (form : Form) (xs ys : List ℕ) → is_long form xs ≡ true → StaysLong form xs ys
+pub stays_long : (form : Form) (xs ys : List ℕ) → is_overlong form xs ≡ true → StaysLong form xs ys
 stays_long form xs ys h =
     let parts = long_parts form xs h in
     let e = captured-append form xs ys parts.header in

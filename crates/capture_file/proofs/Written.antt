@@ -10,7 +10,7 @@ use Rattle.capture_file.specs.declared.entries.Record.{Record}
 use Rattle.capture_file.specs.declared.form.Form.{Form}
 use Rattle.capture_file.specs.declared.form.Order.TheVariants.{Little}
 use Rattle.capture_file.specs.declared.form.Fraction.TheVariants.{Nanoseconds}
-use Rattle.capture_file.specs.Captures.{capture_fault, captured, fault_after, field, form_by, header, is_too_large, is_whole, number, record_at, records, records_after, records_in, rest_fault, rest_in}
+use Rattle.capture_file.specs.Captures.{capture_fault, captured_length, fault_after, field, form_by, header, is_too_large, is_whole, number, record_at, records, records_after, records_in, rest_fault, rest_in}
 use Rattle.capture_file.specs.Writing.{IsWritable, capture_text, header_text, record_header, record_text, text_of, whole_record}
 use Rattle.capture_file.proofs.Walk.{header-append, is_whole-parts, records_step, rest_step}
 
@@ -61,7 +61,7 @@ text_split r more = append_assoc (record_header r.nanos (length r.octets)) r.oct
 record IsRead (r : Record) (xs more : List ℕ) : Type 0 where
   whole : is_whole written xs ≡ true
   first : record_at written xs ≡ r
-  behind : drop (16 + captured written xs) xs ≡ more
+  behind : drop (16 + captured_length written xs) xs ≡ more
 
 drop_header : (nanos size : ℕ) (more : List ℕ) → drop 16 (record_header nanos size ++ more) ≡ more
 drop_header nanos size more = drop_at (record_header nanos size) more 16 (length-record_header nanos size)

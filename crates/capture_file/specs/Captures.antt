@@ -40,6 +40,7 @@ has_version form octets = (field form.order 2 4 octets == 2) && (field form.orde
 abbrev pub is_ethernet : Form → List ℕ → Bool
 is_ethernet form octets = field form.order 4 20 octets == 1
 
+-- the form, or the header's first fault, where these octets begin with a header of 24
 abbrev pub judged_form : Option Form → List ℕ → Result Form CaptureFault
 judged_form None octets = Err Magic
 judged_form (Some form) octets =
@@ -50,17 +51,18 @@ unfoldable pub header : List ℕ → Result Form CaptureFault
 header octets = judged_form (form_of octets) octets
 
 -- how many octets the record in front says that it has, without its header of 16
-abbrev pub captured : Form → List ℕ → ℕ
-captured form octets = field form.order 4 8 octets
+abbrev pub captured_length : Form → List ℕ → ℕ
+captured_length form octets = field form.order 4 8 octets
 
 -- a whole record stands in front
 unfoldable pub is_whole : Form → List ℕ → Bool
 is_whole form octets =
-    nat_le 16 (length octets) && nat_le (captured form octets) 262144 && nat_le (16 + captured form octets) (length octets)
+    nat_le 16 (length octets) && nat_le (captured_length form octets) 262144
+    && nat_le (16 + captured_length form octets) (length octets)
 
 -- a record's header stands in front that says that it has too many octets
-unfoldable pub is_long : Form → List ℕ → Bool
-is_long form octets = nat_le 16 (length octets) && nat_lt 262144 (captured form octets)
+unfoldable pub is_overlong : Form → List ℕ → Bool
+is_overlong form octets = nat_le 16 (length octets) && nat_lt 262144 (captured_length form octets)
 
 -- how many nanoseconds a fraction's unit has
 abbrev pub unit : Fraction → ℕ
@@ -76,7 +78,7 @@ abbrev pub record_at : Form → List ℕ → Record
 record_at form octets = record {
   nanos = nanos_at form octets;
   original = field form.order 4 12 octets;
-  octets = take (captured form octets) (drop 16 octets);
+  octets = take (captured_length form octets) (drop 16 octets);
 }
 
 -- the whole records, one after the other, once so many octets are passed over
@@ -84,31 +86,36 @@ abbrev pub records_in : Form → ℕ → List ℕ → List Record
 records_in form passed [] = []
 records_in form (suc passed) (x ∷ xs) = records_in form passed xs
 records_in form zero (x ∷ xs) =
-    if is_whole form (x ∷ xs) then record_at form (x ∷ xs) ∷ records_in form (15 + captured form (x ∷ xs)) xs else []
+    if is_whole form (x ∷ xs) then record_at form (x ∷ xs) ∷ records_in form (15 + captured_length form (x ∷ xs)) xs
+    else []
 
 -- the octets after the last of them
 abbrev pub rest_in : Form → ℕ → List ℕ → List ℕ
 rest_in form passed [] = []
 rest_in form (suc passed) (x ∷ xs) = rest_in form passed xs
 rest_in form zero (x ∷ xs) =
-    if is_whole form (x ∷ xs) then rest_in form (15 + captured form (x ∷ xs)) xs else x ∷ xs
+    if is_whole form (x ∷ xs) then rest_in form (15 + captured_length form (x ∷ xs)) xs else x ∷ xs
 
 -- what is wrong with the record of this number, where so many octets are left for it and it isn't whole
 abbrev pub rest_fault : Form → ℕ → List ℕ → Option CaptureFault
 rest_fault form number [] = None
-rest_fault form number (x ∷ xs) = if is_long form (x ∷ xs) then Some (Length number) else Some (CutRecord number)
+rest_fault form number (x ∷ xs) = if is_overlong form (x ∷ xs) then Some (Length number) else Some (CutRecord number)
 
+-- the first fault where the header says this and these octets come after it
 abbrev pub fault_after : Result Form CaptureFault → List ℕ → Option CaptureFault
 fault_after (Err fault) octets = Some fault
 fault_after (Ok form) octets = rest_fault form (length (records_in form 0 octets) + 1) (rest_in form 0 octets)
 
+-- the whole records where the header says this and these octets come after it
 abbrev pub records_after : Result Form CaptureFault → List ℕ → List Record
 records_after (Err fault) octets = []
 records_after (Ok form) octets = records_in form 0 octets
 
+-- the octets after the last whole record, and none where they begin a record that has too many
 abbrev pub unless_long : Form → List ℕ → List ℕ
-unless_long form rest = if is_long form rest then [] else rest
+unless_long form rest = if is_overlong form rest then [] else rest
 
+-- the octets that are left where the header says this and these octets come after it
 abbrev pub rest_after : Result Form CaptureFault → List ℕ → List ℕ
 rest_after (Err fault) octets = []
 rest_after (Ok form) octets = unless_long form (rest_in form 0 octets)

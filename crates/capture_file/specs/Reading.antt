@@ -1,4 +1,4 @@
--- What a reader keeps of a capture that comes in pieces.
+-- What a reader keeps of a capture that comes in pieces (profile).
 use Rattle.std.specs.Prelude.{◌≡◌, ℕ, ◌+◌, nat_lt, if◌then◌else◌, List, [], ◌∷◌, ◌++◌, length, drop, Result, Ok, Err}
 use Rattle.capture_file.specs.declared.entries.Record.{Record}
 use Rattle.capture_file.specs.declared.fault.CaptureFault.{CaptureFault}
@@ -7,7 +7,7 @@ use Rattle.capture_file.specs.declared.form.Form.{Form}
 use Rattle.capture_file.specs.declared.reading.Stage.{Stage}
 use Rattle.capture_file.specs.declared.reading.Stage.TheVariants.{Header, Entries, Faulty}
 use Rattle.capture_file.specs.declared.reading.Reading.{Reading}
-use Rattle.capture_file.specs.Captures.{header, is_long, is_too_large, records_in, rest_in}
+use Rattle.capture_file.specs.Captures.{header, is_overlong, is_too_large, records_in, rest_in}
 
 -- nothing has come yet
 abbrev pub new_reading : Reading
@@ -17,15 +17,17 @@ new_reading = record { stage = Header; records = []; rest = [] }
 abbrev pub failed : CaptureFault → Reading
 failed fault = record { stage = Faulty fault; records = []; rest = [] }
 
+-- these records are whole and these octets are left after them
 abbrev pub ended : Form → List Record → List ℕ → Reading
 ended form records rest =
-    if is_long form rest then failed (Length (length records + 1))
+    if is_overlong form rest then failed (Length (length records + 1))
     else record { stage = Entries form; records = records; rest = rest }
 
 -- these octets come after the records so far
 unfoldable pub walked : Form → List Record → List ℕ → Reading
 walked form records octets = ended form (records ++ records_in form 0 octets) (rest_in form 0 octets)
 
+-- the header said this, and these octets come after it and after the records so far
 abbrev pub opened : Result Form CaptureFault → List Record → List ℕ → Reading
 opened (Err fault) records octets = record { stage = Faulty fault; records = records; rest = [] }
 opened (Ok form) records octets = walked form records octets
@@ -44,6 +46,7 @@ pub record Reader : Type 0 where
   pub seen : ℕ
   pub reading : Reading
 
+-- a reader to which nothing has come yet
 abbrev pub new_reader : Reader
 new_reader = record { seen = 0; reading = new_reading }
 
@@ -51,7 +54,10 @@ new_reader = record { seen = 0; reading = new_reading }
 unfoldable pub fed : Reader → List ℕ → Reader
 fed r piece =
     if is_too_large (r.seen + length piece) then record { seen = 67108865; reading = failed TooLarge }
-    else record { seen = r.seen + length piece; reading = read_on r.reading.stage r.reading.records (r.reading.rest ++ piece) }
+    else record {
+      seen = r.seen + length piece;
+      reading = read_on r.reading.stage r.reading.records (r.reading.rest ++ piece);
+    }
 
 -- what a reader is after these octets, however they came
 pub record Reads (octets : List ℕ) (r : Reader) : Type 0 where

@@ -1,7 +1,7 @@
 //! How a capture is written: its header and the fields of a record.
 ghost use Rattle.std.specs.Prelude.{◌≡◌, ◌+◌, ◌≤◌, IfOk, length};
 ghost use Rattle.std.specs.Bool.{OnTrue};
-ghost use Rattle.capture_file.specs.Captures.{captured, field, form_of, header, is_long, is_whole, nanos_at, record_at};
+ghost use Rattle.capture_file.specs.Captures.{captured_length, field, form_of, header, is_overlong, is_whole, nanos_at, record_at};
 
 use crate::{CaptureFault, Octets, Record};
 use byteorder::{BigEndian, ByteOrder, LittleEndian};
@@ -99,7 +99,7 @@ pub fn header(octets: &[u8]) -> Result<Form, CaptureFault>
 /// How many octets the record in front says that it has, without its header.
 pub fn captured(form: Form, octets: &[u8]) -> usize
     requires { RECORD_OCTETS ≤ length octets.now }
-    ensures { result ≡ captured form octets.now }
+    ensures { result ≡ captured_length form octets.now }
 {
     field(form.order, 8, octets) as usize
 }
@@ -108,7 +108,7 @@ pub fn captured(form: Form, octets: &[u8]) -> usize
 #[tactic(auto, unfolding(crate::specs::Captures::is_whole))]
 pub fn is_whole(form: Form, octets: &[u8]) -> bool
     ensures whole { result ≡ is_whole form octets.now }
-    ensures room { OnTrue result (RECORD_OCTETS + captured form octets.now ≤ length octets.now) }
+    ensures room { OnTrue result (RECORD_OCTETS + captured_length form octets.now ≤ length octets.now) }
 {
     if octets.len() < RECORD_OCTETS {
         return false;
@@ -118,9 +118,9 @@ pub fn is_whole(form: Form, octets: &[u8]) -> bool
 }
 
 /// Whether a record's header stands in front that says that it has too many octets.
-#[tactic(auto, unfolding(crate::specs::Captures::is_long))]
+#[tactic(auto, unfolding(crate::specs::Captures::is_overlong))]
 pub fn is_long(form: Form, octets: &[u8]) -> bool
-    ensures { result ≡ is_long form octets.now }
+    ensures { result ≡ is_overlong form octets.now }
 {
     octets.len() >= RECORD_OCTETS && captured(form, octets) > MOST_CAPTURED
 }
@@ -140,7 +140,7 @@ fn nanos_at(form: Form, octets: &[u8]) -> u64
 
 /// The whole record that stands in front.
 pub fn record_at(alloc: Global, form: Form, octets: &[u8]) -> Result<Record, OutOfMemory>
-    requires { RECORD_OCTETS + captured form octets.now ≤ length octets.now }
+    requires { RECORD_OCTETS + captured_length form octets.now ≤ length octets.now }
     ensures { IfOk result (λ r. r ≡ record_at form octets.now) }
 {
     let mut kept = Octets::new(alloc);

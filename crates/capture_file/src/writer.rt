@@ -1,5 +1,6 @@
 //! Writes a capture.
 ghost use Rattle.std.specs.Prelude.{◌≡◌, ◌≤◌, ◌<◌, ◌^◌, ◌++◌, [], ◌∷◌, List, length, IfOk, IfErr, OnOk, OnErr};
+ghost use Rattle.mac_parameters.specs.Parameters.{most_octets_tagged};
 ghost use Rattle.capture_file.specs.declared.fault.CaptureFault.TheVariants as fault;
 ghost use Rattle.capture_file.specs.declared.entries.Record.{Record};
 ghost use Rattle.capture_file.specs.Writing.{capture_text, record_header, record_text, whole_record};
@@ -64,7 +65,7 @@ impl CaptureWriter {
     /// before.
     #[tactic(auto, using(crate::proofs::Written::written_on_ok))]
     pub fn add(&mut self, nanos: u64, octets: &[u8]) -> Result<(), CaptureFault>
-        requires few { length octets.now ≤ 1518 }
+        requires few { length octets.now ≤ most_octets_tagged }
         requires time { nanos < 2 ^ 62 }
         ensures ok { OnOk result (self.new ≡ self.old ++ record_text nanos octets.now) }
         // A capture that was never cleared gains the record.

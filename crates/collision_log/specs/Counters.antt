@@ -1,5 +1,6 @@
--- The counters of a device and their text (profile).
+-- The counters of a device and their text (profile; what they count is named as in clause 4.2).
 use Rattle.std.specs.Prelude.{ℕ, ◌+◌, ◌-◌, ◌≤◌, Bool, List, ◌++◌, decimal, codes, nat_le, if◌then◌else◌}
+use Rattle.mac_parameters.specs.Parameters.{slot_time}
 use Rattle.collision_log.specs.Rows.{device_word}
 use Rattle.collision_log.specs.declared.counters.Counters.{Counters}
 use Rattle.collision_log.specs.declared.row.Body.{Body}
@@ -7,6 +8,7 @@ use Rattle.collision_log.specs.declared.row.Body.TheVariants.{Sent, Collided, Gi
 use Rattle.collision_log.specs.declared.row.Why.{Why}
 use Rattle.collision_log.specs.declared.row.Why.TheVariants.{Fragment, TooLong, FcsError, AlignError, Damaged}
 
+-- all counts are 0
 abbrev pub no_counts : Counters
 no_counts = record {
   queued = 0;
@@ -30,10 +32,11 @@ no_counts = record {
   halted = 0;
 }
 
--- 1 for a late collision, whose hit, in half bits from 0, is past the slot time of 512 bits (clause 4.4.2)
+-- 1 for a late collision: one that is heard at half bit `hit` of the sending, from 0, at or after the slot time (4.4.2)
 abbrev pub late_count : ℕ → ℕ
-late_count hit = if nat_le 1024 hit then 1 else 0
+late_count hit = if nat_le slot_time hit then 1 else 0
 
+-- the counters after one more reception that was dropped, by what was wrong with it
 abbrev pub with_dropped : Counters → Why → Counters
 with_dropped counters Fragment = record counters { fragment = counters.fragment + 1 }
 with_dropped counters TooLong = record counters { too_long = counters.too_long + 1 }
@@ -47,7 +50,11 @@ with_row counters (Sent frame start attempt) = record counters { sent = counters
 with_row counters (Collided frame start attempt hit drawn) =
     record counters { collided = counters.collided + 1; late = counters.late + late_count hit }
 with_row counters (GivenUp frame start hit) =
-    record counters { collided = counters.collided + 1; late = counters.late + late_count hit; given_up = counters.given_up + 1 }
+    record counters {
+      collided = counters.collided + 1;
+      late = counters.late + late_count hit;
+      given_up = counters.given_up + 1;
+    }
 with_row counters (Cut frame start attempt hit) = record counters { cut = counters.cut + 1 }
 with_row counters (Received octets) = record counters { received = counters.received + 1 }
 with_row counters (Dropped why halves) = with_dropped counters why
@@ -74,27 +81,31 @@ pub record RowsAtMost (counters : Counters) (n : ℕ) : Type 0 where
   pub at_most_opened : counters.opened ≤ n
   pub at_most_halted : counters.halted ≤ n
 
--- the frames that are neither sent nor given up
+-- the frames that are neither sent nor given up for excessive collisions
 abbrev pub left_of : Counters → ℕ
 left_of counters = counters.queued - counters.sent - counters.given_up
 
+-- the words of a station's queue: the frames in it, and the records that didn't come into it
 abbrev pub queue_words : Counters → List ℕ
 queue_words counters =
     codes " queued " ++ decimal counters.queued ++ codes " short " ++ decimal counters.short
     ++ codes " long " ++ decimal counters.long ++ codes " snapped " ++ decimal counters.snapped
 
+-- the words of what a station sent
 abbrev pub sending_words : Counters → List ℕ
 sending_words counters =
     codes " sent " ++ decimal counters.sent ++ codes " collided " ++ decimal counters.collided
     ++ codes " late " ++ decimal counters.late ++ codes " given_up " ++ decimal counters.given_up
     ++ codes " cut " ++ decimal counters.cut ++ codes " left " ++ decimal (left_of counters)
 
+-- the words of what a station received
 abbrev pub receiving_words : Counters → List ℕ
 receiving_words counters =
     codes " received " ++ decimal counters.received ++ codes " fragment " ++ decimal counters.fragment
     ++ codes " too_long " ++ decimal counters.too_long ++ codes " fcs " ++ decimal counters.fcs
     ++ codes " align " ++ decimal counters.align ++ codes " damaged " ++ decimal counters.damaged
 
+-- the words of what a repeater did: collisions, and partition, reconnection and jabber lockup protection of ports
 abbrev pub repeating_words : Counters → List ℕ
 repeating_words counters =
     codes " clash " ++ decimal counters.clash ++ codes " closed " ++ decimal counters.closed

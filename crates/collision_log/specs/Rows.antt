@@ -11,6 +11,7 @@ abbrev pub hit_text : Option ℕ → List ℕ
 hit_text None = codes "none"
 hit_text (Some hit) = decimal hit
 
+-- the word for what was wrong with a reception
 abbrev pub why_text : Why → List ℕ
 why_text Fragment = codes "fragment"
 why_text TooLong = codes "too_long"
@@ -37,9 +38,11 @@ body_text (Closed port) = codes "closed port " ++ decimal port
 body_text (Opened port) = codes "opened port " ++ decimal port
 body_text (Halted port) = codes "halted port " ++ decimal port
 
+-- the word for a repeater or a station
 abbrev pub device_word : Bool → List ℕ
 device_word repeater = if repeater then codes "repeater " else codes "station "
 
--- the line of a row of a repeater or a station with this name
+-- the line of a row of a repeater or a station with this name; half bits are counted from 0
 abbrev pub row_line : Row → Bool → List ℕ → List ℕ
-row_line row repeater name = decimal row.t ++ codes " " ++ device_word repeater ++ name ++ codes " " ++ body_text row.body ++ codes "\n"
+row_line row repeater name =
+    decimal row.t ++ codes " " ++ device_word repeater ++ name ++ codes " " ++ body_text row.body ++ codes "\n"

@@ -5,9 +5,7 @@ ghost use Rattle.collision_log.specs.Counters.{RowsAtMost, counters_line, counte
 use crate::line::Line;
 use crate::texts::write_device;
 use crate::{Body, Why};
-
-/// The half bits of the slot time of 512 bits (clause 4.4.2), from which on a collision is late.
-const SLOT: u32 = 1_024;
+use mac_parameters::SLOT_TIME;
 
 /// The counts of a device: of its queue and of the records that didn't come into it, and of its rows by
 /// what happened.
@@ -62,8 +60,8 @@ impl Counters {
         }
     }
 
-    /// Counts one more row, where no count of rows stands at the type's end. A collision and the giving up
-    /// of a frame both count as collided (profile).
+    /// Counts one more row, where no count of rows stands at the type's end. A collision and a frame that is given up for
+    /// excessive collisions both count as collided (profile).
     pub fn count(&mut self, body: &Body)
         requires { RowsAtMost self.old (2 ^ 64 - 2) }
         ensures counts { self.new ≡ with_row self.old body.now }
@@ -86,16 +84,18 @@ impl Counters {
         }
     }
 
+    /// A collision that is heard at or after the slot time is late (4.2.3.2.4).
     fn count_collision(&mut self, hit: u32)
         requires { RowsAtMost self.old (2 ^ 64 - 2) }
         ensures { self.new ≡ record self.old { collided = self.old.collided + 1; late = self.old.late + late_count hit } }
     {
         self.collided += 1;
-        if hit >= SLOT {
+        if hit >= SLOT_TIME {
             self.late += 1;
         }
     }
 
+    /// Counts one more reception that was dropped.
     fn count_dropped(&mut self, why: Why)
         requires { RowsAtMost self.old (2 ^ 64 - 2) }
         ensures { self.new ≡ with_dropped self.old why }

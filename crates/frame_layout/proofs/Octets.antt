@@ -6,14 +6,14 @@ use Rattle.std.specs.Fn.{iterate}
 use Rattle.std.specs.Int.Bits.{xor_block, xor_assoc, xor_comm, xor_zero_r, xor_shifted}
 use Rattle.std.proofs.lemmas.Nat.{div-mul-add, mod-mul-add, div-add-mod', mod_below, div_below, xor_shr}
 use Rattle.std.proofs.Math.Nat.{pow-suc}
-use Rattle.frame_layout.specs.Division.{xor, plus, generator, low_bits, number, dividend, remainder, octet_bits, bits, fcs_of}
+use Rattle.frame_layout.specs.Division.{xor, plus, generator, low_bits, number_of_bits, dividend, remainder, octet_bits, bits, fcs_of}
 use Rattle.frame_layout.specs.Register.{generator_number, turned, turned_all}
 use Rattle.frame_layout.proofs.Register.{fed, fed_all, length-fed, length-generator, divided_is}
 
 abbrev bit : Bool → ℕ
 bit b = cond b 1 0
 
-number-generator : number generator ≡ generator_number
+number-generator : number_of_bits generator ≡ generator_number
 unfolding generator
 number-generator = refl
 
@@ -27,17 +27,17 @@ bit-xor true false = refl
 bit-xor false true = refl
 bit-xor false false = refl
 
-number-push : (rs : List Bool) → number (rs ++ false ∷ []) ≡ number rs
+number-push : (rs : List Bool) → number_of_bits (rs ++ false ∷ []) ≡ number_of_bits rs
 number-push [] = refl
 number-push (r ∷ rs) = ap (λ n. n * 2 + cond r 1 0) (number-push rs)
 
-number-plus : (xs ys : List Bool) → length xs ≡ length ys → number (plus xs ys) ≡ bit_xor (number xs) (number ys)
+number-plus : (xs ys : List Bool) → length xs ≡ length ys → number_of_bits (plus xs ys) ≡ bit_xor (number_of_bits xs) (number_of_bits ys)
 number-plus [] [] h = refl
 number-plus [] (y ∷ ys) h = absurd (omega arith)
 number-plus (x ∷ xs) [] h = absurd (omega arith)
 number-plus (x ∷ xs) (y ∷ ys) h =
     ap₂ (λ n k. n * 2 + k) (number-plus xs ys (omega arith)) (bit-xor x y)
-    ∙ sym (xor_block 1 (number xs) (number ys) (bit x) (bit y) (bit-lt x) (bit-lt y))
+    ∙ sym (xor_block 1 (number_of_bits xs) (number_of_bits ys) (bit x) (bit y) (bit-lt x) (bit-lt y))
 
 turned_at : (q : ℕ) (x : Bool) → turned (q * 2 + bit x) ≡ cond x (bit_xor q generator_number) q
 turned_at q true = ap₂ (λ m d. cond (eqb m 1) (bit_xor d generator_number) d) (mod-mul-add q 2 1 (omega arith)) (div-mul-add q 2 1 (omega arith))
@@ -49,16 +49,16 @@ with_bit q x b =
     ∙ xor_block 1 q 0 (bit x) (bit b) (bit-lt x) (bit-lt b)
     ∙ ap₂ (λ n k. n * 2 + k) (xor_zero_r q) (sym (bit-xor x b))
 
-number-fed : (r : List Bool) (b : Bool) → length r ≡ 32 → number (fed r b) ≡ turned (bit_xor (number r) (bit b))
+number-fed : (r : List Bool) (b : Bool) → length r ≡ 32 → number_of_bits (fed r b) ≡ turned (bit_xor (number_of_bits r) (bit b))
 number-fed [] b h = absurd (omega arith)
 number-fed (r ∷ rs) b h =
-    elim (xor r b) as (λ x. number (cond x (plus generator (rs ++ false ∷ [])) (rs ++ false ∷ [])) ≡ cond x (bit_xor (number rs) generator_number) (number rs)) [
-      | true ↦ number-plus generator (rs ++ false ∷ []) (omega (arith, length-generator, length-append rs (false ∷ []))) ∙ ap₂ bit_xor number-generator (number-push rs) ∙ xor_comm generator_number (number rs)
+    elim (xor r b) as (λ x. number_of_bits (cond x (plus generator (rs ++ false ∷ [])) (rs ++ false ∷ [])) ≡ cond x (bit_xor (number_of_bits rs) generator_number) (number_of_bits rs)) [
+      | true ↦ number-plus generator (rs ++ false ∷ []) (omega (arith, length-generator, length-append rs (false ∷ []))) ∙ ap₂ bit_xor number-generator (number-push rs) ∙ xor_comm generator_number (number_of_bits rs)
       | false ↦ number-push rs
     ]
-    ∙ sym (ap turned (with_bit (number rs) r b) ∙ turned_at (number rs) (xor r b))
+    ∙ sym (ap turned (with_bit (number_of_bits rs) r b) ∙ turned_at (number_of_bits rs) (xor r b))
 
-pub number-fed_all : (ms r : List Bool) → length r ≡ 32 → number (fed_all r ms) ≡ turned_all (number r) ms
+pub number-fed_all : (ms r : List Bool) → length r ≡ 32 → number_of_bits (fed_all r ms) ≡ turned_all (number_of_bits r) ms
 number-fed_all [] r h = refl
 number-fed_all (b ∷ ms) r h = number-fed_all ms (fed r b) (length-fed r b h) ∙ ap (λ n. turned_all n ms) (number-fed r b h)
 
@@ -132,7 +132,7 @@ fed_octet octets i reg o table h e small_o t =
     ∙ turned_all-append (octet_bits (get_or octets i 0)) (bits (drop (i + 1) octets)) reg
     ∙ ap (λ n. turned_all n (bits (drop (i + 1) octets))) (ap (λ x. turned_all reg (low_bits 8 x)) (sym e) ∙ octet_step reg o small_o ∙ ap (λ n. bit_xor n (reg / 256)) (sym t)))
 
-number-not : (bs : List Bool) → number (map not bs) + number bs + 1 ≡ 2 ^ length bs
+number-not : (bs : List Bool) → number_of_bits (map not bs) + number_of_bits bs + 1 ≡ 2 ^ length bs
 number-not [] = refl
 number-not (true ∷ bs) = rw pow-suc (omega (arith, number-not bs))
 number-not (false ∷ bs) = rw pow-suc (omega (arith, number-not bs))
@@ -148,5 +148,5 @@ fcs_is octets =
     let ones = replicate 32 true in
     let ms = bits octets in
     let last : remainder ms ≡ fed_all ones ms = divided_is ms ones refl in
-    let value : number (fed_all ones ms) ≡ turned_all 4294967295 ms = number-fed_all ms ones refl in
-    ap₂ (λ (r : List Bool) (n : ℕ). number (map not r) + n + 1) last (sym value) ∙ number-not (fed_all ones ms) ∙ ap (λ n. 2 ^ n) (length-fed_all ms ones refl)
+    let value : number_of_bits (fed_all ones ms) ≡ turned_all 4294967295 ms = number-fed_all ms ones refl in
+    ap₂ (λ (r : List Bool) (n : ℕ). number_of_bits (map not r) + n + 1) last (sym value) ∙ number-not (fed_all ones ms) ∙ ap (λ n. 2 ^ n) (length-fed_all ms ones refl)

@@ -46,7 +46,7 @@ fn eight_steps(octet: u8) -> u32
     TABLE[usize::from(octet)]
 }
 
-/// The frame check sequence of these octets (clause 3.2.9): the complement of the remainder of a long
+/// The frame check sequence of these octets (3.2.9): the complement of the remainder of a long
 /// division by the generator. Bit j, counted from the least, is the coefficient of x^(31 - j).
 pub fn fcs(octets: &[u8]) -> u32
     ensures { result ≡ fcs_of octets.now }

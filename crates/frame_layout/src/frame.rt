@@ -1,24 +1,23 @@
 //! A frame as it is sent.
 ghost use Rattle.std.specs.Prelude.{◌≡◌, ◌<◌, ◌≤◌, ◌↔◌, length, IfOk, OnOk, Err};
-ghost use Rattle.frame_layout.specs.Frame.{IsMost, frame_of, padded, verdict_of};
+ghost use Rattle.frame_layout.specs.Frame.{frame_of, padded, verdict_of};
+ghost use Rattle.mac_parameters.specs.Parameters.{IsMost, addresses_and_type, greatest_frame, least_frame, most_octets_untagged};
 ghost use Rattle.frame_layout.specs.declared.verdict.Verdict.TheVariants.{Good};
 
 use crate::fcs;
 use lists::{List, OutOfMemory};
+use mac_parameters::{ADDRESSES_AND_TYPE, LEAST_OCTETS, MOST_OCTETS_UNTAGGED};
 use std::alloc::Global;
 use std::marker::Model;
 
-/// The octets that a frame has at least before its frame check sequence (clause 3.2.8).
-const LEAST: usize = 60;
+/// The octets that a frame has at least before its frame check sequence (3.2.8).
+const LEAST: usize = LEAST_OCTETS as usize;
 
-/// Destination, source and length or type: the octets that a frame can't do without (clause 3.1.1).
-const HEADER: usize = 14;
+/// Destination, source and length or type: the octets that a frame can't do without (3.1.1).
+const HEADER: usize = ADDRESSES_AND_TYPE as usize;
 
-/// The most octets of an untagged frame before its frame check sequence (clause 3.2.7).
-pub const MOST: u32 = 1_514;
-
-/// A whole frame, which a contract sees as its octets in the order in which they are sent: at least 60
-/// with the pad, and the four of the frame check sequence.
+/// A whole frame, which a contract sees as its octets in the order in which they are sent, the pad and the frame check
+/// sequence among them.
 #[derive(Debug, Drop)]
 pub struct Frame {
     octets: List<u8>,
@@ -26,20 +25,21 @@ pub struct Frame {
 
 impl Model for Frame {
     ghost use Rattle.std.specs.Prelude.{List, ℕ, ◌≤◌, length};
+    ghost use Rattle.mac_parameters.specs.Parameters.{greatest_frame, least_frame};
 
     ghost Value = { List ℕ };
 
     ghost view = { λ f. f.octets };
 
-    ghost invariant = { λ f. (64 ≤ length f.octets) × (length f.octets ≤ 1522) };
+    ghost invariant = { λ f. (least_frame ≤ length f.octets) × (length f.octets ≤ greatest_frame) };
 }
 
 impl Frame {
     /// All the octets, with pad and frame check sequence.
     pub fn octets(&self) -> &[u8]
         ensures octets { result.now ≡ self.now }
-        ensures least { 64 ≤ length result.now }
-        ensures most { length result.now ≤ 1522 }
+        ensures least { least_frame ≤ length result.now }
+        ensures most { length result.now ≤ greatest_frame }
     {
         self.octets.as_slice()
     }
@@ -84,15 +84,15 @@ fn pad(octets: &mut List<u8>) -> Result<(), OutOfMemory>
     Ok(())
 }
 
-/// The frame (clause 3) of 14 to `most` octets, counted without pad and check sequence. `TooShort` comes
-/// exactly below 14 octets and `TooLong` exactly above `most`; `OutOfMemory` is free. Received without
+/// The frame (clause 3) of these octets, counted without pad and check sequence. `TooShort` comes exactly below the octets
+/// of addresses and type, and `TooLong` exactly above `most`; `OutOfMemory` is free. Received without
 /// spare bits, the frame is good.
 #[tactic(auto, unfolding(crate::specs::Frame::frame_of, crate::specs::Frame::fcs_octets))]
 pub fn build_up_to(alloc: Global, octets: &[u8], most: u32) -> Result<Frame, FrameFault>
     requires { IsMost most }
     ensures frame { IfOk result (λ f. f ≡ frame_of octets.now) }
     ensures good { IfOk result (λ f. verdict_of f 0 most ≡ Good) }
-    ensures too_short { (result ≡ Err FrameFault.TooShort) ↔ (length octets.now < 14) }
+    ensures too_short { (result ≡ Err FrameFault.TooShort) ↔ (length octets.now < addresses_and_type) }
     ensures too_long { (result ≡ Err FrameFault.TooLong) ↔ (most < length octets.now) }
 {
     if octets.len() < HEADER {
@@ -109,12 +109,12 @@ pub fn build_up_to(alloc: Global, octets: &[u8], most: u32) -> Result<Frame, Fra
     Ok(Frame { octets: frame })
 }
 
-/// `build_up_to` with the 1,514 octets of an untagged frame.
+/// `build_up_to` with the most octets of an untagged frame.
 pub fn build(alloc: Global, octets: &[u8]) -> Result<Frame, FrameFault>
     ensures frame { IfOk result (λ f. f ≡ frame_of octets.now) }
-    ensures good { IfOk result (λ f. verdict_of f 0 1514 ≡ Good) }
-    ensures too_short { (result ≡ Err FrameFault.TooShort) ↔ (length octets.now < 14) }
-    ensures too_long { (result ≡ Err FrameFault.TooLong) ↔ (1514 < length octets.now) }
+    ensures good { IfOk result (λ f. verdict_of f 0 most_octets_untagged ≡ Good) }
+    ensures too_short { (result ≡ Err FrameFault.TooShort) ↔ (length octets.now < addresses_and_type) }
+    ensures too_long { (result ≡ Err FrameFault.TooLong) ↔ (most_octets_untagged < length octets.now) }
 {
-    build_up_to(alloc, octets, MOST)
+    build_up_to(alloc, octets, MOST_OCTETS_UNTAGGED)
 }

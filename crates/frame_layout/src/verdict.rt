@@ -1,15 +1,16 @@
 //! The judgement of received octets.
 ghost use Rattle.std.specs.Prelude.{◌≡◌, ◌<◌};
-ghost use Rattle.frame_layout.specs.Frame.{IsMost, verdict_of};
+ghost use Rattle.frame_layout.specs.Frame.{verdict_of};
+ghost use Rattle.mac_parameters.specs.Parameters.{IsMost, most_octets_untagged};
 
 use crate::fcs;
-use crate::frame::MOST;
+use mac_parameters::{CHECK_SEQUENCE, LEAST_FRAME, MOST_OCTETS_UNTAGGED};
 
-/// The octets that a frame has at least, with its frame check sequence (clause 3.2.8).
-const LEAST_WHOLE: usize = 64;
+/// The octets that a frame has at least, with its frame check sequence (4.4.2).
+const LEAST_WHOLE: usize = LEAST_FRAME as usize;
 
-/// The octets of the frame check sequence (clause 3.2.9).
-const CHECK: usize = 4;
+/// The octets of the frame check sequence (3.2.9).
+const CHECK: usize = CHECK_SEQUENCE as usize;
 
 /// What received octets are.
 #[derive(Clone, Copy, Debug, PartialEq, Eq)]
@@ -45,10 +46,10 @@ pub fn judge_up_to(octets: &[u8], spare: u32, most: u32) -> Verdict
     }
 }
 
-/// `judge_up_to` with the 1,514 octets of an untagged frame.
+/// `judge_up_to` with the most octets of an untagged frame.
 pub fn judge(octets: &[u8], spare: u32) -> Verdict
     requires { spare < 8 }
-    ensures { result ≡ verdict_of octets.now spare 1514 }
+    ensures { result ≡ verdict_of octets.now spare most_octets_untagged }
 {
-    judge_up_to(octets, spare, MOST)
+    judge_up_to(octets, spare, MOST_OCTETS_UNTAGGED)
 }

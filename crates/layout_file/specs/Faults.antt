@@ -6,7 +6,8 @@ use Rattle.toml.specs.Parse.{parse_document}
 use Rattle.layout_file.specs.declared.fault.Key.TheVariants as key
 use Rattle.layout_file.specs.declared.fault.LayoutCode.TheVariants as code
 use Rattle.layout_file.specs.declared.fault.LayoutFault.{LayoutFault}
-use Rattle.layout_file.specs.declared.layout.Layout.{Layout}
+use Rattle.layout.specs.declared.lines.Layout.{Layout}
+use Rattle.layout_file.specs.declared.reader.TheConstants.{LONGEST_FILE}
 use Rattle.layout_file.specs.declared.rows.RowTest.{RowTest}
 use Rattle.layout_file.specs.declared.rows.RowTest.TheVariants as test
 use Rattle.layout_file.specs.GraphFaults.{first_graph_fault}
@@ -56,17 +57,23 @@ abbrev pub judged_tree : Members → Option LayoutFault → Result Layout Layout
 judged_tree ms None = Ok (layout_of ms)
 judged_tree ms (Some f) = Err f
 
+-- the same, where the octets are no document too
 abbrev pub judged_document : Option Members → Result Layout LayoutFault
 judged_document None = Err (file_fault code.NotToml key.None)
 judged_document (Some ms) = judged_tree ms (first_fault ms)
 
+-- the octets of the longest layout file
+abbrev pub longest_file : ℕ
+longest_file = LONGEST_FILE
+
 -- more octets than are read
 unfoldable pub is_too_long : List ℕ → Bool
-is_too_long bytes = nat_lt 1048576 (length bytes)
+is_too_long bytes = nat_lt longest_file (length bytes)
 
 -- the layout that the octets are, or their first fault
 unfoldable pub judged : List ℕ → Result Layout LayoutFault
 judged bytes = if is_too_long bytes then Err (file_fault code.TooMany key.None) else judged_document (document bytes)
 
+-- an allocation was refused
 abbrev pub IsMemory : LayoutFault → Type 0
 IsMemory f = f.code ≡ code.OutOfMemory

@@ -10,6 +10,8 @@ use Rattle.layout_file.specs.declared.fault.LayoutCode.TheVariants as code
 use Rattle.layout_file.specs.declared.fault.LayoutFault.{LayoutFault}
 use Rattle.layout_file.specs.declared.rules.Shape.{Shape}
 use Rattle.layout_file.specs.declared.rules.Shape.TheVariants as shape
+use Rattle.layout.specs.Limits.{most_device_bits, most_segments, most_stations, most_repeaters, most_sends}
+use Rattle.mac_parameters.specs.Parameters.{most_ports}
 use Rattle.layout_file.specs.RowFaults.{is_among, or_else}
 use Rattle.layout_file.specs.Spots.{Spot, fault}
 use Rattle.layout_file.specs.Tree.{rows_at, text_at, number_at, names_of}
@@ -26,29 +28,30 @@ file_fault c k = row_fault c table.File 0 k
 abbrev pub crowd_at : Members → Key → ℕ → Option LayoutFault
 crowd_at ms k most = if nat_lt most (length (rows_at ms k)) then Some (file_fault code.TooMany k) else None
 
--- the first repeater with more than 32 ports, counted from n
+-- the first repeater with too many ports, counted from n
 abbrev pub crowd_of_ports : ℕ → List Members → Option LayoutFault
 crowd_of_ports n [] = None
 crowd_of_ports n (ms ∷ rows) =
-    if nat_lt 32 (length (rows_at ms key.Port))
+    if nat_lt most_ports (length (rows_at ms key.Port))
     then Some (row_fault code.TooMany table.Repeater n key.Port)
     else crowd_of_ports (n + 1) rows
 
 -- more bits of the run, over all devices, than are run
 unfoldable pub crowd_of_bits : Members → Option LayoutFault
 crowd_of_bits ms =
-    if nat_lt 4000000000 (number_at ms key.UntilBits * (length (rows_at ms key.Station) + length (rows_at ms key.Repeater)))
+    if nat_lt most_device_bits
+    (number_at ms key.UntilBits * (length (rows_at ms key.Station) + length (rows_at ms key.Repeater)))
     then Some (file_fault code.TooMany key.UntilBits)
     else None
 
 -- too many rows of a kind, or too many bits
 unfoldable pub first_crowd : Members → Option LayoutFault
 first_crowd ms =
-    or_else (crowd_at ms key.Segment 256)
-    (or_else (crowd_at ms key.Station 1024)
-    (or_else (crowd_at ms key.Repeater 128)
+    or_else (crowd_at ms key.Segment most_segments)
+    (or_else (crowd_at ms key.Station most_stations)
+    (or_else (crowd_at ms key.Repeater most_repeaters)
     (or_else (crowd_of_ports 1 (rows_at ms key.Repeater))
-    (or_else (crowd_at ms key.Send 65536) (crowd_of_bits ms)))))
+    (or_else (crowd_at ms key.Send most_sends) (crowd_of_bits ms)))))
 
 -- the first name that stands earlier too, counted from n
 abbrev pub first_same : List (List ℕ) → ℕ → List (List ℕ) → Option ℕ
@@ -84,7 +87,8 @@ has_tap shape.Send = false
 
 -- the table's tap stands where that segment and place say
 abbrev pub is_tap_at : List ℕ → ℕ → Spot → Bool
-is_tap_at segment at s = has_tap s.shape && bytes_eq (text_at s.members key.Segment) segment && (number_at s.members key.At == at)
+is_tap_at segment at s =
+    has_tap s.shape && bytes_eq (text_at s.members key.Segment) segment && (number_at s.members key.At == at)
 
 -- one of the tables has its tap there
 abbrev pub is_taken : List ℕ → ℕ → List Spot → Bool
@@ -98,4 +102,5 @@ takes_tap earlier s = has_tap s.shape && is_taken (text_at s.members key.Segment
 -- the first tap that stands where an earlier one does
 abbrev pub first_taken : List Spot → List Spot → Option LayoutFault
 first_taken earlier [] = None
-first_taken earlier (s ∷ ss) = if takes_tap earlier s then Some (fault code.TapTaken s key.At) else first_taken (earlier ++ s ∷ []) ss
+first_taken earlier (s ∷ ss) =
+    if takes_tap earlier s then Some (fault code.TapTaken s key.At) else first_taken (earlier ++ s ∷ []) ss

@@ -1,6 +1,6 @@
-pub mod Names
+pub mod FaultNames
 pub mod Rules
-pub mod Texts
+pub mod TextValues
 pub mod Tree
 pub mod Spots
 pub mod Sites
@@ -9,8 +9,4 @@ pub mod Arounds
 pub mod JointFaults
 pub mod Lines
 pub mod Faults
-pub mod Joined
 pub mod GraphFaults
-pub mod Networks
-pub mod Sound
-pub mod Paths

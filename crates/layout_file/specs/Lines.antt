@@ -2,13 +2,13 @@
 use Rattle.std.specs.Prelude.{ℕ, ◌+◌, if◌then◌else◌, List, [], ◌∷◌, map, bytes_eq, Option, None, Some, unwrap_or, option_and_then}
 use Rattle.toml.specs.Data.{Members, as_str}
 use Rattle.layout_file.specs.declared.fault.Key.TheVariants as key
-use Rattle.layout_file.specs.declared.layout.Layout.{Layout}
-use Rattle.layout_file.specs.declared.layout.SegmentLine.{SegmentLine}
-use Rattle.layout_file.specs.declared.layout.StationLine.{StationLine}
-use Rattle.layout_file.specs.declared.layout.RepeaterLine.{RepeaterLine}
-use Rattle.layout_file.specs.declared.layout.PortLine.{PortLine}
-use Rattle.layout_file.specs.declared.layout.SendLine.{SendLine}
-use Rattle.layout_file.specs.Texts.{octets_of}
+use Rattle.layout.specs.declared.lines.Layout.{Layout}
+use Rattle.layout.specs.declared.lines.SegmentLine.{SegmentLine}
+use Rattle.layout.specs.declared.lines.StationLine.{StationLine}
+use Rattle.layout.specs.declared.lines.RepeaterLine.{RepeaterLine}
+use Rattle.layout.specs.declared.lines.PortLine.{PortLine}
+use Rattle.layout.specs.declared.lines.SendLine.{SendLine}
+use Rattle.layout_file.specs.TextValues.{octets_of_digits}
 use Rattle.layout_file.specs.Tree.{held, rows_at, text_at, number_at, names_of}
 
 -- the place of the first of these names that is x, counted from n
@@ -20,6 +20,7 @@ place_from n (y ∷ ys) x = if bytes_eq y x then Some n else place_from (n + 1) 
 abbrev pub place_of : List (List ℕ) → List ℕ → ℕ
 place_of names x = unwrap_or (place_from 0 names x) 0
 
+-- a segment
 abbrev pub segment_of : Members → SegmentLine
 segment_of ms = record { name = text_at ms key.Name }
 
@@ -50,7 +51,7 @@ unfoldable pub send_of : List (List ℕ) → Members → SendLine
 send_of stations ms = record {
   station = place_of stations (text_at ms key.Station);
   at = number_at ms key.At;
-  octets = octets_of (text_at ms key.Octets);
+  octets = octets_of_digits (text_at ms key.Octets);
 }
 
 -- the layout that a document spells

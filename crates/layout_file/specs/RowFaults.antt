@@ -13,7 +13,8 @@ use Rattle.layout_file.specs.declared.rules.Kind.TheVariants as kind
 use Rattle.layout_file.specs.declared.rules.Rule.{Rule}
 use Rattle.layout_file.specs.Rules.{rules_of}
 use Rattle.layout_file.specs.Spots.{Spot, fault}
-use Rattle.layout_file.specs.Texts.{is_between, is_name, is_load, is_frame}
+use Rattle.layout_file.specs.TextValues.{is_name, is_load, is_frame}
+use Rattle.layout.specs.NameOctets.{is_between}
 use Rattle.layout_file.specs.Tree.{held, tables, natural, has_stranger}
 
 -- what a row's tests know of the whole document: whether its format is 2, and the names of its segments and stations
@@ -23,15 +24,15 @@ pub record Around : Type 0 where
   pub stations : List (List ℕ)
 
 -- the code of a test
-abbrev pub code_of : RowTest → LayoutCode
-code_of test.UnknownKey = code.UnknownKey
-code_of test.Missing = code.Missing
-code_of test.WrongType = code.WrongType
-code_of test.BadName = code.BadName
-code_of test.OutOfRange = code.OutOfRange
-code_of test.NoSuchSegment = code.NoSuchSegment
-code_of test.NoSuchStation = code.NoSuchStation
-code_of test.BadFrame = code.BadFrame
+abbrev pub code_of_test : RowTest → LayoutCode
+code_of_test test.UnknownKey = code.UnknownKey
+code_of_test test.Missing = code.Missing
+code_of_test test.WrongType = code.WrongType
+code_of_test test.BadName = code.BadName
+code_of_test test.OutOfRange = code.OutOfRange
+code_of_test test.NoSuchSegment = code.NoSuchSegment
+code_of_test test.NoSuchStation = code.NoSuchStation
+code_of_test test.BadFrame = code.BadFrame
 
 -- one of these names is x
 abbrev pub is_among : List ℕ → List (List ℕ) → Bool
@@ -55,6 +56,7 @@ is_well_named kind.Name (string s) = is_name s
 is_well_named kind.Load (string s) = is_load s
 is_well_named k d = true
 
+-- a number that stands there is between these bounds
 abbrev pub is_within : ℕ → ℕ → Option ℕ → Bool
 is_within least most None = false
 is_within least most (Some n) = is_between least most n
@@ -126,7 +128,8 @@ fails around t rule (Some d) = not (passes around t rule.kind d)
 -- the key of the first rule that fails the test
 abbrev pub failing_key : Around → RowTest → List Rule → Members → Option Key
 failing_key around t [] ms = None
-failing_key around t (rule ∷ rules) ms = if fails around t rule (held ms rule.key) then Some rule.key else failing_key around t rules ms
+failing_key around t (rule ∷ rules) ms =
+    if fails around t rule (held ms rule.key) then Some rule.key else failing_key around t rules ms
 
 -- the first key of a table that fails the test, or no key for one that has no rule
 abbrev pub faulty_key : Around → RowTest → List Rule → Members → Option Key
@@ -137,8 +140,10 @@ faulty_key around t rules ms =
 
 -- the first fault of a test at one table
 unfoldable pub fault_at : Around → RowTest → Spot → Option LayoutFault
-fault_at around t s = option_map (fault (code_of t) s) (faulty_key around t (rules_of around.two s.shape) s.members)
+fault_at around t s =
+    option_map (fault (code_of_test t) s) (faulty_key around t (rules_of around.two s.shape) s.members)
 
+-- the first of the two faults, where there is any
 abbrev pub or_else : {T : Type 0} → Option T → Option T → Option T
 or_else None b = b
 or_else (Some x) b = Some x

@@ -1,5 +1,5 @@
 -- The keys that each table may have, in their order (profile).
-use Rattle.std.specs.Prelude.{ℕ, Bool, true, false, List, [], ◌∷◌}
+use Rattle.std.specs.Prelude.{Bool, true, false, List, [], ◌∷◌}
 use Rattle.layout_file.specs.declared.fault.Key.{Key}
 use Rattle.layout_file.specs.declared.fault.Key.TheVariants as key
 use Rattle.layout_file.specs.declared.fault.Table.{Table}
@@ -9,6 +9,11 @@ use Rattle.layout_file.specs.declared.rules.Kind.TheVariants as kind
 use Rattle.layout_file.specs.declared.rules.Rule.{Rule}
 use Rattle.layout_file.specs.declared.rules.Shape.{Shape}
 use Rattle.layout_file.specs.declared.rules.Shape.TheVariants as shape
+use Rattle.mac_parameters.specs.Parameters.{greatest_place, most_octets}
+use Rattle.layout.specs.Limits.{greatest_seed, most_bits, most_half_bits, most_lost_bits}
+use Rattle.mac_parameters.specs.Parameters.{greatest_delay}
+use Rattle.mac_parameters.specs.Parameters.{least_delay}
+use Rattle.mac_parameters.specs.Parameters.{least_ports}
 
 -- the table that a fault names: a port row is a part of its repeater's row
 abbrev pub table_of : Shape → Table
@@ -29,20 +34,15 @@ optional k holds = record { key = k; required = false; kind = holds }
 
 -- the bits that a receiver loses are a key of format 2 alone
 abbrev pub lose_rules : Bool → List Rule
-lose_rules true = optional key.LoseBits (kind.Whole 0 48) ∷ []
+lose_rules true = optional key.LoseBits (kind.Whole 0 most_lost_bits) ∷ []
 lose_rules false = []
-
--- the most octets of a frame without its check sequence, which format 2 has four more of
-abbrev pub most_octets : Bool → ℕ
-most_octets true = 1518
-most_octets false = 1514
 
 -- the keys of a table in their order; the truth value says that the file's format is 2
 abbrev pub rules_of : Bool → Shape → List Rule
 rules_of two shape.File =
     required key.Format (kind.Whole 1 2)
-    ∷ required key.Seed (kind.Whole 0 9223372036854775807)
-    ∷ required key.UntilBits (kind.Whole 1 1000000000)
+    ∷ required key.Seed (kind.Whole 0 greatest_seed)
+    ∷ required key.UntilBits (kind.Whole 1 most_bits)
     ∷ required key.Segment (kind.Rows 1)
     ∷ optional key.Station (kind.Rows 0)
     ∷ optional key.Repeater (kind.Rows 0)
@@ -52,17 +52,17 @@ rules_of two shape.Segment = required key.Name kind.Name ∷ []
 rules_of two shape.Station =
     required key.Name kind.Name
     ∷ required key.Segment kind.SegmentName
-    ∷ required key.At (kind.Whole 0 2000)
+    ∷ required key.At (kind.Whole 0 greatest_place)
     ∷ optional key.Load kind.Load
     ∷ lose_rules two
 rules_of two shape.Repeater =
     required key.Name kind.Name
-    ∷ required key.Delay (kind.Whole 1 200)
-    ∷ required key.Port (kind.Rows 2)
+    ∷ required key.Delay (kind.Whole least_delay greatest_delay)
+    ∷ required key.Port (kind.Rows least_ports)
     ∷ []
-rules_of two shape.Port = required key.Segment kind.SegmentName ∷ required key.At (kind.Whole 0 2000) ∷ []
+rules_of two shape.Port = required key.Segment kind.SegmentName ∷ required key.At (kind.Whole 0 greatest_place) ∷ []
 rules_of two shape.Send =
     required key.Station kind.StationName
-    ∷ required key.At (kind.Whole 0 2000000000)
+    ∷ required key.At (kind.Whole 0 most_half_bits)
     ∷ required key.Octets (kind.Frame (most_octets two))
     ∷ []

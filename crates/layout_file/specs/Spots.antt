@@ -18,9 +18,9 @@ pub record Spot : Type 0 where
   pub members : Members
 
 -- the rows of an array, counted from n
-abbrev pub counted : Shape → ℕ → List Members → List Spot
-counted t n [] = []
-counted t n (ms ∷ rows) = record { shape = t; row = n; port = 0; members = ms } ∷ counted t (n + 1) rows
+abbrev pub spots_of_rows : Shape → ℕ → List Members → List Spot
+spots_of_rows t n [] = []
+spots_of_rows t n (ms ∷ rows) = record { shape = t; row = n; port = 0; members = ms } ∷ spots_of_rows t (n + 1) rows
 
 -- the ports of the n-th repeater, counted from p
 abbrev pub ports : ℕ → ℕ → List Members → List Spot
@@ -30,16 +30,18 @@ ports n p (ms ∷ rows) = record { shape = shape.Port; row = n; port = p; member
 -- the repeaters counted from n, each followed by its ports
 abbrev pub repeaters : ℕ → List Members → List Spot
 repeaters n [] = []
-repeaters n (ms ∷ rows) = (record { shape = shape.Repeater; row = n; port = 0; members = ms } ∷ ports n 1 (rows_at ms key.Port)) ++ repeaters (n + 1) rows
+repeaters n (ms ∷ rows) =
+    (record { shape = shape.Repeater; row = n; port = 0; members = ms } ∷ ports n 1 (rows_at ms key.Port))
+    ++ repeaters (n + 1) rows
 
 -- the file, the segments, the stations, the repeaters and the sends
 unfoldable pub spots : Members → List Spot
 spots ms =
     (((record { shape = shape.File; row = 0; port = 0; members = ms } ∷ [])
-    ++ counted shape.Segment 1 (rows_at ms key.Segment))
-    ++ counted shape.Station 1 (rows_at ms key.Station))
+    ++ spots_of_rows shape.Segment 1 (rows_at ms key.Segment))
+    ++ spots_of_rows shape.Station 1 (rows_at ms key.Station))
     ++ repeaters 1 (rows_at ms key.Repeater)
-    ++ counted shape.Send 1 (rows_at ms key.Send)
+    ++ spots_of_rows shape.Send 1 (rows_at ms key.Send)
 
 -- a fault at a table
 abbrev pub fault : LayoutCode → Spot → Key → LayoutFault

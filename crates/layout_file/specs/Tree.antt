@@ -5,7 +5,7 @@ use Rattle.toml.specs.Data.{Data, integer, array, Items, no_items, item, Members
 use Rattle.layout_file.specs.declared.fault.Key.{Key}
 use Rattle.layout_file.specs.declared.fault.Key.TheVariants as key
 use Rattle.layout_file.specs.declared.rules.Rule.{Rule}
-use Rattle.layout_file.specs.Names.{name_of_key}
+use Rattle.layout_file.specs.FaultNames.{name_of_key}
 
 -- the value at a key
 abbrev pub held : Members → Key → Option Data
@@ -17,13 +17,13 @@ tables no_items = Some []
 tables (item d ds) = option_and_then (λ ms. option_map (λ rest. ms ∷ rest) (tables ds)) (as_table d)
 
 -- the rows of an array of tables
-abbrev pub rows_in : Data → Option (List Members)
-rows_in (array ds) = tables ds
-rows_in d = None
+abbrev pub tables_in : Data → Option (List Members)
+tables_in (array ds) = tables ds
+tables_in d = None
 
 -- the rows at a key: none where there is no array of tables
 abbrev pub rows_at : Members → Key → List Members
-rows_at ms k = unwrap_or (option_and_then rows_in (held ms k)) []
+rows_at ms k = unwrap_or (option_and_then tables_in (held ms k)) []
 
 -- the text at a key: empty where there is none
 abbrev pub text_at : Members → Key → List ℕ

@@ -12,7 +12,7 @@ pub enum Table {
 }
 
 impl Table {
-    ghost use Rattle.layout_file.specs.Names.{name_of_table};
+    ghost use Rattle.layout_file.specs.FaultNames.{name_of_table};
 
     /// The table's name as it is printed: its array's key, or `file`.
     pub fn name(&self) -> &'static str
@@ -49,7 +49,7 @@ pub enum Key {
 }
 
 impl Key {
-    ghost use Rattle.layout_file.specs.Names.{name_of_key};
+    ghost use Rattle.layout_file.specs.FaultNames.{name_of_key};
 
     /// The key as it is written in the file, and `-` for none.
     pub fn name(&self) -> &'static str
@@ -111,7 +111,7 @@ pub enum LayoutCode {
 }
 
 impl LayoutCode {
-    ghost use Rattle.layout_file.specs.Names.{number_of_code, name_of_code};
+    ghost use Rattle.layout_file.specs.FaultNames.{number_of_code, name_of_code};
 
     /// The code's number, from 1.
     pub fn number(&self) -> u32

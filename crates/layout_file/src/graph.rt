@@ -1,7 +1,7 @@
 //! Loops and segments apart. The parts of a network are its segments and after them its repeaters.
 ghost use Rattle.std.specs.Prelude.{◌≡◌, ◌==◌, [], IfOk, map, slice_index};
 ghost use Rattle.layout_file.specs.GraphFaults.{is_segment, apart_in, is_port, edge_of, edges_of, closes_in, painted_by, first_loop, first_apart, first_graph_fault};
-ghost use Rattle.layout_file.specs.Joined.{counted_up, painted, colours};
+ghost use Rattle.layout.specs.Joined.{counted_up, painted, colours};
 ghost use Rattle.layout_file.specs.Sites.{seen};
 
 use crate::fault::{Key, LayoutCode, LayoutFault};
@@ -9,15 +9,9 @@ use crate::lines::place_of;
 use crate::rules::Shape;
 use crate::sites::Site;
 use crate::tree::text;
+use layout::Edge;
 use lists::OutOfMemory;
 use std::alloc::Global;
-
-/// A port: an edge between its repeater and its segment, by the numbers of these parts from 0.
-#[derive(Clone, Copy, Debug, PartialEq, Eq)]
-pub struct Edge {
-    pub from: usize,
-    pub to: usize,
-}
 
 fn is_port(shape: Shape) -> bool
     ensures { result ≡ is_port shape }
@@ -104,7 +98,7 @@ fn painted_by(
 }
 
 /// The first port that closes a loop.
-#[tactic(auto, using(crate::proofs::Colours::first_loop_in))]
+#[tactic(auto, using(crate::proofs::ColoursByTables::first_loop_in))]
 fn first_loop(
     alloc: Global,
     parts: usize,
@@ -124,7 +118,7 @@ fn first_loop(
 }
 
 /// One colour for each part: two have one colour exactly where some path of ports joins them.
-#[tactic(auto, using(crate::proofs::Colours::colours_by_all))]
+#[tactic(auto, using(crate::proofs::ColoursByTables::colours_by_all))]
 fn all_colours(
     alloc: Global,
     parts: usize,
@@ -155,7 +149,7 @@ fn is_apart(colours: &[usize], site: &Site) -> bool
 }
 
 /// The first segment that no path joins to the first one.
-#[tactic(auto, using(crate::proofs::Colours::first_apart_colours))]
+#[tactic(auto, using(crate::proofs::ColoursByTables::first_apart_colours))]
 fn first_apart(
     alloc: Global,
     parts: usize,

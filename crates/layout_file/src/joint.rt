@@ -9,21 +9,11 @@ use crate::rows::is_among;
 use crate::rules::Shape;
 use crate::sites::Site;
 use crate::tree::{names, number, rows, text};
+use layout::{MOST_DEVICE_BITS, MOST_REPEATERS, MOST_SEGMENTS, MOST_SENDS, MOST_STATIONS};
 use lists::OutOfMemory;
+use mac_parameters::MOST_PORTS;
 use std::alloc::Global;
 use toml::Table as TomlTable;
-
-const MOST_SEGMENTS: usize = 256;
-
-const MOST_STATIONS: usize = 1_024;
-
-const MOST_REPEATERS: usize = 128;
-
-const MOST_PORTS: usize = 32;
-
-const MOST_SENDS: usize = 65_536;
-/// The most bits of a run, over all its devices.
-const MOST_DEVICE_BITS: u64 = 4_000_000_000;
 
 /// An array of the file with more than that many rows.
 fn crowd_at(

@@ -4,8 +4,6 @@
 mod fault;
 mod graph;
 mod joint;
-pub mod laws;
-mod layout;
 mod lines;
 mod reader;
 mod rows;
@@ -13,16 +11,10 @@ mod rules;
 mod sites;
 mod texts;
 mod tree;
-mod ways;
 
 pub use fault::{Key, LayoutCode, LayoutFault, Place, Table};
-pub use layout::{
-    Layout, Octets, PortLine, PortLines, RepeaterLine, RepeaterLines, SegmentLine, SegmentLines,
-    SendLine, SendLines, StationLine, StationLines,
-};
 pub use lists::{OutOfMemory, Text};
 pub use reader::read_layout;
-pub use ways::{Tap, Way};
 
 #[cfg(test)]
 mod refusals;

@@ -4,12 +4,12 @@ ghost use Rattle.toml.specs.View.{table_view};
 ghost use Rattle.layout_file.specs.Lines.{place_from, place_of, segment_of, station_of, port_of, repeater_of, send_of, layout_of};
 
 use crate::fault::Key;
-use crate::layout::{
+use crate::texts::octets;
+use crate::tree::{names, number, optional_text, rows, short_number, text};
+use layout::{
     Layout, PortLine, PortLines, RepeaterLine, RepeaterLines, SegmentLine, SegmentLines, SendLine,
     SendLines, StationLine, StationLines,
 };
-use crate::texts::octets;
-use crate::tree::{names, number, optional_text, rows, short_number, text};
 use lists::{List, OutOfMemory, Text};
 use std::alloc::Global;
 use toml::Table as TomlTable;

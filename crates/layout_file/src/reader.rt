@@ -3,22 +3,23 @@ ghost use Rattle.std.specs.Prelude.{◌≡◌, Some, Ok, Err, IfOk, IfErr};
 ghost use Rattle.toml.specs.View.{table_view};
 ghost use Rattle.layout_file.specs.Faults.{first_fault, document, is_too_long, judged_document, judged, IsMemory};
 ghost use Rattle.layout_file.specs.JointFaults.{file_fault};
-ghost use Rattle.layout_file.specs.Sound.{IsSound};
+ghost use Rattle.layout.specs.Sound.{IsSound};
 ghost use Rattle.layout_file.specs.declared.fault.Key.TheVariants as key;
 
 use crate::fault::{Key, LayoutCode, LayoutFault, Table};
 use crate::graph::first_graph_fault;
 use crate::joint::{first_crowd, first_same_name, first_taken};
-use crate::layout::Layout;
 use crate::lines::layout;
 use crate::rows::{RowTest, Surroundings, first_of};
 use crate::sites::sites;
 use crate::tree::{names, number, rows};
+use layout::Layout;
 use lists::OutOfMemory;
 use std::alloc::Global;
 use toml::Table as TomlTable;
 
-const MOST_OCTETS: usize = 1_048_576;
+/// The octets of the longest layout file (profile).
+const LONGEST_FILE: usize = 1_048_576;
 
 /// The tests of what each key by itself holds.
 const KEY_TESTS: [RowTest; 5] = [
@@ -58,7 +59,7 @@ fn file_fault(code: LayoutCode) -> LayoutFault
 /// the repeaters with their ports and the sends, each row's keys in their order. Want of memory alone is free.
 /// A layout that is answered is sound: its numbers are in their ranges, its names are different, what its rows name is
 /// there, no two taps share a place, and its network is a tree.
-#[tactic(auto, unfolding(crate::specs::Faults::judged), using(crate::proofs::Sound::sound))]
+#[tactic(auto, unfolding(crate::specs::Faults::judged), using(crate::proofs::SoundLayouts::sound))]
 pub fn read_layout(alloc: Global, bytes: &[u8]) -> Result<Layout, LayoutFault>
     ensures layout { IfOk result (λ layout. judged bytes.now ≡ Ok layout) }
     ensures fault { IfErr result (λ fault. ¬ IsMemory fault → judged bytes.now ≡ Err fault) }
@@ -78,7 +79,7 @@ pub fn read_layout(alloc: Global, bytes: &[u8]) -> Result<Layout, LayoutFault>
 fn is_too_long(bytes: &[u8]) -> bool
     ensures { result ≡ is_too_long bytes.now }
 {
-    bytes.len() > MOST_OCTETS
+    bytes.len() > LONGEST_FILE
 }
 
 /// The document that the octets are.

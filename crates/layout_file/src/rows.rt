@@ -26,11 +26,11 @@ pub enum RowTest {
 }
 
 impl RowTest {
-    ghost use Rattle.layout_file.specs.RowFaults.{code_of};
+    ghost use Rattle.layout_file.specs.RowFaults.{code_of_test};
 
     /// The code of the test's faults.
     pub fn code(&self) -> LayoutCode
-        ensures { result ≡ code_of self.now }
+        ensures { result ≡ code_of_test self.now }
     {
         match self {
             RowTest::UnknownKey => LayoutCode::UnknownKey,

@@ -3,6 +3,11 @@ ghost use Rattle.std.specs.Prelude.{◌≡◌};
 ghost use Rattle.layout_file.specs.Rules.{table_of, rules_of};
 
 use crate::fault::{Key, Table};
+use layout::{GREATEST_SEED, MOST_BITS, MOST_HALF_BITS, MOST_LOST_BITS};
+use mac_parameters::{
+    GREATEST_DELAY, GREATEST_PLACE, LEAST_DELAY, LEAST_PORTS, MOST_OCTETS_TAGGED,
+    MOST_OCTETS_UNTAGGED,
+};
 
 /// Which keys a table of the document may have.
 #[derive(Clone, Copy, Debug, PartialEq, Eq)]
@@ -67,12 +72,12 @@ const FILE_RULES: [Rule; 7] = [
     Rule {
         key: Key::Seed,
         required: true,
-        kind: Kind::Whole(0, 9_223_372_036_854_775_807),
+        kind: Kind::Whole(0, GREATEST_SEED),
     },
     Rule {
         key: Key::UntilBits,
         required: true,
-        kind: Kind::Whole(1, 1_000_000_000),
+        kind: Kind::Whole(1, MOST_BITS),
     },
     Rule {
         key: Key::Segment,
@@ -112,7 +117,7 @@ const SEGMENT_NAME_RULE: Rule = Rule {
 const AT_RULE: Rule = Rule {
     key: Key::At,
     required: true,
-    kind: Kind::Whole(0, 2_000),
+    kind: Kind::Whole(0, GREATEST_PLACE as u64),
 };
 
 const LOAD_RULE: Rule = Rule {
@@ -133,7 +138,7 @@ const STATION_RULES_OF_TWO: [Rule; 5] = [
     Rule {
         key: Key::LoseBits,
         required: false,
-        kind: Kind::Whole(0, 48),
+        kind: Kind::Whole(0, MOST_LOST_BITS),
     },
 ];
 
@@ -142,12 +147,12 @@ const REPEATER_RULES: [Rule; 3] = [
     Rule {
         key: Key::Delay,
         required: true,
-        kind: Kind::Whole(1, 200),
+        kind: Kind::Whole(LEAST_DELAY, GREATEST_DELAY),
     },
     Rule {
         key: Key::Port,
         required: true,
-        kind: Kind::Rows(2),
+        kind: Kind::Rows(LEAST_PORTS),
     },
 ];
 
@@ -163,7 +168,7 @@ const STATION_NAME_RULE: Rule = Rule {
 const READY_RULE: Rule = Rule {
     key: Key::At,
     required: true,
-    kind: Kind::Whole(0, 2_000_000_000),
+    kind: Kind::Whole(0, MOST_HALF_BITS),
 };
 
 const SEND_RULES: [Rule; 3] = [
@@ -172,7 +177,7 @@ const SEND_RULES: [Rule; 3] = [
     Rule {
         key: Key::Octets,
         required: true,
-        kind: Kind::Frame(1_514),
+        kind: Kind::Frame(MOST_OCTETS_UNTAGGED as u64),
     },
 ];
 
@@ -182,7 +187,7 @@ const SEND_RULES_OF_TWO: [Rule; 3] = [
     Rule {
         key: Key::Octets,
         required: true,
-        kind: Kind::Frame(1_518),
+        kind: Kind::Frame(MOST_OCTETS_TAGGED as u64),
     },
 ];
 

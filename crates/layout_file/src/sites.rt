@@ -1,7 +1,7 @@
 //! The tables of a document in the order in which they are judged.
 ghost use Rattle.std.specs.Prelude.{◌≡◌, ◌++◌, IfOk, OnOk, map};
 ghost use Rattle.toml.specs.View.{table_view};
-ghost use Rattle.layout_file.specs.Spots.{spots, counted, ports, repeaters};
+ghost use Rattle.layout_file.specs.Spots.{spots, spots_of_rows, ports, repeaters};
 ghost use Rattle.layout_file.specs.Sites.{seen};
 
 use crate::fault::{Key, LayoutCode, LayoutFault, Place};
@@ -73,7 +73,7 @@ fn push_rows<'a>(
     shape: Shape,
     rows: &[&'a TomlTable],
 ) -> Result<(), OutOfMemory>
-    ensures { OnOk result (map seen sites.new.items ≡ map seen sites.old.items ++ counted shape 1 (map (λ t. table_view t.now) rows.now)) }
+    ensures { OnOk result (map seen sites.new.items ≡ map seen sites.old.items ++ spots_of_rows shape 1 (map (λ t. table_view t.now) rows.now)) }
 {
     let mut row = 0u32;
     for members in rows {

@@ -1,4 +1,5 @@
-use crate::{Key, Layout, LayoutCode, Table, read_layout};
+use crate::{Key, LayoutCode, Table, read_layout};
+use layout::Layout;
 use std::alloc::Global;
 use std::test::Fail;
 

@@ -1,19 +1,15 @@
 //! Names, loads and frames as texts.
 ghost use Rattle.std.specs.Prelude.{◌≡◌, ◌≤◌, nat_le, IfOk};
 ghost use Rattle.std.specs.List.{list_all};
-ghost use Rattle.layout_file.specs.Texts.{is_between, is_name_octet, is_name, is_load, is_digit, digit_of, octets_of, is_frame};
+ghost use Rattle.layout_file.specs.TextValues.{is_name, is_load, is_digit, digit_of, octets_of_digits, is_frame};
+ghost use Rattle.layout.specs.NameOctets.{is_name_octet, is_between};
 
-use crate::layout::Octets;
+use layout::{LONGEST_LOAD, LONGEST_NAME, Octets};
 use lists::{List, OutOfMemory};
+use mac_parameters::ADDRESSES_AND_TYPE;
 use std::alloc::Global;
 
-const MOST_NAME: u64 = 32;
-
-const MOST_LOAD: u64 = 255;
-
-const LEAST_FRAME: u64 = 14;
-
-#[tactic(auto, unfolding(crate::specs::Texts::is_name_octet))]
+#[tactic(auto, unfolding(layout::specs::NameOctets::is_name_octet))]
 fn is_name_octet(octet: u8) -> bool
     ensures { result ≡ is_name_octet octet }
 {
@@ -46,22 +42,22 @@ fn are_digits(octets: &[u8]) -> bool
 }
 
 /// A name has 1 to 32 letters, decimal digits, low lines and hyphens.
-#[tactic(auto, unfolding(crate::specs::Texts::is_name))]
+#[tactic(auto, unfolding(crate::specs::TextValues::is_name))]
 pub fn is_name(text: &str) -> bool
     ensures { result ≡ is_name text.now }
 {
-    is_between(1, MOST_NAME, text.len() as u64) && are_name_octets(text.as_bytes())
+    is_between(1, LONGEST_NAME, text.len() as u64) && are_name_octets(text.as_bytes())
 }
 
 /// A load has 1 to 255 octets, none of them zero.
-#[tactic(auto, unfolding(crate::specs::Texts::is_load))]
+#[tactic(auto, unfolding(crate::specs::TextValues::is_load))]
 pub fn is_load(text: &str) -> bool
     ensures { result ≡ is_load text.now }
 {
-    is_between(1, MOST_LOAD, text.len() as u64) && are_not_zero(text.as_bytes())
+    is_between(1, LONGEST_LOAD, text.len() as u64) && are_not_zero(text.as_bytes())
 }
 
-#[tactic(auto, unfolding(crate::specs::Texts::is_digit))]
+#[tactic(auto, unfolding(crate::specs::TextValues::is_digit))]
 fn is_digit(octet: u8) -> bool
     ensures { result ≡ is_digit octet }
 {
@@ -69,7 +65,7 @@ fn is_digit(octet: u8) -> bool
 }
 
 /// What a hexadecimal digit stands for, and 0 of another octet.
-#[tactic(auto, unfolding(crate::specs::Texts::digit_of))]
+#[tactic(auto, unfolding(crate::specs::TextValues::digit_of))]
 fn digit(octet: u8) -> u8
     ensures value { result ≡ digit_of octet }
     ensures most { result ≤ 15 }
@@ -83,18 +79,18 @@ fn digit(octet: u8) -> u8
 }
 
 /// A frame has 14 octets up to `most`, in two hexadecimal digits each.
-#[tactic(auto, unfolding(crate::specs::Texts::is_frame))]
+#[tactic(auto, unfolding(crate::specs::TextValues::is_frame))]
 pub fn is_frame(most: u64, text: &str) -> bool
     ensures { result ≡ is_frame most text.now }
 {
-    is_between(LEAST_FRAME, most, (text.len() / 2) as u64)
+    is_between(ADDRESSES_AND_TYPE as u64, most, (text.len() / 2) as u64)
         && text.len() % 2 == 0
         && are_digits(text.as_bytes())
 }
 
 /// The octets that the digits spell.
 pub fn octets(alloc: Global, text: &str) -> Result<Octets, OutOfMemory>
-    ensures { IfOk result (λ octets. octets ≡ octets_of text.now) }
+    ensures { IfOk result (λ octets. octets ≡ octets_of_digits text.now) }
 {
     let digits = text.as_bytes();
     let mut octets = List::new(alloc);

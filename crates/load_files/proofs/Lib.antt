@@ -1,2 +1,2 @@
-pub mod Fed
-pub mod Going
+pub mod FedReaders
+pub mod LoadsSoFar

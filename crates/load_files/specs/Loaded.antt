@@ -6,35 +6,39 @@ use Rattle.capture_file.specs.Reading.{Reader, Reads}
 use Rattle.capture_file.specs.declared.entries.Record.{Record}
 use Rattle.capture_file.specs.declared.fault.CaptureFault.{CaptureFault}
 use Rattle.capture_file.specs.declared.fault.CaptureFault.TheVariants.{TooLarge}
-use Rattle.layout_file.specs.declared.layout.StationLine.{StationLine}
+use Rattle.layout.specs.declared.lines.StationLine.{StationLine}
 use Rattle.outside.specs.Files.{Files, file_of, IsAbsent, Rose}
 use Rattle.load_files.specs.declared.load.Load.{Load}
 use Rattle.load_files.specs.declared.load.Unloaded.{Unloaded}
 use Rattle.load_files.specs.declared.load.Unloaded.TheVariants as unloaded
+use Rattle.load_files.specs.declared.loads.TheConstants.{MOST_OF_LOAD, MOST_OF_LOADS}
 use Rattle.load_files.specs.declared.stop.LoadStop.{LoadStop}
 use Rattle.load_files.specs.declared.stop.LoadStop.TheVariants as stop
 
--- the most octets of one load, and of all loads together
-unfoldable pub most_of_load : ℕ
-most_of_load = 67108864
+-- the most octets of one load
+abbrev pub most_of_load : ℕ
+most_of_load = MOST_OF_LOAD
 
-unfoldable pub most_of_loads : ℕ
-most_of_loads = 268435456
+-- the most octets of all loads together
+abbrev pub most_of_loads : ℕ
+most_of_loads = MOST_OF_LOADS
 
 -- the most octets of a load where the loads before it have so many
 abbrev pub most_after : ℕ → ℕ
 most_after before = min most_of_load (most_of_loads - before)
 
+-- the records of a whole load, or its first fault
 abbrev pub judged_by : Option CaptureFault → List ℕ → Result (List Record) CaptureFault
 judged_by None octets = Ok (records octets)
 judged_by (Some fault) octets = Err fault
 
--- the records of a load that may have so many octets, or its first fault
+-- the records of a load that may have so many octets, or its first fault, where more octets are the fault TooLarge
 unfoldable pub judged_load : ℕ → List ℕ → Result (List Record) CaptureFault
-judged_load most octets = if nat_lt most (length octets) then Err TooLarge else judged_by (capture_fault octets) octets
+judged_load most octets =
+    if nat_lt most (length octets) then Err TooLarge else judged_by (capture_fault octets) octets
 
--- what the loads of some stations are: the records of each, none where a station has no load; or the first station whose
--- load has a fault; or the name of the first load that is not held
+-- what the loads of some stations are: the records of each, none where a station has no load; or the first station
+-- whose load has a fault, with that fault; or the name of the first load that is not held
 pub data Loaded : Type 0 where
   Whole : (records : List (List Record)) → Loaded
   Faulty : (station : ℕ) (fault : CaptureFault) → Loaded
@@ -51,12 +55,13 @@ abbrev pub verdict_then : ℕ → ℕ → Result (List Record) CaptureFault → 
 verdict_then k count (Ok rs) next = with_before (rs ∷ []) (next count)
 verdict_then k count (Err fault) next = Faulty k fault
 
--- by its file, where the loads before it have so many octets
+-- a station's load by its file, where the loads before it have so many octets
 abbrev pub file_then : ℕ → ℕ → List ℕ → Option (List ℕ) → (ℕ → Loaded) → Loaded
 file_then before k name None next = Absent name
-file_then before k name (Some octets) next = verdict_then k (length octets) (judged_load (most_after before) octets) next
+file_then before k name (Some octets) next =
+    verdict_then k (length octets) (judged_load (most_after before) octets) next
 
--- by its name, if it has one
+-- a station's load by its name, if it has one, and then the loads of the stations after it
 abbrev pub load_then : Files → ℕ → ℕ → Option (List ℕ) → (ℕ → Loaded) → Loaded
 load_then files before k None next = with_before ([] ∷ []) (next 0)
 load_then files before k (Some name) next = file_then before k name (file_of name files) next
@@ -64,7 +69,8 @@ load_then files before k (Some name) next = file_then before k name (file_of nam
 -- the loads of the stations from k on, where the loads of those before have so many octets
 abbrev pub loaded_from : Files → ℕ → ℕ → List StationLine → Loaded
 loaded_from files before k [] = Whole []
-loaded_from files before k (s ∷ ss) = load_then files before k s.load (λ count. loaded_from files (before + count) (k + 1) ss)
+loaded_from files before k (s ∷ ss) =
+    load_then files before k s.load (λ count. loaded_from files (before + count) (k + 1) ss)
 
 -- the loads of all stations, in their order
 unfoldable pub loaded : Files → List StationLine → Loaded
@@ -96,16 +102,17 @@ abbrev pub IsJudgedLoad : ℕ → List ℕ → Option Files → Result (List Rec
 IsJudgedLoad most name None verdict = Unit {0}
 IsJudgedLoad most name (Some files) verdict = option_map (judged_load most) (file_of name files) ≡ Some verdict
 
--- and so many octets it has
+-- where the store tells its files, the load has so many octets
 abbrev pub IsLongAs : List ℕ → Option Files → ℕ → Type 0
 IsLongAs name None count = Unit {0}
 IsLongAs name (Some files) count = option_map length (file_of name files) ≡ Some count
 
--- the reader was given so many octets of the front of a file
+-- the reader was given so many octets of the front of a file, and none where there is no file
 abbrev pub IsFedOf : Option (List ℕ) → ℕ → Reader → Type 0
 IsFedOf None seen reader = seen ≡ 0
 IsFedOf (Some octets) seen reader = (seen ≤ length octets) × Reads (take seen octets) reader
 
+-- where the store tells its files, the reader was given so many octets of the front of this one
 abbrev pub IsFed : List ℕ → Option Files → ℕ → Reader → Type 0
 IsFed name None seen reader = Unit {0}
 IsFed name (Some files) seen reader = IsFedOf (file_of name files) seen reader
@@ -113,16 +120,18 @@ IsFed name (Some files) seen reader = IsFedOf (file_of name files) seen reader
 -- the loads of all stations, once the stations before k are read and their loads have so many octets
 abbrev pub IsLoadedSo : Option Files → List StationLine → List (List Record) → ℕ → ℕ → Type 0
 IsLoadedSo None stations so_far before k = Unit {0}
-IsLoadedSo (Some files) stations so_far before k = loaded files stations ≡ with_before so_far (loaded_from files before k (drop k stations))
+IsLoadedSo (Some files) stations so_far before k =
+    loaded files stations ≡ with_before so_far (loaded_from files before k (drop k stations))
 
--- where the store tells its files, this one is there and ends at or before a place
-abbrev pub IsEndOf : Option (List ℕ) → ℕ → Type 0
-IsEndOf None from = ⊥
-IsEndOf (Some octets) from = length octets ≤ from
+-- the file is there and has at most so many octets
+abbrev pub EndsBy : Option (List ℕ) → ℕ → Type 0
+EndsBy None from = ⊥
+EndsBy (Some octets) from = length octets ≤ from
 
-abbrev pub IsEnd : List ℕ → Option Files → ℕ → Type 0
-IsEnd name None from = Unit {0}
-IsEnd name (Some files) from = IsEndOf (file_of name files) from
+-- where the store tells its files, this one is there and has at most so many octets
+abbrev pub FileEndsBy : List ℕ → Option Files → ℕ → Type 0
+FileEndsBy name None from = Unit {0}
+FileEndsBy name (Some files) from = EndsBy (file_of name files) from
 
 -- why a load that may have so many octets could not be read, by the failed reads before and after
 abbrev pub IsUnloaded : ℕ → List ℕ → Option Files → ℕ → ℕ → Unloaded → Type 0
@@ -130,7 +139,7 @@ IsUnloaded most name held reads risen (unloaded.Fault fault) = IsJudgedLoad most
 IsUnloaded most name held reads risen unloaded.Unread = IsAbsent name held ⊎ Rose reads risen
 IsUnloaded most name held reads risen unloaded.OutOfMemory = Unit {0}
 
--- so it ended before the load was judged
+-- why a load could not be read before it was judged
 abbrev pub IsUnread : List ℕ → Option Files → ℕ → ℕ → Unloaded → Type 0
 IsUnread name held reads risen (unloaded.Fault fault) = ⊥
 IsUnread name held reads risen unloaded.Unread = IsAbsent name held ⊎ Rose reads risen
@@ -139,9 +148,10 @@ IsUnread name held reads risen unloaded.OutOfMemory = Unit {0}
 -- a load as it was read, where the loads before it have so many octets
 abbrev pub IsLoadOf : ℕ → Option (List ℕ) → Option Files → Load → Type 0
 IsLoadOf before None held load = (load.records ≡ []) × (load.octets ≡ 0)
-IsLoadOf before (Some name) held load = IsJudgedLoad (most_after before) name held (Ok load.records) × IsLongAs name held load.octets
+IsLoadOf before (Some name) held load =
+    IsJudgedLoad (most_after before) name held (Ok load.records) × IsLongAs name held load.octets
 
--- why it could not be read
+-- why a station's load could not be read, where the loads before it have so many octets
 abbrev pub IsUnloadedOf : ℕ → Option (List ℕ) → Option Files → ℕ → ℕ → Unloaded → Type 0
 IsUnloadedOf before None held reads risen u = u ≡ unloaded.OutOfMemory
 IsUnloadedOf before (Some name) held reads risen u = IsUnloaded (most_after before) name held reads risen u

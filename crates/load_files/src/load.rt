@@ -3,7 +3,7 @@ ghost use Rattle.std.specs.Prelude.{◌≡◌, ◌≤◌, ◌<◌, ◌+◌, ℕ,
 ghost use Rattle.capture_file.specs.Captures.{capture_fault};
 ghost use Rattle.capture_file.specs.Reading.{Reads};
 ghost use Rattle.capture_file.specs.declared.fault.CaptureFault.{CaptureFault};
-ghost use Rattle.load_files.specs.Loaded.{IsEnd, IsFed, IsJudgedLoad, IsLongAs, IsUnloaded, IsUnread, judged_by};
+ghost use Rattle.load_files.specs.Loaded.{FileEndsBy, IsFed, IsJudgedLoad, IsLongAs, IsUnloaded, IsUnread, judged_by, most_of_load};
 ghost use Rattle.load_files.specs.declared.load.Unloaded.TheVariants as unloaded;
 
 use capture_file::{CaptureFault, CaptureReader, Records};
@@ -50,7 +50,7 @@ fn feed_piece<S: Store>(
     requires room { 0 < length room.old }
     ensures fed { IfOk result (λ n. IsFed name.now (S.held store.old) from reader.old → IsFed name.now (S.held store.old) (from + n) reader.new) }
     ensures few { IfOk result (λ n. n ≤ most) }
-    ensures end { IfOk result (λ n. n ≡ 0 → IsEnd name.now (S.held store.old) from) }
+    ensures end { IfOk result (λ n. n ≡ 0 → FileEndsBy name.now (S.held store.old) from) }
     ensures unread { IfErr result (λ u. IsUnread name.now (S.held store.old) (S.read_faults store.old) (S.read_faults store.new) u) }
     ensures held { S.held store.new ≡ S.held store.old }
     ensures reads { S.read_faults store.old ≤ S.read_faults store.new }
@@ -87,7 +87,7 @@ pub(crate) fn read_load<S: Store>(
     most: usize,
     room: &mut [u8],
 ) -> Result<Load, Unloaded>
-    requires most { most ≤ 67108864 }
+    requires most { most ≤ most_of_load }
     requires room { 0 < length room.old }
     ensures records { IfOk result (λ load. IsJudgedLoad most name.now (S.held store.old) (Ok load.records)) }
     ensures octets { IfOk result (λ load. IsLongAs name.now (S.held store.old) load.octets) }

@@ -1,11 +1,12 @@
 //! The loads of all stations.
 ghost use Rattle.std.specs.Prelude.{◌≡◌, ◌≤◌, ◌<◌, ◌+◌, length, All, IfOk, IfErr};
-ghost use Rattle.load_files.specs.Loaded.{IsLoadOf, IsLoaded, IsStopped, IsUnloadedOf, Whole, stop_at};
+ghost use Rattle.layout.specs.Limits.{most_stations};
+ghost use Rattle.load_files.specs.Loaded.{IsLoadOf, IsLoaded, IsStopped, IsUnloadedOf, Whole, most_of_loads, stop_at};
 
 use crate::load::{Load, Unloaded, read_load};
 use crate::stop::LoadStop;
 use capture_file::Records;
-use layout_file::StationLine;
+use layout::StationLine;
 use lists::OutOfMemory;
 use load_plan::RecordsList;
 use outside::Store;
@@ -50,10 +51,10 @@ fn read_station<S: Store>(
     before: usize,
     room: &mut [u8],
 ) -> Result<Load, Unloaded>
-    requires before { before ≤ 268435456 }
+    requires before { before ≤ most_of_loads }
     requires room { 0 < length room.old }
     ensures load { IfOk result (λ load. IsLoadOf before station.now.load (S.held store.old) load) }
-    ensures before { IfOk result (λ load. before + load.octets ≤ 268435456) }
+    ensures before { IfOk result (λ load. before + load.octets ≤ most_of_loads) }
     ensures few { IfOk result (λ load. length load.records ≤ 4194304) }
     ensures stopped { IfErr result (λ u. IsUnloadedOf before station.now.load (S.held store.old) (S.read_faults store.old) (S.read_faults store.new) u) }
     ensures held { S.held store.new ≡ S.held store.old }
@@ -79,7 +80,7 @@ fn read_all<S: Store>(
     stations: &[StationLine],
     room: &mut [u8],
 ) -> Result<RecordsList, LoadStop>
-    requires stations { length stations.now ≤ 1024 }
+    requires stations { length stations.now ≤ most_stations }
     requires room { 0 < length room.old }
     ensures whole { IfOk result (λ records. IsLoaded (S.held store.old) stations.now (Whole records)) }
     ensures count { IfOk result (λ records. length records ≡ length stations.now) }
@@ -113,7 +114,7 @@ pub fn read_loads<S: Store>(
     store: &mut S,
     stations: &[StationLine],
 ) -> Result<RecordsList, LoadStop>
-    requires { length stations.now ≤ 1024 }
+    requires { length stations.now ≤ most_stations }
     ensures whole { IfOk result (λ records. IsLoaded (S.held store.old) stations.now (Whole records)) }
     ensures count { IfOk result (λ records. length records ≡ length stations.now) }
     ensures few { IfOk result (λ records. All (λ rs. length rs ≤ 4194304) records) }

@@ -1,2 +1,2 @@
-pub mod Earliest
-pub mod Soundness
+pub mod EarlierTimes
+pub mod PlansAreSound

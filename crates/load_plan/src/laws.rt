@@ -1,5 +1,5 @@
 //! Laws of plans: calls without a body, whose contracts are the laws.
-ghost use Rattle.layout_file.specs.Sound.{IsSound};
+ghost use Rattle.layout.specs.Sound.{IsSound};
 ghost use Rattle.load_plan.specs.declared.plan.Plan.{Plan};
 
 /// The layout of a plan is sound.

@@ -8,6 +8,3 @@ mod plan;
 
 pub use make::{RecordsList, make_plan};
 pub use plan::{Plan, Queues, SkipList, Skips};
-
-#[cfg(test)]
-mod tests;

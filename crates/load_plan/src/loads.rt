@@ -1,18 +1,18 @@
 //! The records of loads: which of them are sent, and when.
 ghost use Rattle.std.specs.Prelude.{◌≡◌, ◌≤◌, ◌<◌, ◌+◌, ◌++◌, ◌∷◌, [], ℕ, List, length, IfOk, Some};
-ghost use Rattle.frame_layout.specs.Frame.{IsMost, frame_of};
+ghost use Rattle.frame_layout.specs.Frame.{frame_of};
+ghost use Rattle.mac_parameters.specs.Parameters.{IsMost};
 ghost use Rattle.frame_layout.specs.Queue.{IsNotBelowLast};
-ghost use Rattle.load_plan.specs.Loads.{Offer, earlier, fate_of, least_of, least_of_all, offers_of_load, offers_of_sends, queue_of_load, raised, skips_of, start_of};
+ghost use Rattle.layout.specs.Limits.{most_sends};
+ghost use Rattle.load_plan.specs.Loads.{Offer, earlier_of, fate_of, least_of, least_of_all, most_records_of_load, offers_of_load, offers_of_sends, queue_of_load, raised, skips_of, start_of};
 
 use crate::{RecordsList, Skips};
 use capture_file::Record;
 use frame_layout::{Frame, Queue, build_up_to};
-use layout_file::SendLine;
+use layout::SendLine;
 use lists::OutOfMemory;
+use mac_parameters::{ADDRESSES_AND_TYPE, NANOSECONDS_A_HALF_BIT};
 use std::alloc::Global;
-
-/// The octets of a frame's addresses and type.
-const LEAST_OCTETS: usize = 14;
 
 /// What becomes of a record.
 #[derive(Clone, Copy, Debug, PartialEq, Eq)]
@@ -33,7 +33,7 @@ fn fate_of(most: u32, entry: &Record) -> Fate
     let count = entry.octets.len();
     if count < entry.original as usize {
         Fate::Snapped
-    } else if count < LEAST_OCTETS {
+    } else if count < ADDRESSES_AND_TYPE as usize {
         Fate::Short
     } else if count > most as usize {
         Fate::Long
@@ -44,7 +44,7 @@ fn fate_of(most: u32, entry: &Record) -> Fate
 
 /// The earlier of two times, where there are any.
 fn earlier(a: Option<u64>, b: Option<u64>) -> Option<u64>
-    ensures { result ≡ earlier a b }
+    ensures { result ≡ earlier_of a b }
 {
     match (a, b) {
         (None, b) => b,
@@ -54,7 +54,7 @@ fn earlier(a: Option<u64>, b: Option<u64>) -> Option<u64>
 }
 
 /// The least time of a load's records.
-#[tactic(auto, using(crate::proofs::Earliest::earlier_none, crate::proofs::Earliest::earlier_assoc))]
+#[tactic(auto, using(crate::proofs::EarlierTimes::earlier_none, crate::proofs::EarlierTimes::earlier_assoc))]
 fn least_of(records: &[Record]) -> Option<u64>
     ensures { result ≡ least_of records.now }
 {
@@ -66,7 +66,7 @@ fn least_of(records: &[Record]) -> Option<u64>
 }
 
 /// The least time of all records, which is where half bit 0 begins, in nanoseconds.
-#[tactic(auto, using(crate::proofs::Earliest::earlier_none, crate::proofs::Earliest::earlier_assoc), unfolding(crate::specs::Loads::start_of))]
+#[tactic(auto, using(crate::proofs::EarlierTimes::earlier_none, crate::proofs::EarlierTimes::earlier_assoc), unfolding(crate::specs::Loads::start_of))]
 pub fn start_of(loads: &RecordsList) -> u64
     ensures { result ≡ start_of loads.now }
 {
@@ -81,7 +81,7 @@ pub fn start_of(loads: &RecordsList) -> u64
 /// How many of a load's records are skipped.
 #[tactic(auto, unfolding(crate::specs::Loads::skips_of))]
 pub fn skips_of(most: u32, records: &[Record]) -> Skips
-    requires { length records.now ≤ 4000000000 }
+    requires { length records.now ≤ most_records_of_load }
     ensures { result ≡ skips_of most records.now }
 {
     let mut skips = Skips {
@@ -145,7 +145,7 @@ fn push_load(
     records: &[Record],
 ) -> Result<u64, OutOfMemory>
     requires most { IsMost most }
-    requires room { length queue.old + length records.now ≤ 4000000000 }
+    requires room { length queue.old + length records.now ≤ most_records_of_load }
     requires order { IsNotBelowLast queue.old before }
     ensures queued { IfOk result (λ new_last. (more : List Offer) →
         queue.new ++ raised new_last more ≡ queue.old ++ raised before (offers_of_load start most records.now ++ more)) }
@@ -157,7 +157,7 @@ fn push_load(
         if fate_of(most, record) != Fate::Sent {
             continue;
         }
-        let at = record.nanos.saturating_sub(start) / 50;
+        let at = record.nanos.saturating_sub(start) / NANOSECONDS_A_HALF_BIT;
         last = push_frame(alloc, queue, last, at, record.octets.as_slice(), most)?;
     }
     Ok(last)
@@ -173,7 +173,7 @@ fn push_sends(
     station: u32,
 ) -> Result<(), OutOfMemory>
     requires most { IsMost most }
-    requires room { length queue.old + length sends.now ≤ 4000065536 }
+    requires room { length queue.old + length sends.now ≤ most_records_of_load + most_sends }
     requires order { IsNotBelowLast queue.old before }
     ensures { IfOk result (λ _. queue.new ≡ queue.old ++ raised before (offers_of_sends station sends.now)) }
 {
@@ -198,8 +198,8 @@ pub fn queue_of_load(
     records: &[Record],
 ) -> Result<Queue, OutOfMemory>
     requires most { IsMost most }
-    requires sends { length sends.now ≤ 65536 }
-    requires records { length records.now ≤ 4000000000 }
+    requires sends { length sends.now ≤ most_sends }
+    requires records { length records.now ≤ most_records_of_load }
     ensures { IfOk result (λ q. q ≡ queue_of_load start most sends.now station records.now) }
 {
     let mut queue = Queue::new(alloc);

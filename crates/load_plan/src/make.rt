@@ -1,27 +1,20 @@
 //! The plan of a layout with loads.
 ghost use Rattle.std.specs.Prelude.{◌≡◌, ◌≤◌, ◌==◌, length, map, IfOk, All};
-ghost use Rattle.frame_layout.specs.Frame.{IsMost};
-ghost use Rattle.layout_file.specs.Rules.{most_octets};
-ghost use Rattle.layout_file.specs.Sound.{IsSound};
-ghost use Rattle.load_plan.specs.Loads.{planned_queues, planned_skips, queues_from, skips_of};
+ghost use Rattle.mac_parameters.specs.Parameters.{IsMost, most_octets};
+ghost use Rattle.layout.specs.Limits.{most_sends, most_stations};
+ghost use Rattle.layout.specs.Sound.{IsSound};
+ghost use Rattle.load_plan.specs.Loads.{most_records_of_load, planned_queues, planned_skips, queues_from, skips_of};
 
 use crate::loads::{queue_of_load, skips_of, start_of};
 use crate::{Plan, Queues, SkipList};
 use capture_file::Records;
-use layout_file::{Layout, SendLine};
+use layout::{Layout, SendLine};
 use lists::{List, OutOfMemory};
+use mac_parameters::most_octets;
 use std::alloc::Global;
 
 /// The records of the stations' loads, in the order of the stations' numbers.
 pub type RecordsList = List<Records>;
-
-/// The most octets of a frame without its check sequence (clause 3.2.7).
-fn most_octets(format: u32) -> u32
-    ensures most { result ≡ most_octets (format == 2) }
-    ensures is_most { IsMost result }
-{
-    if format == 2 { 1518 } else { 1514 }
-}
 
 fn queues_of_loads(
     alloc: Global,
@@ -31,9 +24,9 @@ fn queues_of_loads(
     loads: &[Records],
 ) -> Result<Queues, OutOfMemory>
     requires most { IsMost most }
-    requires sends { length sends.now ≤ 65536 }
-    requires stations { length loads.now ≤ 1024 }
-    requires records { All (λ rs. length rs ≤ 4000000000) loads.now }
+    requires sends { length sends.now ≤ most_sends }
+    requires stations { length loads.now ≤ most_stations }
+    requires records { All (λ rs. length rs ≤ most_records_of_load) loads.now }
     ensures queues { IfOk result (λ queues. queues ≡ queues_from start most sends.now 0 loads.now) }
     ensures count { IfOk result (λ queues. length queues ≡ length loads.now) }
 {
@@ -46,7 +39,7 @@ fn queues_of_loads(
 }
 
 fn skips_of_loads(alloc: Global, most: u32, loads: &[Records]) -> Result<SkipList, OutOfMemory>
-    requires { All (λ rs. length rs ≤ 4000000000) loads.now }
+    requires { All (λ rs. length rs ≤ most_records_of_load) loads.now }
     ensures { IfOk result (λ skips. skips ≡ map (skips_of most) loads.now) }
 {
     let mut skips = SkipList::new(alloc);
@@ -60,17 +53,17 @@ fn skips_of_loads(alloc: Global, most: u32, loads: &[Records]) -> Result<SkipLis
 /// the records of its load that aren't skipped and after them its sends, both in the file's order. A record
 /// is ready in the half bit of 50 ns that it comes in after the least time of all records, and each frame no
 /// earlier than the one before it. A record is skipped as snapped where octets of it weren't kept, else as
-/// short below 14 octets, else as long above 1,514, or 1,518 in format 2.
+/// short below the 14 octets of addresses and type, else as long above 1,514, or 1,518 in format 2.
 #[tactic(auto, unfolding(crate::specs::Loads::planned_queues, crate::specs::Loads::planned_skips))]
 pub fn make_plan(alloc: Global, layout: Layout, records: RecordsList) -> Result<Plan, OutOfMemory>
     requires sound { IsSound layout }
     requires loads { length records ≡ length layout.stations }
-    requires few { All (λ rs. length rs ≤ 4000000000) records }
+    requires few { All (λ rs. length rs ≤ most_records_of_load) records }
     ensures layout { IfOk result (λ plan. plan.layout ≡ layout) }
     ensures queues { IfOk result (λ plan. plan.queues ≡ planned_queues layout records) }
     ensures skips { IfOk result (λ plan. plan.skips ≡ planned_skips layout records) }
 {
-    let most = most_octets(layout.format);
+    let most = most_octets(layout.format == 2);
     let start = start_of(&records);
     let loads = records.as_slice();
     let queues = queues_of_loads(alloc, start, most, layout.sends.as_slice(), loads)?;

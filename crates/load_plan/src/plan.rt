@@ -1,9 +1,9 @@
 //! A plan and its queues.
 ghost use Rattle.std.specs.Prelude.{◌≡◌, length};
-ghost use Rattle.layout_file.specs.Sound.{IsSound};
+ghost use Rattle.layout.specs.Sound.{IsSound};
 
 use frame_layout::Queue;
-use layout_file::Layout;
+use layout::Layout;
 use lists::List;
 
 /// The queues of the stations, in the order of their numbers.

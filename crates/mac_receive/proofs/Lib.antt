@@ -1,4 +1,5 @@
-mod Good
-mod Judged
-mod Leaps
-pub mod Stands
+mod LeapsAreSteps
+mod ReceivedOctets
+mod RowsOfReceptions
+pub mod StepsKeepMeaning
+mod WholePieces

@@ -4,18 +4,16 @@ ghost use Rattle.manchester_line.specs.declared.Sym.{Sym};
 ghost use Rattle.manchester_line.specs.declared.Sym.TheVariants.{Idle};
 ghost use Rattle.manchester_line.specs.Decoding.{Decodes};
 ghost use Rattle.manchester_line.specs.Reading.{reading};
-ghost use Rattle.frame_layout.specs.Frame.{IsMost};
+ghost use Rattle.mac_parameters.specs.Parameters.{IsMost, most_octets_tagged, most_octets_untagged};
 ghost use Rattle.collision_log.specs.declared.row.Body.TheVariants.{Received};
-ghost use Rattle.mac_receive.specs.Kept.{Hears, heard_all, heard_by, octets_of, stepped, still};
-ghost use Rattle.mac_receive.specs.Receiver.{Receiving, bodies_of, judged_row, new_receiving, reading_row, received, received_all};
+ghost use Rattle.mac_receive.specs.KeptReceiver.{Hears, fresh, decoder_fed_all, decoder_fed, kept_octets, stepped, still};
+ghost use Rattle.mac_receive.specs.Receiver.{Receiving, receiver_bodies, judged_row, new_receiving, reading_row, receiver_step, receiver_after};
 
 use collision_log::{Body, Why};
 use frame_layout::{Verdict, judge_up_to};
+use mac_parameters::{HALF_BITS_A_BIT, MOST_OCTETS_UNTAGGED, SHORTEST_LINE_TEXT};
 use manchester_line::{Decoder, Sym};
 use std::marker::Model;
-
-/// The half bits of the shortest line text: the header and the least frame of 64 octets (clause 3).
-const SHORTEST: u32 = 1152;
 
 /// The receiver of a station.
 #[derive(Drop)]
@@ -30,8 +28,8 @@ pub struct Receiver {
 
 impl Model for Receiver {
     ghost use Rattle.std.specs.Prelude.{◌≤◌};
-    ghost use Rattle.frame_layout.specs.Frame.{IsMost};
-    ghost use Rattle.mac_receive.specs.Kept.{Kept};
+    ghost use Rattle.mac_parameters.specs.Parameters.{IsMost};
+    ghost use Rattle.mac_receive.specs.KeptReceiver.{Kept, IsReceiver};
 
     ghost Value = { Kept };
 
@@ -46,10 +44,19 @@ impl Model for Receiver {
 
     ghost invariant = { λ s.
         IsMost s.most × (s.lose ≤ 48) × (s.halves ≤ s.steps) × (s.decoder.halves ≤ s.steps)
-        × (s.steps ≤ 2000000000) };
+        × (s.steps ≤ 2000000000)
+        × IsReceiver (record {
+          lose = s.lose;
+          most = s.most;
+          deaf = s.deaf;
+          halves = s.halves;
+          decoder = s.decoder;
+          steps = s.steps;
+        }) };
 }
 
-/// The row of a frame that was judged.
+/// The row of a frame that was judged, by its octets with the check sequence and the half bits of the whole reception
+/// (4.2.4).
 fn row_of(verdict: Verdict, octets: u32, halves: u32) -> Body
     ensures { result ≡ judged_row verdict octets halves }
 {
@@ -65,7 +72,7 @@ fn row_of(verdict: Verdict, octets: u32, halves: u32) -> Body
 
 /// The row of a reception of so many half bits, of which the decoder was given all but the lost
 /// ones.
-#[tactic(auto, using(crate::proofs::Judged::spoiled_row))]
+#[tactic(auto, using(crate::proofs::RowsOfReceptions::spoiled_row))]
 fn judged(decoder: &Decoder, most: u32, halves: u32) -> Body
     requires { IsMost most }
     ensures { (given : List Sym) → Decodes given decoder.now →
@@ -73,7 +80,7 @@ fn judged(decoder: &Decoder, most: u32, halves: u32) -> Body
 {
     let heard = decoder.heard();
     if heard.spoiled {
-        let why = if halves < SHORTEST {
+        let why = if halves < SHORTEST_LINE_TEXT {
             Why::Fragment
         } else {
             Why::Damaged
@@ -84,19 +91,27 @@ fn judged(decoder: &Decoder, most: u32, halves: u32) -> Body
     row_of(verdict, heard.octets, halves)
 }
 
+/// Clears the decoder where the reception that it goes on with has had no half bit so far.
+fn begin(decoder: &mut Decoder, halves: u32)
+    ensures begun { decoder.new ≡ fresh halves decoder.old }
+    ensures few { decoder.new.halves ≤ decoder.old.halves }
+{
+    if halves == 0 {
+        decoder.clear();
+    }
+}
+
 /// Gives the decoder one more half bit of a reception that has had `halves` so far, unless it is
 /// lost.
 fn hear(decoder: &mut Decoder, lose: u32, halves: u32, s: Sym)
     requires lose { lose ≤ 48 }
     requires signal { s ≢ Idle }
     requires count { decoder.old.halves < 2000000000 }
-    ensures heard { decoder.new ≡ heard_by lose halves decoder.old s }
+    ensures heard { decoder.new ≡ decoder_fed lose halves decoder.old s }
     ensures few { decoder.new.halves ≤ decoder.old.halves + 1 }
 {
-    if halves == 0 {
-        decoder.clear();
-    }
-    if halves >= 2 * lose {
+    begin(decoder, halves);
+    if halves >= HALF_BITS_A_BIT * lose {
         decoder.push(s);
     }
 }
@@ -108,22 +123,26 @@ fn hear_all(decoder: &mut Decoder, lose: u32, halves: u32, piece: &[Sym])
     requires signal { All (λ s. s ≢ Idle) piece.now }
     requires count { decoder.old.halves + length piece.now ≤ 2000000000 }
     requires halves { halves + length piece.now ≤ 2000000000 }
-    ensures heard { decoder.new ≡ heard_all lose halves decoder.old piece.now }
+    ensures heard { decoder.new ≡ decoder_fed_all lose halves decoder.old piece.now }
     ensures few { decoder.new.halves ≤ decoder.old.halves + length piece.now }
 {
-    for (i, s) in piece.iter().enumerate() {
-        hear(decoder, lose, halves + i as u32, *s);
+    if piece.is_empty() {
+        return;
+    }
+    begin(decoder, halves);
+    let lost = (HALF_BITS_A_BIT * lose).saturating_sub(halves) as usize;
+    if lost < piece.len() {
+        decoder.push_all(&piece[lost..]);
     }
 }
 
 impl Receiver {
-    /// A receiver that loses no bits, for frames of at most 1,514 octets before the check sequence
-    /// (clause 3.2.7).
+    /// A receiver that loses no bits, for untagged frames alone (3.2.7).
     pub fn new() -> Receiver
-        ensures hears { Hears (new_receiving 0 1514) result }
+        ensures hears { Hears (new_receiving 0 most_octets_untagged) result }
         ensures steps { result.steps ≡ 0 }
     {
-        Receiver::new_for(0, 1514)
+        Receiver::new_for(0, MOST_OCTETS_UNTAGGED)
     }
 
     /// A receiver that loses the first `lose` bits of each reception (profile), for frames of at most
@@ -144,11 +163,11 @@ impl Receiver {
         }
     }
 
-    /// What happens in a half bit.
+    /// The row of a half bit, if there is one.
     fn event(&self, heard: Sym, sending: bool) -> Option<Body>
         ensures row { (r : Receiving) → Hears r self.now →
-            result ≡ (received r heard sending).event }
-        ensures most { self.now.most ≤ 1518 }
+            result ≡ (receiver_step r heard sending).event }
+        ensures most { self.now.most ≤ most_octets_tagged }
     {
         match (heard, sending) {
             (Sym::Idle, false) => {
@@ -191,16 +210,16 @@ impl Receiver {
     }
 
     /// One half bit: the symbol that is heard, and whether the own station is sending. Received or
-    /// Dropped comes exactly at the end of a reception (clause 4).
+    /// Dropped comes exactly at the end of a reception (4.2.4).
     pub fn step(&mut self, heard: Sym, sending: bool) -> Option<Body>
         requires { self.old.steps < 2000000000 }
         ensures state { (r : Receiving) → Hears r self.old →
-            Hears (received r heard sending).state self.new }
+            Hears (receiver_step r heard sending).state self.new }
         ensures event { (r : Receiving) → Hears r self.old →
-            result ≡ (received r heard sending).event }
+            result ≡ (receiver_step r heard sending).event }
         ensures octets { (r : Receiving) (n : ℕ) →
             Hears r self.old → result ≡ Some (Received n) →
-            octets_of self.new ≡ (received r heard sending).octets }
+            kept_octets self.new ≡ (receiver_step r heard sending).octets }
         ensures steps { self.new.steps ≡ self.old.steps + 1 }
     {
         let event = self.event(heard, sending);
@@ -210,12 +229,12 @@ impl Receiver {
 
     /// After a Received and until the next step, the octets of the frame with its check sequence.
     pub fn octets(&self) -> &[u8]
-        ensures { result.now ≡ octets_of self.now }
+        ensures { result.now ≡ kept_octets self.now }
     {
         self.decoder.octets()
     }
 
-    /// Whether the receiver is deaf: its own station has sent, and the line wasn't quiet since.
+    /// Whether the receiver is deaf: its own station has sent, and it has heard carrier ever since (profile).
     pub fn is_deaf(&self) -> bool
         ensures { result ≡ self.now.deaf }
     {
@@ -234,9 +253,9 @@ impl Receiver {
         requires none { self.old.halves ≡ 0 }
         requires steps { self.old.steps + n ≤ 2000000000 }
         ensures state { (r : Receiving) → Hears r self.old →
-            Hears (received_all r (replicate n Idle) false) self.new }
+            Hears (receiver_after r (replicate n Idle) false) self.new }
         ensures bodies { (r : Receiving) → Hears r self.old →
-            bodies_of r (replicate n Idle) false ≡ [] }
+            receiver_bodies r (replicate n Idle) false ≡ [] }
         ensures steps { self.new.steps ≡ self.old.steps + n }
     {
         if n > 0 {
@@ -248,13 +267,27 @@ impl Receiver {
     pub fn leap_sending(&mut self, n: u64)
         requires { self.old.steps + n ≤ 2000000000 }
         ensures state { (r : Receiving) (heard : List Sym) → length heard ≡ n → Hears r self.old →
-            Hears (received_all r heard true) self.new }
-        ensures bodies { (r : Receiving) (heard : List Sym) → bodies_of r heard true ≡ [] }
+            Hears (receiver_after r heard true) self.new }
+        ensures bodies { (r : Receiving) (heard : List Sym) → receiver_bodies r heard true ≡ [] }
         ensures steps { self.new.steps ≡ self.old.steps + n }
     {
         if n > 0 {
             self.fall_still(true, n as u32);
         }
+    }
+
+    /// The deaf receiver after `n` steps that hear carrier without sending, whatever symbols they hear.
+    pub fn leap_deaf(&mut self, n: u64)
+        requires deaf { self.old.deaf ≡ true }
+        requires steps { self.old.steps + n ≤ 2000000000 }
+        ensures state { (r : Receiving) (hs : List Sym) →
+            All (λ s. s ≢ Idle) hs → length hs ≡ n → Hears r self.old →
+            Hears (receiver_after r hs false) self.new }
+        ensures bodies { (r : Receiving) (hs : List Sym) →
+            All (λ s. s ≢ Idle) hs → receiver_bodies r hs false ≡ [] }
+        ensures steps { self.new.steps ≡ self.old.steps + n }
+    {
+        self.steps += n as u32;
     }
 
     /// The receiver after a step without sending for each symbol of the piece.
@@ -263,8 +296,8 @@ impl Receiver {
         requires signal { All (λ s. s ≢ Idle) piece.now }
         requires steps { self.old.steps + length piece.now ≤ 2000000000 }
         ensures state { (r : Receiving) → Hears r self.old →
-            Hears (received_all r piece.now false) self.new }
-        ensures bodies { (r : Receiving) → Hears r self.old → bodies_of r piece.now false ≡ [] }
+            Hears (receiver_after r piece.now false) self.new }
+        ensures bodies { (r : Receiving) → Hears r self.old → receiver_bodies r piece.now false ≡ [] }
         ensures steps { self.new.steps ≡ self.old.steps + length piece.now }
     {
         hear_all(&mut self.decoder, self.lose, self.halves, piece);

@@ -62,6 +62,10 @@ fn leaps(rt: HostRuntime) {
     let mut receiver = Receiver::new();
     receiver.leap_sending(1000);
     assert_eq!(rt; receiver.is_deaf(), true);
+    if receiver.is_deaf() {
+        receiver.leap_deaf(500);
+    }
+    assert_eq!(rt; receiver.is_deaf(), true);
     if !receiver.is_receiving() {
         receiver.leap_quiet(1);
     }

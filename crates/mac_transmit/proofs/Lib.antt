@@ -1,7 +1,9 @@
-pub mod Symbols
-pub mod Keeping
-pub mod Calming
-pub mod Resumes
-pub mod Going
-pub mod Lines
-pub mod Attempting
+pub mod NoClashIsSent
+pub mod SenderInvariant
+pub mod CalmHalfBits
+pub mod ResumableStates
+pub mod StartGaps
+pub mod SignalSendings
+pub mod LawfulAttempts
+pub mod CalmEmissions
+pub mod SendingPieces

@@ -1,5 +1,6 @@
 pub mod Calm
 pub mod Deference
+pub mod Emissions
 pub mod Laws
 pub mod Resuming
 pub mod Sender

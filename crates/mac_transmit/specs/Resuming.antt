@@ -1,5 +1,6 @@
 -- Senders that are stopped and go on later (profile).
 use Rattle.std.specs.Prelude.{ℕ, ◌<◌, ◌≤◌, None, List, length}
+use Rattle.mac_parameters.specs.Parameters.{attempt_limit, interframe_gap}
 use Rattle.frame_layout.specs.declared.queue.Ready.{Ready}
 use Rattle.backoff_draw.specs.Draws.{Drawing}
 use Rattle.mac_transmit.specs.declared.deference.Defer.{Defer}
@@ -14,8 +15,8 @@ abbrev pub state_of : Sender → SenderState
 state_of s = record { phase = s.phase; defer = s.defer; attempt = s.attempt; place = s.place; drawn = s.draws.made }
 
 -- a sender before half bit t that goes on from a state: no sending ended yet, and nothing was heard
-abbrev pub resumed : List Ready → Drawing → ℕ → SenderState → Sender
-resumed queue draws t state = record {
+abbrev pub resumed_sender : List Ready → Drawing → ℕ → SenderState → Sender
+resumed_sender queue draws t state = record {
   queue = queue;
   draws = draws;
   t = t;
@@ -24,7 +25,7 @@ resumed queue draws t state = record {
   defer = state.defer;
   attempt = state.attempt;
   last_end = None;
-  loud_from = t;
+  carrier_from = t;
 }
 
 -- No sending is under way, a sender that waits or backs off has a frame to send, and a backoff ends by half bit
@@ -39,7 +40,7 @@ IsPhaseIn queue place (Backoff until) = (place < length queue) × (until ≤ 210
 abbrev pub IsDeferIn : Defer → Type 0
 IsDeferIn Watch = Unit {0}
 IsDeferIn (Busy was) = Unit {0}
-IsDeferIn (Gap k was) = (1 ≤ k) × (k ≤ 192)
+IsDeferIn (Gap k was) = (1 ≤ k) × (k ≤ interframe_gap)
 
 -- what is asked of a state to go on from with a queue
 pub record IsStateOf (queue : List Ready) (state : SenderState) : Type 0 where
@@ -47,5 +48,5 @@ pub record IsStateOf (queue : List Ready) (state : SenderState) : Type 0 where
   pub phase : IsPhaseIn queue state.place state.phase
   pub defer : IsDeferIn state.defer
   pub first : 1 ≤ state.attempt
-  pub last : state.attempt ≤ 16
+  pub last : state.attempt ≤ attempt_limit
   pub drawn : state.drawn ≤ 2000000000

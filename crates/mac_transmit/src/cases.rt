@@ -1,53 +1,49 @@
 //! The cases of a sender's half bit, on plain values.
 ghost use Rattle.std.specs.Prelude.{◌≡◌, ◌<◌, ◌≤◌, ◌+◌, ◌^◌, ◌==◌, ◌||◌, if◌then◌else◌, length, IfNone};
-ghost use Rattle.mac_transmit.specs.Laws.{loud_after};
-ghost use Rattle.mac_transmit.specs.Sender.{jam_start, length_of, line_length, line_at, symbol_of, hit_at, is_sending, is_waiting, phase_started, defer_started, phase_after};
+ghost use Rattle.mac_parameters.specs.Parameters.{least_frame, shortest_line_text};
+ghost use Rattle.mac_transmit.specs.Laws.{carrier_after};
+ghost use Rattle.mac_transmit.specs.Sender.{jam_start, sending_length, line_length, line_at, symbol_of, hit_at, is_sending, is_waiting, phase_started, defer_started, phase_after};
 
 use crate::{Defer, Phase};
+use mac_parameters::{HALF_BITS_A_BIT, HALF_BITS_AN_OCTET, JAM_SIZE, PREAMBLE};
 use manchester_line::{Sym, jam_sym, line_sym};
 
-/// The half bits of the header.
-const HEADER: u64 = 128;
-
-/// The half bits of the jam (IEEE 802.3, 4.4.2.1).
-const JAM: u64 = 64;
-
-/// The position at which the jam begins.
+/// The position, from 0, at which the jam begins.
 pub fn start_of_jam(hit: u32) -> u64
     ensures start { result ≡ jam_start hit }
     ensures small { result < 2 ^ 33 }
 {
-    let hit = u64::from(hit);
-    if hit < HEADER {
-        HEADER
+    if hit < PREAMBLE {
+        u64::from(PREAMBLE)
     } else {
-        2 * (hit / 2 + 1)
+        let bit = u64::from(HALF_BITS_A_BIT);
+        bit * (u64::from(hit) / bit + 1)
     }
 }
 
 /// The half bits of a frame's line text.
 #[tactic(auto, unfolding(crate::specs::Sender::line_length), using(manchester_line::proofs::Places::length_line))]
 fn whole_length(octets: &[u8]) -> u64
-    requires least { 64 ≤ length octets.now }
+    requires least { least_frame ≤ length octets.now }
     requires most { length octets.now ≤ 1600 }
     ensures length { result ≡ line_length octets.now }
-    ensures least { 1152 ≤ result }
+    ensures least { shortest_line_text ≤ result }
     ensures small { result < 2 ^ 33 }
 {
-    128 + 16 * octets.len() as u64
+    u64::from(PREAMBLE) + u64::from(HALF_BITS_AN_OCTET) * octets.len() as u64
 }
 
 /// The half bits of a sending.
 pub fn length_with(octets: &[u8], hit: Option<u32>) -> u64
-    requires least { 64 ≤ length octets.now }
+    requires least { least_frame ≤ length octets.now }
     requires most { length octets.now ≤ 1600 }
-    ensures length { result ≡ length_of octets.now hit }
-    ensures whole { IfNone hit (1152 ≤ result) }
+    ensures length { result ≡ sending_length octets.now hit }
+    ensures whole { IfNone hit (shortest_line_text ≤ result) }
     ensures small { result < 2 ^ 34 }
 {
     match hit {
         None => whole_length(octets),
-        Some(hit) => start_of_jam(hit) + JAM,
+        Some(hit) => start_of_jam(hit) + u64::from(JAM_SIZE),
     }
 }
 
@@ -141,15 +137,15 @@ pub fn phase_with_hit(t: u64, phase: Phase, carrier: bool) -> Phase
 }
 
 /// The first of the half bits one after another, up to `t`, in which something was heard.
-pub fn loud_since(from: u64, t: u64, carrier: bool) -> u64
+pub fn carrier_since(from: u64, t: u64, carrier: bool) -> u64
     requires { t < 2 ^ 32 }
-    ensures { result ≡ loud_after from t carrier }
+    ensures { result ≡ carrier_after from t carrier }
 {
     if carrier { from } else { t + 1 }
 }
 
 /// The same after `n` half bits from `t` on, in each of which something was heard, or Idle in each.
-pub fn loud_leapt(from: u64, t: u64, n: u64, carrier: bool) -> u64
+pub fn carrier_leapt(from: u64, t: u64, n: u64, carrier: bool) -> u64
     requires { t + n < 2 ^ 32 }
     ensures { result ≡ (if carrier || n == 0 then from else t + n) }
 {

@@ -1,19 +1,15 @@
-//! Deference, by its table.
+//! Deference, by its table (IEEE 802.3, 4.2.3.2.1).
 ghost use Rattle.std.specs.Prelude.{◌≡◌, ◌≤◌, ◌==◌, ◌||◌, if◌then◌else◌, false};
+ghost use Rattle.mac_parameters.specs.Parameters.{interframe_gap};
 ghost use Rattle.mac_transmit.specs.Deference.{deferred, free_of, gap_of, watched};
 ghost use Rattle.mac_transmit.specs.Calm.{gap_left, gap_at, waited};
 ghost use Rattle.mac_transmit.specs.Sender.{is_sending};
 
 use crate::Phase;
 use crate::cases::sending;
+use mac_parameters::{INTERFRAME_GAP, INTERFRAME_GAP_PART_1};
 
-/// The half bits of the interframe gap (IEEE 802.3, 4.4.2.1).
-const GAP: u32 = 192;
-
-/// The half bits of the gap's first part, in which carrier begins it again (4.2.3.2.1; the split is profile).
-const GAP_PART_1: u32 = 128;
-
-/// How a station waits for its turn (IEEE 802.3, 4.2.3.2).
+/// How a station waits for its turn (IEEE 802.3, 4.2.3.2.1).
 #[derive(Clone, Copy, Debug, PartialEq, Eq)]
 pub enum Defer {
     /// Nothing is heard, and the gap has gone.
@@ -50,7 +46,7 @@ fn from_watch(carrier: bool) -> Deferral
 
 /// One half bit of deference, with carrier, a sending of the station's own, and a frame that waits.
 pub fn next_deference(state: Defer, carrier: bool, sending: bool, waiting: bool) -> Deferral
-    requires { gap_of state ≤ 192 }
+    requires { gap_of state ≤ interframe_gap }
     ensures next { result.next ≡ deferred state carrier sending waiting }
     ensures free { result.free ≡ free_of state carrier waiting }
 {
@@ -67,7 +63,7 @@ pub fn next_deference(state: Defer, carrier: bool, sending: bool, waiting: bool)
             Deferral { next, free: false }
         }
         Defer::Gap { k, was } => {
-            if k == GAP {
+            if k == INTERFRAME_GAP {
                 if waiting {
                     Deferral {
                         next: Defer::Watch,
@@ -76,7 +72,7 @@ pub fn next_deference(state: Defer, carrier: bool, sending: bool, waiting: bool)
                 } else {
                     from_watch(carrier)
                 }
-            } else if k < GAP_PART_1 && !was && carrier {
+            } else if k < INTERFRAME_GAP_PART_1 && !was && carrier {
                 Deferral {
                     next: Defer::Busy { was: false },
                     free: false,
@@ -94,20 +90,20 @@ pub fn next_deference(state: Defer, carrier: bool, sending: bool, waiting: bool)
 /// The half bits until a station that waits is free, where it hears something in each, or Idle in each; none where it
 /// is never free.
 pub fn gap_to_wait(state: Defer, carrier: bool) -> Option<u64>
-    requires { gap_of state ≤ 192 }
+    requires { gap_of state ≤ interframe_gap }
     ensures { result ≡ gap_left carrier state }
 {
     match state {
         Defer::Gap { k, was } => {
-            if k < GAP_PART_1 && !was && carrier {
+            if k < INTERFRAME_GAP_PART_1 && !was && carrier {
                 None
             } else {
-                Some(u64::from(GAP - k))
+                Some(u64::from(INTERFRAME_GAP - k))
             }
         }
         _ if carrier => None,
         Defer::Watch => Some(0),
-        Defer::Busy { .. } => Some(u64::from(GAP)),
+        Defer::Busy { .. } => Some(u64::from(INTERFRAME_GAP)),
     }
 }
 
@@ -115,7 +111,7 @@ pub fn gap_to_wait(state: Defer, carrier: bool) -> Option<u64>
 fn gap_after(k: u32, was: bool, carrier: bool) -> Defer
     ensures { result ≡ gap_at carrier k was }
 {
-    if k <= GAP {
+    if k <= INTERFRAME_GAP {
         Defer::Gap { k, was }
     } else {
         from_watch(carrier).next
@@ -124,7 +120,7 @@ fn gap_after(k: u32, was: bool, carrier: bool) -> Defer
 
 /// Deference after `n` half bits, at least one and at most 4,096, in which the station doesn't send.
 fn deference_after(state: Defer, n: u32, carrier: bool) -> Defer
-    requires gap { gap_of state ≤ 192 }
+    requires gap { gap_of state ≤ interframe_gap }
     requires most { n ≤ 4096 }
     ensures { result ≡ waited carrier state n }
 {
@@ -138,7 +134,7 @@ fn deference_after(state: Defer, n: u32, carrier: bool) -> Defer
             }
         }
         Defer::Gap { k, was } => {
-            if k < GAP_PART_1 && !was && carrier {
+            if k < INTERFRAME_GAP_PART_1 && !was && carrier {
                 Defer::Busy { was: false }
             } else {
                 gap_after(k + n, was, carrier)
@@ -149,7 +145,7 @@ fn deference_after(state: Defer, n: u32, carrier: bool) -> Defer
 
 /// Deference after `n` half bits, at most 4,096, in which the phase stays as it is.
 pub fn defer_leapt(phase: Phase, state: Defer, n: u64, carrier: bool) -> Defer
-    requires gap { gap_of state ≤ 192 }
+    requires gap { gap_of state ≤ interframe_gap }
     requires most { n ≤ 4096 }
     ensures { result ≡ (if is_sending phase || n == 0 then state else waited carrier state n) }
 {

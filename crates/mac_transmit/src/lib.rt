@@ -5,12 +5,15 @@ mod cases;
 mod deference;
 mod laws;
 mod phase;
+mod pieces;
 mod state;
 mod transmitter;
 mod turn;
 
 pub use deference::Defer;
-pub use laws::{attempts_are_lawful, deaf_gaps_are_kept, gaps_are_kept};
+pub use laws::{
+    attempts_are_lawful, calm_senders_emit, calm_sendings_last, deaf_gaps_are_kept, gaps_are_kept,
+};
 pub use phase::Phase;
 pub use state::SenderState;
 pub use transmitter::{SendStep, Transmitter};

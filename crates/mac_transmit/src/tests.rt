@@ -5,7 +5,7 @@ use backoff_draw::Draws;
 use collision_log::Body;
 use frame_layout::{Frame, Queue, build};
 use lists::OutOfMemory;
-use manchester_line::{Sym, jam_sym};
+use manchester_line::{Sym, encode_into, jam_sym};
 use std::alloc::Global;
 
 /// The 14 octets of a frame of 64 octets with pad and FCS, whose line text has 1,152 half bits.
@@ -45,12 +45,12 @@ fn with_two(alloc: Global) -> Result<Transmitter, OutOfMemory>
 }
 
 /// The first event of a sender that hears Hi at these half bits and else Idle, with its half bit.
-fn first_event(mut sender: Transmitter, loud: &[u64], end: u64) -> Option<(u64, Body)>
+fn first_event(mut sender: Transmitter, carrier: &[u64], end: u64) -> Option<(u64, Body)>
     requires new { sender.t ≡ 0 }
     requires end { end ≤ 2000000000 }
 {
     for t in 0..end {
-        let heard = if loud.contains(&t) {
+        let heard = if carrier.contains(&t) {
             Sym::Hi
         } else {
             Sym::Idle
@@ -76,7 +76,7 @@ fn a_hit_ends_a_sending_with_its_jam(rt: HostRuntime) -> Result<(), OutOfMemory>
         start: 0,
         attempt: 1,
     };
-    for (loud, t, body) in [
+    for (carrier, t, body) in [
         (127, 192, collided(127)),
         (128, 194, collided(128)),
         (1151, 1216, collided(1151)),
@@ -84,9 +84,9 @@ fn a_hit_ends_a_sending_with_its_jam(rt: HostRuntime) -> Result<(), OutOfMemory>
     ] {
         let sender = with_one(rt.alloc(), 0)?;
         assert_eq!(rt;
-            first_event(sender, &[loud], 2000),
+            first_event(sender, &[carrier], 2000),
             Some((t, body)),
-            "Hi at {loud}"
+            "Hi at {carrier}"
         );
     }
     Ok(())
@@ -94,9 +94,9 @@ fn a_hit_ends_a_sending_with_its_jam(rt: HostRuntime) -> Result<(), OutOfMemory>
 
 #[test]
 fn carrier_restarts_part_1_of_the_gap_alone(rt: HostRuntime) -> Result<(), OutOfMemory> {
-    for (loud, start) in [(137, 330), (138, 202)] {
+    for (carrier, start) in [(137, 330), (138, 202)] {
         let sender = with_one(rt.alloc(), 5)?;
-        let event = first_event(sender, &[0, 1, 2, 3, 4, 5, 6, 7, 8, 9, loud], 2000);
+        let event = first_event(sender, &[0, 1, 2, 3, 4, 5, 6, 7, 8, 9, carrier], 2000);
         assert_eq!(rt;
             event,
             Some((
@@ -107,7 +107,7 @@ fn carrier_restarts_part_1_of_the_gap_alone(rt: HostRuntime) -> Result<(), OutOf
                     attempt: 1
                 }
             )),
-            "Hi at {loud}"
+            "Hi at {carrier}"
         );
     }
     Ok(())
@@ -267,5 +267,62 @@ fn a_sender_goes_on_from_its_state(rt: HostRuntime) -> Result<(), OutOfMemory> {
         attempt: 1,
     };
     assert_eq!(rt; quiet_event(&mut resumed, 1200, 3000), Some((2496, sent)));
+    Ok(())
+}
+
+/// The half bits that are calm from `t` on, where the station hears this symbol in each of them, and in how many of these,
+/// up to the first other one, a step emits what the piece of them has.
+fn emitted_as_told(sender: &mut Transmitter, t: u64, heard: Sym) -> Option<(usize, usize)>
+    requires start { sender.old.t ≡ t }
+    requires end { t ≤ 1000000000 }
+{
+    let Phase::Sending { .. } = sender.phase() else {
+        return None;
+    };
+    let mut text = [Sym::Idle; 25_728];
+    let mut piece = [Sym::Idle; 4096];
+    let size = encode_into(sender.frame()?.octets(), &mut text);
+    let calm = sender.calm(t, heard != Sym::Idle) as usize;
+    sender.piece(t, &text[..size], &mut piece[..calm]);
+    for j in 0..calm {
+        if sender.step(t + j as u64, heard).emitted != piece[j] {
+            return Some((calm, j));
+        }
+    }
+    Some((calm, calm))
+}
+
+#[test]
+fn steps_emit_what_a_piece_has(rt: HostRuntime) -> Result<(), OutOfMemory> {
+    for (t, calm) in [(1, 1151), (2, 1150), (500, 652)] {
+        let mut sender = with_one(rt.alloc(), 0)?;
+        hear_nothing(&mut sender, t);
+        assert_eq!(rt;
+            emitted_as_told(&mut sender, t, Sym::Idle),
+            Some((calm, calm)),
+            "from {t} on"
+        );
+    }
+    Ok(())
+}
+
+#[test]
+fn steps_emit_what_a_piece_has_after_a_hit(rt: HostRuntime) -> Result<(), OutOfMemory> {
+    for (hit, heard, calm) in [
+        (100, Sym::Idle, 91),
+        (100, Sym::Lo, 91),
+        (301, Sym::Hi, 64),
+        (302, Sym::Idle, 65),
+        (1151, Sym::Clash, 64),
+    ] {
+        let mut sender = with_one(rt.alloc(), 0)?;
+        hear_nothing(&mut sender, hit);
+        sender.step(hit, Sym::Hi);
+        assert_eq!(rt;
+            emitted_as_told(&mut sender, hit + 1, heard),
+            Some((calm, calm)),
+            "Hi at {hit}"
+        );
+    }
     Ok(())
 }

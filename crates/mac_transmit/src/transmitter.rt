@@ -1,28 +1,25 @@
 //! A station's sender.
 ghost use Rattle.std.specs.Prelude.{◌≡◌, ◌<◌, ◌≤◌, ◌^◌, ◌&&◌, nat_lt, nat_le, length};
+ghost use Rattle.mac_parameters.specs.Parameters.{least_frame};
 ghost use Rattle.manchester_line.specs.declared.Sym.{Sym};
 ghost use Rattle.manchester_line.specs.declared.Sym.TheVariants.{Idle};
-ghost use Rattle.mac_transmit.specs.Sender.{frame_at, ready_at, IsWithin, symbol_emitted};
+ghost use Rattle.mac_transmit.specs.Sender.{frame_at, ready_at, HasItsFrame, symbol_emitted};
 ghost use Rattle.mac_transmit.specs.Calm.{up_to_most};
 
-use crate::cases::{length_with, loud_leapt, loud_since, new_hit, phase_with_hit, symbol_at};
+use crate::cases::{carrier_leapt, carrier_since, length_with, new_hit, phase_with_hit, symbol_at};
 use crate::deference::{defer_leapt, gap_to_wait};
+use crate::pieces::put_sending;
 use crate::turn::take_turn;
 use crate::{Defer, Phase, SenderState};
 use backoff_draw::Draws;
 use collision_log::Body;
 use frame_layout::{Frame, Queue};
+use mac_parameters::{ATTEMPT_LIMIT, SLOT_TIME};
 use manchester_line::Sym;
 use std::marker::Model;
 
-/// The attempts after which a frame is given up (IEEE 802.3, 4.4.2.1).
-const ATTEMPT_LIMIT: u32 = 16;
-
 /// The most half bits of a leap (profile).
 const MOST_CALM: u64 = 4096;
-
-/// The half bits of the slot time (IEEE 802.3, 4.4.2.1).
-const SLOT_TIME: u64 = 1024;
 
 /// What a half bit of a sender gives.
 #[derive(Clone, Copy, Debug, PartialEq, Eq)]
@@ -43,7 +40,7 @@ pub struct Transmitter {
     defer: Defer,
     attempt: u32,
     last_end: Option<u64>,
-    loud_from: u64,
+    carrier_from: u64,
 }
 
 impl Model for Transmitter {
@@ -52,9 +49,9 @@ impl Model for Transmitter {
 
     ghost Value = { Sender };
 
-    ghost view = { λ s. record { queue = s.queue; draws = s.draws; t = s.t; place = s.place; phase = s.phase; defer = s.defer; attempt = s.attempt; last_end = s.last_end; loud_from = s.loud_from } };
+    ghost view = { λ s. record { queue = s.queue; draws = s.draws; t = s.t; place = s.place; phase = s.phase; defer = s.defer; attempt = s.attempt; last_end = s.last_end; carrier_from = s.carrier_from } };
 
-    ghost invariant = { λ s. IsSender (record { queue = s.queue; draws = s.draws; t = s.t; place = s.place; phase = s.phase; defer = s.defer; attempt = s.attempt; last_end = s.last_end; loud_from = s.loud_from }) × (s.drawn ≡ s.draws.made) };
+    ghost invariant = { λ s. IsSender (record { queue = s.queue; draws = s.draws; t = s.t; place = s.place; phase = s.phase; defer = s.defer; attempt = s.attempt; last_end = s.last_end; carrier_from = s.carrier_from }) × (s.drawn ≡ s.draws.made) };
 }
 
 /// The octets of the frame at a place of a queue.
@@ -62,7 +59,7 @@ impl Model for Transmitter {
 fn frame_octets(queue: &Queue, place: u32) -> &[u8]
     requires { place < length queue.now }
     ensures octets { result.now ≡ frame_at queue.now place }
-    ensures least { 64 ≤ length result.now }
+    ensures least { least_frame ≤ length result.now }
     ensures short { length result.now ≤ 1600 }
 {
     queue.get(place).frame.octets()
@@ -90,7 +87,7 @@ fn at_most(change: Option<u64>) -> u64
 #[tactic(auto, unfolding(crate::specs::Sender::symbol_emitted))]
 fn emission(queue: &Queue, place: u32, t: u64, phase: Phase, carrier: bool) -> Sym
     requires time { t < 2 ^ 32 }
-    requires frame { IsWithin (nat_lt place (length queue.now)) phase }
+    requires frame { HasItsFrame (nat_lt place (length queue.now)) phase }
     ensures { result ≡ symbol_emitted (frame_at queue.now place) t phase carrier }
 {
     let Phase::Sending { start, hit } = phase else {
@@ -102,12 +99,16 @@ fn emission(queue: &Queue, place: u32, t: u64, phase: Phase, carrier: bool) -> S
 
 impl Transmitter {
     ghost use Rattle.std.specs.Prelude.{◌≡◌, ◌≢◌, ◌<◌, ◌≤◌, ◌+◌, ◌&&◌, nat_lt, nat_le, true, false, length, IfSome, IsNone, ◌↔◌};
+    ghost use Rattle.mac_parameters.specs.Parameters.{interframe_gap};
     ghost use Rattle.manchester_line.specs.declared.Sym.TheVariants.{Clash};
-    ghost use Rattle.mac_transmit.specs.Laws.{end_after, loud_after, StartsAt, IsAway, IsLongEnough};
+    ghost use Rattle.mac_transmit.specs.Laws.{end_after, carrier_after, StartsAt, IsAway, IsLongEnough};
     ghost use Rattle.mac_transmit.specs.Calm.{change_in, calm_of, AllHeardAs, AreCalm, after_all, leapt};
     ghost use Rattle.std.specs.Prelude.{List};
-    ghost use Rattle.mac_transmit.specs.Resuming.{state_of, resumed, IsStateOf};
-    ghost use Rattle.mac_transmit.specs.Sender.{new_sender, finished, event_from, promoted, after_turn, emitted_from, emitting, hears, sent, cut_of, frame_at, ready_at, is_sending, IsSender};
+    ghost use Rattle.mac_transmit.specs.Emissions.{emission_by, emissions, IsSendingFor};
+    ghost use Rattle.manchester_line.specs.Line.{line};
+    ghost use Rattle.mac_transmit.specs.Resuming.{state_of, resumed_sender, IsStateOf};
+    ghost use Rattle.mac_transmit.specs.Sender.{new_sender, finished, event_from, promoted, after_turn, emitted_from, emitting, sender_step, cut_of, frame_at, ready_at, is_sending, IsSender};
+    ghost use Rattle.manchester_line.specs.Line.{is_signal};
 
     /// The sender of a queue before half bit 0, with draws of which none was made yet.
     pub fn new(queue: Queue, draws: Draws) -> Transmitter
@@ -124,7 +125,7 @@ impl Transmitter {
             defer: Defer::Watch,
             attempt: 1,
             last_end: None,
-            loud_from: 0,
+            carrier_from: 0,
         }
     }
 
@@ -149,7 +150,7 @@ impl Transmitter {
         requires in_time { t ≤ 2000000000 }
         requires next_draw { draws.made ≡ state.drawn }
         requires ranges { IsStateOf queue state }
-        ensures { result ≡ resumed queue draws t state }
+        ensures { result ≡ resumed_sender queue draws t state }
     {
         Transmitter {
             queue,
@@ -161,18 +162,18 @@ impl Transmitter {
             defer: state.defer,
             attempt: state.attempt,
             last_end: None,
-            loud_from: t,
+            carrier_from: t,
         }
     }
 
     /// A sending whose length is reached gives its event.
-    #[tactic(auto, unfolding(crate::specs::Sender::finished, crate::specs::Sender::event_from), using(crate::proofs::Keeping::draw_below))]
+    #[tactic(auto, unfolding(crate::specs::Sender::finished, crate::specs::Sender::event_from), using(crate::proofs::SenderInvariant::draw_below))]
     fn finish(&mut self) -> Option<Body>
         ensures state { self.new ≡ finished self.old }
         ensures time { self.new.t ≡ self.old.t }
         ensures event { result ≡ event_from self.old self.old.phase }
         ensures end { self.new.last_end ≡ end_after self.old.last_end self.old.t result }
-        ensures loud { self.new.loud_from ≡ self.old.loud_from }
+        ensures carrier_from { self.new.carrier_from ≡ self.old.carrier_from }
         ensures length { IsLongEnough self.old.t result }
     {
         let Phase::Sending { start, hit } = self.phase else {
@@ -202,7 +203,7 @@ impl Transmitter {
         let drawn = self.draws.draw(attempt);
         self.drawn += 1;
         self.phase = Phase::Backoff {
-            until: self.t + SLOT_TIME * u64::from(drawn),
+            until: self.t + u64::from(SLOT_TIME) * u64::from(drawn),
         };
         self.attempt = attempt + 1;
         Some(Body::Collided {
@@ -220,7 +221,7 @@ impl Transmitter {
         ensures state { self.new ≡ promoted self.old }
         ensures time { self.new.t ≡ self.old.t }
         ensures end { self.new.last_end ≡ self.old.last_end }
-        ensures loud { self.new.loud_from ≡ self.old.loud_from }
+        ensures carrier_from { self.new.carrier_from ≡ self.old.carrier_from }
     {
         match self.phase {
             Phase::Rest => {
@@ -239,16 +240,16 @@ impl Transmitter {
     }
 
     /// Deference, the start of a waiting station that is free, and what is emitted.
-    #[tactic(auto, unfolding(crate::specs::Sender::deferring, crate::specs::Sender::is_free, crate::specs::Sender::started, crate::specs::Sender::emitting, crate::specs::Sender::emitted_from))]
+    #[tactic(auto, unfolding(crate::specs::Sender::deferring, crate::specs::Sender::is_free, crate::specs::Sender::sending_started, crate::specs::Sender::emitting, crate::specs::Sender::emitted_from))]
     fn go_on(&mut self, carrier: bool) -> Sym
         requires { self.old.t < 2000000000 }
         ensures state { self.new ≡ emitting (after_turn self.old carrier) carrier }
         ensures time { self.new.t ≡ self.old.t + 1 }
         ensures emitted { result ≡ emitted_from (after_turn self.old carrier) (after_turn self.old carrier).phase carrier }
         ensures end { self.new.last_end ≡ self.old.last_end }
-        ensures loud { self.new.loud_from ≡ loud_after self.old.loud_from self.old.t carrier }
-        ensures gap { StartsAt self.old.t self.new.phase → IsAway self.old.last_end 192 self.old.t }
-        ensures deaf_gap { StartsAt self.old.t self.new.phase → carrier ≡ true → self.old.t < self.old.loud_from + 192 }
+        ensures carrier_from { self.new.carrier_from ≡ carrier_after self.old.carrier_from self.old.t carrier }
+        ensures gap { StartsAt self.old.t self.new.phase → IsAway self.old.last_end interframe_gap self.old.t }
+        ensures deaf_gap { StartsAt self.old.t self.new.phase → carrier ≡ true → self.old.t < self.old.carrier_from + interframe_gap }
         ensures no_clash { result ≢ Clash }
     {
         let t = self.t;
@@ -256,27 +257,27 @@ impl Transmitter {
         let emitted = emission(&self.queue, self.place, t, turn.phase, carrier);
         self.phase = phase_with_hit(t, turn.phase, carrier);
         self.defer = turn.defer;
-        self.loud_from = loud_since(self.loud_from, t, carrier);
+        self.carrier_from = carrier_since(self.carrier_from, t, carrier);
         self.t = t + 1;
         emitted
     }
 
     /// Half bit `t`, the one after the last that was stepped or leapt, in which the station hears this symbol
     /// (IEEE 802.3, 4.2.3 and 4.2.8). It begins at 0, or where the sender goes on, and is below 2,000,000,000.
-    #[tactic(auto, unfolding(crate::specs::Sender::sent))]
+    #[tactic(auto, unfolding(crate::specs::Sender::sender_step))]
     pub fn step(&mut self, t: u64, heard: Sym) -> SendStep
         requires time { t ≡ self.old.t }
         requires in_time { t < 2000000000 }
-        ensures state { self.new ≡ (sent self.old heard).state }
+        ensures state { self.new ≡ (sender_step self.old heard).state }
         ensures time { self.new.t ≡ self.old.t + 1 }
-        ensures emitted { result.emitted ≡ (sent self.old heard).emitted }
-        ensures event { result.event ≡ (sent self.old heard).event }
+        ensures emitted { result.emitted ≡ (sender_step self.old heard).emitted }
+        ensures event { result.event ≡ (sender_step self.old heard).event }
 
         // What a sender keeps follows the half bits, and the laws of its starts speak of it.
         ensures last_end { self.new.last_end ≡ end_after self.old.last_end t result.event }
-        ensures loud_from { self.new.loud_from ≡ loud_after self.old.loud_from t (hears heard) }
-        ensures gap { StartsAt t self.new.phase → IsAway self.new.last_end 192 t }
-        ensures deaf_gap { StartsAt t self.new.phase → hears heard ≡ true → t < self.new.loud_from + 192 }
+        ensures carrier_from { self.new.carrier_from ≡ carrier_after self.old.carrier_from t (is_signal heard) }
+        ensures gap { StartsAt t self.new.phase → IsAway self.new.last_end interframe_gap t }
+        ensures deaf_gap { StartsAt t self.new.phase → is_signal heard ≡ true → t < self.new.carrier_from + interframe_gap }
 
         // A sending that ends was long enough, and no clash is sent.
         ensures length { IsLongEnough t result.event }
@@ -341,7 +342,7 @@ impl Transmitter {
         ensures valid { IsSender self.old }
     {
         self.defer = defer_leapt(self.phase, self.defer, n, carrier);
-        self.loud_from = loud_leapt(self.loud_from, t, n, carrier);
+        self.carrier_from = carrier_leapt(self.carrier_from, t, n, carrier);
         self.t = t + n;
     }
 
@@ -354,8 +355,25 @@ impl Transmitter {
         ensures state { (hs : List Sym) → AllHeardAs carrier hs → length hs ≡ n → self.new ≡ after_all self.old hs }
         ensures phase { self.new.phase ≡ self.old.phase }
         ensures time { self.new.t ≡ self.old.t + n }
+        // In each of them it emits what it would if nothing happened to it, as `piece` writes it.
+        ensures emits { (hs : List Sym) (h : Sym) → AllHeardAs carrier hs → is_signal h ≡ carrier → length hs < n →
+            (sender_step (after_all self.old hs) h).emitted ≡ emission_by self.old (length hs) self.old.phase }
     {
         self.leap_over(t, n, carrier);
+    }
+
+    /// Writes what is emitted in as many half bits from `t` on, the one after the last that was stepped or leapt, as `out`
+    /// has places, given the line text of the frame that is being sent, whose sending is to last for all of them. The
+    /// steps emit this where the half bits are calm: a hit may stand already, but none of them brings a new one.
+    pub fn piece(&self, t: u64, text: &[Sym], out: &mut [Sym])
+        requires time { t ≡ self.now.t }
+        requires text { text.now ≡ line (frame_at self.now.queue self.now.place) }
+        requires sending { IsSendingFor self.now (length out.old) self.now.phase }
+        ensures { out.new ≡ emissions self.now (length out.old) }
+    {
+        if let Phase::Sending { start, hit } = self.phase {
+            put_sending(text, hit, t.saturating_sub(start) as usize, out);
+        }
     }
 
     /// The row of the sending that is under way; none exactly where no sending is.

@@ -1,5 +1,6 @@
 //! What a station does with its turn, on plain values.
 ghost use Rattle.std.specs.Prelude.{◌≡◌, ◌≤◌};
+ghost use Rattle.mac_parameters.specs.Parameters.{interframe_gap};
 ghost use Rattle.mac_transmit.specs.Deference.{deferred, free_of, gap_of};
 ghost use Rattle.mac_transmit.specs.Sender.{is_sending, is_waiting, phase_started, defer_started};
 
@@ -16,7 +17,7 @@ pub struct Turn {
 
 /// Deference in half bit `t`, and the start of a waiting station that is free.
 pub fn take_turn(t: u64, phase: Phase, defer: Defer, carrier: bool) -> Turn
-    requires { gap_of defer ≤ 192 }
+    requires { gap_of defer ≤ interframe_gap }
     ensures phase { result.phase ≡ phase_started t phase (free_of defer carrier (is_waiting phase)) }
     ensures defer { result.defer ≡ defer_started phase (free_of defer carrier (is_waiting phase)) (deferred defer carrier (is_sending phase) (is_waiting phase)) }
 {

@@ -1,9 +1,10 @@
-mod Kept
-mod Law
-pub mod Machine
+pub mod DecoderAnswers
+mod KeptOctets
 mod Packed
 mod Pieces
 pub mod Places
+pub mod PushedMore
 mod Reader
+mod ReaderReads
 mod RoundTrip
-pub mod Told
+mod WholeOctets

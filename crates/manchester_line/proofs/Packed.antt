@@ -1,16 +1,14 @@
+-- A decoder keeps the octets of the bits that a reader with room for all of them keeps.
+use Rattle.manchester_line.specs.declared.decoder.TheConstants.{KEPT_OCTETS}
 use Rattle.std.proofs.Common.{◌≡◌, ℕ, zero, suc, ◌+◌, ◌%◌, ◌<◌, Bool, true, false, Option, Some, None, List, [], ◌∷◌, ◌++◌, length, take, refl, sym, ap, ◌∙◌, arith, inl, inr, length-append, eq-eqb}
 use Rattle.std.proofs.lemmas.Bool.{ne_eqb, cases_lt}
 use Rattle.std.specs.Prelude.{if◌then◌else◌}
 use Rattle.manchester_line.specs.declared.Sym.{Sym}
 use Rattle.manchester_line.specs.Reading.{bit_of_pair, octet_of, octets_of_bits, spare_of_bits}
-use Rattle.manchester_line.specs.Decoding.{Decoding, new_decoding, shifted, put_bit, take_bit, pushed, all_pushed}
+use Rattle.manchester_line.specs.Decoding.{Decoding, new_decoding, all_shifted, shifted, put_bit, take_bit, pushed, all_pushed}
 use Rattle.manchester_line.proofs.Reader.{Reader, new_reader, read_bit, read, all_read}
 
 -- the bits after the whole octets, as a decoder keeps them
-abbrev all_shifted : ℕ → List Bool → ℕ
-all_shifted rest [] = rest
-all_shifted rest (b ∷ bs) = all_shifted (shifted rest b) bs
-
 abbrev rest_of_bits : List Bool → ℕ
 rest_of_bits (a ∷ b ∷ c ∷ d ∷ e ∷ f ∷ g ∷ h ∷ rest) = rest_of_bits rest
 rest_of_bits bits = all_shifted 0 bits
@@ -43,13 +41,13 @@ one_more (a ∷ b ∷ c ∷ d ∷ e ∷ f ∷ g ∷ h ∷ rest) x =
 
 -- what a decoder keeps of n half bits that read so
 abbrev pub packed : ℕ → Reader → Decoding
-packed n r = record { halves = n; half = r.half; spoiled = r.spoiled; found = r.found; last = r.last; count = length (octets_of_bits r.bits); octets = take 1523 (octets_of_bits r.bits); spare = spare_of_bits r.bits; rest = rest_of_bits r.bits }
+packed n r = record { halves = n; half = r.half; spoiled = r.spoiled; found = r.found; last = r.last; count = length (octets_of_bits r.bits); octets = take KEPT_OCTETS (octets_of_bits r.bits); spare = spare_of_bits r.bits; rest = rest_of_bits r.bits }
 
-put_full : (d e : Decoding) (b : Bool) → d.spare ≡ 7 → e ≡ record d { count = d.count + 1; octets = take 1523 (d.octets ++ shifted d.rest b ∷ []); spare = 0; rest = 0 } → e ≡ put_bit d b
-put_full d e b h is = is ∙ ap (λ t. if t then record d { count = d.count + 1; octets = take 1523 (d.octets ++ shifted d.rest b ∷ []); spare = 0; rest = 0 } else record d { spare = d.spare + 1; rest = shifted d.rest b }) (sym (eq-eqb d.spare 7 h))
+pub put_full : (d e : Decoding) (b : Bool) → d.spare ≡ 7 → e ≡ record d { count = d.count + 1; octets = take KEPT_OCTETS (d.octets ++ shifted d.rest b ∷ []); spare = 0; rest = 0 } → e ≡ put_bit d b
+put_full d e b h is = is ∙ ap (λ t. if t then record d { count = d.count + 1; octets = take KEPT_OCTETS (d.octets ++ shifted d.rest b ∷ []); spare = 0; rest = 0 } else record d { spare = d.spare + 1; rest = shifted d.rest b }) (sym (eq-eqb d.spare 7 h))
 
-put_few : (d e : Decoding) (b : Bool) → d.spare < 7 → e ≡ record d { spare = d.spare + 1; rest = shifted d.rest b } → e ≡ put_bit d b
-put_few d e b h is = is ∙ ap (λ t. if t then record d { count = d.count + 1; octets = take 1523 (d.octets ++ shifted d.rest b ∷ []); spare = 0; rest = 0 } else record d { spare = d.spare + 1; rest = shifted d.rest b }) (sym (ne_eqb d.spare 7 (λ p. omega (arith, h, p))))
+pub put_few : (d e : Decoding) (b : Bool) → d.spare < 7 → e ≡ record d { spare = d.spare + 1; rest = shifted d.rest b } → e ≡ put_bit d b
+put_few d e b h is = is ∙ ap (λ t. if t then record d { count = d.count + 1; octets = take KEPT_OCTETS (d.octets ++ shifted d.rest b ∷ []); spare = 0; rest = 0 } else record d { spare = d.spare + 1; rest = shifted d.rest b }) (sym (ne_eqb d.spare 7 (λ p. omega (arith, h, p))))
 
 -- the fields one by one
 same_fields : (n : ℕ) (half : Option Sym) (spoiled found last : Bool) (c c' s s' r r' : ℕ) (o o' : List ℕ) → c ≡ c' → o ≡ o' → s ≡ s' → r ≡ r' →
@@ -71,13 +69,13 @@ put_step n half spoiled found last bits b =
     let len : length (bits ++ b ∷ []) ≡ length bits + 1 = length-append bits (b ∷ []) in
     elim (cases_lt (length bits % 8) 7) [
       | inl few ↦ put_few (packed n (reader half spoiled found last bits)) _ b few
-          (same_fields n half spoiled found last _ _ _ _ _ _ _ _ (ap length (more.few few)) (ap (take 1523) (more.few few)) (omega (arith, len, few)) (more.few_rest few))
+          (same_fields n half spoiled found last _ _ _ _ _ _ _ _ (ap length (more.few few)) (ap (take KEPT_OCTETS) (more.few few)) (omega (arith, len, few)) (more.few_rest few))
       | inr high ↦
           let full : length bits % 8 ≡ 7 = omega (arith, high) in
           put_full (packed n (reader half spoiled found last bits)) _ b full
           (same_fields n half spoiled found last _ _ _ _ _ _ _ _
           (ap length (more.full full) ∙ length-append (octets_of_bits bits) (shifted (rest_of_bits bits) b ∷ []))
-          (ap (take 1523) (more.full full) ∙ take_again 1523 (octets_of_bits bits) (shifted (rest_of_bits bits) b))
+          (ap (take KEPT_OCTETS) (more.full full) ∙ take_again KEPT_OCTETS (octets_of_bits bits) (shifted (rest_of_bits bits) b))
           (omega (arith, len, full)) (more.full_rest full))
     ]
 

@@ -1,10 +1,11 @@
+-- What is written of a line text, bit by bit and octet by octet.
 use Rattle.std.proofs.Common.{◌≡◌, ℕ, suc, ◌+◌, ◌-◌, ◌*◌, ◌/◌, ◌%◌, ◌<◌, ◌≤◌, true, false, eqb, List, [], ◌∷◌, ◌++◌, length, get_or, take, drop, set, sym, ap, ap₂, ◌∙◌, arith, append_assoc, length-set}
 use Rattle.std.proofs.lemmas.List.{take_more_set, take_more, flat_map_more, take_all, append-nil, drop-drop}
 use Rattle.std.proofs.lemmas.Slice.{take-put_mid, drop-put_mid}
 use borrow.Rule.Slice.PartMut.{put_mid}
 use Rattle.manchester_line.specs.declared.Sym.{Sym}
-use Rattle.manchester_line.specs.Line.{half_at}
-use Rattle.manchester_line.specs.Line.{bit_halves, header, octet_halves, line}
+use Rattle.manchester_line.specs.Line.{half_at, bit_halves, preamble, octet_halves, line}
+use Rattle.mac_parameters.specs.Parameters.{half_bits_an_octet}
 
 -- two writes, one after the other
 take_two_set : (xs : List Sym) (i : ℕ) (a b : Sym) → i + 1 < length xs → take (i + 1 + 1) (set (set xs i a) (i + 1) b) ≡ take i xs ++ a ∷ b ∷ []
@@ -27,7 +28,7 @@ halves_step out j rest n a b h e ea eb =
 
 -- one more octet
 pub line_step : (octets : List ℕ) (i : ℕ) → i < length octets → line (take i octets) ++ octet_halves (get_or octets i 0) ≡ line (take (i + 1) octets)
-line_step octets i h = flat_map_more octet_halves header (take i octets) (get_or octets i 0) ∙ ap line (sym (take_more octets i 0 h))
+line_step octets i h = flat_map_more octet_halves preamble (take i octets) (get_or octets i 0) ∙ ap line (sym (take_more octets i 0 h))
 
 pub halves_all : (out : List Sym) (j rest n x : ℕ) → length out ≡ 2 * n → j ≡ n → take (2 * j) out ++ bit_halves (n - j) rest ≡ bit_halves n x → out ≡ bit_halves n x
 halves_all out j rest n x l e h =
@@ -35,13 +36,13 @@ halves_all out j rest n x l e h =
     sym (take_all (2 * j) out (omega arith)) ∙ sym (append-nil (take (2 * j) out)) ∙ ap (λ m. take (2 * j) out ++ bit_halves m rest) (sym none) ∙ h
 
 -- what is written and what is left, an octet on
-pub text_step : (octets : List ℕ) (out new : List Sym) (at i x n : ℕ) → n ≡ at + 16 → at + 16 ≤ length out → length new ≡ n - at → i < length octets → x ≡ get_or octets i 0 → new ≡ octet_halves x → take at out ≡ line (take i octets) → take n (put_mid at (n - at) out new) ≡ line (take (i + 1) octets)
+pub text_step : (octets : List ℕ) (out new : List Sym) (at i x n : ℕ) → n ≡ at + half_bits_an_octet → at + half_bits_an_octet ≤ length out → length new ≡ n - at → i < length octets → x ≡ get_or octets i 0 → new ≡ octet_halves x → take at out ≡ line (take i octets) → take n (put_mid at (n - at) out new) ≡ line (take (i + 1) octets)
 text_step octets out new at i x n m room len h e is text =
     take-put_mid at (n - at) out new n (omega arith) (omega arith)
     ∙ ap₂ ◌++◌ text (is ∙ ap octet_halves e)
     ∙ line_step octets i h
 
-pub rest_step : (out new first : List Sym) (at n : ℕ) → n ≡ at + 16 → at + 16 ≤ length out → length new ≡ n - at → drop at out ≡ drop at first → drop n (put_mid at (n - at) out new) ≡ drop n first
+pub rest_step : (out new first : List Sym) (at n : ℕ) → n ≡ at + half_bits_an_octet → at + half_bits_an_octet ≤ length out → length new ≡ n - at → drop at out ≡ drop at first → drop n (put_mid at (n - at) out new) ≡ drop n first
 rest_step out new first at n m room len rest =
     drop-put_mid at (n - at) out new n (omega arith) (omega arith) len
-    ∙ ap (λ i. drop i out) m ∙ sym (drop-drop 16 at out) ∙ ap (drop 16) rest ∙ drop-drop 16 at first ∙ ap (λ i. drop i first) (sym m)
+    ∙ ap (λ i. drop i out) m ∙ sym (drop-drop half_bits_an_octet at out) ∙ ap (drop half_bits_an_octet) rest ∙ drop-drop half_bits_an_octet at first ∙ ap (λ i. drop i first) (sym m)

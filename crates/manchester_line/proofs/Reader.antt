@@ -1,3 +1,4 @@
+-- A reader that keeps all bits after the delimiter: what a decoder keeps is less.
 use Rattle.std.specs.Prelude.{Bool, true, false, ◌&&◌, if◌then◌else◌, Option, Some, None, List, [], ◌∷◌, ◌++◌}
 use Rattle.manchester_line.specs.declared.Sym.{Sym}
 use Rattle.manchester_line.specs.Reading.{bit_of_pair}

@@ -1,10 +1,11 @@
+-- A line text reads as the octets that it was made of.
 use Rattle.std.proofs.Common.{◌≡◌, ℕ, zero, suc, ◌/◌, ◌%◌, ◌<◌, Bool, true, false, Option, Some, List, [], ◌∷◌, ◌++◌, refl, sym, ap, ap₂, ◌∙◌, arith, inl, inr, eq-eqb, All}
 use Rattle.std.proofs.lemmas.Bool.{cases_lt, ne_eqb}
 use Rattle.std.specs.Prelude.{◌||◌, ◌==◌, nat_le, map}
 use Rattle.std.specs.List.{range_with_len, flat_map}
 use Rattle.std.specs.Option.{option_map}
 use Rattle.manchester_line.specs.declared.Sym.{Sym}
-use Rattle.manchester_line.specs.Line.{half_at, header, bit_halves, octet_halves, line}
+use Rattle.manchester_line.specs.Line.{half_at, preamble, bit_halves, octet_halves, line}
 use Rattle.manchester_line.specs.Reading.{bit_of_pair, add_bit, bits_of, after_delimiter, reading, bit_value, octet_of, octets_of_bits, spare_of_bits}
 
 -- these bits and then the others
@@ -16,12 +17,12 @@ before_some : (bs cs : List Bool) → before bs (Some cs) ≡ Some (bs ++ cs)
 before_some [] cs = refl
 before_some (b ∷ bs) cs = ap (add_bit (Some b)) (before_some bs cs)
 
-abbrev header_bits : List Bool
-header_bits = map (λ k. (k % 2 == 0) || nat_le 62 k) (range_with_len 0 64)
+abbrev preamble_bits : List Bool
+preamble_bits = map (λ k. (k % 2 == 0) || nat_le 62 k) (range_with_len 0 64)
 
-bits_of_header : (xs : List Sym) → bits_of (header ++ xs) ≡ before header_bits (bits_of xs)
-unfolding header
-bits_of_header xs = refl
+bits_of_preamble : (xs : List Sym) → bits_of (preamble ++ xs) ≡ before preamble_bits (bits_of xs)
+unfolding preamble
+bits_of_preamble xs = refl
 
 -- the n least bits of x, the least first
 abbrev low_bits : ℕ → ℕ → List Bool
@@ -47,8 +48,8 @@ bits_of_octets (x ∷ xs) = bits_of_octet x (flat_map octet_halves xs) ∙ ap (b
 -- a line text reads as its octets' bits
 pub reading_line : (octets : List ℕ) → reading (line octets) ≡ Some (flat_map (low_bits 8) octets)
 reading_line octets =
-    ap (option_map (after_delimiter false)) (bits_of_header (flat_map octet_halves octets))
-    ∙ ap (λ o. option_map (after_delimiter false) (before header_bits o)) (bits_of_octets octets)
+    ap (option_map (after_delimiter false)) (bits_of_preamble (flat_map octet_halves octets))
+    ∙ ap (λ o. option_map (after_delimiter false) (before preamble_bits o)) (bits_of_octets octets)
 
 low_is : (y : ℕ) → bit_value (y % 2 == 1) ≡ y % 2
 low_is y =

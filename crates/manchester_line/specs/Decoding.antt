@@ -1,9 +1,10 @@
+-- What a decoder keeps of a reception, half bit by half bit (profile: what it keeps is our own choice).
 use Rattle.std.specs.Prelude.{◌≡◌, ℕ, ◌+◌, ◌*◌, ◌/◌, ◌==◌, ◌&&◌, Bool, true, false, if◌then◌else◌, Option, Some, None, List, [], ◌∷◌, ◌++◌, take}
 use Rattle.manchester_line.specs.declared.Sym.{Sym}
 use Rattle.manchester_line.specs.declared.decoder.TheConstants.{KEPT_OCTETS}
-use Rattle.manchester_line.specs.Reading.{bit_of_pair, bit_value}
+use Rattle.manchester_line.specs.Reading.{bit_of_pair, bit_value, top_bit}
 
--- what a decoder keeps of the half bits that it was given (profile)
+-- what a decoder keeps of the half bits that it was given
 pub record Decoding : Type 0 where
   -- how many there were
   pub halves : ℕ
@@ -17,7 +18,7 @@ pub record Decoding : Type 0 where
   pub last : Bool
   -- how many whole octets have come since
   pub count : ℕ
-  -- the first 1,523 of them
+  -- the first KEPT_OCTETS of them, one more than the greatest frame has
   pub octets : List ℕ
   -- how many bits have come since the last whole octet, 0 to 7
   pub spare : ℕ
@@ -26,17 +27,42 @@ pub record Decoding : Type 0 where
 
 -- a decoder that was given nothing yet
 abbrev pub new_decoding : Decoding
-new_decoding = record { halves = 0; half = None; spoiled = false; found = false; last = false; count = 0; octets = []; spare = 0; rest = 0 }
+new_decoding =
+    record {
+      halves = 0;
+      half = None;
+      spoiled = false;
+      found = false;
+      last = false;
+      count = 0;
+      octets = [];
+      spare = 0;
+      rest = 0;
+    }
 
 -- one more bit at the top of an octet
 abbrev pub shifted : ℕ → Bool → ℕ
-shifted rest b = rest / 2 + 128 * bit_value b
+shifted rest b = rest / 2 + top_bit * bit_value b
+
+-- more bits at the top of an octet, in this order
+abbrev pub all_shifted : ℕ → List Bool → ℕ
+all_shifted rest [] = rest
+all_shifted rest (b ∷ bs) = all_shifted (shifted rest b) bs
+
+-- one more whole octet, with no bits after it
+abbrev pub octet_kept : Decoding → ℕ → Decoding
+octet_kept d octet =
+    record d {
+      count = d.count + 1;
+      octets = take KEPT_OCTETS (d.octets ++ octet ∷ []);
+      spare = 0;
+      rest = 0;
+    }
 
 -- one more bit of the frame
 abbrev pub put_bit : Decoding → Bool → Decoding
 put_bit d b =
-    if d.spare == 7
-    then record d { count = d.count + 1; octets = take KEPT_OCTETS (d.octets ++ shifted d.rest b ∷ []); spare = 0; rest = 0 }
+    if d.spare == 7 then octet_kept d (shifted d.rest b)
     else record d { spare = d.spare + 1; rest = shifted d.rest b }
 
 -- one more bit of the reception, if it is one

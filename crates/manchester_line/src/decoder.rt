@@ -1,18 +1,25 @@
-ghost use Rattle.std.specs.Prelude.{◌≡◌, ◌≢◌, ◌+◌, ◌*◌, ◌<◌, ◌≤◌, ℕ, Bool, false, List, Some, [], ◌∷◌, ◌++◌, length, take};
+ghost use Rattle.std.specs.Prelude.{◌≡◌, ◌≢◌, ◌+◌, ◌*◌, ◌<◌, ◌≤◌, ℕ, Bool, false, IfSome, List, Some, [], ◌∷◌, ◌++◌, length, take};
 ghost use Rattle.std.specs.List.{All};
-ghost use Rattle.std.specs.Option.{is_none};
-ghost use Rattle.manchester_line.specs.Decoding.{Decodes, new_decoding, put_bit, pushed, shifted, take_bit};
+ghost use Rattle.std.specs.Option.{is_none, option_map};
+ghost use Rattle.mac_parameters.specs.Parameters.{half_bits_an_octet, preamble_length};
+ghost use Rattle.manchester_line.specs.Decoding.{Decodes, all_pushed, all_shifted, new_decoding, octet_kept, put_bit, pushed, shifted, take_bit};
 ghost use Rattle.manchester_line.specs.Line.{line};
-ghost use Rattle.manchester_line.specs.Reading.{bit_of_pair, octets_of_bits, reading, spare_of_bits};
+ghost use Rattle.manchester_line.specs.Reading.{bit_of_pair, bits_of, octets_of_bits, reading, spare_of_bits};
 ghost use Rattle.manchester_line.specs.declared.Sym.TheVariants.{Idle};
 ghost use Rattle.manchester_line.specs.declared.Sym.{Sym};
 
 use crate::Sym;
+use mac_parameters::{GREATEST_FRAME, HALF_BITS_AN_OCTET};
 use std::marker::Model;
 
-/// The octets that a decoder keeps: the 1,522 of the longest frame with its check sequence (clause
-/// 3), and one more.
-pub const KEPT_OCTETS: usize = 1523;
+/// The octets that a decoder keeps: those of the greatest frame with its check sequence (4.4.2), and one more.
+pub const KEPT_OCTETS: usize = GREATEST_FRAME as usize + 1;
+
+/// The half bits of an octet.
+const OCTET_HALVES: usize = HALF_BITS_AN_OCTET as usize;
+
+/// What the greatest bit of an octet weighs.
+const TOP_BIT: u8 = 128;
 
 /// What a decoder has heard.
 #[derive(Clone, Copy, Debug, PartialEq, Eq)]
@@ -43,6 +50,7 @@ pub struct Decoder {
 
 impl Model for Decoder {
     ghost use Rattle.std.specs.Prelude.{◌≤◌, take};
+    ghost use Rattle.mac_parameters.specs.Parameters.{half_bits_an_octet, preamble_length};
     ghost use Rattle.manchester_line.specs.Decoding.{Decoding};
 
     ghost Value = { Decoding };
@@ -77,7 +85,23 @@ fn bit_of(first: Sym, second: Sym) -> Option<bool>
 fn shift(rest: u8, bit: bool) -> u8
     ensures { result ≡ shifted rest bit }
 {
-    if bit { rest / 2 + 128 } else { rest / 2 }
+    if bit { rest / 2 + TOP_BIT } else { rest / 2 }
+}
+
+/// What is at the top of an octet once the eight bits of these half bits have come there, one after the other; none where a
+/// pair is no bit (clause 7).
+fn shift_all(rest: u8, halves: &[Sym]) -> Option<u8>
+    requires { length halves.now ≡ half_bits_an_octet }
+    ensures { result ≡ option_map (all_shifted rest) (bits_of halves.now) }
+{
+    let mut octet = rest;
+    for j in 0..8 {
+        match bit_of(halves[2 * j], halves[2 * j + 1]) {
+            None => return None,
+            Some(bit) => octet = shift(octet, bit),
+        }
+    }
+    Some(octet)
 }
 
 /// Keeps octet number `count`, from 0, where there is room.
@@ -130,7 +154,7 @@ impl Decoder {
               octets = length octets;
               spare = 0;
               spoiled = false;
-              halves = 128 + 16 * length octets;
+              halves = preamble_length + half_bits_an_octet * length octets;
             } }
     {
         Heard {
@@ -141,7 +165,7 @@ impl Decoder {
         }
     }
 
-    /// The whole octets after the delimiter, the first 1,523 at most. Nothing is said of them where the
+    /// The whole octets after the delimiter, the first KEPT_OCTETS at most. Nothing is said of them where the
     /// reception is spoiled.
     pub fn octets(&self) -> &[u8]
         ensures kept { result.now ≡ self.now.octets }
@@ -175,6 +199,17 @@ impl Decoder {
         self.rest = 0;
     }
 
+    /// One more whole octet of the frame, with no bits after it.
+    fn keep_octet(&mut self, octet: u8)
+        requires { self.old.count < self.old.halves }
+        ensures { self.new ≡ octet_kept self.old octet }
+    {
+        keep(&mut self.buffer, self.count, octet);
+        self.count += 1;
+        self.spare = 0;
+        self.rest = 0;
+    }
+
     /// One more bit of the frame.
     fn put_bit(&mut self, bit: bool)
         requires { self.old.count < self.old.halves }
@@ -182,10 +217,7 @@ impl Decoder {
     {
         let octet = shift(self.rest, bit);
         if self.spare == 7 {
-            keep(&mut self.buffer, self.count, octet);
-            self.count += 1;
-            self.spare = 0;
-            self.rest = 0;
+            self.keep_octet(octet);
         } else {
             self.spare += 1;
             self.rest = octet;
@@ -211,7 +243,7 @@ impl Decoder {
     }
 
     /// Takes one more half bit of the reception.
-    #[tactic(auto, using(crate::proofs::Machine::decodes_next))]
+    #[tactic(auto, using(crate::proofs::PushedMore::decodes_next))]
     pub fn push(&mut self, s: Sym)
         requires signal { s ≢ Idle }
         requires count { self.old.halves < 2000000000 }
@@ -225,6 +257,44 @@ impl Decoder {
             Some(first) => {
                 self.half = None;
                 self.take_bit(bit_of(first, s));
+            }
+        }
+    }
+
+    /// The octet that comes next as a whole, if one begins here and each pair of its half bits is a bit.
+    fn next_octet(&self, piece: &[Sym]) -> Option<u8>
+        ensures room { IfSome result (λ octet. half_bits_an_octet ≤ length piece.now) }
+        ensures octet { IfSome result (λ octet. all_pushed self.now (take half_bits_an_octet piece.now)
+            ≡ octet_kept (record self.now { halves = self.now.halves + half_bits_an_octet }) octet) }
+    {
+        if !self.found || self.half.is_some() || self.spare > 0 || piece.len() < OCTET_HALVES {
+            return None;
+        }
+        shift_all(self.rest, &piece[..OCTET_HALVES])
+    }
+
+    /// Takes more half bits of the reception, in this order, each as `push` does. Once the delimiter is found, whole octets
+    /// are taken at once.
+    pub fn push_all(&mut self, piece: &[Sym])
+        requires signal { All (λ s. s ≢ Idle) piece.now }
+        requires count { self.old.halves + length piece.now ≤ 2000000000 }
+        ensures moved { self.new ≡ all_pushed self.old piece.now }
+        ensures halves { self.new.halves ≡ self.old.halves + length piece.now }
+        ensures decodes { (halves : List Sym) → Decodes halves self.old →
+            Decodes (halves ++ piece.now) self.new }
+    {
+        let mut at = 0;
+        while at < piece.len() {
+            match self.next_octet(&piece[at..]) {
+                Some(octet) => {
+                    self.halves += HALF_BITS_AN_OCTET;
+                    self.keep_octet(octet);
+                    at += OCTET_HALVES;
+                }
+                None => {
+                    self.push(piece[at]);
+                    at += 1;
+                }
             }
         }
     }

@@ -2,7 +2,7 @@
 #![tactic(auto)]
 
 ghost use Rattle.std.specs.Prelude.{◌≡◌};
-ghost use Rattle.manchester_line.specs.Line.{mix_of, half_at};
+ghost use Rattle.manchester_line.specs.Line.{mix_of, half_at, is_signal};
 
 mod decoder;
 mod line;
@@ -33,6 +33,13 @@ pub fn mix(a: Sym, b: Sym) -> Sym
         (s, Sym::Idle) => s,
         _ => Sym::Clash,
     }
+}
+
+/// Whether a symbol is a signal, which is anything but Idle: what a station that hears it calls carrier (clause 4).
+pub fn is_signal(symbol: Sym) -> bool
+    ensures { result ≡ is_signal symbol }
+{
+    symbol != Sym::Idle
 }
 
 /// One half of a bit: its complement first and the bit itself second (clause 7).

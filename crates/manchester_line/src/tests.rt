@@ -4,7 +4,7 @@ use crate::{Decoder, Heard, Sym, encode_into, half_of, header_sym, jam_sym, line
 const PREAMBLE: [u8; 8] = [0x55, 0x55, 0x55, 0x55, 0x55, 0x55, 0x55, 0xD5];
 
 #[test]
-fn the_header_is_the_preamble_and_the_delimiter(rt: HostRuntime) {
+fn the_preamble_ends_with_the_delimiter(rt: HostRuntime) {
     let mut out = [Sym::Idle; 256];
     let length = encode_into(&PREAMBLE, &mut out);
     assert_eq!(rt; length, 256);
@@ -57,4 +57,72 @@ fn a_decoder_reads_octets_and_spare_bits(rt: HostRuntime) {
     assert_eq!(rt; decoder.heard().spoiled, true);
     decoder.clear();
     assert_eq!(rt; decoder.heard().halves, 0);
+}
+
+/// The bits 1, 1, then 0x31 and 0xC4 from the least bit on, and then 1.
+const RECEPTION: [Sym; 38] = [
+    Sym::Lo,
+    Sym::Hi,
+    Sym::Lo,
+    Sym::Hi,
+    Sym::Lo,
+    Sym::Hi,
+    Sym::Hi,
+    Sym::Lo,
+    Sym::Hi,
+    Sym::Lo,
+    Sym::Hi,
+    Sym::Lo,
+    Sym::Lo,
+    Sym::Hi,
+    Sym::Lo,
+    Sym::Hi,
+    Sym::Hi,
+    Sym::Lo,
+    Sym::Hi,
+    Sym::Lo,
+    Sym::Hi,
+    Sym::Lo,
+    Sym::Hi,
+    Sym::Lo,
+    Sym::Lo,
+    Sym::Hi,
+    Sym::Hi,
+    Sym::Lo,
+    Sym::Hi,
+    Sym::Lo,
+    Sym::Hi,
+    Sym::Lo,
+    Sym::Lo,
+    Sym::Hi,
+    Sym::Lo,
+    Sym::Hi,
+    Sym::Lo,
+    Sym::Hi,
+];
+
+#[test]
+fn a_piece_is_read_as_its_half_bits(rt: HostRuntime) {
+    let heard = Heard {
+        octets: 2,
+        spare: 1,
+        spoiled: false,
+        halves: 38,
+    };
+    let mut decoder = Decoder::new();
+    decoder.push_all(&RECEPTION);
+    assert_eq!(rt; decoder.heard(), heard);
+    assert_eq!(rt; decoder.octets(), [0x31, 0xC4].as_slice());
+    // A piece that begins within a bit, and one that begins within an octet.
+    decoder.clear();
+    decoder.push_all(&RECEPTION[..5]);
+    decoder.push_all(&RECEPTION[5..23]);
+    decoder.push_all(&RECEPTION[23..]);
+    assert_eq!(rt; decoder.heard(), heard);
+    assert_eq!(rt; decoder.octets(), [0x31, 0xC4].as_slice());
+    // What comes after a pair that is no bit is still read.
+    decoder.push_all(&[Sym::Clash, Sym::Clash]);
+    decoder.push_all(&RECEPTION[4..20]);
+    assert_eq!(rt; decoder.heard().spoiled, true);
+    assert_eq!(rt; decoder.heard().octets, 3);
 }

@@ -1,9 +1,2 @@
-pub mod Taps
-pub mod Net
-pub mod Outputs
-pub mod Runnable
-pub mod Times
 pub mod Wires
-pub mod Kept
-pub mod Attempts
-pub mod Signals
+pub mod KeptNet

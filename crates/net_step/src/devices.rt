@@ -1,28 +1,23 @@
 //! The devices of a plan before half bit 0.
 ghost use Rattle.std.specs.Prelude.{◌≡◌, ◌<◌, ◌≤◌, ◌^◌, [], All, length, map, IfOk};
-ghost use Rattle.frame_layout.specs.Frame.{IsMost};
-ghost use Rattle.net_step.specs.Net.{new_receiver, new_repeater, new_senders, most_octets};
-ghost use Rattle.net_step.specs.Kept.{AllHear};
+ghost use Rattle.mac_parameters.specs.Parameters.{IsMost, greatest_place, most_octets};
+ghost use Rattle.network.specs.Net.{new_receiver, new_repeater, new_senders};
+ghost use Rattle.net_step.specs.KeptNet.{AllHear};
 ghost use Rattle.std.specs.List.{range_with_len};
 ghost use Rattle.net_step.specs.Wires.{new_wire};
 
-use crate::outputs::TakenList;
 use crate::relay::Relay;
 use crate::segment::Segment;
 use backoff_draw::Draws;
 use frame_layout::Queue;
-use layout_file::{PortLine, RepeaterLine, StationLine};
+use layout::{PortLine, RepeaterLine, StationLine};
 use lists::OutOfMemory;
 use mac_receive::Receiver;
 use mac_transmit::Transmitter;
+use network::TakenList;
 use std::alloc::Global;
 
-/// The most octets of a frame without its FCS, in a layout of format 1 and of format 2.
-const MOST_OCTETS: u32 = 1514;
-
-const MOST_OCTETS_TAGGED: u32 = 1518;
-
-/// The new senders of these queues.
+/// The senders of these queues before half bit 0: number k, from 0, is the station of queue k.
 pub fn new_transmitters(
     alloc: Global,
     seed: u64,
@@ -40,7 +35,7 @@ pub fn new_transmitters(
     Ok(senders)
 }
 
-/// The new receivers of these stations.
+/// The receivers of these stations before half bit 0; frames have at most `most` octets before their check sequence.
 pub fn new_receivers(
     alloc: Global,
     most: u32,
@@ -59,7 +54,7 @@ pub fn new_receivers(
     Ok(receivers)
 }
 
-/// The new repeaters of these lines.
+/// The repeaters of these lines before half bit 0.
 pub fn new_relays(alloc: Global, repeaters: &[RepeaterLine]) -> Result<Vec<Relay>, OutOfMemory>
     requires two_ports { All (λ r. 2 ≤ length r.ports) repeaters.now }
     requires few_ports { All (λ r. length r.ports ≤ 32) repeaters.now }
@@ -74,14 +69,14 @@ pub fn new_relays(alloc: Global, repeaters: &[RepeaterLine]) -> Result<Vec<Relay
     Ok(relays)
 }
 
-/// Segments number 0 to below `count`, with these taps.
+/// The segments from number 0 to below `count`, with these taps, before half bit 0.
 pub fn new_segments(
     alloc: Global,
     count: usize,
     taps: &[PortLine],
 ) -> Result<Vec<Segment>, OutOfMemory>
     requires few { length taps.now < 2 ^ 32 }
-    requires near { All (λ x. x.at ≤ 2000) taps.now }
+    requires near { All (λ x. x.at ≤ greatest_place) taps.now }
     ensures { IfOk result (λ segments. segments.items ≡ map (new_wire taps.now) (range_with_len 0 count)) }
 {
     let mut segments = Vec::new(alloc);
@@ -100,16 +95,4 @@ pub fn no_captures(alloc: Global, stations: &[StationLine]) -> Result<Vec<TakenL
         captures.push(TakenList::new(alloc))?;
     }
     Ok(captures)
-}
-
-/// The most octets of a frame without its FCS in a layout of this format.
-pub fn most_of(format: u32) -> u32
-    ensures value { result ≡ most_octets format }
-    ensures most { IsMost result }
-{
-    if format == 2 {
-        MOST_OCTETS_TAGGED
-    } else {
-        MOST_OCTETS
-    }
 }

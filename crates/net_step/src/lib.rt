@@ -2,8 +2,6 @@
 #![tactic(auto)]
 
 mod devices;
-mod laws;
-mod outputs;
 mod passes;
 mod places;
 mod plain;
@@ -11,12 +9,4 @@ mod relay;
 mod rows;
 mod segment;
 
-pub use laws::{
-    attempts_are_lawful, attempts_are_logged, cables_carry, history_is_time, plans_hold_frames,
-    ports_emit_late, repeaters_repeat, taps_hear_others,
-};
-pub use outputs::{Captures, Outputs, Taken, TakenList};
 pub use plain::{PlainNet, run_plain};
-
-#[cfg(test)]
-mod tests;

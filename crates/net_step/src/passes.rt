@@ -1,28 +1,27 @@
 //! One pass over the devices or the segments for each thing that a half bit does.
 ghost use Rattle.std.specs.Prelude.{◌≡◌, ◌<◌, ◌+◌, ◌++◌, List, All, length, map, flat_map, OnOk};
-ghost use Rattle.net_step.specs.Net.{sendings, receptions, each_repeater, bodies_of, taken_by, captured};
-ghost use Rattle.net_step.specs.Kept.{AllHear, AllGive, ports_of, all_told};
+ghost use Rattle.network.specs.Net.{sendings, receptions, each_repeater, ports_of};
+ghost use Rattle.network.specs.Captures.{captured, taken_by};
+ghost use Rattle.network.specs.Rows.{repeater_bodies};
+ghost use Rattle.net_step.specs.KeptNet.{AllHear, AllGive, all_told};
 ghost use Rattle.net_step.specs.Wires.{heard_at_place, carried, IsPlaced};
-ghost use Rattle.mac_transmit.specs.Sender.{hears};
 ghost use Rattle.mac_receive.specs.Receiver.{Receiving};
-ghost use Rattle.mac_receive.specs.Kept.{octets_of};
+ghost use Rattle.mac_receive.specs.KeptReceiver.{kept_octets};
 ghost use Rattle.repeater_core.specs.Step.{after, emitted_by};
 
-use crate::outputs::{Taken, TakenList};
 use crate::places::Place;
 use crate::relay::Relay;
 use crate::segment::Segment;
 use collision_log::Body;
-use layout_file::Octets;
+use layout::Octets;
 use lists::OutOfMemory;
+use mac_parameters::CHECK_SEQUENCE;
 use mac_receive::Receiver;
 use mac_transmit::Transmitter;
-use manchester_line::Sym;
+use manchester_line::{Sym, is_signal};
+use network::{Taken, TakenList};
 use repeater_core::RepeaterEvents;
 use std::alloc::Global;
-
-/// The octets of the FCS at the end of a frame.
-const FCS_OCTETS: usize = 4;
 
 /// What every tap hears in the present half bit.
 pub fn hear_all(segments: &[Segment], places: &[Place], heard: &mut [Sym])
@@ -76,7 +75,7 @@ pub fn relay_all(
     ensures ports { map (λ r. length r.guards) relays.new ≡ map (λ r. length r.guards) relays.old }
     ensures states { relays.new ≡ each_repeater after heard.now relays.old }
     ensures emitted { emitted.new ≡ flat_map emitted_by relays.old }
-    ensures bodies { all_told relays.new events.new ≡ each_repeater bodies_of heard.now relays.old }
+    ensures bodies { all_told relays.new events.new ≡ each_repeater repeater_bodies heard.now relays.old }
 {
     let mut from = 0;
     for k in 0..relays.len() {
@@ -108,12 +107,6 @@ pub fn carry_all(segments: &mut [Segment], emitted: &[Sym])
     }
 }
 
-fn has_signal(symbol: Sym) -> bool
-    ensures { result ≡ hears symbol }
-{
-    symbol != Sym::Idle
-}
-
 /// Half bit `t` of each receiver, which is told whether its own station emits something: its event.
 fn receive_all(
     t: u64,
@@ -132,7 +125,7 @@ fn receive_all(
 {
     for k in 0..receivers.len() {
         let receiver = &mut receivers[k];
-        received[k] = receiver.step(heard[k], has_signal(emitted[k]));
+        received[k] = receiver.step(heard[k], is_signal(emitted[k]));
     }
 }
 
@@ -166,7 +159,7 @@ pub fn step_stations(
     receive_all(t, receivers, heard, emitted, received);
 }
 
-/// Puts a frame that was received at half bit `t` into a station's capture, without its FCS.
+/// Puts a frame that was received at half bit `t` into a station's capture, without its frame check sequence (3.2.9).
 fn capture(
     alloc: Global,
     t: u64,
@@ -179,7 +172,7 @@ fn capture(
     match event {
         Some(Body::Received { .. }) => {
             let mut frame = Octets::new(alloc);
-            frame.extend(&octets[..octets.len().saturating_sub(FCS_OCTETS)])?;
+            frame.extend(&octets[..octets.len().saturating_sub(CHECK_SEQUENCE as usize)])?;
             taken.push(Taken { t, octets: frame })
         }
         _ => Ok(()),
@@ -196,7 +189,7 @@ pub fn capture_all(
 ) -> Result<(), OutOfMemory>
     requires len { length received.now ≡ length captures.old }
     requires receivers_len { length receivers.now ≡ length captures.old }
-    ensures { OnOk result (captures.new ≡ captured t received.now (map octets_of receivers.now) captures.old) }
+    ensures { OnOk result (captures.new ≡ captured t received.now (map kept_octets receivers.now) captures.old) }
 {
     for k in 0..captures.len() {
         let taken = &mut captures[k];

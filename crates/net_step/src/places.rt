@@ -1,9 +1,10 @@
 //! The taps of a layout, and where each is.
 ghost use Rattle.std.specs.Prelude.{◌≡◌, ◌<◌, ◌≤◌, ◌^◌, length, IfOk};
-ghost use Rattle.net_step.specs.Taps.{taps_of};
-ghost use Rattle.net_step.specs.Wires.{count_on, places_from};
+ghost use Rattle.layout.specs.Taps.{taps_of};
+ghost use Rattle.net_step.specs.Wires.{places_from};
+ghost use Rattle.network.specs.TapsOnSegments.{count_on};
 
-use layout_file::{Layout, PortLine};
+use layout::{Layout, PortLine};
 use lists::OutOfMemory;
 use std::alloc::Global;
 

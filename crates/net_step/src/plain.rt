@@ -1,12 +1,10 @@
 //! The network on one thread.
 ghost use Rattle.std.specs.Prelude.{◌≡◌, ◌<◌, ◌≤◌, ◌+◌, ◌*◌, ◌^◌, ◌++◌, [], All, List, length, map, take, IfOk, OnOk};
-ghost use Rattle.net_step.specs.Outputs.{cut_rows, half_bits, rows, captures};
-ghost use Rattle.net_step.specs.Kept.{ports_of, tap_number};
+ghost use Rattle.network.specs.Outputs.{cut_rows, half_bits, rows, captures};
+ghost use Rattle.net_step.specs.KeptNet.{kept_tap_number};
+ghost use Rattle.network.specs.Net.{ports_of};
 
-use crate::devices::{
-    most_of, new_receivers, new_relays, new_segments, new_transmitters, no_captures,
-};
-use crate::outputs::{Captures, Outputs, TakenList};
+use crate::devices::{new_receivers, new_relays, new_segments, new_transmitters, no_captures};
 use crate::passes::{capture_all, carry_all, hear_all, join, relay_all, step_stations};
 use crate::places::{Place, places_of, taps_of};
 use crate::relay::Relay;
@@ -15,9 +13,11 @@ use crate::segment::Segment;
 use collision_log::{Body, Rows};
 use lists::OutOfMemory;
 use load_plan::Plan;
+use mac_parameters::{HALF_BITS_A_BIT, most_octets};
 use mac_receive::Receiver;
 use mac_transmit::Transmitter;
 use manchester_line::Sym;
+use network::{Captures, Outputs, TakenList};
 use repeater_core::RepeaterEvents;
 use std::alloc::Global;
 use std::marker::Model;
@@ -55,7 +55,7 @@ pub struct PlainNet {
 
 impl Model for PlainNet {
     ghost use Rattle.std.specs.Prelude.{length};
-    ghost use Rattle.net_step.specs.Kept.{KeptNet, IsWhole};
+    ghost use Rattle.net_step.specs.KeptNet.{KeptNet, IsWhole};
 
     ghost Value = { KeptNet };
 
@@ -95,7 +95,7 @@ fn tap_number(stations: usize, relays: &[Relay], device: usize, port: usize) -> 
     requires within { device < stations + length relays.now }
     requires few { stations + length relays.now < 2 ^ 32 }
     requires port { port < 2 ^ 32 }
-    ensures { result ≡ tap_number stations relays.now device port }
+    ensures { result ≡ kept_tap_number stations relays.now device port }
 {
     if device < stations {
         return device;
@@ -107,12 +107,12 @@ impl PlainNet {
     ghost use Rattle.std.specs.Prelude.{◌≡◌, ◌<◌, ◌≤◌, ◌+◌, ◌-◌, ◌^◌, ◌++◌, length, All, OnOk, IfOk, IsTrue, slice_index_or};
     ghost use Rattle.load_plan.specs.declared.plan.Plan.{Plan};
     ghost use Rattle.manchester_line.specs.declared.Sym.TheVariants.{Idle};
-    ghost use Rattle.net_step.specs.Net.{Net, net, next, heard_in};
-    ghost use Rattle.net_step.specs.Outputs.{cut_rows};
-    ghost use Rattle.net_step.specs.Kept.{GoesOn, Stands, IsTap, tap_number};
+    ghost use Rattle.network.specs.Net.{Net, net, next, heard_in};
+    ghost use Rattle.network.specs.Outputs.{cut_rows};
+    ghost use Rattle.net_step.specs.KeptNet.{IsNextKept, Stands, IsKeptTap, kept_tap_number};
 
     /// The network of a plan before half bit 0.
-    #[tactic(auto, using(crate::proofs::Soundness::runnable_plan))]
+    #[tactic(auto, using(network::proofs::RunnablePlans::runnable_plan))]
     pub fn new(alloc: Global, plan: &Plan) -> Result<PlainNet, OutOfMemory>
         ensures stands { IfOk result (λ made. Stands (net plan.now 0) made) }
         ensures time { IfOk result (λ made. made.t ≡ 0) }
@@ -127,7 +127,7 @@ impl PlainNet {
             alloc,
             t: 0,
             senders: new_transmitters(alloc, layout.seed, plan.queues.as_slice())?,
-            receivers: new_receivers(alloc, most_of(layout.format), stations)?,
+            receivers: new_receivers(alloc, most_octets(layout.format == 2), stations)?,
             relays: new_relays(alloc, layout.repeaters.as_slice())?,
             segments: new_segments(alloc, layout.segments.len(), &taps)?,
             places: places_of(alloc, &taps)?,
@@ -146,8 +146,8 @@ impl PlainNet {
     /// What a tap hears in the half bit that the next step makes. A station is a device with port 0; the repeaters'
     /// devices follow the stations, and their ports count from 0.
     pub fn heard(&self, device: u32, port: u32) -> Sym
-        requires { IsTap self.now device port }
-        ensures { (n : Net) → Stands n self.now → result ≡ slice_index_or (heard_in n) (tap_number (length n.senders) n.repeaters device port) Idle }
+        requires { IsKeptTap self.now device port }
+        ensures { (n : Net) → Stands n self.now → result ≡ slice_index_or (heard_in n) (kept_tap_number (length n.senders) n.repeaters device port) Idle }
     {
         let stations = self.senders.len();
         let tap = tap_number(stations, &self.relays, device as usize, port as usize);
@@ -155,26 +155,10 @@ impl PlainNet {
         self.segments[place.segment as usize].heard(place.local)
     }
 
-    /// Whether there is such a tap.
-    #[cfg(test)]
-    pub(crate) fn has_tap(&self, device: u32, port: u32) -> bool
-        ensures { IsTrue result → IsTap self.now device port }
-    {
-        let device = device as usize;
-        let stations = self.senders.len();
-        if device < stations {
-            return port == 0;
-        }
-        if self.relays.len() <= device - stations {
-            return false;
-        }
-        (port as usize) < self.relays[device - stations].ports()
-    }
-
     /// The next half bit. After an `Err` the net is only dropped.
     fn go_on(&mut self) -> Result<(), OutOfMemory>
         requires { self.old.t < 2000000000 }
-        ensures { OnOk result (GoesOn self.old self.new) }
+        ensures { OnOk result (IsNextKept self.old self.new) }
     {
         let t = self.t;
         let stations = self.senders.len();
@@ -257,13 +241,13 @@ impl PlainNet {
 }
 
 /// Runs a plan to its end.
-#[tactic(auto, unfolding(crate::specs::Outputs::rows, crate::specs::Outputs::captures), using(crate::proofs::Soundness::runnable_plan))]
+#[tactic(auto, unfolding(network::specs::Outputs::rows, network::specs::Outputs::captures), using(network::proofs::RunnablePlans::runnable_plan))]
 pub fn run_plain(alloc: Global, plan: &Plan) -> Result<Outputs, OutOfMemory>
     ensures rows { IfOk result (λ outputs. outputs.rows ≡ rows plan.now) }
     ensures captures { IfOk result (λ outputs. outputs.captures ≡ captures plan.now) }
 {
     let mut whole = PlainNet::new(alloc, plan)?;
-    for t in 0..2 * plan.layout.until_bits {
+    for t in 0..HALF_BITS_A_BIT as u64 * plan.layout.until_bits {
         whole.step()?;
     }
     whole.finish()

@@ -1,17 +1,14 @@
 //! A repeater of the network.
 ghost use Rattle.std.specs.Prelude.{◌≡◌, ◌≤◌, length, IfOk};
 ghost use Rattle.repeater_core.specs.Step.{State, new_state, after, emitted_by};
-ghost use Rattle.net_step.specs.Net.{bodies_of};
-ghost use Rattle.net_step.specs.Kept.{told_bodies};
+ghost use Rattle.network.specs.Rows.{repeater_bodies, told_bodies};
 
 use lists::OutOfMemory;
+use mac_parameters::MOST_PORTS;
 use manchester_line::Sym;
 use repeater_core::{Repeater, RepeaterEvents};
 use std::alloc::Global;
 use std::marker::Model;
-
-/// The most ports of a repeater.
-const MOST_PORTS: usize = 32;
 
 /// A repeater and the number of its ports.
 #[derive(Drop)]
@@ -34,8 +31,8 @@ impl Model for Relay {
 impl Relay {
     ghost use Rattle.std.specs.Prelude.{◌≡◌, ◌≤◌, length, IfOk};
     ghost use Rattle.repeater_core.specs.Step.{new_state, after, emitted_by};
-    ghost use Rattle.net_step.specs.Net.{bodies_of};
-    ghost use Rattle.net_step.specs.Kept.{told_bodies};
+    ghost use Rattle.network.specs.Rows.{repeater_bodies};
+    ghost use Rattle.network.specs.Rows.{told_bodies};
 
     /// A new repeater of 2 to 32 ports and a delay of 1 to 200 half bits.
     pub fn new(alloc: Global, ports: u32, delay: u32) -> Result<Relay, OutOfMemory>
@@ -66,7 +63,7 @@ impl Relay {
         ensures ports { length self.new.guards ≡ length self.old.guards }
         ensures state { self.new ≡ after heard.now self.old }
         ensures emitted { emitted.new ≡ emitted_by self.old }
-        ensures bodies { told_bodies (length self.new.guards) result ≡ bodies_of heard.now self.old }
+        ensures bodies { told_bodies (length self.new.guards) result ≡ repeater_bodies heard.now self.old }
     {
         let ports = self.ports as usize;
         let mut decided = [Sym::Idle; MOST_PORTS];

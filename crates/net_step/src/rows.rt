@@ -1,8 +1,8 @@
 //! The rows of a half bit.
 ghost use Rattle.std.specs.Prelude.{◌≡◌, ◌<◌, ◌≤◌, ◌+◌, ◌^◌, ◌++◌, ◌/◌, ◌%◌, ◌==◌, length, map, OnOk};
-ghost use Rattle.net_step.specs.Net.{happened, row_of, rows_of, rows_at, repeater_rows};
-ghost use Rattle.net_step.specs.Outputs.{cut_rows};
-ghost use Rattle.net_step.specs.Kept.{bits_bodies, told_bodies, all_told};
+ghost use Rattle.network.specs.Rows.{repeater_rows, rows_of_bodies, happened, rows_of, row_of, told_bodies, bits_bodies};
+ghost use Rattle.network.specs.Outputs.{cut_rows};
+ghost use Rattle.net_step.specs.KeptNet.{all_told};
 
 use crate::relay::Relay;
 use collision_log::{Body, Row, Rows};
@@ -40,7 +40,7 @@ fn log_stations(
 
 /// Writes the row of something that happens where `yes` says so.
 fn push_if(rows: &mut Rows, t: u64, device: u32, yes: bool, body: Body) -> Result<(), OutOfMemory>
-    ensures { OnOk result (rows.new ≡ rows.old ++ rows_at t device (happened yes body)) }
+    ensures { OnOk result (rows.new ≡ rows.old ++ rows_of_bodies t device (happened yes body)) }
 {
     if yes {
         rows.push(Row { t, device, body })
@@ -64,7 +64,7 @@ fn log_port(
     port: u32,
     events: RepeaterEvents,
 ) -> Result<(), OutOfMemory>
-    ensures { OnOk result (rows.new ≡ rows.old ++ rows_at t device (bits_bodies port 1 events.closed events.opened events.halted)) }
+    ensures { OnOk result (rows.new ≡ rows.old ++ rows_of_bodies t device (bits_bodies port 1 events.closed events.opened events.halted)) }
 {
     let halted = has_bit(events.halted);
     let closed = has_bit(events.closed);
@@ -97,7 +97,7 @@ fn log_ports(
     events: RepeaterEvents,
 ) -> Result<(), OutOfMemory>
     requires { ports ≤ 32 }
-    ensures { OnOk result (rows.new ≡ rows.old ++ rows_at t device (bits_bodies 1 ports events.closed events.opened events.halted)) }
+    ensures { OnOk result (rows.new ≡ rows.old ++ rows_of_bodies t device (bits_bodies 1 ports events.closed events.opened events.halted)) }
 {
     let mut left = events;
     for port in 0..ports {
@@ -116,7 +116,7 @@ fn log_repeater(
     events: RepeaterEvents,
 ) -> Result<(), OutOfMemory>
     requires { ports ≤ 32 }
-    ensures { OnOk result (rows.new ≡ rows.old ++ rows_at t device (told_bodies ports events)) }
+    ensures { OnOk result (rows.new ≡ rows.old ++ rows_of_bodies t device (told_bodies ports events)) }
 {
     push_if(rows, t, device, events.clash, Body::Clash)?;
     if events.closed == 0 && events.opened == 0 && events.halted == 0 {

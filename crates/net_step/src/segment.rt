@@ -1,11 +1,13 @@
 //! A segment of the network.
 ghost use Rattle.std.specs.Prelude.{◌≡◌, ◌<◌, ◌≤◌, ◌^◌, All, length, IfOk};
+ghost use Rattle.mac_parameters.specs.Parameters.{greatest_place};
 ghost use Rattle.cable_segment.specs.Bus.{heard_at};
 ghost use Rattle.cable_segment.specs.Cable.{told_at};
-ghost use Rattle.net_step.specs.Wires.{symbols_of, told_from, carried, numbers_on, positions_on, cable_places, new_wire};
+ghost use Rattle.net_step.specs.Wires.{symbols_of, told_from, carried, cable_places, new_wire};
+ghost use Rattle.network.specs.TapsOnSegments.{positions_on, numbers_on};
 
 use cable_segment::Cable;
-use layout_file::PortLine;
+use layout::PortLine;
 use lists::OutOfMemory;
 use manchester_line::Sym;
 use std::alloc::Global;
@@ -29,7 +31,7 @@ impl Model for Segment {
     ghost invariant = { λ s. (length s.taps.items ≤ length s.cable.positions) × (length s.cable.positions < 2 ^ 32) };
 }
 
-/// The numbers of the taps of a segment.
+/// The numbers of the taps of a segment among all taps, from 0.
 fn numbers_on(alloc: Global, taps: &[PortLine], segment: usize) -> Result<Vec<u32>, OutOfMemory>
     requires { length taps.now < 2 ^ 32 }
     ensures { IfOk result (λ numbers. numbers.items ≡ numbers_on segment 0 taps.now) }
@@ -44,11 +46,11 @@ fn numbers_on(alloc: Global, taps: &[PortLine], segment: usize) -> Result<Vec<u3
     Ok(numbers)
 }
 
-/// The places of the taps of a segment.
+/// The places of the taps of a segment, in half bits from its end.
 fn positions_on(alloc: Global, taps: &[PortLine], segment: usize) -> Result<Vec<u32>, OutOfMemory>
-    requires { All (λ x. x.at ≤ 2000) taps.now }
+    requires { All (λ x. x.at ≤ greatest_place) taps.now }
     ensures places { IfOk result (λ positions. positions.items ≡ positions_on segment taps.now) }
-    ensures near { IfOk result (λ positions. All (λ p. p ≤ 2000) positions.items) }
+    ensures near { IfOk result (λ positions. All (λ p. p ≤ greatest_place) positions.items) }
 {
     let mut positions = Vec::new(alloc);
     for tap in taps {
@@ -62,9 +64,9 @@ fn positions_on(alloc: Global, taps: &[PortLine], segment: usize) -> Result<Vec<
 
 /// The places of a cable's taps: a segment without a tap gets one that nobody uses.
 fn cable_places(positions: Vec<u32>) -> Result<Vec<u32>, OutOfMemory>
-    requires { All (λ p. p ≤ 2000) positions.items }
+    requires { All (λ p. p ≤ greatest_place) positions.items }
     ensures places { IfOk result (λ places. places.items ≡ cable_places positions.items) }
-    ensures near { IfOk result (λ places. All (λ p. p ≤ 2000) places.items) }
+    ensures near { IfOk result (λ places. All (λ p. p ≤ greatest_place) places.items) }
     ensures some { IfOk result (λ places. 0 < length places.items) }
 {
     let mut places = positions;
@@ -89,12 +91,13 @@ fn tell(cable: &mut Cable, taps: &[u32], emitted: &[Sym])
 
 impl Segment {
     ghost use Rattle.std.specs.Prelude.{◌≡◌, ◌<◌, ◌≤◌, ◌^◌, All, length, IfOk};
+    ghost use Rattle.mac_parameters.specs.Parameters.{greatest_place};
     ghost use Rattle.net_step.specs.Wires.{carried, new_wire};
 
     /// Segment number `segment`, from 0, of a network with these taps.
     pub fn new(alloc: Global, taps: &[PortLine], segment: usize) -> Result<Segment, OutOfMemory>
         requires few { length taps.now < 2 ^ 32 }
-        requires near { All (λ x. x.at ≤ 2000) taps.now }
+        requires near { All (λ x. x.at ≤ greatest_place) taps.now }
         ensures { IfOk result (λ made. made ≡ new_wire taps.now segment) }
     {
         let places = cable_places(positions_on(alloc, taps, segment)?)?;

@@ -4,21 +4,23 @@ use Rattle.capture_file.specs.declared.entries.Record.{Record}
 use Rattle.capture_file.specs.declared.fault.CaptureFault.{CaptureFault}
 use Rattle.outside.specs.Files.{Files, IsAbsent, Rose}
 use Rattle.layout_file.specs.Faults.{judged}
-use Rattle.layout_file.specs.declared.layout.Layout.{Layout}
-use Rattle.layout_file.specs.declared.layout.StationLine.{StationLine}
+use Rattle.layout.specs.declared.lines.Layout.{Layout}
+use Rattle.layout.specs.declared.lines.StationLine.{StationLine}
 use Rattle.layout_file.specs.declared.fault.LayoutFault.{LayoutFault}
 use Rattle.load_files.specs.Loaded.{IsLoaded, IsFirstAbsent, Faulty, load_of}
 use Rattle.load_plan.specs.declared.plan.Plan.{Plan}
+use Rattle.netsim.specs.FileLimits.{most_layout}
 use Rattle.netsim.specs.Reading.{front_of, put_all, added, IsBrokenAmong, IsSaid, IsCutShort}
 use Rattle.netsim.specs.Requests.{Asked, asked, Check, Plain, Help, Version}
-use Rattle.netsim.specs.Runs.{IsMadeOf, IsPlanOf, files_of, IsSummary}
+use Rattle.netsim.specs.Runs.{IsMadeOf, IsPlanOf, run_files, IsSummary}
 use Rattle.netsim.specs.Texts.{line_of_words_fault, line_of_fault, line_of_load_fault, line_of_read_fault}
 use Rattle.netsim.specs.Verdicts.{IsVerdictLine}
 use Rattle.netsim.specs.declared.ended.Ended.{Ended}
 use Rattle.netsim.specs.declared.ended.Ended.TheVariants as ended
 use Rattle.netsim.specs.declared.texts.TheConstants.{HELP, VERSION}
 
--- the store and the sink at a moment: what they tell, and their counts
+-- the store and the sink at a moment: the files and the text that they tell, and how many reads and writes of the
+-- store failed, how many writes to the sink failed, and how many it refused
 pub record Moment : Type 0 where
   pub held : Option Files
   pub reads : ℕ
@@ -27,10 +29,11 @@ pub record Moment : Type 0 where
   pub faults : ℕ
   pub refused : ℕ
 
--- where the store tells its files, the layout was there and was judged so, whole or at one octet past the most that it may have
+-- where the store tells its files, the layout was there and was judged so, whole or at one octet past the most that
+-- it may have
 abbrev pub IsJudged : List ℕ → Option Files → Result Layout LayoutFault → Type 0
 IsJudged name None verdict = Unit {0}
-IsJudged name (Some files) verdict = option_map judged (front_of 1048576 name files) ≡ Some verdict
+IsJudged name (Some files) verdict = option_map judged (front_of most_layout name files) ≡ Some verdict
 
 -- the layout has a fault
 abbrev pub HasFault : List ℕ → Option Files → Type 0
@@ -42,7 +45,8 @@ Says line before after = IsSaid line before.written after.written before.refused
 
 -- the layout has a fault, and its line was said
 abbrev pub IsFaultSaid : List ℕ → Moment → Moment → Type 0
-IsFaultSaid name before after = (fault : LayoutFault) × IsJudged name before.held (Err fault) × Says (line_of_fault fault) before after
+IsFaultSaid name before after =
+    (fault : LayoutFault) × IsJudged name before.held (Err fault) × Says (line_of_fault fault) before after
 
 -- of a network's loads that of a station, from 0, is the first with a fault, and its line was said
 pub record IsLoadFaultSaid (network : Layout) (before after : Moment) : Type 0 where
@@ -53,7 +57,8 @@ pub record IsLoadFaultSaid (network : Layout) (before after : Moment) : Type 0 w
   pub named : option_map (λ s. s.name) (slice_get network.stations station) ≡ Some name
   pub said : Says (line_of_load_fault name fault) before after
 
--- a load of the network is the first that isn't held, no load before it having a fault, or a read of it failed; that was said
+-- a load of the network is the first that isn't held, no load before it having a fault, or a read of it failed; that
+-- was said
 pub record IsLoadUnreadSaid (network : Layout) (before after : Moment) : Type 0 where
   pub station : ℕ
   pub name : List ℕ
@@ -63,7 +68,8 @@ pub record IsLoadUnreadSaid (network : Layout) (before after : Moment) : Type 0 
 
 -- the layout isn't held or a read failed, and that was said
 abbrev pub IsUnreadSaid : List ℕ → Moment → Moment → Type 0
-IsUnreadSaid name before after = (IsAbsent name before.held ⊎ Rose before.reads after.reads) × Says (line_of_read_fault name) before after
+IsUnreadSaid name before after =
+    (IsAbsent name before.held ⊎ Rose before.reads after.reads) × Says (line_of_read_fault name) before after
 
 -- the call ended before a layout without fault was read
 abbrev pub IsEarly : List ℕ → Moment → Moment → Ended → Type 0
@@ -75,17 +81,21 @@ IsEarly name before after ended.Read = IsUnreadSaid name before after
 IsEarly name before after ended.Write = ⊥
 IsEarly name before after ended.Memory = after.written ≡ before.written
 
--- what is said of a load with a fault: nothing without memory
-abbrev pub IsFaultyEnd : List StationLine → ℕ → CaptureFault → Option (List ℕ) → Option (List ℕ) → ℕ → ℕ → Ended → Type 0
+-- what is said of the load of a station, from 0, with a fault: its line, and nothing without memory; the last two
+-- numbers count what the sink refused
+abbrev pub IsFaultyEnd :
+    List StationLine → ℕ → CaptureFault → Option (List ℕ) → Option (List ℕ) → ℕ → ℕ → Ended → Type 0
 IsFaultyEnd stations station fault written now refused risen ended.Load =
-    (name : List ℕ) × (option_map (λ s. s.name) (slice_get stations station) ≡ Some name) × IsSaid (line_of_load_fault name fault) written now refused risen
+    (name : List ℕ) × (option_map (λ s. s.name) (slice_get stations station) ≡ Some name)
+    × IsSaid (line_of_load_fault name fault) written now refused risen
 IsFaultyEnd stations station fault written now refused risen ended.Memory = now ≡ written
 IsFaultyEnd stations station fault written now refused risen _ = ⊥
 
--- and of one that can't be read
+-- what is said of the load of a station, from 0, that can't be read: its line, and nothing without memory
 abbrev pub IsUnreadEnd : List StationLine → ℕ → Option (List ℕ) → Option (List ℕ) → ℕ → ℕ → Ended → Type 0
 IsUnreadEnd stations station written now refused risen ended.Read =
-    (name : List ℕ) × (load_of stations station ≡ Some name) × IsSaid (line_of_read_fault name) written now refused risen
+    (name : List ℕ) × (load_of stations station ≡ Some name)
+    × IsSaid (line_of_read_fault name) written now refused risen
 IsUnreadEnd stations station written now refused risen ended.Memory = now ≡ written
 IsUnreadEnd stations station written now refused risen _ = ⊥
 
@@ -99,8 +109,8 @@ IsUnloadedSaid network before after ended.Read = IsLoadUnreadSaid network before
 IsUnloadedSaid network before after ended.Write = ⊥
 IsUnloadedSaid network before after ended.Memory = after.written ≡ before.written
 
--- so it did with the network of a layout without fault
-pub record IsUnloaded (layout : List ℕ) (before after : Moment) (e : Ended) : Type 0 where
+-- the call ended before the loads of a layout without fault were read
+pub record IsLoadEnd (layout : List ℕ) (before after : Moment) (e : Ended) : Type 0 where
   pub network : Layout
   pub judged : IsJudged layout before.held (Ok network)
   pub said : IsUnloadedSaid network before after e
@@ -118,7 +128,7 @@ IsText text written now faults risen ended.Memory = IsCutShort text written now
 -- all files of a plan's run are whole; the summary was written, or a front of it
 abbrev pub AreFiled : List ℕ → Plan → Moment → Moment → Ended → Type 0
 AreFiled prefix plan before after e =
-    (after.held ≡ put_all (files_of prefix plan) before.held)
+    (after.held ≡ put_all (run_files prefix plan) before.held)
     × ((text : List ℕ) × IsSummary plan text × IsText text before.written after.written before.faults after.faults e)
 
 -- a file could not be written, or there was no memory for it; nothing was said
@@ -129,8 +139,10 @@ IsUnfiled prefix plan before after ended.Layout = ⊥
 IsUnfiled prefix plan before after ended.Load = ⊥
 IsUnfiled prefix plan before after ended.Read = ⊥
 IsUnfiled prefix plan before after ended.Write =
-    IsBrokenAmong (files_of prefix plan) before.held after.held × Rose before.writes after.writes × (after.written ≡ before.written)
-IsUnfiled prefix plan before after ended.Memory = IsBrokenAmong (files_of prefix plan) before.held after.held × (after.written ≡ before.written)
+    IsBrokenAmong (run_files prefix plan) before.held after.held × Rose before.writes after.writes
+    × (after.written ≡ before.written)
+IsUnfiled prefix plan before after ended.Memory =
+    IsBrokenAmong (run_files prefix plan) before.held after.held × (after.written ≡ before.written)
 
 -- a file could not be written: a write to the store failed, or there was no memory
 abbrev pub IsFileEnd : ℕ → ℕ → Ended → Type 0
@@ -142,7 +154,7 @@ IsFileEnd writes risen _ = ⊥
 abbrev pub IsUnrun : Moment → Moment → Ended → Type 0
 IsUnrun before after e = (e ≡ ended.Memory) × (after.held ≡ before.held) × (after.written ≡ before.written)
 
--- the files of a plan's run were written, or some of them
+-- the files of a plan's run were written, or some of them were
 abbrev pub IsFiledEnd : List ℕ → Plan → Moment → Moment → Ended → Type 0
 IsFiledEnd prefix plan before after e = AreFiled prefix plan before after e ⊎ IsUnfiled prefix plan before after e
 
@@ -163,7 +175,7 @@ pub record IsRun (layout prefix : List ℕ) (before after : Moment) (e : Ended) 
 abbrev pub IsPlainEnd : List ℕ → List ℕ → Moment → Moment → Ended → Type 0
 IsPlainEnd layout prefix before after e =
     (IsEarly layout before after e × (after.held ≡ before.held))
-    ⊎ (IsUnloaded layout before after e × (after.held ≡ before.held))
+    ⊎ (IsLoadEnd layout before after e × (after.held ≡ before.held))
     ⊎ IsUnrun before after e
     ⊎ IsRun layout prefix before after e
 
@@ -177,11 +189,13 @@ pub record IsChecked (layout : List ℕ) (before after : Moment) (e : Ended) : T
 
 -- the end of the form check LAYOUT
 abbrev pub IsCheckEnd : List ℕ → Moment → Moment → Ended → Type 0
-IsCheckEnd layout before after e = (after.held ≡ before.held) × (IsEarly layout before after e ⊎ IsChecked layout before after e)
+IsCheckEnd layout before after e =
+    (after.held ≡ before.held) × (IsEarly layout before after e ⊎ IsChecked layout before after e)
 
 -- the end of a form that writes a fixed text
 abbrev pub IsTextEnd : List ℕ → Moment → Moment → Ended → Type 0
-IsTextEnd text before after e = IsText text before.written after.written before.faults after.faults e × (after.held ≡ before.held)
+IsTextEnd text before after e =
+    IsText text before.written after.written before.faults after.faults e × (after.held ≡ before.held)
 
 -- the end of words that ask for this; the words are none of the forms where they ask for nothing
 abbrev pub IsEndOf : Option Asked → Moment → Moment → Ended → Type 0
@@ -195,7 +209,7 @@ IsEndOf (Some Version) before after e = IsTextEnd VERSION.now before after e
 abbrev pub IsEnd : List (List ℕ) → Moment → Moment → Ended → Type 0
 IsEnd words before after e = IsEndOf (asked words) before after e
 
--- the program's status (profile)
+-- the program's status
 abbrev pub status_of : Ended → ℕ
 status_of ended.Done = 0
 status_of ended.Words = 1

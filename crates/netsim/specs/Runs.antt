@@ -1,13 +1,13 @@
 -- The plan of a layout and its loads, and what its run leaves (profile).
 use Rattle.std.specs.Prelude.{◌≡◌, ℕ, List, [], ◌∷◌, ◌++◌, Option}
 use Rattle.capture_file.specs.declared.entries.Record.{Record}
-use Rattle.layout_file.specs.declared.layout.Layout.{Layout}
-use Rattle.layout_file.specs.declared.layout.StationLine.{StationLine}
+use Rattle.layout.specs.declared.lines.Layout.{Layout}
+use Rattle.layout.specs.declared.lines.StationLine.{StationLine}
 use Rattle.load_files.specs.Loaded.{IsLoaded, Whole}
 use Rattle.load_plan.specs.Loads.{planned_queues, planned_skips}
 use Rattle.load_plan.specs.declared.plan.Plan.{Plan}
-use Rattle.net_step.specs.Outputs.{rows, captures}
-use Rattle.net_step.specs.declared.outputs.Taken.{Taken}
+use Rattle.network.specs.Outputs.{rows, captures}
+use Rattle.network.specs.declared.outputs.Taken.{Taken}
 use Rattle.outside.specs.Files.{Files}
 use Rattle.outside.specs.declared.memory.File.{File}
 use Rattle.path_checker.specs.Verdicts.{IsVerdict}
@@ -29,18 +29,19 @@ pub record IsPlanOf (held : Option Files) (network : Layout) (plan : Plan) : Typ
 abbrev pub log : Plan → List ℕ
 log plan = log_of_rows plan.layout (rows plan)
 
--- the counters of its devices
+-- the counters of the devices of a plan's run
 abbrev pub counters : Plan → List ℕ
 counters plan = counters_of_rows plan (rows plan)
 
 -- the captures of stations, by what each of them received
 abbrev pub capture_files : List ℕ → List StationLine → List (List Taken) → List File
-capture_files prefix (s ∷ ss) (c ∷ cs) = record { name = name_of_capture prefix s.name; octets = pcap_of_taken c } ∷ capture_files prefix ss cs
+capture_files prefix (s ∷ ss) (c ∷ cs) =
+    record { name = name_of_capture prefix s.name; octets = pcap_of_taken c } ∷ capture_files prefix ss cs
 capture_files prefix _ _ = []
 
 -- the files of a plan's run: its log, its counters, and the capture of each station
-abbrev pub files_of : List ℕ → Plan → List File
-files_of prefix plan =
+abbrev pub run_files : List ℕ → Plan → List File
+run_files prefix plan =
     record { name = name_of_log prefix; octets = log plan }
     ∷ record { name = name_of_counters prefix; octets = counters plan }
     ∷ capture_files prefix plan.layout.stations (captures plan)

@@ -2,13 +2,13 @@
 use Rattle.std.specs.Prelude.{◌≡◌, ◌⊎◌, ℕ, List, Option, None, Some, option_map, slice_get, Ok}
 use Rattle.capture_file.specs.declared.fault.CaptureFault.{CaptureFault}
 use Rattle.outside.specs.Files.{Files, IsAbsent, Rose}
-use Rattle.layout_file.specs.declared.layout.Layout.{Layout}
+use Rattle.layout.specs.declared.lines.Layout.{Layout}
 use Rattle.load_files.specs.Loaded.{IsLoaded, IsFirstAbsent, Faulty, load_of}
 use Rattle.load_plan.specs.declared.plan.Plan.{Plan}
 use Rattle.netsim.specs.Ended.{IsJudged}
 use Rattle.netsim.specs.Reading.{put_all, added, IsBrokenAmong, IsCutShort}
 use Rattle.netsim.specs.Requests.{Asked, Check, Plain, Help, Version}
-use Rattle.netsim.specs.Runs.{IsPlanOf, files_of, IsSummary}
+use Rattle.netsim.specs.Runs.{IsPlanOf, run_files, IsSummary}
 use Rattle.netsim.specs.Texts.{line_of_load_fault}
 use Rattle.netsim.specs.Verdicts.{IsVerdictLine}
 use Rattle.netsim.specs.declared.texts.TheConstants.{HELP, VERSION}
@@ -69,7 +69,8 @@ IsRefusal status = (status ≡ 1) ⊎ (status ≡ 2) ⊎ (status ≡ 3) ⊎ (sta
 abbrev pub IsDoneOrMemory : ℕ → Type 0
 IsDoneOrMemory status = (status ≡ 0) ⊎ (status ≡ 6)
 
--- the statuses where there is a fault that has this status: 4 only where a read failed, 6 for want of memory
+-- the statuses where there is a fault that has this status: that one, 4 only where a read failed, and 6 for want of
+-- memory; the last two numbers count the failed reads
 abbrev pub IsFaultStatus : ℕ → ℕ → ℕ → ℕ → Type 0
 IsFaultStatus fault status reads risen = (status ≡ fault) ⊎ (status ≡ 6) ⊎ ((status ≡ 4) × Rose reads risen)
 
@@ -79,9 +80,11 @@ IsNetworkWith layout held P = (network : Layout) × IsJudged layout held (Ok net
 
 -- the load of this station, numbered from 0, is the first of the layout's loads with a fault
 abbrev pub HasLoadFault : List ℕ → Option Files → ℕ → CaptureFault → Type 0
-HasLoadFault layout held station fault = IsNetworkWith layout held (λ network. IsLoaded held network.stations (Faulty station fault))
+HasLoadFault layout held station fault =
+    IsNetworkWith layout held (λ network. IsLoaded held network.stations (Faulty station fault))
 
--- and this holds of the line of the fault
+-- the load of a station, from 0, is the first of the layout's loads with a fault, and this holds of the line of that
+-- fault
 pub record IsLoadFaultLine (layout : List ℕ) (held : Option Files) (P : List ℕ → Type 0) : Type 0 where
   pub network : Layout
   pub judged : IsJudged layout held (Ok network)
@@ -94,7 +97,8 @@ pub record IsLoadFaultLine (layout : List ℕ) (held : Option Files) (P : List �
 
 -- this is the name of the first load of the layout that isn't held, no load before it having a fault
 abbrev pub HasAbsentLoad : List ℕ → Option Files → List ℕ → Type 0
-HasAbsentLoad layout held name = IsNetworkWith layout held (λ network. IsFirstAbsent held network.stations name)
+HasAbsentLoad layout held name =
+    IsNetworkWith layout held (λ network. IsFirstAbsent held network.stations name)
 
 -- this is the name of a load of the layout that is the first that isn't held, or a read failed
 pub record IsLoadUnread (layout : List ℕ) (held : Option Files) (reads risen : ℕ) (name : List ℕ) : Type 0 where
@@ -104,11 +108,13 @@ pub record IsLoadUnread (layout : List ℕ) (held : Option Files) (reads risen :
   pub named : load_of network.stations station ≡ Some name
   pub unread : IsFirstAbsent held network.stations name ⊎ Rose reads risen
 
--- a file to be read, which is the layout or, for a run, one of its loads, isn't held or a read failed; this holds of its name
+-- a file to be read, which is the layout or, for a run, one of its loads, isn't held or a read failed; this holds of
+-- its name
 abbrev pub IsReadFault : Option Asked → Option Files → ℕ → ℕ → (List ℕ → Type 0) → Type 0
 IsReadFault (Some (Check layout)) held reads risen P = (IsAbsent layout held ⊎ Rose reads risen) × P layout
 IsReadFault (Some (Plain layout prefix)) held reads risen P =
-    ((IsAbsent layout held ⊎ Rose reads risen) × P layout) ⊎ ((name : List ℕ) × IsLoadUnread layout held reads risen name × P name)
+    ((IsAbsent layout held ⊎ Rose reads risen) × P layout)
+    ⊎ ((name : List ℕ) × IsLoadUnread layout held reads risen name × P name)
 IsReadFault (Some Help) held reads risen P = ⊥
 IsReadFault (Some Version) held reads risen P = ⊥
 IsReadFault None held reads risen P = ⊥
@@ -122,20 +128,27 @@ pub record IsPlanWith (layout : List ℕ) (held : Option Files) (P : Plan → Ty
   pub holds : P plan
 
 -- the files of the run are whole, every other file is as before, and the sink got the run's summary
-abbrev pub IsRunHeld : List ℕ → List ℕ → Option Files → Option Files → Option (List ℕ) → Option (List ℕ) → Type 0
+abbrev pub IsRunHeld :
+    List ℕ → List ℕ → Option Files → Option Files → Option (List ℕ) → Option (List ℕ) → Type 0
 IsRunHeld layout prefix held now written said =
-    IsPlanWith layout held (λ plan. (now ≡ put_all (files_of prefix plan) held) × ((text : List ℕ) × IsSummary plan text × (said ≡ added text written)))
+    IsPlanWith layout held (λ plan.
+    (now ≡ put_all (run_files prefix plan) held)
+    × ((text : List ℕ) × IsSummary plan text × (said ≡ added text written)))
 
--- the files of the run before one of them are whole, that one is as it was or a front of its text, every other file is as
--- before, and nothing was said; or all are whole, and the sink got a front of the summary
-abbrev pub IsRunBroken : List ℕ → List ℕ → Option Files → Option Files → Option (List ℕ) → Option (List ℕ) → Type 0
+-- the files of the run before one of them are whole, that one is as it was or a front of its text, every other file
+-- is as before, and nothing was said; or all are whole, and the sink got a front of the summary
+abbrev pub IsRunBroken :
+    List ℕ → List ℕ → Option Files → Option Files → Option (List ℕ) → Option (List ℕ) → Type 0
 IsRunBroken layout prefix held now written said =
-    IsPlanWith layout held (λ plan. (IsBrokenAmong (files_of prefix plan) held now × (said ≡ written))
-    ⊎ ((now ≡ put_all (files_of prefix plan) held) × ((text : List ℕ) × IsSummary plan text × IsCutShort text written said)))
+    IsPlanWith layout held (λ plan.
+    (IsBrokenAmong (run_files prefix plan) held now × (said ≡ written))
+    ⊎ ((now ≡ put_all (run_files prefix plan) held)
+    × ((text : List ℕ) × IsSummary plan text × IsCutShort text written said)))
 
 -- all files of the run are whole
 abbrev pub AreRunFilesHeld : List ℕ → List ℕ → Option Files → Option Files → Type 0
-AreRunFilesHeld layout prefix held now = IsPlanWith layout held (λ plan. now ≡ put_all (files_of prefix plan) held)
+AreRunFilesHeld layout prefix held now =
+    IsPlanWith layout held (λ plan. now ≡ put_all (run_files prefix plan) held)
 
 -- the layout held at entry has no fault, and this holds of the line of its path verdict
 pub record IsVerdictWith (layout : List ℕ) (held : Option Files) (P : List ℕ → Type 0) : Type 0 where

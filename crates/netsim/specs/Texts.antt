@@ -4,7 +4,7 @@ use Rattle.layout_file.specs.declared.fault.LayoutFault.{LayoutFault}
 use Rattle.layout_file.specs.declared.fault.Place.{Place}
 use Rattle.capture_file.specs.Names.{code_of, name_of, number_of}
 use Rattle.capture_file.specs.declared.fault.CaptureFault.{CaptureFault}
-use Rattle.layout_file.specs.Names.{name_of_table, name_of_key, number_of_code, name_of_code}
+use Rattle.layout_file.specs.FaultNames.{name_of_table, name_of_key, number_of_code, name_of_code}
 
 -- the line of words that are none of the forms
 abbrev pub line_of_words_fault : List ℕ
@@ -13,12 +13,14 @@ line_of_words_fault = codes "words fault\n"
 -- where a fault stands: rows and ports from 1, or 0 for none
 abbrev pub text_of_place : Place → List ℕ
 text_of_place place =
-    codes "table " ++ name_of_table place.table ++ codes " row " ++ decimal place.row ++ codes " port " ++ decimal place.port ++ codes " key " ++ name_of_key place.key
+    codes "table " ++ name_of_table place.table ++ codes " row " ++ decimal place.row
+    ++ codes " port " ++ decimal place.port ++ codes " key " ++ name_of_key place.key
 
 -- the line of a layout with a fault
 unfoldable pub line_of_fault : LayoutFault → List ℕ
 line_of_fault fault =
-    codes "layout fault " ++ decimal (number_of_code fault.code) ++ codes " " ++ name_of_code fault.code ++ codes " " ++ text_of_place fault.place ++ codes "\n"
+    codes "layout fault " ++ decimal (number_of_code fault.code) ++ codes " " ++ name_of_code fault.code
+    ++ codes " " ++ text_of_place fault.place ++ codes "\n"
 
 -- the line of a file that can't be read
 unfoldable pub line_of_read_fault : List ℕ → List ℕ
@@ -27,16 +29,17 @@ line_of_read_fault name = codes "read fault " ++ name ++ codes "\n"
 -- the line of a load with a fault, of the station with this name; records from 1, or 0 for none
 unfoldable pub line_of_load_fault : List ℕ → CaptureFault → List ℕ
 line_of_load_fault name fault =
-    codes "capture fault " ++ decimal (code_of fault) ++ codes " " ++ name_of fault ++ codes " station " ++ name ++ codes " record " ++ decimal (number_of fault) ++ codes "\n"
+    codes "capture fault " ++ decimal (code_of fault) ++ codes " " ++ name_of fault
+    ++ codes " station " ++ name ++ codes " record " ++ decimal (number_of fault) ++ codes "\n"
 
--- the counters of a prefix
+-- the name of the counters of a prefix
 unfoldable pub name_of_counters : List ℕ → List ℕ
 name_of_counters prefix = prefix ++ codes ".counters"
 
--- the capture of a prefix and a station with this name
+-- the name of the capture of a prefix and a station with this name
 unfoldable pub name_of_capture : List ℕ → List ℕ → List ℕ
 name_of_capture prefix name = prefix ++ codes "." ++ name ++ codes ".pcap"
 
--- the log of a prefix
+-- the name of the log of a prefix
 unfoldable pub name_of_log : List ℕ → List ℕ
 name_of_log prefix = prefix ++ codes ".log"

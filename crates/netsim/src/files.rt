@@ -1,7 +1,7 @@
 //! Whole files through a store.
 ghost use Rattle.std.specs.Prelude.{◌≡◌, ◌<◌, ◌≤◌, ◌+◌, ◌^◌, length, IfOk, OnOk, OnErr, IsErrOf, IfErr, option_map};
 ghost use Rattle.outside.specs.Files.{Rose, RoseAtNothing, IsAbsent, appended};
-ghost use Rattle.netsim.specs.Reading.{IsFront, IsMore, put, IsBroken};
+ghost use Rattle.netsim.specs.Reading.{IsFront, IsMore, put_file, IsBroken};
 
 use lists::{List, OutOfMemory};
 use outside::{Store, StoreFail};
@@ -112,7 +112,7 @@ fn append_piece<S: Store>(store: &mut S, name: &str, text: &[u8]) -> Result<usiz
 
 /// Makes a file of a text.
 pub(crate) fn write_file<S: Store>(store: &mut S, name: &str, text: &[u8]) -> Result<(), StoreFail>
-    ensures ok { OnOk result (S.held store.new ≡ put name.now text.now (S.held store.old)) }
+    ensures ok { OnOk result (S.held store.new ≡ put_file name.now text.now (S.held store.old)) }
     ensures err { OnErr result (IsBroken name.now text.now (S.held store.old) (S.held store.new)) }
     ensures missing { IsErrOf result StoreFail.Missing → ⊥ }
     ensures failed { IsErrOf result StoreFail.Failed → Rose (S.write_faults store.old) (S.write_faults store.new) }

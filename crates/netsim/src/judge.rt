@@ -1,6 +1,6 @@
 //! A layout file, read and judged.
 ghost use Rattle.std.specs.Prelude.{◌≡◌, ◌≤◌, Ok, IfOk, IfErr, OnOk, OnErr};
-ghost use Rattle.layout_file.specs.Sound.{IsSound};
+ghost use Rattle.layout.specs.Sound.{IsSound};
 ghost use Rattle.netsim.specs.Ended.{IsJudged, IsEarly};
 ghost use Rattle.netsim.specs.Reading.{IsSaid};
 ghost use Rattle.netsim.specs.Texts.{line_of_fault, line_of_read_fault};
@@ -9,7 +9,8 @@ use crate::ended::Ended;
 use crate::files::read_file;
 use crate::said::say;
 use crate::texts::{line_of_fault, line_of_read_fault};
-use layout_file::{Layout, LayoutCode, LayoutFault, read_layout};
+use layout::Layout;
+use layout_file::{LayoutCode, LayoutFault, read_layout};
 use lists::OutOfMemory;
 use outside::{Sink, Store, StoreFail};
 use std::alloc::Global;

@@ -5,7 +5,7 @@ use outside::{MemorySink, MemoryStore, OpenGate};
 use std::sync::Wait;
 use std::thread::Threads;
 
-/// What a capture in microseconds and in nanoseconds begins with, the lowest octet of a number first.
+/// What a capture in microseconds begins with, the lowest octet of a number first.
 const MICROS: [u8; 24] = [
     0xd4, 0xc3, 0xb2, 0xa1, 2, 0, 4, 0, 0, 0, 0, 0, 0, 0, 0, 0, 0, 0, 4, 0, 1, 0, 0, 0,
 ];

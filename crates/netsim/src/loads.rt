@@ -1,8 +1,9 @@
 //! The loads of a layout, read and judged.
 ghost use Rattle.std.specs.Prelude.{◌≡◌, ◌≤◌, length, All, IfOk, IfErr, OnOk, OnErr, option_map};
-ghost use Rattle.layout_file.specs.Sound.{IsSound};
+ghost use Rattle.layout.specs.Sound.{IsSound};
 ghost use Rattle.load_files.specs.Loaded.{IsLoaded, Whole, load_of};
 ghost use Rattle.netsim.specs.Ended.{IsFaultyEnd, IsUnloadedSaid, IsUnreadEnd};
+ghost use Rattle.netsim.specs.FileLimits.{most_load_records};
 ghost use Rattle.netsim.specs.Reading.{IsSaid};
 ghost use Rattle.netsim.specs.Texts.{line_of_load_fault};
 
@@ -11,7 +12,7 @@ use crate::judge::say_read_fault;
 use crate::said::say;
 use crate::texts::line_of_load_fault;
 use capture_file::CaptureFault;
-use layout_file::{Layout, StationLine};
+use layout::{Layout, StationLine};
 use lists::OutOfMemory;
 use load_files::{LoadStop, read_loads};
 use load_plan::RecordsList;
@@ -85,7 +86,7 @@ pub(crate) fn read_network_loads<S: Store, K: Sink>(
     requires { IsSound network.now }
     ensures loaded { IfOk result (λ loads. IsLoaded (S.held store.old) network.now.stations (Whole loads)) }
     ensures count { IfOk result (λ loads. length loads ≡ length network.now.stations) }
-    ensures few { IfOk result (λ loads. All (λ rs. length rs ≤ 4194304) loads) }
+    ensures few { IfOk result (λ loads. All (λ rs. length rs ≤ most_load_records) loads) }
     ensures silent { OnOk result (K.written out.new ≡ K.written out.old) }
     ensures faults { OnOk result (K.faults out.new ≡ K.faults out.old) }
     ensures refused { OnOk result (K.refused out.new ≡ K.refused out.old) }

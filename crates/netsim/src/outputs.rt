@@ -1,21 +1,21 @@
 //! The files of a run.
 ghost use Rattle.std.specs.Prelude.{◌≡◌, ◌≤◌, All, OnOk, OnErr, IfErr, string_bytes};
-ghost use Rattle.layout_file.specs.Sound.{IsSound};
-ghost use Rattle.net_step.specs.Outputs.{captures, rows};
+ghost use Rattle.layout.specs.Sound.{IsSound};
+ghost use Rattle.network.specs.Outputs.{captures, rows};
 ghost use Rattle.run_texts.specs.Captures.{AreShort, pcap_of_taken};
 ghost use Rattle.run_texts.specs.Counts.{AreLeft, counts_of};
 ghost use Rattle.netsim.specs.Ended.{IsFileEnd};
-ghost use Rattle.netsim.specs.Reading.{IsBroken, IsBrokenAmong, put, put_all};
-ghost use Rattle.netsim.specs.Runs.{capture_files, counters, files_of, log};
+ghost use Rattle.netsim.specs.Reading.{IsBroken, IsBrokenAmong, put_file, put_all};
+ghost use Rattle.netsim.specs.Runs.{capture_files, counters, run_files, log};
 ghost use Rattle.netsim.specs.Texts.{name_of_capture, name_of_counters, name_of_log};
 
 use crate::ended::Ended;
 use crate::files::write_file;
 use crate::texts::{name_of_capture, name_of_counters, name_of_log};
-use layout_file::StationLine;
+use layout::StationLine;
 use lists::{List, OutOfMemory};
 use load_plan::Plan;
-use net_step::{Outputs, TakenList};
+use network::{Outputs, TakenList};
 use outside::{Store, StoreFail};
 use run_texts::{counters_of_rows, log_of_rows, pcap_of};
 use std::alloc::Global;
@@ -33,7 +33,7 @@ impl From<OutOfMemory> for Ended {
 
 /// Makes a file of a text.
 fn file<S: Store>(store: &mut S, name: &str, text: &[u8]) -> Result<(), Ended>
-    ensures ok { OnOk result (S.held store.new ≡ put name.now text.now (S.held store.old)) }
+    ensures ok { OnOk result (S.held store.new ≡ put_file name.now text.now (S.held store.old)) }
     ensures err { OnErr result (IsBroken name.now text.now (S.held store.old) (S.held store.new)) }
     ensures ended { IfErr result (λ e. IsFileEnd (S.write_faults store.old) (S.write_faults store.new) e) }
     ensures writes { S.write_faults store.old ≤ S.write_faults store.new }
@@ -55,7 +55,7 @@ fn file_log<S: Store>(
 ) -> Result<(), Ended>
     requires sound { IsSound plan.now.layout }
     requires rows { outputs.now.rows ≡ rows plan.now }
-    ensures ok { OnOk result (S.held store.new ≡ put (name_of_log prefix.now) (log plan.now) (S.held store.old)) }
+    ensures ok { OnOk result (S.held store.new ≡ put_file (name_of_log prefix.now) (log plan.now) (S.held store.old)) }
     ensures err { OnErr result (IsBroken (name_of_log prefix.now) (log plan.now) (S.held store.old) (S.held store.new)) }
     ensures ended { IfErr result (λ e. IsFileEnd (S.write_faults store.old) (S.write_faults store.new) e) }
     ensures writes { S.write_faults store.old ≤ S.write_faults store.new }
@@ -76,7 +76,7 @@ fn file_counters<S: Store>(
     requires sound { IsSound plan.now.layout }
     requires rows { outputs.now.rows ≡ rows plan.now }
     requires left { AreLeft (counts_of plan.now (rows plan.now)) }
-    ensures ok { OnOk result (S.held store.new ≡ put (name_of_counters prefix.now) (counters plan.now) (S.held store.old)) }
+    ensures ok { OnOk result (S.held store.new ≡ put_file (name_of_counters prefix.now) (counters plan.now) (S.held store.old)) }
     ensures err { OnErr result (IsBroken (name_of_counters prefix.now) (counters plan.now) (S.held store.old) (S.held store.new)) }
     ensures ended { IfErr result (λ e. IsFileEnd (S.write_faults store.old) (S.write_faults store.new) e) }
     ensures writes { S.write_faults store.old ≤ S.write_faults store.new }
@@ -95,7 +95,7 @@ fn file_capture<S: Store>(
     store: &mut S,
 ) -> Result<(), Ended>
     requires { AreShort taken.now }
-    ensures ok { OnOk result (S.held store.new ≡ put (name_of_capture prefix.now station.now.name) (pcap_of_taken taken.now) (S.held store.old)) }
+    ensures ok { OnOk result (S.held store.new ≡ put_file (name_of_capture prefix.now station.now.name) (pcap_of_taken taken.now) (S.held store.old)) }
     ensures err { OnErr result (IsBroken (name_of_capture prefix.now station.now.name) (pcap_of_taken taken.now) (S.held store.old) (S.held store.new)) }
     ensures ended { IfErr result (λ e. IsFileEnd (S.write_faults store.old) (S.write_faults store.new) e) }
     ensures writes { S.write_faults store.old ≤ S.write_faults store.new }
@@ -139,8 +139,8 @@ pub(crate) fn file_outputs<S: Store>(
     requires captures { outputs.now.captures ≡ captures plan.now }
     requires left { AreLeft (counts_of plan.now (rows plan.now)) }
     requires short { All AreShort (captures plan.now) }
-    ensures ok { OnOk result (S.held store.new ≡ put_all (files_of prefix.now plan.now) (S.held store.old)) }
-    ensures err { OnErr result (IsBrokenAmong (files_of prefix.now plan.now) (S.held store.old) (S.held store.new)) }
+    ensures ok { OnOk result (S.held store.new ≡ put_all (run_files prefix.now plan.now) (S.held store.old)) }
+    ensures err { OnErr result (IsBrokenAmong (run_files prefix.now plan.now) (S.held store.old) (S.held store.new)) }
     ensures ended { IfErr result (λ e. IsFileEnd (S.write_faults store.old) (S.write_faults store.new) e) }
 {
     file_log(alloc, plan, outputs, prefix, store)?;

@@ -1,9 +1,10 @@
 //! The form that runs a network by half bits.
 ghost use Rattle.std.specs.Prelude.{◌≡◌, ◌≤◌, length, All, IfOk};
-ghost use Rattle.layout_file.specs.Sound.{IsSound};
+ghost use Rattle.layout.specs.Sound.{IsSound};
 ghost use Rattle.load_plan.specs.Loads.{planned_queues, planned_skips};
-ghost use Rattle.net_step.specs.Outputs.{captures, rows};
+ghost use Rattle.network.specs.Outputs.{captures, rows};
 ghost use Rattle.netsim.specs.Ended.{IsPlainEnd, IsRunEnd};
+ghost use Rattle.netsim.specs.FileLimits.{most_load_records};
 ghost use Rattle.netsim.specs.Runs.{IsMadeOf, IsSummary};
 
 use crate::ended::Ended;
@@ -12,10 +13,11 @@ use crate::loads::read_network_loads;
 use crate::outputs::file_outputs;
 use crate::said::write_line;
 use crate::verdict::verdict_line;
-use layout_file::Layout;
+use layout::Layout;
 use lists::{List, OutOfMemory};
 use load_plan::{Plan, RecordsList, make_plan};
-use net_step::{Outputs, run_plain};
+use net_step::run_plain;
+use network::Outputs;
 use outside::{Sink, Store};
 use run_texts::laws::{captures_are_short, frames_are_left};
 use run_texts::totals_of_rows;
@@ -45,7 +47,7 @@ fn summary_of(alloc: Global, plan: &Plan, outputs: &Outputs) -> Result<List<u8>,
 fn run_of(alloc: Global, network: Layout, loads: RecordsList) -> Result<Run, OutOfMemory>
     requires sound { IsSound network }
     requires loads { length loads ≡ length network.stations }
-    requires few { All (λ rs. length rs ≤ 4194304) loads }
+    requires few { All (λ rs. length rs ≤ most_load_records) loads }
     ensures plan { IfOk result (λ run. IsMadeOf network loads run.plan) }
     ensures rows { IfOk result (λ run. run.outputs.rows ≡ rows run.plan) }
     ensures captures { IfOk result (λ run. run.outputs.captures ≡ captures run.plan) }
@@ -72,7 +74,7 @@ fn run_network<S: Store, K: Sink>(
 ) -> Ended
     requires sound { IsSound network }
     requires loads { length loads ≡ length network.stations }
-    requires few { All (λ rs. length rs ≤ 4194304) loads }
+    requires few { All (λ rs. length rs ≤ most_load_records) loads }
     ensures { IsRunEnd network loads prefix.now
         (record { held = S.held store.old; reads = S.read_faults store.old; writes = S.write_faults store.old; written = K.written out.old; faults = K.faults out.old; refused = K.refused out.old })
         (record { held = S.held store.new; reads = S.read_faults store.new; writes = S.write_faults store.new; written = K.written out.new; faults = K.faults out.new; refused = K.refused out.new })

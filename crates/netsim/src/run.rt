@@ -4,7 +4,7 @@ ghost use Rattle.capture_file.specs.declared.entries.Record.{Record};
 ghost use Rattle.capture_file.specs.declared.fault.CaptureFault.{CaptureFault};
 ghost use Rattle.outside.specs.Files.{IsAbsent, Rose};
 ghost use Rattle.layout_file.specs.declared.fault.LayoutFault.{LayoutFault};
-ghost use Rattle.layout_file.specs.declared.layout.Layout.{Layout};
+ghost use Rattle.layout.specs.declared.lines.Layout.{Layout};
 ghost use Rattle.load_files.specs.Loaded.{IsLoaded, Whole};
 ghost use Rattle.netsim.specs.Detected.{AreRunCollisionsDetected};
 ghost use Rattle.netsim.specs.Ended.{IsEnd, IsJudged, HasFault};

@@ -1,10 +1,10 @@
 //! The line of a path verdict.
 ghost use Rattle.std.specs.Prelude.{◌≡◌, ◌++◌, IfOk, OnOk};
-ghost use Rattle.layout_file.specs.Sound.{IsSound};
+ghost use Rattle.layout.specs.Sound.{IsSound};
 ghost use Rattle.netsim.specs.Verdicts.{IsVerdictLine, line_of_verdict, name_of_station, text_of_pair};
 
 use crate::texts::add_number;
-use layout_file::Layout;
+use layout::Layout;
 use lists::{List, OutOfMemory};
 use path_checker::{PathVerdict, check_paths};
 use std::alloc::Global;

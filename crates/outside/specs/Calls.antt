@@ -1,4 +1,4 @@
--- Calls of one kind, some of which fail by their numbers.
+-- Calls of one kind, some of which fail by their numbers (profile).
 use Rattle.std.specs.Prelude.{◌==◌, ℕ, ◌+◌, ◌-◌, ◌^◌, min, List, Bool, if◌then◌else◌}
 use Rattle.std.specs.List.{list_any}
 use Rattle.outside.specs.declared.calls.Calls.{Calls}

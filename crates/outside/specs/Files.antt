@@ -1,4 +1,4 @@
--- The files of a store by their names, and what each call does to them.
+-- The files of a store by their names, and what each call does to them (profile).
 use Rattle.std.specs.Prelude.{◌≡◌, ◌⊎◌, ◌↔◌, ℕ, ◌+◌, ◌-◌, ◌≤◌, ◌<◌, ◌^◌, min, List, [], ◌∷◌, ◌++◌, length, take, drop, slice_index_or, slice_set, if◌then◌else◌, bytes_eq, Option, None, Some, unwrap_or, Result, Ok, Err, IfOk, IsErr}
 use Rattle.outside.specs.declared.memory.File.{File}
 
@@ -14,7 +14,9 @@ file_of name (f ∷ fs) = if bytes_eq f.name name then Some f.octets else file_o
 -- the files, where the named one has these octets, put at the end where it is new
 abbrev pub with_file : List ℕ → List ℕ → Files → Files
 with_file name octets [] = record { name = name; octets = octets } ∷ []
-with_file name octets (f ∷ fs) = if bytes_eq f.name name then record { name = f.name; octets = octets } ∷ fs else f ∷ with_file name octets fs
+with_file name octets (f ∷ fs) =
+    if bytes_eq f.name name then record { name = f.name; octets = octets } ∷ fs
+    else f ∷ with_file name octets fs
 
 -- the store tells its files, and this one isn't among them
 abbrev pub IsAbsent : List ℕ → Option Files → Type 0
@@ -23,7 +25,8 @@ IsAbsent name (Some files) = file_of name files ≡ None
 
 -- the front of the room is the file's octets from the place on
 abbrev pub IsPiece : List ℕ → ℕ → ℕ → List ℕ → Type 0
-IsPiece octets from n room = (take n room ≡ take n (drop from octets)) × (n ≤ length octets - from) × ((n ≡ 0) ↔ (length octets ≤ from))
+IsPiece octets from n room =
+    (take n room ≡ take n (drop from octets)) × (n ≤ length octets - from) × ((n ≡ 0) ↔ (length octets ≤ from))
 
 -- what a read of a file answers: an error where there is none
 abbrev pub IsReadOf : {E : Type 0} → Option (List ℕ) → ℕ → Result ℕ E → List ℕ → Type 0
@@ -38,7 +41,7 @@ IsRead name from files r room = IsReadOf (file_of name files) from r room
 abbrev pub Rose : ℕ → ℕ → Type 0
 Rose before now = min (before + 1) (2 ^ 64 - 1) ≤ now
 
--- so it has where nothing of a piece was taken
+-- a count of faults has risen where nothing of a piece was taken
 abbrev pub RoseAtNothing : {E : Type 0} → List ℕ → Result ℕ E → ℕ → ℕ → Type 0
 RoseAtNothing bytes r before now = r ≡ Ok 0 → 0 < length bytes → Rose before now
 
@@ -65,11 +68,12 @@ written_more bytes (Err _) written = written
 abbrev pub IsSinkRefusal : {E : Type 0} → List ℕ → Result ℕ E → Type 0
 IsSinkRefusal bytes r = IsErr r ⊎ ((r ≡ Ok 0) × (0 < length bytes))
 
--- the first file of a name is the i-th
+-- the first file of a name is the one at place i, from 0
 pub record IsPlace (name : List ℕ) (files : Files) (i : ℕ) : Type 0 where
   pub within : i < length files
   pub file : (d : File) → file_of name files ≡ Some (slice_index_or files i d).octets
-  pub with : (octets : List ℕ) (d : File) → with_file name octets files ≡ slice_set files i (record (slice_index_or files i d) { octets = octets })
+  pub with : (octets : List ℕ) (d : File)
+      → with_file name octets files ≡ slice_set files i (record (slice_index_or files i d) { octets = octets })
 
 -- no file has the name
 pub record IsNowhere (name : List ℕ) (files : Files) : Type 0 where

@@ -1,4 +1,4 @@
--- The counts of faults of the store of real files and of the standard output.
+-- The counts of faults of the store of real files and of the standard output (profile).
 use Rattle.std.specs.Prelude.{ℕ}
 use Rattle.outside.specs.declared.folder.FolderStore.{FolderStore}
 use Rattle.outside.specs.declared.folder.OutSink.{OutSink}

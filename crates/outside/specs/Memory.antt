@@ -1,4 +1,4 @@
--- What a store in memory shows.
+-- What a store in memory shows (profile).
 use Rattle.std.specs.Prelude.{ℕ, List, max}
 use Rattle.outside.specs.declared.calls.Calls.{Calls}
 use Rattle.outside.specs.declared.memory.MemoryStore.{MemoryStore}
@@ -14,24 +14,40 @@ files_of store = store.files.items
 abbrev pub tally_of : MemoryStore → Tally
 tally_of store = store.tally
 
--- before any call; the numbers are those of the reads, starts and appends that fail
+-- the tally before any call; the numbers are those of the reads, starts and appends that fail
 abbrev pub no_tally : List ℕ → List ℕ → List ℕ → Tally
-no_tally reads starts appends = record { reads = no_calls reads; starts = no_calls starts; appends = no_calls appends; read_faults = 0; write_faults = 0; largest = 0 }
+no_tally reads starts appends =
+    record {
+      reads = no_calls reads;
+      starts = no_calls starts;
+      appends = no_calls appends;
+      read_faults = 0;
+      write_faults = 0;
+      largest = 0;
+    }
 
--- one more read, with a room of so many octets
+-- the tally after one more read, with a room of so many octets
 abbrev pub after_read : ℕ → Tally → Tally
 after_read room tally =
     let reads : Calls = next_call tally.reads in
-    record tally { reads = reads; read_faults = faults_after (is_failing reads) tally.read_faults; largest = max tally.largest room }
+    record tally {
+      reads = reads;
+      read_faults = faults_after (is_failing reads) tally.read_faults;
+      largest = max tally.largest room;
+    }
 
--- one more start
+-- the tally after one more start
 abbrev pub after_start : Tally → Tally
 after_start tally =
     let starts : Calls = next_call tally.starts in
     record tally { starts = starts; write_faults = faults_after (is_failing starts) tally.write_faults }
 
--- one more append, of so many octets
+-- the tally after one more append, of so many octets
 abbrev pub after_append : ℕ → Tally → Tally
 after_append piece tally =
     let appends : Calls = next_call tally.appends in
-    record tally { appends = appends; write_faults = faults_after (is_failing appends) tally.write_faults; largest = max tally.largest piece }
+    record tally {
+      appends = appends;
+      write_faults = faults_after (is_failing appends) tally.write_faults;
+      largest = max tally.largest piece;
+    }

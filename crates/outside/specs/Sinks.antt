@@ -1,4 +1,4 @@
--- What a sink in memory shows.
+-- What a sink in memory shows (profile).
 use Rattle.std.specs.Prelude.{ℕ, List}
 use Rattle.outside.specs.declared.calls.Calls.{Calls}
 use Rattle.outside.specs.declared.sink.MemorySink.{MemorySink}

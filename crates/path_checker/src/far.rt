@@ -1,14 +1,14 @@
 //! The station that is farthest from a tap.
 ghost use Rattle.std.specs.Prelude.{◌≡◌, ℕ, ◌+◌, ◌^◌, ◌<◌, ◌≤◌, Some};
 ghost use Rattle.std.specs.Option.{ForSome};
-ghost use Rattle.layout_file.specs.Sound.{IsSound};
-ghost use Rattle.layout_file.specs.Paths.{delay_of, step_length, other_way};
+ghost use Rattle.layout.specs.Sound.{IsSound};
+ghost use Rattle.layout.specs.Paths.{delay_of, step_length, other_way};
 ghost use Rattle.path_checker.specs.Stops.{IsNetworkOf};
 ghost use Rattle.path_checker.specs.Far.{IsStop, HasRoom, IsOnward, IsFarthest, IsRight, is_same_tap, farther_of, lengthened};
 
 use crate::stops::{Network, Stop};
 use crate::table::{Entry, Table, entry_of, set_entry};
-use layout_file::{Layout, Tap, Way};
+use layout::{Layout, Tap, Way};
 
 /// A station, and how far it is in half bits.
 #[derive(Clone, Copy, Debug, PartialEq, Eq)]
@@ -17,6 +17,7 @@ pub struct Far {
     pub station: u32,
 }
 
+/// The way of the step after one by this way.
 fn other_way(way: Way) -> Way
     ensures { result ≡ other_way way }
 {
@@ -26,7 +27,7 @@ fn other_way(way: Way) -> Way
     }
 }
 
-/// The delay of a port's repeater.
+/// The delay of a port's repeater in half bits, and 0 for a station.
 fn delay_of(layout: &Layout, tap: Tap) -> u32
     ensures { result ≡ delay_of layout.now tap }
 {
@@ -42,6 +43,7 @@ fn delay_of(layout: &Layout, tap: Tap) -> u32
     }
 }
 
+/// How long a step is in half bits: the distance along a cable, or the delay of a repeater.
 fn step_length(layout: &Layout, way: Way, from: &Stop, to: &Stop) -> u32
     requires from { IsStop layout.now from.now }
     requires to { IsStop layout.now to.now }
@@ -92,6 +94,7 @@ fn farther(a: Option<Far>, b: Option<Far>) -> Option<Far>
     }
 }
 
+/// The same station, so many half bits farther away.
 fn lengthened(by: u32, far: Option<Far>) -> Option<Far>
     requires { ForSome far (λ f. by + f.length < 2 ^ 32) }
     ensures { result ≡ lengthened by far }

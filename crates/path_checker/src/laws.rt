@@ -13,8 +13,8 @@ pub fn early_start()
     ensures { EarlyStart }
 {}
 
-/// Late start: a station that starts while it hears the other starts at most 191 half bits after the signal came, has a hit at
-/// once, and the other has one within twice the path's length and 191 half bits.
+/// Late start: a station that starts while it hears the other starts less than an interframe gap after the signal came and
+/// has a hit at once, and the other has one less than an interframe gap after twice the path's length.
 pub fn late_start()
     ensures { LateStart }
 {}

@@ -9,6 +9,3 @@ mod verdict;
 
 pub use lists::OutOfMemory;
 pub use verdict::{PathVerdict, check_paths};
-
-#[cfg(test)]
-mod tests;

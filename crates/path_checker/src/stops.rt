@@ -1,14 +1,16 @@
 //! The taps of a network, by their segments and by their repeaters.
 ghost use Rattle.std.specs.Prelude.{◌≡◌, ◌≤◌, ◌++◌, All, OnOk, IfOk, map, length};
-ghost use Rattle.layout_file.specs.Joined.{counted_up};
-ghost use Rattle.layout_file.specs.Sound.{IsSound};
+ghost use Rattle.layout.specs.Joined.{counted_up};
+ghost use Rattle.layout.specs.Sound.{IsSound};
+ghost use Rattle.layout.specs.Limits.{most_repeaters, most_segments, most_stations};
+ghost use Rattle.mac_parameters.specs.Parameters.{most_ports};
 ghost use Rattle.path_checker.specs.Stops.{station_stops, port_stops, repeater_stops, all_stops, stops_on, repeater_lists, stops_by, list_at, IsNetworkOf};
 
-use layout_file::{Layout, PortLine, RepeaterLine, StationLine, Tap, Way};
+use layout::{Layout, PortLine, RepeaterLine, StationLine, Tap, Way};
 use lists::{List, OutOfMemory};
 use std::alloc::Global;
 
-/// A tap, with its segment's number from 0 and its place there in half bits.
+/// A tap, with its segment's number from 0 and its place there in half bits from the end of the cable.
 #[derive(Clone, Copy, Debug, PartialEq, Eq)]
 pub struct Stop {
     pub tap: Tap,
@@ -16,6 +18,7 @@ pub struct Stop {
     pub at: u32,
 }
 
+/// Taps in the file's order.
 pub type Stops = List<Stop>;
 
 /// The taps of each segment and of each repeater, in the file's order.
@@ -25,8 +28,9 @@ pub struct Network {
     pub repeaters: List<Stops>,
 }
 
+/// Puts the taps of the stations, counted from 0, at the end of a list.
 fn push_stations(stops: &mut Stops, stations: &[StationLine]) -> Result<(), OutOfMemory>
-    requires { length stations.now ≤ 1024 }
+    requires { length stations.now ≤ most_stations }
     ensures { OnOk result (stops.new ≡ stops.old ++ station_stops 0 stations.now) }
 {
     for k in 0..stations.len() {
@@ -40,8 +44,9 @@ fn push_stations(stops: &mut Stops, stations: &[StationLine]) -> Result<(), OutO
     Ok(())
 }
 
+/// Puts the taps of the ports of a repeater, both counted from 0, at the end of a list.
 fn push_ports(stops: &mut Stops, repeater: u32, ports: &[PortLine]) -> Result<(), OutOfMemory>
-    requires { length ports.now ≤ 32 }
+    requires { length ports.now ≤ most_ports }
     ensures { OnOk result (stops.new ≡ stops.old ++ port_stops repeater 0 ports.now) }
 {
     for k in 0..ports.len() {
@@ -58,9 +63,10 @@ fn push_ports(stops: &mut Stops, repeater: u32, ports: &[PortLine]) -> Result<()
     Ok(())
 }
 
+/// Puts the taps of the ports of the repeaters, counted from 0, at the end of a list.
 fn push_all_ports(stops: &mut Stops, repeaters: &[RepeaterLine]) -> Result<(), OutOfMemory>
-    requires count { length repeaters.now ≤ 128 }
-    requires ports { All (λ r. length r.ports ≤ 32) repeaters.now }
+    requires count { length repeaters.now ≤ most_repeaters }
+    requires ports { All (λ r. length r.ports ≤ most_ports) repeaters.now }
     ensures { OnOk result (stops.new ≡ stops.old ++ repeater_stops 0 repeaters.now) }
 {
     for k in 0..repeaters.len() {
@@ -69,6 +75,7 @@ fn push_all_ports(stops: &mut Stops, repeaters: &[RepeaterLine]) -> Result<(), O
     Ok(())
 }
 
+/// All taps of a layout: those of the stations, then those of the repeaters' ports.
 #[tactic(auto, unfolding(crate::specs::Stops::all_stops))]
 fn all_stops(alloc: Global, layout: &Layout) -> Result<Stops, OutOfMemory>
     requires { IsSound layout.now }
@@ -80,6 +87,7 @@ fn all_stops(alloc: Global, layout: &Layout) -> Result<Stops, OutOfMemory>
     Ok(stops)
 }
 
+/// Those of these taps that are on a segment.
 fn on_segment(alloc: Global, all: &[Stop], segment: u32) -> Result<Stops, OutOfMemory>
     ensures { IfOk result (λ stops. stops ≡ stops_on all.now segment) }
 {
@@ -93,8 +101,9 @@ fn on_segment(alloc: Global, all: &[Stop], segment: u32) -> Result<Stops, OutOfM
     Ok(stops)
 }
 
+/// The taps of each of the first `count` segments.
 fn segment_lists(alloc: Global, all: &[Stop], count: usize) -> Result<List<Stops>, OutOfMemory>
-    requires { count ≤ 256 }
+    requires { count ≤ most_segments }
     ensures { IfOk result (λ lists. lists ≡ map (stops_on all.now) (counted_up count)) }
 {
     let mut lists = List::new(alloc);
@@ -104,8 +113,9 @@ fn segment_lists(alloc: Global, all: &[Stop], count: usize) -> Result<List<Stops
     Ok(lists)
 }
 
+/// The taps of the ports of a repeater.
 fn ports_of(alloc: Global, repeater: u32, ports: &[PortLine]) -> Result<Stops, OutOfMemory>
-    requires { length ports.now ≤ 32 }
+    requires { length ports.now ≤ most_ports }
     ensures { IfOk result (λ stops. stops ≡ port_stops repeater 0 ports.now) }
 {
     let mut stops = List::new(alloc);
@@ -113,9 +123,10 @@ fn ports_of(alloc: Global, repeater: u32, ports: &[PortLine]) -> Result<Stops, O
     Ok(stops)
 }
 
+/// The taps of each repeater.
 fn repeater_lists(alloc: Global, repeaters: &[RepeaterLine]) -> Result<List<Stops>, OutOfMemory>
-    requires count { length repeaters.now ≤ 128 }
-    requires ports { All (λ r. length r.ports ≤ 32) repeaters.now }
+    requires count { length repeaters.now ≤ most_repeaters }
+    requires ports { All (λ r. length r.ports ≤ most_ports) repeaters.now }
     ensures { IfOk result (λ lists. lists ≡ repeater_lists 0 repeaters.now) }
 {
     let mut lists = List::new(alloc);
@@ -139,6 +150,7 @@ pub fn network_of(alloc: Global, layout: &Layout) -> Result<Network, OutOfMemory
     })
 }
 
+/// List `n` of these, counted from 0, and an empty one where there is no list `n`.
 fn list_at(lists: &List<Stops>, n: u32) -> &[Stop]
     ensures { result.now ≡ list_at lists.now n }
 {

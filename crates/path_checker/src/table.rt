@@ -1,10 +1,11 @@
 //! What is known of the ports of a network.
 ghost use Rattle.std.specs.Prelude.{◌≡◌, ◌*◌, ◌≤◌, replicate, IfOk};
+ghost use Rattle.layout.specs.Limits.{most_repeaters};
 ghost use Rattle.path_checker.specs.Far.{way_number, entry_place, entry_of, with_entry};
 ghost use Rattle.path_checker.specs.declared.table.Entry.TheVariants.{Open};
 
 use crate::far::Far;
-use layout_file::{Tap, Way};
+use layout::{Tap, Way};
 use lists::{List, OutOfMemory};
 use std::alloc::Global;
 
@@ -20,7 +21,7 @@ pub type Table = List<Entry>;
 
 /// A table for so many repeaters in which nothing is known.
 pub fn open_table(alloc: Global, repeaters: usize) -> Result<Table, OutOfMemory>
-    requires { repeaters ≤ 128 }
+    requires { repeaters ≤ most_repeaters }
     ensures { IfOk result (λ table. table ≡ replicate (64 * repeaters) Open) }
 {
     let mut table = List::new(alloc);
@@ -30,6 +31,7 @@ pub fn open_table(alloc: Global, repeaters: usize) -> Result<Table, OutOfMemory>
     Ok(table)
 }
 
+/// The number of a way: 0 along a cable, 1 through a repeater.
 fn way_number(way: Way) -> usize
     ensures { result ≡ way_number way }
 {
@@ -39,12 +41,14 @@ fn way_number(way: Way) -> usize
     }
 }
 
+/// Where a table has the entry of a port by a way, with room for 32 ports of each repeater.
 fn entry_place(way: Way, repeater: u32, port: u32) -> usize
     ensures { result ≡ entry_place way repeater port }
 {
     64 * repeater as usize + 2 * port as usize + way_number(way)
 }
 
+/// The entry of a tap by a way; a station has none, and is always `Open`.
 pub fn entry_of(table: &Table, way: Way, tap: Tap) -> Entry
     ensures { result ≡ entry_of table.now way tap }
 {
@@ -59,6 +63,7 @@ pub fn entry_of(table: &Table, way: Way, tap: Tap) -> Entry
     }
 }
 
+/// Puts down what is found for a tap by a way; nothing is kept of a station.
 pub fn set_entry(table: &mut Table, way: Way, tap: Tap, far: Option<Far>)
     ensures { table.new ≡ with_entry table.old way tap far }
 {

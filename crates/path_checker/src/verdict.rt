@@ -1,24 +1,19 @@
 //! The worst round trip of a layout, judged against the slot time.
 ghost use Rattle.std.specs.Prelude.{◌≡◌, ◌<◌, ◌≤◌, ◌↔◌, IfOk, length};
 ghost use Rattle.std.specs.Option.{ForSome};
-ghost use Rattle.layout_file.specs.Sound.{IsSound};
+ghost use Rattle.layout.specs.Sound.{IsSound};
 ghost use Rattle.path_checker.specs.Far.{IsFarthest, IsRight};
 ghost use Rattle.path_checker.specs.Propagation.{IsKept};
-ghost use Rattle.path_checker.specs.Verdicts.{IsVerdict, IsApart, IsWorstBelow, longer_of, verdict_of};
+ghost use Rattle.path_checker.specs.Verdicts.{IsVerdict, IsApart, IsWorstBelow, longer_of, verdict_of_worst};
 ghost use Rattle.path_checker.specs.Stops.{IsNetworkOf};
 
 use crate::far::{Far, farthest};
 use crate::stops::{Network, Stop, network_of};
 use crate::table::{Table, open_table};
-use layout_file::{Layout, Tap, Way};
+use layout::{Layout, Tap, Way};
 use lists::OutOfMemory;
+use mac_parameters::{INTERFRAME_GAP, SLOT_TIME};
 use std::alloc::Global;
-
-/// The slot time in half bits.
-const SLOT: u32 = 1_024;
-
-/// The interframe gap in half bits.
-const GAP: u32 = 192;
 
 /// As many taps as a layout can have.
 const MOST_TAPS: u32 = 5_120;
@@ -84,6 +79,7 @@ fn longer(worst: Option<Worst>, a: u32, far: Option<Far>) -> Option<Worst>
     }
 }
 
+/// The two stations that are farthest apart, the first pair of equally far ones.
 fn worst_pair(layout: &Layout, network: &Network, table: &mut Table) -> Option<Worst>
     requires sound { IsSound layout.now }
     requires network { IsNetworkOf layout.now network.now }
@@ -98,15 +94,16 @@ fn worst_pair(layout: &Layout, network: &Network, table: &mut Table) -> Option<W
     worst
 }
 
+/// What the two stations that are farthest apart say of a layout.
 fn verdict_of(worst: Option<Worst>) -> PathVerdict
     requires { ForSome worst (λ w. w.length ≤ 10240000) }
-    ensures { result ≡ verdict_of worst }
+    ensures { result ≡ verdict_of_worst worst }
 {
     let Some(Worst { length, a, b }) = worst else {
         return PathVerdict::NoPair;
     };
-    let worst = 2 * length + GAP;
-    if worst < SLOT {
+    let worst = 2 * length + INTERFRAME_GAP;
+    if worst < SLOT_TIME {
         PathVerdict::Within { worst, a, b }
     } else {
         PathVerdict::Over { worst, a, b }
@@ -119,8 +116,8 @@ pub fn check_paths(alloc: Global, layout: &Layout) -> Result<PathVerdict, OutOfM
     ensures no_pair { IfOk result (λ v. (v ≡ PathVerdict.NoPair) ↔ (length layout.now.stations < 2)) }
     ensures verdict { IfOk result (IsVerdict layout.now) }
 
-    // Where the verdict is Within, any two attempts of different stations that overlap over an open path are both hit below
-    // position 1,022, in every plan with this network.
+    // Where the verdict is Within, any two attempts of different stations that overlap over an open path are both hit before
+    // the 512th bit of their sendings begins, in every plan with this network (4.1.2.2).
     ensures detected { IfOk result (IsKept layout.now) }
 {
     let network = network_of(alloc, layout)?;

@@ -1,19 +1,16 @@
-//! A port's guard.
-ghost use Rattle.std.specs.Prelude.{◌≡◌, IsTrue};
-ghost use Rattle.port_partition.specs.Guard.{event_of, guard_after, new_guard};
+//! A port's guard: its partition and its reconnection (our profile, in the manner of clause 9).
+ghost use Rattle.std.specs.Prelude.{◌≡◌, ◌≢◌, ◌<◌, IsTrue};
+ghost use Rattle.port_partition.specs.Alike.{HasNoEvent, forever, guard_calm, guard_later};
+ghost use Rattle.port_partition.specs.declared.guard.GuardEvent.TheVariants.{None};
+ghost use Rattle.port_partition.specs.Guard.{event_of, guard_after, new_guard, row_with};
 
+use mac_parameters::{PARTITION_COLLISION, PARTITION_IN_A_ROW, RECONNECTION};
 use std::marker::Model;
 
-/// The collisions in a row that close a port (profile).
-const MOST_IN_ROW: u32 = 31;
+/// The number of half bits that stands for all to come.
+pub const FOREVER: u32 = u32::MAX;
 
-/// The half bits of one collision that close a port (profile).
-const MOST_CLASH: u32 = 2_049;
-
-/// The half bits without a collision after which a closed port may open (profile).
-const ENOUGH_CLEAN: u32 = 1_024;
-
-/// What a step did to a port.
+/// What a half bit did to a port: nothing, or it was partitioned, or connected again.
 #[derive(Clone, Copy, Debug, PartialEq, Eq)]
 pub enum GuardEvent {
     None,
@@ -21,10 +18,10 @@ pub enum GuardEvent {
     Opened,
 }
 
-/// The guard of a port: whether it is closed, whether it opens once nothing is heard, whether the activity
-/// under way had a collision, the collisions in a row, and the half bits of the collision and of the
-/// clean run under way. At most 31 collisions, 2,049 half bits of collision and 1,024 clean ones are
-/// counted, and only a closed port may open.
+/// The guard of a port: whether it is closed (partitioned), whether it opens (is connected again) once nothing is heard,
+/// whether the activity under way had a collision, the collisions in a row, and the half bits of the collision and of
+/// the clean run under way. Each is counted as far as it takes to partition the port or to connect it again, and only
+/// a closed port may open.
 #[derive(Clone, Copy, Debug, PartialEq, Eq)]
 pub struct PortGuard {
     pub closed: bool,
@@ -98,22 +95,24 @@ impl PortGuard {
             event = GuardEvent::Opened;
         }
         if clash {
-            self.clash_run = (self.clash_run + 1).min(MOST_CLASH);
+            self.clash_run = (self.clash_run + 1).min(PARTITION_COLLISION);
             self.clean_run = 0;
             self.mend = false;
             if !self.struck {
                 self.struck = true;
-                self.in_row = (self.in_row + 1).min(MOST_IN_ROW);
+                self.in_row = (self.in_row + 1).min(PARTITION_IN_A_ROW);
             }
-            if !self.closed && (self.in_row == MOST_IN_ROW || self.clash_run == MOST_CLASH) {
+            if !self.closed
+                && (self.in_row == PARTITION_IN_A_ROW || self.clash_run == PARTITION_COLLISION)
+            {
                 self.closed = true;
                 event = GuardEvent::Closed;
             }
         } else {
             self.clash_run = 0;
             if hears || emits {
-                self.clean_run = (self.clean_run + 1).min(ENOUGH_CLEAN);
-                if self.clean_run == ENOUGH_CLEAN {
+                self.clean_run = (self.clean_run + 1).min(RECONNECTION);
+                if self.clean_run == RECONNECTION {
                     self.in_row = 0;
                     self.mend = self.closed;
                 }
@@ -123,5 +122,79 @@ impl PortGuard {
             }
         }
         event
+    }
+
+    /// For how many half bits alike nothing happens to the port, or `FOREVER` where nothing ever does.
+    pub fn calm(&self, hears: bool, clash: bool, emits: bool) -> u32
+        requires { IsTrue clash → IsTrue hears }
+        ensures calm { HasNoEvent hears clash emits result self.now }
+        ensures greatest { result < forever → event_of (guard_later hears clash emits result self.now) hears clash ≢ None }
+    {
+        let _closed = self.closed;
+        self.count_calm(hears, clash, emits)
+    }
+
+    fn count_calm(&self, hears: bool, clash: bool, emits: bool) -> u32
+        ensures { result ≡ guard_calm hears clash emits self.now }
+    {
+        if clash {
+            if self.closed {
+                FOREVER
+            } else if self.row_with_this() == PARTITION_IN_A_ROW {
+                0
+            } else {
+                (PARTITION_COLLISION - 1).saturating_sub(self.clash_run)
+            }
+        } else if hears || !self.closed {
+            FOREVER
+        } else if self.mend {
+            0
+        } else if emits {
+            (RECONNECTION - self.clean_run).max(1)
+        } else {
+            FOREVER
+        }
+    }
+
+    /// The collisions in a row, counted with the one under way.
+    fn row_with_this(&self) -> u32
+        ensures { result ≡ row_with self.now }
+    {
+        if self.struck {
+            self.in_row
+        } else {
+            (self.in_row + 1).min(PARTITION_IN_A_ROW)
+        }
+    }
+
+    /// The guard after `n` half bits alike, in which nothing happens to the port. Its time does not grow with `n`.
+    #[tactic(auto, using(crate::proofs::GuardsLater::later_is))]
+    pub fn leap(&mut self, n: u32, hears: bool, clash: bool, emits: bool)
+        requires clash { IsTrue clash → IsTrue hears }
+        requires calm { HasNoEvent hears clash emits n self.old }
+        ensures { self.new ≡ guard_later hears clash emits n self.old }
+    {
+        if n == 0 {
+            return;
+        }
+        if clash {
+            self.in_row = self.row_with_this();
+            self.clash_run = self.clash_run.saturating_add(n).min(PARTITION_COLLISION);
+            self.clean_run = 0;
+            self.mend = false;
+            self.struck = true;
+        } else if hears || emits {
+            self.clash_run = 0;
+            let clean = self.clean_run.saturating_add(n);
+            if clean >= RECONNECTION {
+                self.in_row = 0;
+                self.mend = self.closed;
+            }
+            self.clean_run = clean.min(RECONNECTION);
+        } else {
+            self.clash_run = 0;
+            self.clean_run = 0;
+            self.struck = false;
+        }
     }
 }

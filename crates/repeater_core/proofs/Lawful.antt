@@ -3,6 +3,10 @@ use Rattle.std.proofs.Common.{◌≡◌, ◌≢◌, ℕ, zero, suc, ◌+◌, ◌
 use Rattle.std.proofs.lemmas.Bool.Decides.{nat_tests}
 use Rattle.std.proofs.lemmas.List.{get_or-map, length-map, length-replicate}
 use Rattle.std.proofs.lemmas.List.Elements.{All-append, All-drop, All-take, All-replicate}
+use Rattle.mac_parameters.specs.Parameters.{fragment_extension, jabber_limit}
+use Rattle.repeater_core.specs.Limits.{counts_end}
+use Rattle.mac_parameters.specs.Parameters.{greatest_delay}
+use Rattle.mac_parameters.specs.Parameters.{most_ports}
 use Rattle.manchester_line.specs.declared.Sym.{Sym}
 use Rattle.manchester_line.specs.declared.Sym.TheVariants as sy
 use Rattle.port_partition.specs.Guard.{Guard, new_guard}
@@ -12,16 +16,16 @@ use Rattle.repeater_core.specs.declared.modes.Activity.{Activity}
 use Rattle.repeater_core.specs.Modes.{IsMode, count_of, jams_of, activity_from, mode_after, wish_of}
 use Rattle.repeater_core.specs.Counts.{Count, Choice, choice, choice_awake, choices_from, resting_count}
 use Rattle.repeater_core.specs.Delayed.{Delayed, moved_on}
-use Rattle.repeater_core.specs.Laws.{HasNoClash, SendsNothing, IsLongFor, count_at, AreLong, RestInSilence, Repeats, EndsLong}
+use Rattle.repeater_core.specs.Laws.{HasNoClash, SendsNothing, IsLongFor, count_at, AreLong, RestWithoutOutput, Repeats, EndsLong}
 use Rattle.repeater_core.specs.Step.{State, IsState, guards_after, mode_next, chosen, SignalsAreRepeated}
-use Rattle.repeater_core.proofs.Wishes.{choose, IsWishFor, wish_is, IsRepeatable, repeatable, hears_as, Has, active, mode_sends, sends_to_others}
-use Rattle.repeater_core.proofs.Long.{output_is_long}
+use Rattle.repeater_core.proofs.SendsToOthers.{choose, IsWishFor, wish_is, IsRepeatable, repeatable, hears_as, Has, active, mode_sends, sends_to_others}
+use Rattle.repeater_core.proofs.OutputIsLong.{output_is_long}
 
 -- what a port makes of a wish
 no_clash_awake : (s : Sym) (c : Count) → s ≢ sy.Clash → (choice_awake s c).symbol ≢ sy.Clash
 no_clash_awake sy.Idle c h = λ e. cc
-no_clash_awake sy.Hi c h = choose (λ (x : Choice). x.symbol ≢ sy.Clash) (eqb c.run 100000) _ _ (λ _ e. cc) (λ _. h)
-no_clash_awake sy.Lo c h = choose (λ (x : Choice). x.symbol ≢ sy.Clash) (eqb c.run 100000) _ _ (λ _ e. cc) (λ _. h)
+no_clash_awake sy.Hi c h = choose (λ (x : Choice). x.symbol ≢ sy.Clash) (eqb c.run jabber_limit) _ _ (λ _ e. cc) (λ _. h)
+no_clash_awake sy.Lo c h = choose (λ (x : Choice). x.symbol ≢ sy.Clash) (eqb c.run jabber_limit) _ _ (λ _ e. cc) (λ _. h)
 no_clash_awake sy.Clash c h = absurd (h refl)
 
 no_clash_choice : (s : Sym) (c : Count) → s ≢ sy.Clash → (choice s c).symbol ≢ sy.Clash
@@ -29,9 +33,9 @@ no_clash_choice s c h = choose (λ (x : Choice). x.symbol ≢ sy.Clash) (eqb c.r
 
 busy_awake : (s : Sym) (c : Count) → s ≢ sy.Idle → (choice_awake s c).rests ≡ false → (choice_awake s c).symbol ≢ sy.Idle
 busy_awake sy.Idle c h = absurd (h refl)
-busy_awake sy.Hi c h = choose (λ (x : Choice). x.rests ≡ false → x.symbol ≢ sy.Idle) (eqb c.run 100000) _ _ (λ _ r. absurd (cc)) (λ _ _. h)
-busy_awake sy.Lo c h = choose (λ (x : Choice). x.rests ≡ false → x.symbol ≢ sy.Idle) (eqb c.run 100000) _ _ (λ _ r. absurd (cc)) (λ _ _. h)
-busy_awake sy.Clash c h = choose (λ (x : Choice). x.rests ≡ false → x.symbol ≢ sy.Idle) (eqb c.run 100000) _ _ (λ _ r. absurd (cc)) (λ _ _. h)
+busy_awake sy.Hi c h = choose (λ (x : Choice). x.rests ≡ false → x.symbol ≢ sy.Idle) (eqb c.run jabber_limit) _ _ (λ _ r. absurd (cc)) (λ _ _. h)
+busy_awake sy.Lo c h = choose (λ (x : Choice). x.rests ≡ false → x.symbol ≢ sy.Idle) (eqb c.run jabber_limit) _ _ (λ _ r. absurd (cc)) (λ _ _. h)
+busy_awake sy.Clash c h = choose (λ (x : Choice). x.rests ≡ false → x.symbol ≢ sy.Idle) (eqb c.run jabber_limit) _ _ (λ _ r. absurd (cc)) (λ _ _. h)
 
 busy_choice : (s : Sym) (c : Count) → s ≢ sy.Idle → (choice s c).rests ≡ false → (choice s c).symbol ≢ sy.Idle
 busy_choice s c h = choose (λ (x : Choice). x.rests ≡ false → x.symbol ≢ sy.Idle) (eqb c.rest 0) (choice_awake s c) _ (λ _. busy_awake s c h) (λ _ r. absurd (cc))
@@ -45,8 +49,8 @@ LongBefore mode q c = (SendsNothing mode q → IsLongFor mode q 0) × (c.after_r
 
 keeps_awake : (mode : Mode) (q : ℕ) (s : Sym) (c : Count) → IsWishFor mode q s → LongBefore mode q c → KeepsLong mode q (choice_awake s c)
 keeps_awake mode q sy.Idle c w h = λ _. h.0 (w.nothing refl)
-keeps_awake mode q sy.Hi c w h = choose (KeepsLong mode q) (eqb c.run 100000) _ _ (λ _ r. absurd (cc)) (λ _ r. h.1 r (w.something (λ e. cc)))
-keeps_awake mode q sy.Lo c w h = choose (KeepsLong mode q) (eqb c.run 100000) _ _ (λ _ r. absurd (cc)) (λ _ r. h.1 r (w.something (λ e. cc)))
+keeps_awake mode q sy.Hi c w h = choose (KeepsLong mode q) (eqb c.run jabber_limit) _ _ (λ _ r. absurd (cc)) (λ _ r. h.1 r (w.something (λ e. cc)))
+keeps_awake mode q sy.Lo c w h = choose (KeepsLong mode q) (eqb c.run jabber_limit) _ _ (λ _ r. absurd (cc)) (λ _ r. h.1 r (w.something (λ e. cc)))
 keeps_awake mode q sy.Clash c w h = absurd (w.no_clash refl)
 
 keeps : (mode : Mode) (q : ℕ) (s : Sym) (c : Count) → IsWishFor mode q s → LongBefore mode q c → KeepsLong mode q (choice s c)
@@ -62,21 +66,21 @@ fresh_long (OnePort n i) q h = (λ _. refl, λ d. absurd (d h))
 
 -- an output that ends
 abbrev StopsLong : Count → Choice → Type 0
-StopsLong c x = x.symbol ≡ sy.Idle → 192 ≤ c.run
+StopsLong c x = x.symbol ≡ sy.Idle → fragment_extension ≤ c.run
 
-stops_awake : (mode : Mode) (q : ℕ) (s : Sym) (c : Count) → IsWishFor mode q s → (SendsNothing mode q → 192 ≤ c.run) → StopsLong c (choice_awake s c)
+stops_awake : (mode : Mode) (q : ℕ) (s : Sym) (c : Count) → IsWishFor mode q s → (SendsNothing mode q → fragment_extension ≤ c.run) → StopsLong c (choice_awake s c)
 stops_awake mode q sy.Idle c w h = λ _. h (w.nothing refl)
-stops_awake mode q sy.Hi c w h = choose (StopsLong c) (eqb c.run 100000) _ _ (λ full _. many c.run full) (λ _ e. absurd (cc))
+stops_awake mode q sy.Hi c w h = choose (StopsLong c) (eqb c.run jabber_limit) _ _ (λ full _. many c.run full) (λ _ e. absurd (cc))
   where
-    many : (n : ℕ) → eqb n 100000 ≡ true → 192 ≤ n
+    many : (n : ℕ) → eqb n jabber_limit ≡ true → fragment_extension ≤ n
     many n e = grind (arith, nat_tests)
-stops_awake mode q sy.Lo c w h = choose (StopsLong c) (eqb c.run 100000) _ _ (λ full _. many c.run full) (λ _ e. absurd (cc))
+stops_awake mode q sy.Lo c w h = choose (StopsLong c) (eqb c.run jabber_limit) _ _ (λ full _. many c.run full) (λ _ e. absurd (cc))
   where
-    many : (n : ℕ) → eqb n 100000 ≡ true → 192 ≤ n
+    many : (n : ℕ) → eqb n jabber_limit ≡ true → fragment_extension ≤ n
     many n e = grind (arith, nat_tests)
 stops_awake mode q sy.Clash c w h = absurd (w.no_clash refl)
 
-stops : (mode : Mode) (q : ℕ) (s : Sym) (c : Count) → IsWishFor mode q s → (SendsNothing mode q → 192 ≤ c.run) → c.rest ≡ 0 → StopsLong c (choice s c)
+stops : (mode : Mode) (q : ℕ) (s : Sym) (c : Count) → IsWishFor mode q s → (SendsNothing mode q → fragment_extension ≤ c.run) → c.rest ≡ 0 → StopsLong c (choice s c)
 stops mode q s c w h z = choose (StopsLong c) (eqb c.rest 0) (choice_awake s c) _ (λ _. stops_awake mode q s c w h) (λ e. absurd (let f : eqb c.rest 0 ≡ true = grind (arith, nat_tests) in let no : true ≡ false = sym f ∙ e in cc))
 
 -- the ports one by one
@@ -101,7 +105,7 @@ at_port f mode ss cs q d l =
 count_mode : (mode : Mode) (a : Activity) → IsMode mode → IsMode (mode_after mode a)
 count_mode mode a h = record { count_below = below mode a h; jams_within = within mode a h }
   where
-    below : (mode : Mode) (a : Activity) → IsMode mode → count_of (mode_after mode a) < 196
+    below : (mode : Mode) (a : Activity) → IsMode mode → count_of (mode_after mode a) < counts_end
     below mode a h = grind (arith, nat_tests)
 
     within : (mode : Mode) (a : Activity) → IsMode mode → jams_of (mode_after mode a) ≤ count_of (mode_after mode a)
@@ -139,19 +143,19 @@ long_kept mode a ss cs f h = λ q l.
     (keeps (mode_after mode a) q (wish_of (mode_after mode a) ss q) (count_at cs q) (wish_is ss (mode_after mode a) q f)
     (fresh_long (mode_after mode a) q, λ r n. (output_is_long mode a q (count_at cs q).run (h q m r)).1 n))
 
-silent_awake : (s : Sym) (c : Count) → 0 < (choice_awake s c).count.rest → (choice_awake s c).count.run ≡ 0
-silent_awake sy.Idle c = λ h. refl
-silent_awake sy.Hi c = choose (λ (x : Choice). 0 < x.count.rest → x.count.run ≡ 0) (eqb c.run 100000) _ _ (λ _ h. refl) (λ _ h. absurd (omega arith))
-silent_awake sy.Lo c = choose (λ (x : Choice). 0 < x.count.rest → x.count.run ≡ 0) (eqb c.run 100000) _ _ (λ _ h. refl) (λ _ h. absurd (omega arith))
-silent_awake sy.Clash c = choose (λ (x : Choice). 0 < x.count.rest → x.count.run ≡ 0) (eqb c.run 100000) _ _ (λ _ h. refl) (λ _ h. absurd (omega arith))
+no_output_awake : (s : Sym) (c : Count) → 0 < (choice_awake s c).count.rest → (choice_awake s c).count.run ≡ 0
+no_output_awake sy.Idle c = λ h. refl
+no_output_awake sy.Hi c = choose (λ (x : Choice). 0 < x.count.rest → x.count.run ≡ 0) (eqb c.run jabber_limit) _ _ (λ _ h. refl) (λ _ h. absurd (omega arith))
+no_output_awake sy.Lo c = choose (λ (x : Choice). 0 < x.count.rest → x.count.run ≡ 0) (eqb c.run jabber_limit) _ _ (λ _ h. refl) (λ _ h. absurd (omega arith))
+no_output_awake sy.Clash c = choose (λ (x : Choice). 0 < x.count.rest → x.count.run ≡ 0) (eqb c.run jabber_limit) _ _ (λ _ h. refl) (λ _ h. absurd (omega arith))
 
-silent_choice : (s : Sym) (c : Count) → 0 < (choice s c).count.rest → (choice s c).count.run ≡ 0
-silent_choice s c = choose (λ (x : Choice). 0 < x.count.rest → x.count.run ≡ 0) (eqb c.rest 0) (choice_awake s c) _ (λ _. silent_awake s c) (λ _ h. refl)
+no_output_choice : (s : Sym) (c : Count) → 0 < (choice s c).count.rest → (choice s c).count.run ≡ 0
+no_output_choice s c = choose (λ (x : Choice). 0 < x.count.rest → x.count.run ≡ 0) (eqb c.rest 0) (choice_awake s c) _ (λ _. no_output_awake s c) (λ _ h. refl)
 
-silence_kept : (mode : Mode) (ss : List Sym) (k : ℕ) (cs : List Count) (q : ℕ) → 0 < (count_at (map (λ c. c.count) (choices_from mode ss k cs)) q).rest → (count_at (map (λ c. c.count) (choices_from mode ss k cs)) q).run ≡ 0
-silence_kept mode ss k [] q = λ h. refl
-silence_kept mode ss k (c ∷ cs) zero = silent_choice (wish_of mode ss k) c
-silence_kept mode ss k (c ∷ cs) (suc q) = silence_kept mode ss (k + 1) cs q
+no_output_kept : (mode : Mode) (ss : List Sym) (k : ℕ) (cs : List Count) (q : ℕ) → 0 < (count_at (map (λ c. c.count) (choices_from mode ss k cs)) q).rest → (count_at (map (λ c. c.count) (choices_from mode ss k cs)) q).run ≡ 0
+no_output_kept mode ss k [] q = λ h. refl
+no_output_kept mode ss k (c ∷ cs) zero = no_output_choice (wish_of mode ss k) c
+no_output_kept mode ss k (c ∷ cs) (suc q) = no_output_kept mode ss (k + 1) cs q
 
 -- a step from its parts
 pub step_state : (mode : Mode) (guards : List Guard) (counts : List Count) (line : Delayed) (ss : List Sym) (r : State)
@@ -167,16 +171,16 @@ step_state mode guards counts line ss r m g c e h =
     let delay : line.delay ≡ r.line.delay = kept.1 in
     record {
       two_ports = subst (λ n. 2 ≤ n) (sym g) h.two_ports;
-      ports_at_most = subst (λ n. n ≤ 32) (sym g) h.ports_at_most;
+      ports_at_most = subst (λ n. n ≤ most_ports) (sym g) h.ports_at_most;
       counts_len = ap length c ∙ length-map choices (λ c. c.count) ∙ n ∙ sym g;
       line_ports = kept.0 ∙ sym g;
       some_delay = subst (λ n. 1 ≤ n) (sym delay) h.some_delay;
-      delay_at_most = subst (λ n. n ≤ 200) (sym delay) h.delay_at_most;
+      delay_at_most = subst (λ n. n ≤ greatest_delay) (sym delay) h.delay_at_most;
       rows_len = kept.2 ∙ ap₂ ◌*◌ (sym delay) (sym g);
       mode_counts = subst IsMode (sym m) (count_mode r.mode a h.mode_counts);
       no_clash = kept.3;
       long = subst (AreLong mode) (sym c) (subst (λ x. AreLong x (map (λ c. c.count) (choices_from x ss 0 r.counts))) (sym m) (long_kept r.mode a ss r.counts (repeatable ss r.mode a (hears_as 0 r.guards ss)) h.long));
-      silence = subst RestInSilence (sym c) (silence_kept mode ss 0 r.counts);
+      rest_without_output = subst RestWithoutOutput (sym c) (no_output_kept mode ss 0 r.counts);
     }
 
 -- the laws
@@ -203,7 +207,7 @@ no_rest : (rest run : ℕ) → (0 < rest → run ≡ 0) → 0 < run → rest ≡
 no_rest zero run f h = refl
 no_rest (suc n) run f h = let z : run ≡ 0 = f (omega arith) in absurd (omega arith)
 
-pub ends_long : (mode : Mode) (gs : List Guard) (ss : List Sym) (cs : List Count) → AreLong mode cs → RestInSilence cs
+pub ends_long : (mode : Mode) (gs : List Guard) (ss : List Sym) (cs : List Count) → AreLong mode cs → RestWithoutOutput cs
     → EndsLong cs (map (λ c. c.symbol) (choices_from (mode_after mode (activity_from 0 gs ss)) ss 0 cs))
 ends_long mode gs ss cs h z = λ q l r pos e.
     let a = activity_from 0 gs ss in
@@ -219,13 +223,13 @@ pub no_clash_emitted : (n : ℕ) (rows : List Sym) → HasNoClash rows → HasNo
 no_clash_emitted n rows h = All-take (λ s. s ≢ sy.Clash) n rows h
 
 -- where a repeater goes on
-rest_in_silence : (rests : List ℕ) (q : ℕ) → (count_at (map resting_count rests) q).run ≡ 0
-rest_in_silence [] q = refl
-rest_in_silence (x ∷ xs) zero = refl
-rest_in_silence (x ∷ xs) (suc q) = rest_in_silence xs q
+no_output_at_first : (rests : List ℕ) (q : ℕ) → (count_at (map resting_count rests) q).run ≡ 0
+no_output_at_first [] q = refl
+no_output_at_first (x ∷ xs) zero = refl
+no_output_at_first (x ∷ xs) (suc q) = no_output_at_first xs q
 
 pub resumed_state : (guards : List Guard) (counts : List Count) (line : Delayed) (rests : List ℕ) (delay : ℕ)
-    → 2 ≤ length guards → length guards ≤ 32 → length rests ≡ length guards → 1 ≤ delay → delay ≤ 200
+    → 2 ≤ length guards → length guards ≤ most_ports → length rests ≡ length guards → 1 ≤ delay → delay ≤ greatest_delay
     → counts ≡ map resting_count rests → line ≡ record { ports = length guards; delay = delay; rows = replicate (delay * length guards) sy.Idle }
     → IsState (record { mode = Idle; guards = guards; counts = counts; line = line })
 resumed_state guards counts line rests delay two most len some few c e =
@@ -240,6 +244,6 @@ resumed_state guards counts line rests delay two most len some few c e =
       rows_len = length-replicate (delay * length guards) sy.Idle;
       mode_counts = record { count_below = omega arith; jams_within = omega arith };
       no_clash = All-replicate (λ s. s ≢ sy.Clash) (delay * length guards) sy.Idle (λ x. cc);
-      long = λ q l a. rest_in_silence rests q;
-      silence = λ q h. rest_in_silence rests q;
+      long = λ q l a. no_output_at_first rests q;
+      rest_without_output = λ q h. no_output_at_first rests q;
     }))

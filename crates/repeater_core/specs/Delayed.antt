@@ -1,34 +1,37 @@
--- A repeater's delay: what was decided is emitted `delay` half bits later.
+-- A repeater's delay (clause 9; that it is the same for all ports and symbols is profile): what was decided is emitted
+-- `delay` half bits later. Rows and turns count from 0.
 use Rattle.std.specs.Prelude.{ℕ, ◌≡◌, ◌+◌, ◌*◌, ◌<◌, ◌≤◌, ◌==◌, if◌then◌else◌, List, ◌++◌, length, take, drop}
 use Rattle.std.specs.List.{All}
+use Rattle.mac_parameters.specs.Parameters.{greatest_delay}
 use Rattle.manchester_line.specs.declared.Sym.{Sym}
 use Rattle.manchester_line.specs.declared.Sym.TheVariants as sym
 
--- what was decided and not yet emitted: `delay` rows of one symbol a port, the oldest first
+-- what was decided and not yet emitted: a row of one symbol a port for each half bit of the delay, the oldest first
 pub record Delayed : Type 0 where
   pub ports : ℕ
   pub delay : ℕ
   pub rows : List Sym
 
--- a ring read from place h on
+-- the symbols of a ring, read from place h on, counted from 0
 abbrev pub rotated : ℕ → List Sym → List Sym
 rotated h xs = drop h xs ++ take h xs
 
--- the oldest row goes, and this one is put at the end
+-- the delay one half bit later: the oldest row goes, and what is decided now is put at the end
 abbrev pub moved_on : List Sym → Delayed → Delayed
 moved_on decided d = record d { rows = drop d.ports d.rows ++ decided }
 
+-- the oldest row: what the ports emit in this half bit
 abbrev pub oldest : Delayed → List Sym
 oldest d = take d.ports d.rows
 
--- the next of `delay` turns
+-- the turn after this one, of as many turns as the delay has half bits
 abbrev pub turn_after : ℕ → ℕ → ℕ
 turn_after turn delay = if turn + 1 == delay then 0 else turn + 1
 
--- `delay` rows of `ports` symbols in a ring, of which row `turn` is the oldest; all but the oldest `fading` are Idle
-pub record IsRing (ports delay turn fading : ℕ) (slots : List Sym) : Type 0 where
+-- `delay` rows of `ports` symbols in a ring, of which row `turn` is the oldest; all but the oldest `filled` are Idle
+pub record IsRing (ports delay turn filled : ℕ) (slots : List Sym) : Type 0 where
   pub turn_below : turn < delay
   pub slots_len : length slots ≡ delay * ports
-  pub delay_at_most : delay ≤ 200
-  pub fading_at_most : fading ≤ delay
-  pub faded : All (λ s. s ≡ sym.Idle) (drop (fading * ports) (rotated (turn * ports) slots))
+  pub delay_at_most : delay ≤ greatest_delay
+  pub filled_at_most : filled ≤ delay
+  pub rest_idle : All (λ s. s ≡ sym.Idle) (drop (filled * ports) (rotated (turn * ports) slots))

@@ -1,7 +1,9 @@
+pub mod Limits
 pub mod Modes
 pub mod Counts
 pub mod Delayed
 pub mod Laws
 pub mod Step
-pub mod Silence
+pub mod SilentParts
 pub mod Calm
+pub mod Steady

@@ -1,18 +1,18 @@
-//! Half bits in which no port hears anything: how long they are quiet, and what becomes of guards and counts.
+//! Silent half bits, in which no port hears anything: for how many of them nothing happens, the calm, and what becomes of
+//! guards and counts.
 ghost use Rattle.std.specs.Prelude.{◌≡◌, ◌≤◌, ◌<◌, length, map, replicate, IsTrue, true};
 ghost use Rattle.std.specs.List.{All};
 ghost use Rattle.manchester_line.specs.declared.Sym.TheVariants as sym;
 ghost use Rattle.repeater_core.specs.Counts.{resting_count};
 ghost use Rattle.std.specs.Fn.{iterate};
-ghost use Rattle.repeater_core.specs.Silence.{idle_front, port_calm, ports_calm, any_opens, quiet_guard, quiet_count, is_settled};
+ghost use Rattle.mac_parameters.specs.Parameters.{most_ports};
+ghost use Rattle.repeater_core.specs.SilentParts.{idle_front, port_calm, ports_calm, any_opens, silent_guard, silent_count, is_unchanged};
 
 use crate::counts::PortCount;
-use crate::modes::{Mode, busy, sends_for, sends_to};
-use manchester_line::Sym;
+use crate::limits::MOST_CALM;
+use crate::modes::{Mode, sends_for, sends_to};
+use manchester_line::{Sym, is_signal};
 use port_partition::PortGuard;
-
-/// The most half bits of calm that are told at a time.
-pub const MOST_CALM: u64 = 4_096;
 
 /// The Idle symbols before the first signal.
 pub fn idle_front(symbols: &[Sym]) -> usize
@@ -20,14 +20,14 @@ pub fn idle_front(symbols: &[Sym]) -> usize
     ensures within { result ≤ length symbols.now }
 {
     for k in 0..symbols.len() {
-        if busy(symbols[k]) {
+        if is_signal(symbols[k]) {
             return k;
         }
     }
     symbols.len()
 }
 
-/// Whether a guard opens its port once nothing is heard.
+/// Whether a port may be connected again, which a silent half bit does.
 pub fn any_opens(guards: &[PortGuard]) -> bool
     ensures { result ≡ any_opens guards.now }
 {
@@ -50,9 +50,9 @@ fn port_calm(mode: Mode, port: u32, rest: u32) -> u64
     }
 }
 
-/// How long the ports are quiet in this mode while none hears anything.
+/// The calm of the ports in this mode.
 pub fn ports_calm(mode: Mode, counts: &[PortCount]) -> u64
-    requires { length counts.now ≤ 32 }
+    requires { length counts.now ≤ most_ports }
     ensures { result ≡ ports_calm mode 0 counts.now }
 {
     let mut calm = MOST_CALM;
@@ -63,9 +63,9 @@ pub fn ports_calm(mode: Mode, counts: &[PortCount]) -> u64
     calm
 }
 
-/// Each guard's quiet half bit.
-pub fn quiet_guards(guards: &mut [PortGuard])
-    ensures { guards.new ≡ map quiet_guard guards.old }
+/// Each guard's silent half bit, in which its port emits nothing.
+pub fn silent_guards(guards: &mut [PortGuard])
+    ensures { guards.new ≡ map silent_guard guards.old }
 {
     for k in 0..guards.len() {
         let guard = &mut guards[k];
@@ -73,13 +73,13 @@ pub fn quiet_guards(guards: &mut [PortGuard])
     }
 }
 
-/// So many quiet half bits of the ports' counts.
-pub fn quiet_counts(counts: &mut [PortCount], n: u64)
-    ensures { counts.new ≡ map (λ c. iterate quiet_count n c) counts.old }
+/// So many half bits of the ports' counts, in each of which each port rests or nothing is wished for it.
+pub fn silent_counts(counts: &mut [PortCount], n: u64)
+    ensures { counts.new ≡ map (λ c. iterate silent_count n c) counts.old }
 {
     for k in 0..counts.len() {
         let count = &mut counts[k];
-        count.be_quiet(n);
+        count.be_silent(n);
     }
 }
 
@@ -101,18 +101,18 @@ pub fn counts_fresh(counts: &[PortCount]) -> bool
     true
 }
 
-fn guard_settled(guard: &PortGuard) -> bool
-    ensures { result ≡ is_settled guard.now }
+fn guard_unchanged(guard: &PortGuard) -> bool
+    ensures { result ≡ is_unchanged guard.now }
 {
     !(guard.closed && guard.mend) && !guard.struck && guard.clash_run == 0 && guard.clean_run == 0
 }
 
-/// Whether a quiet half bit leaves the guards as they are.
-pub fn guards_settled(guards: &[PortGuard]) -> bool
-    ensures { IsTrue result → All (λ g. is_settled g ≡ true) guards.now }
+/// Whether a silent half bit, in which no port emits anything, leaves the guards as they are.
+pub fn guards_unchanged(guards: &[PortGuard]) -> bool
+    ensures { IsTrue result → All (λ g. is_unchanged g ≡ true) guards.now }
 {
     for k in 0..guards.len() {
-        if !guard_settled(&guards[k]) {
+        if !guard_unchanged(&guards[k]) {
             return false;
         }
     }

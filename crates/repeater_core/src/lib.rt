@@ -4,11 +4,13 @@
 mod calm;
 mod counts;
 mod laws;
+mod limits;
 mod line;
 mod masks;
 mod modes;
 mod ports;
 mod repeater;
+mod steady;
 
 pub use laws::signals_are_repeated;
 pub use modes::Mode;

@@ -3,23 +3,26 @@ ghost use Rattle.std.specs.Prelude.{◌≡◌, ◌<◌, ◌≤◌, ◌+◌, leng
 ghost use Rattle.manchester_line.specs.declared.Sym.TheVariants as sym;
 ghost use Rattle.repeater_core.specs.declared.modes.Activity.TheVariants.{Nobody, One, Several};
 ghost use Rattle.std.specs.Fn.{iterate};
-ghost use Rattle.repeater_core.specs.Silence.{sends_for, sends_to, quiet_mode, IsFading};
-ghost use Rattle.repeater_core.specs.Modes.{is_busy, joined, activity_at, count_of, jams_of, next_count, mode_after, activity_from, is_tx_clash, wish_of};
+ghost use Rattle.repeater_core.specs.Limits.{counts_end, most_calm};
+ghost use Rattle.mac_parameters.specs.Parameters.{most_ports};
+ghost use Rattle.repeater_core.specs.SilentParts.{sends_for, sends_to, silent_mode, IsAfterSilence};
+ghost use Rattle.repeater_core.specs.Modes.{joined, activity_at, count_of, jams_of, next_count, mode_after, activity_from, is_tx_clash, wish_of};
+ghost use Rattle.manchester_line.specs.Line.{is_signal};
+ghost use Rattle.repeater_core.specs.Steady.{mode_on, mode_steady, sent_text};
 
-use manchester_line::{Sym, header_sym, jam_sym};
+use crate::limits::{JAM_PERIOD, MOST_CALM};
+use mac_parameters::{FRAGMENT_EXTENSION, PREAMBLE};
+use manchester_line::{Sym, header_sym, is_signal, jam_sym};
 use port_partition::PortGuard;
 
-/// The count from which a mode goes round in periods of the jam, and at which output is long enough (profile).
-const LONG_ENOUGH: u32 = 192;
+/// The counts of a mode are all below this: one period of the jam goes beyond the fragment extension.
+const COUNTS_END: u32 = FRAGMENT_EXTENSION + JAM_PERIOD;
 
-/// The count up to which a mode sends in silence.
-const LAST_SENT: u32 = 191;
+/// The most steady half bits that are told at a time.
+pub const MOST_STEADY: u32 = MOST_CALM as u32;
 
-/// The greatest count of a mode.
-const LAST_COUNT: u32 = 195;
-
-/// The half bits of the header (clause 3).
-const HEADER_HALVES: u32 = 128;
+/// The count up to which a mode sends in silent half bits: the last of the fragment extension.
+const LAST_SENT: u32 = FRAGMENT_EXTENSION - 1;
 
 /// What a repeater does. `n` is a port, counted from 0, `i` counts the half bits of the output, 0 to 195,
 /// and `j` those of the jam that makes a short reception longer.
@@ -29,7 +32,7 @@ pub enum Mode {
     Idle,
     /// Port `n` is repeated to the others.
     Repeat { n: u32, i: u32 },
-    /// Port `n` ended early, and the output to the others is made longer.
+    /// Port `n` ended early, and the output to the others is made longer (fragment extension).
     Extend { n: u32, i: u32, j: u32 },
     /// Port `n` has a collision, and the others get the jam.
     RxClash { n: u32, i: u32 },
@@ -47,22 +50,12 @@ pub enum Activity {
     Several,
 }
 
-/// Whether a symbol is a signal.
-pub fn busy(s: Sym) -> bool
-    ensures { result ≡ is_busy s }
-{
-    match s {
-        Sym::Idle => false,
-        _ => true,
-    }
-}
-
 /// The active ports with port `n` too, if it is open and hears a signal.
-#[tactic(auto, using(crate::proofs::Joining::joined_nobody))]
+#[tactic(auto, using(crate::proofs::JoinedActivities::joined_nobody))]
 fn with_active(active: Activity, n: u32, guard: &PortGuard, heard: Sym) -> Activity
     ensures { result ≡ joined active (activity_at n guard.now heard) }
 {
-    if guard.closed || !busy(heard) {
+    if guard.closed || !is_signal(heard) {
         return active;
     }
     match active {
@@ -72,9 +65,9 @@ fn with_active(active: Activity, n: u32, guard: &PortGuard, heard: Sym) -> Activ
 }
 
 /// Which of the ports are active: those that are open and hear a signal.
-#[tactic(auto, using(crate::proofs::Joining::joined_assoc, crate::proofs::Joining::joined_nobody))]
+#[tactic(auto, using(crate::proofs::JoinedActivities::joined_assoc, crate::proofs::JoinedActivities::joined_nobody))]
 pub fn active_ports(guards: &[PortGuard], hears: &[Sym]) -> Activity
-    requires few { length guards.now ≤ 32 }
+    requires few { length guards.now ≤ most_ports }
     requires as_many { length hears.now ≡ length guards.now }
     ensures { result ≡ activity_from 0 guards.now hears.now }
 {
@@ -86,39 +79,45 @@ pub fn active_ports(guards: &[PortGuard], hears: &[Sym]) -> Activity
 }
 
 fn next_index(i: u32) -> u32
-    requires { i < 196 }
+    requires { i < counts_end }
     ensures { result ≡ next_count i }
 {
-    if i == LAST_COUNT { LONG_ENOUGH } else { i + 1 }
+    if i + 1 == COUNTS_END {
+        FRAGMENT_EXTENSION
+    } else {
+        i + 1
+    }
 }
 
 fn without_activity(mode: Mode) -> Mode
-    requires counts { count_of mode < 196 }
+    requires counts { count_of mode < counts_end }
     requires jams { jams_of mode ≤ count_of mode }
     ensures { result ≡ mode_after mode Nobody }
 {
     match mode {
-        Mode::Repeat { n, i } if next_index(i) < LONG_ENOUGH => Mode::Extend {
+        Mode::Repeat { n, i } if next_index(i) < FRAGMENT_EXTENSION => Mode::Extend {
             n,
             i: next_index(i),
             j: 0,
         },
-        Mode::Extend { n, i, j } if next_index(i) < LONG_ENOUGH => Mode::Extend {
+        Mode::Extend { n, i, j } if next_index(i) < FRAGMENT_EXTENSION => Mode::Extend {
             n,
             i: next_index(i),
             j: j + 1,
         },
-        Mode::RxClash { n, i } if next_index(i) < LONG_ENOUGH => Mode::RxClash {
+        Mode::RxClash { n, i } if next_index(i) < FRAGMENT_EXTENSION => Mode::RxClash {
             n,
             i: next_index(i),
         },
-        Mode::TxClash { i } if next_index(i) < LONG_ENOUGH => Mode::TxClash { i: next_index(i) },
+        Mode::TxClash { i } if next_index(i) < FRAGMENT_EXTENSION => Mode::TxClash {
+            i: next_index(i),
+        },
         _ => Mode::Idle,
     }
 }
 
 fn with_one(mode: Mode, m: u32, heard: Sym) -> Mode
-    requires counts { count_of mode < 196 }
+    requires counts { count_of mode < counts_end }
     ensures { result ≡ mode_after mode (One m heard) }
 {
     match mode {
@@ -134,7 +133,9 @@ fn with_one(mode: Mode, m: u32, heard: Sym) -> Mode
             n,
             i: next_index(i),
         },
-        Mode::TxClash { i } if next_index(i) < LONG_ENOUGH => Mode::TxClash { i: next_index(i) },
+        Mode::TxClash { i } if next_index(i) < FRAGMENT_EXTENSION => Mode::TxClash {
+            i: next_index(i),
+        },
         Mode::TxClash { .. } => Mode::OnePort { n: m, i: 0 },
         Mode::OnePort { n, i } if m == n => Mode::OnePort {
             n,
@@ -145,7 +146,7 @@ fn with_one(mode: Mode, m: u32, heard: Sym) -> Mode
 }
 
 fn with_several(mode: Mode) -> Mode
-    requires counts { count_of mode < 196 }
+    requires counts { count_of mode < counts_end }
     ensures { result ≡ mode_after mode Several }
 {
     match mode {
@@ -156,7 +157,7 @@ fn with_several(mode: Mode) -> Mode
 
 /// The mode after a half bit with these active ports.
 pub fn next_mode(mode: Mode, active: Activity) -> Mode
-    requires counts { count_of mode < 196 }
+    requires counts { count_of mode < counts_end }
     requires jams { jams_of mode ≤ count_of mode }
     ensures { result ≡ mode_after mode active }
 {
@@ -167,7 +168,7 @@ pub fn next_mode(mode: Mode, active: Activity) -> Mode
     }
 }
 
-/// The half bits of silence in which a mode goes on sending.
+/// The silent half bits in which a mode goes on sending: the rest of the fragment extension.
 pub fn sends_for(mode: Mode) -> u32
     ensures { result ≡ sends_for mode }
 {
@@ -194,38 +195,109 @@ pub fn sends_to(mode: Mode, port: u32) -> bool
     }
 }
 
-/// A mode that silence led to, after so many half bits more of silence.
-#[tactic(auto, using(crate::proofs::Fading::later_is))]
-fn faded(mode: Mode, n: u32) -> Mode
-    requires fading { IsFading mode }
+/// A mode that a silent half bit led to, after so many more of them.
+#[tactic(auto, using(crate::proofs::SilentModes::later_is))]
+fn later_mode(mode: Mode, n: u32) -> Mode
+    requires after_silence { IsAfterSilence mode }
     requires jams { jams_of mode ≤ count_of mode }
-    requires few { n ≤ 4096 }
-    ensures { result ≡ iterate quiet_mode n mode }
+    requires few { n ≤ most_calm }
+    ensures { result ≡ iterate silent_mode n mode }
 {
     match mode {
-        Mode::Extend { n: port, i, j } if i + n < LONG_ENOUGH => Mode::Extend {
+        Mode::Extend { n: port, i, j } if i + n < FRAGMENT_EXTENSION => Mode::Extend {
             n: port,
             i: i + n,
             j: j + n,
         },
-        Mode::RxClash { n: port, i } if i + n < LONG_ENOUGH => Mode::RxClash { n: port, i: i + n },
-        Mode::TxClash { i } if i + n < LONG_ENOUGH => Mode::TxClash { i: i + n },
+        Mode::RxClash { n: port, i } if i + n < FRAGMENT_EXTENSION => Mode::RxClash {
+            n: port,
+            i: i + n,
+        },
+        Mode::TxClash { i } if i + n < FRAGMENT_EXTENSION => Mode::TxClash { i: i + n },
         _ => Mode::Idle,
     }
 }
 
-/// A mode after so many half bits in which no port is active.
-#[tactic(auto, using(crate::proofs::Fading::fading, crate::proofs::Fading::jams_stay))]
-pub fn quiet_mode(mode: Mode, n: u32) -> Mode
-    requires counts { count_of mode < 196 }
+/// A mode after so many silent half bits.
+#[tactic(auto, using(crate::proofs::SilentModes::after_silence, crate::proofs::SilentModes::jams_stay))]
+pub fn silent_mode(mode: Mode, n: u32) -> Mode
+    requires counts { count_of mode < counts_end }
     requires jams { jams_of mode ≤ count_of mode }
-    requires few { n ≤ 4096 }
-    ensures { result ≡ iterate quiet_mode n mode }
+    requires few { n ≤ most_calm }
+    ensures { result ≡ iterate silent_mode n mode }
 {
     if n == 0 {
         return mode;
     }
-    faded(without_activity(mode), n - 1)
+    later_mode(without_activity(mode), n - 1)
+}
+
+/// The mode after a half bit in which it changes by its counts alone.
+pub fn mode_on(mode: Mode) -> Mode
+    requires counts { count_of mode < counts_end }
+    requires jams { jams_of mode ≤ count_of mode }
+    ensures { result ≡ mode_on mode }
+{
+    match mode {
+        Mode::Idle => Mode::Idle,
+        Mode::Repeat { n, i } => Mode::Repeat {
+            n,
+            i: next_index(i),
+        },
+        Mode::Extend { n, i, j } => Mode::Extend {
+            n,
+            i: next_index(i),
+            j: j + 1,
+        },
+        Mode::RxClash { n, i } => Mode::RxClash {
+            n,
+            i: next_index(i),
+        },
+        Mode::TxClash { i } => Mode::TxClash { i: next_index(i) },
+        Mode::OnePort { n, i } => Mode::OnePort {
+            n,
+            i: next_index(i),
+        },
+    }
+}
+
+/// For how many half bits with these active ports a mode changes by its counts alone, or all that are told.
+pub fn mode_steady(mode: Mode, active: Activity) -> u32
+    ensures { result ≡ mode_steady mode active }
+{
+    match (mode, active) {
+        (Mode::Idle, Activity::Nobody) => MOST_STEADY,
+        (Mode::TxClash { .. }, Activity::Several) => MOST_STEADY,
+        (Mode::Extend { i, .. }, Activity::Nobody) => LAST_SENT.saturating_sub(i),
+        (Mode::RxClash { i, .. }, Activity::Nobody) => LAST_SENT.saturating_sub(i),
+        (Mode::TxClash { i }, _) => LAST_SENT.saturating_sub(i),
+        (
+            Mode::Repeat { .. },
+            Activity::One {
+                heard: Sym::Clash,
+                ..
+            },
+        ) => 0,
+        (Mode::Repeat { n, .. }, Activity::One { n: m, .. }) if m == n => MOST_STEADY,
+        (Mode::RxClash { n, .. }, Activity::One { n: m, .. }) if m == n => MOST_STEADY,
+        (Mode::OnePort { n, .. }, Activity::One { n: m, .. }) if m == n => MOST_STEADY,
+        _ => 0,
+    }
+}
+
+/// What a mode sends, to whom it does.
+pub fn sent_text(mode: Mode, hears: &[Sym]) -> Sym
+    ensures { result ≡ sent_text mode hears.now }
+{
+    match mode {
+        Mode::Idle => Sym::Idle,
+        Mode::Repeat { i, .. } if i < PREAMBLE => header_sym(i),
+        Mode::Repeat { n, .. } => heard_by(hears, n),
+        Mode::Extend { j, .. } => jam_sym(j),
+        Mode::RxClash { i, .. } => jam_sym(i),
+        Mode::TxClash { i } => jam_sym(i),
+        Mode::OnePort { i, .. } => jam_sym(i),
+    }
 }
 
 /// Whether several ports collide.
@@ -257,7 +329,7 @@ pub fn wish(mode: Mode, hears: &[Sym], port: u32) -> Sym
         Mode::Repeat { n, i } => {
             if n == port {
                 Sym::Idle
-            } else if i < HEADER_HALVES {
+            } else if i < PREAMBLE {
                 header_sym(i)
             } else {
                 heard_by(hears, n)

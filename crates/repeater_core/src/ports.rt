@@ -1,18 +1,20 @@
 //! The passes over the ports of a repeater.
 ghost use Rattle.std.specs.Prelude.{◌≡◌, ◌≤◌, ◌<◌, ◌^◌, length, map};
+ghost use Rattle.mac_parameters.specs.Parameters.{most_ports};
 ghost use Rattle.repeater_core.specs.Counts.{choices_from};
-ghost use Rattle.repeater_core.specs.Modes.{is_busy};
+ghost use Rattle.manchester_line.specs.Line.{is_signal};
 ghost use Rattle.repeater_core.specs.Step.{collides, guards_after, guard_events, is_closing, is_opening, mask_from};
 
 use crate::counts::PortCount;
 use crate::masks::with_port;
-use crate::modes::{Mode, busy, wish};
-use manchester_line::Sym;
+use crate::modes::{Mode, wish};
+use manchester_line::{Sym, is_signal};
 use port_partition::{GuardEvent, PortGuard};
 
-/// Decides a symbol for each port from the mode's wishes, and answers the ports that are halted.
+/// Decides a symbol for each port from the mode's wishes, and answers the ports that are halted (jabber lockup
+/// protection), bit p for port p, counted from 0.
 pub fn decide_all(mode: Mode, hears: &[Sym], counts: &mut [PortCount], decided: &mut [Sym]) -> u32
-    requires few { length counts.old ≤ 32 }
+    requires few { length counts.old ≤ most_ports }
     requires as_many { length decided.old ≡ length counts.old }
     ensures counts { counts.new ≡ map (λ c. c.count) (choices_from mode hears.now 0 counts.old) }
     ensures decided { decided.new ≡ map (λ c. c.symbol) (choices_from mode hears.now 0 counts.old) }
@@ -28,13 +30,14 @@ pub fn decide_all(mode: Mode, hears: &[Sym], counts: &mut [PortCount], decided: 
     halted
 }
 
-fn collision_at(hears: Sym, emits: Sym) -> bool
+/// Whether a port collides.
+pub fn collision_at(hears: Sym, emits: Sym) -> bool
     ensures { result ≡ collides hears emits }
 {
-    hears == Sym::Clash || busy(hears) && busy(emits)
+    hears == Sym::Clash || is_signal(hears) && is_signal(emits)
 }
 
-/// The ports whose guards closed or opened, bit p for port p.
+/// The ports that were closed (partition) or opened (reconnection), bit p for port p, counted from 0.
 #[derive(Clone, Copy, Debug, PartialEq, Eq)]
 pub struct Changes {
     pub closed: u32,
@@ -43,7 +46,7 @@ pub struct Changes {
 
 /// Each guard's half bit.
 pub fn guard_all(guards: &mut [PortGuard], hears: &[Sym], emits: &[Sym]) -> Changes
-    requires few { length guards.old ≤ 32 }
+    requires few { length guards.old ≤ most_ports }
     requires hears_len { length hears.now ≡ length guards.old }
     requires emits_len { length emits.now ≡ length guards.old }
     ensures guards { guards.new ≡ guards_after guards.old hears.now emits.now }
@@ -55,9 +58,9 @@ pub fn guard_all(guards: &mut [PortGuard], hears: &[Sym], emits: &[Sym]) -> Chan
     for k in 0..guards.len() {
         let guard = &mut guards[k];
         let event = guard.step(
-            busy(hears[k]),
+            is_signal(hears[k]),
             collision_at(hears[k], emits[k]),
-            busy(emits[k]),
+            is_signal(emits[k]),
         );
         closed = with_port(closed, k, event == GuardEvent::Closed);
         opened = with_port(opened, k, event == GuardEvent::Opened);

@@ -1,29 +1,35 @@
 //! A repeater.
 ghost use Rattle.std.specs.Prelude.{◌≡◌, ◌<◌, ◌≤◌, length, map, slice_get, slice_index_or, Some, IfOk, IsTrue};
 ghost use Rattle.std.specs.Fn.{iterate};
-ghost use Rattle.repeater_core.specs.Calm.{silent_step, IsQuiet, IsCalm, IsStill};
+ghost use Rattle.repeater_core.specs.Calm.{silent_step, IsUneventful, IsCalm, IsUnchanged};
 ghost use Rattle.std.specs.List.{All};
+ghost use Rattle.mac_parameters.specs.Parameters.{jabber_rest};
+ghost use Rattle.repeater_core.specs.Limits.{most_calm};
+ghost use Rattle.mac_parameters.specs.Parameters.{greatest_delay};
+ghost use Rattle.mac_parameters.specs.Parameters.{most_ports};
 ghost use Rattle.repeater_core.specs.declared.modes.Mode.TheVariants.{Idle};
 ghost use Rattle.repeater_core.specs.Counts.{resting_count};
-ghost use Rattle.repeater_core.specs.Step.{State, new_state, resumed, after, emitted_by, decided_by, clash_begins, closed_mask, opened_mask, halted_mask, resting_by};
+ghost use Rattle.repeater_core.specs.Step.{State, new_state, resumed_state, after, emitted_by, decided_by, clash_begins, closed_mask, opened_mask, halted_mask, resting_by};
+ghost use Rattle.repeater_core.specs.Steady.{IsSteady};
 ghost use Rattle.repeater_core.specs.Laws.{HasNoClash, Repeats, EndsLong};
 
 use crate::calm::{
-    all_idle, any_opens, counts_fresh, fill_idle, guards_settled, ports_calm, quiet_counts,
-    quiet_guards,
+    all_idle, any_opens, counts_fresh, fill_idle, guards_unchanged, ports_calm, silent_counts,
+    silent_guards,
 };
 use crate::counts::{PortCount, resting_counts};
 use crate::line::DelayLine;
-use crate::modes::{Mode, active_ports, collision, next_mode, quiet_mode};
+use crate::modes::{Mode, active_ports, collision, mode_on, mode_steady, next_mode, silent_mode};
 use crate::ports::{decide_all, guard_all};
+use crate::steady::{decide_row, guards_calm, leap_counts, leap_guards, leap_line, ports_steady};
 use lists::OutOfMemory;
 use manchester_line::Sym;
 use port_partition::PortGuard;
 use std::alloc::Global;
 use std::marker::Model;
 
-/// What happened in a half bit: whether a collision of ports began, and the ports whose guards closed or
-/// opened and that were halted, where bit p, counted from 0, stands for port p.
+/// What happened in a half bit: whether a collision of ports began, and the ports that were closed (partition), opened
+/// (reconnection) and halted (jabber lockup protection), where bit p, counted from 0, stands for port p.
 #[derive(Clone, Copy, Debug, PartialEq, Eq)]
 pub struct RepeaterEvents {
     pub clash: bool,
@@ -56,9 +62,9 @@ impl Repeater {
     /// are open, and it emits Idle at first.
     pub fn new(alloc: Global, ports: u32, delay: u32) -> Result<Repeater, OutOfMemory>
         requires two_ports { 2 ≤ ports }
-        requires ports_at_most { ports ≤ 32 }
+        requires ports_at_most { ports ≤ most_ports }
         requires some_delay { 1 ≤ delay }
-        requires delay_at_most { delay ≤ 200 }
+        requires delay_at_most { delay ≤ greatest_delay }
         ensures { IfOk result (λ r. r ≡ new_state ports delay) }
     {
         let ports = ports as usize;
@@ -79,12 +85,12 @@ impl Repeater {
         rests: &[u32],
     ) -> Result<Repeater, OutOfMemory>
         requires two_ports { 2 ≤ length guards.now }
-        requires ports_at_most { length guards.now ≤ 32 }
+        requires ports_at_most { length guards.now ≤ most_ports }
         requires as_many { length rests.now ≡ length guards.now }
         requires some_delay { 1 ≤ delay }
-        requires delay_at_most { delay ≤ 200 }
-        requires rests { All (λ rest. rest ≤ 191) rests.now }
-        ensures { IfOk result (λ r. r ≡ resumed delay guards.now rests.now) }
+        requires delay_at_most { delay ≤ greatest_delay }
+        requires rests { All (λ rest. rest < jabber_rest) rests.now }
+        ensures { IfOk result (λ r. r ≡ resumed_state delay guards.now rests.now) }
     {
         Ok(Repeater {
             mode: Mode::Idle,
@@ -137,7 +143,7 @@ impl Repeater {
         ensures no_clash_emitted { HasNoClash emits.new }
         ensures no_clash_decided { HasNoClash decided.new }
     {
-        if self.mode == Mode::Idle && all_idle(hears) && self.is_still() {
+        if self.mode == Mode::Idle && all_idle(hears) && self.is_unchanged() {
             fill_idle(emits);
             fill_idle(decided);
             return RepeaterEvents {
@@ -150,12 +156,12 @@ impl Repeater {
         self.step_through(hears, emits, decided)
     }
 
-    /// Whether, in mode Idle, a half bit in which no port hears anything is known to leave all as it is.
-    fn is_still(&self) -> bool
+    /// Whether, in mode Idle, a silent half bit is known to leave all as it is.
+    fn is_unchanged(&self) -> bool
         requires { self.now.mode ≡ Idle }
-        ensures { IsTrue result → IsStill self.now }
+        ensures { IsTrue result → IsUnchanged self.now }
     {
-        self.line.is_idle() && counts_fresh(&self.counts) && guards_settled(&self.guards)
+        self.line.is_idle() && counts_fresh(&self.counts) && guards_unchanged(&self.guards)
     }
 
     /// One half bit, by a pass over all ports.
@@ -195,7 +201,7 @@ impl Repeater {
     /// and give no event.
     pub fn calm(&self) -> u64
         ensures calm { IsCalm self.now result }
-        ensures greatest { result < 4096 → ¬ IsQuiet (iterate silent_step result self.now) }
+        ensures greatest { result < most_calm → ¬ IsUneventful (iterate silent_step result self.now) }
     {
         if any_opens(&self.guards) {
             return 0;
@@ -213,9 +219,45 @@ impl Repeater {
         if n == 0 {
             return;
         }
-        self.mode = quiet_mode(self.mode, n as u32);
-        quiet_guards(&mut self.guards);
-        quiet_counts(&mut self.counts, n);
+        self.mode = silent_mode(self.mode, n as u32);
+        silent_guards(&mut self.guards);
+        silent_counts(&mut self.counts, n);
         self.line.leap(n);
+    }
+
+    /// A number of steady half bits in which the ports hear these symbols: nothing happens in so many but counts. What is
+    /// emitted in the first of them is written.
+    pub fn steady(&self, hears: &[Sym], emits: &mut [Sym]) -> u32
+        requires hears_len { length hears.now ≡ length self.now.guards }
+        requires emits_len { length emits.old ≡ length self.now.guards }
+        ensures steady { IsSteady hears.now self.now result }
+    {
+        self.line.front(emits);
+        let active = active_ports(&self.guards, hears);
+        mode_steady(self.mode, active)
+            .min(ports_steady(self.mode, &self.counts))
+            .min(guards_calm(&self.guards, hears, emits))
+            .min(self.line.alike(emits))
+    }
+
+    /// The state after `n` half bits in which the ports hear these symbols, and which are steady: nothing happens in them but
+    /// counts. What is emitted and decided in the last of them is written. Only the rows of the delay line are written one
+    /// by one.
+    pub fn leap_steady(&mut self, n: u32, hears: &[Sym], emits: &mut [Sym], decided: &mut [Sym])
+        requires hears_len { length hears.now ≡ length self.old.guards }
+        requires emits_len { length emits.old ≡ length self.old.guards }
+        requires decided_len { length decided.old ≡ length self.old.guards }
+        requires steady { IsSteady hears.now self.old n }
+        ensures state { self.new ≡ iterate (after hears.now) n self.old }
+        ensures ports { length self.new.guards ≡ length self.old.guards }
+    {
+        if n == 0 {
+            return;
+        }
+        decide_row(mode_on(self.mode), hears, &self.counts, decided);
+        self.line.front(emits);
+        leap_guards(&mut self.guards, hears, emits, n);
+        leap_counts(&mut self.counts, decided, n);
+        self.mode = leap_line(&mut self.line, self.mode, hears, n, decided, emits);
     }
 }

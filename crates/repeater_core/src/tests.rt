@@ -301,3 +301,81 @@ fn a_leap_leaves_what_steps_leave(rt: HostRuntime) -> Result<(), OutOfMemory> {
     }
     Ok(())
 }
+
+/// So many half bits in which two ports hear these symbols, in leaps over steady ones where there are some; the half bits
+/// that were leapt over.
+fn pass_leaping(repeater: &mut Repeater, hears: &[Sym; 2], times: u32) -> u32
+    requires { length repeater.old.guards ≡ 2 }
+    ensures { length repeater.new.guards ≡ 2 }
+{
+    let mut emits = [Sym::Idle; 2];
+    let mut decided = [Sym::Idle; 2];
+    let mut left = times;
+    let mut steps = 0;
+    while left > 0 {
+        let steady = repeater.steady(hears, &mut emits);
+        if 0 < steady && steady <= left {
+            repeater.leap_steady(steady, hears, &mut emits, &mut decided);
+            left -= steady;
+        } else {
+            repeater.step(hears, &mut emits, &mut decided);
+            left -= 1;
+            steps += 1;
+        }
+    }
+    times - steps
+}
+
+/// What two ports hear, and for how many half bits.
+type Stretch = ([Sym; 2], u32);
+
+/// The first stretch after which two repeaters differ, of which one leaps, or of which less than half was leapt over.
+fn first_wrong_stretch(
+    leaper: &mut Repeater,
+    stepper: &mut Repeater,
+    stretches: &[Stretch],
+) -> Option<usize>
+    requires leaper { length leaper.old.guards ≡ 2 }
+    requires stepper { length stepper.old.guards ≡ 2 }
+    ensures leaper { length leaper.new.guards ≡ 2 }
+    ensures stepper { length stepper.new.guards ≡ 2 }
+{
+    for (place, (hears, times)) in stretches.iter().enumerate() {
+        let leapt = pass_leaping(leaper, hears, *times);
+        pass(stepper, hears, u64::from(*times));
+        if leapt <= *times / 2 || !agree(leaper, stepper) {
+            return Some(place);
+        }
+    }
+    None
+}
+
+/// A reception and its extension, a collision that ends with one port, one heard, one that closes the ports, a clean run
+/// that lets them open, and a jabber.
+#[test]
+fn leaps_over_steady_half_bits_leave_what_steps_leave(rt: HostRuntime) -> Result<(), OutOfMemory> {
+    let stretches = [
+        ([Sym::Hi, Sym::Idle], 150),
+        ([Sym::Idle, Sym::Idle], 500),
+        ([Sym::Hi, Sym::Hi], 400),
+        ([Sym::Hi, Sym::Idle], 450),
+        ([Sym::Idle, Sym::Idle], 600),
+        ([Sym::Idle, Sym::Clash], 600),
+        ([Sym::Idle, Sym::Idle], 600),
+        ([Sym::Hi, Sym::Hi], 2_700),
+        ([Sym::Idle, Sym::Lo], 1_500),
+        ([Sym::Idle, Sym::Idle], 600),
+        ([Sym::Lo, Sym::Idle], 100_700),
+        ([Sym::Idle, Sym::Idle], 700),
+    ];
+    for delay in [1, 7, 200] {
+        let mut leaper = repeater_after(rt.alloc(), delay, 100, 0, 0)?;
+        let mut stepper = repeater_after(rt.alloc(), delay, 100, 0, 0)?;
+        assert_eq!(rt;
+            first_wrong_stretch(&mut leaper, &mut stepper, &stretches),
+            None
+        );
+        assert!(rt; go_on_alike(&mut leaper, &mut stepper, 450));
+    }
+    Ok(())
+}

@@ -1,8 +1,8 @@
 pub mod ShortNames
-pub mod Counted
-pub mod Added
-pub mod Ended
-pub mod Standing
-pub mod Left
-pub mod Shorts
-pub mod Stations
+pub mod CountedRows
+pub mod DeviceSums
+pub mod EndedFrames
+pub mod PlacesInQueues
+pub mod FramesLeft
+pub mod ShortCaptures
+pub mod StationsStay

@@ -4,8 +4,8 @@ use Rattle.std.proofs.lemmas.List.{get_or-map, length-map}
 use Rattle.std.specs.Prelude.{slice_get, unwrap_or}
 use Rattle.std.proofs.lemmas.List.Elements.{All-map, All-append}
 use Rattle.std.proofs.lemmas.Option.{slice_get_cases}
-use Rattle.layout_file.specs.Sound.{IsSound, device_names}
-use Rattle.layout_file.specs.declared.layout.Layout.{Layout}
+use Rattle.layout.specs.Sound.{IsSound, device_names}
+use Rattle.layout.specs.declared.lines.Layout.{Layout}
 
 pub short_names : (layout : Layout) → IsSound layout → All (λ name. length name ≤ 32) (device_names layout)
 short_names layout sound =

@@ -1,4 +1,4 @@
--- Counting row by row, and adding device by device.
+-- Counting row by row, and adding device by device (profile). Devices count from 0.
 use Rattle.std.specs.Prelude.{ℕ, ◌+◌, ◌==◌, List, [], ◌∷◌, All, if◌then◌else◌}
 use Rattle.collision_log.specs.Counters.{RowsAtMost, with_row, left_of}
 use Rattle.collision_log.specs.declared.counters.Counters.{Counters}
@@ -6,16 +6,16 @@ use Rattle.collision_log.specs.declared.row.Row.{Row}
 use Rattle.run_texts.specs.Counts.{dropped_of}
 use Rattle.run_texts.specs.declared.totals.Sums.{Sums}
 
--- no count of rows of any device is above n
+-- No device has counted more than n rows of one kind.
 abbrev pub AreAtMost : List Counters → ℕ → Type 0
 AreAtMost counts n = All (λ c. RowsAtMost c n) counts
 
--- the counts of the devices from k on with one more row, which counts at its own device
+-- The counts of the devices from k on with one more row, which counts at its own device.
 abbrev pub counted : ℕ → List Counters → Row → List Counters
 counted k [] row = []
 counted k (c ∷ cs) row = (if row.device == k then with_row c row.body else c) ∷ counted (k + 1) cs row
 
--- sums with those of one more device
+-- The sums with the counts of one more device.
 abbrev pub with_counts : Sums → Counters → Sums
 with_counts sums c = record {
   sent = sums.sent + c.sent;

@@ -66,7 +66,7 @@ fn count_rows(counts: &mut [Counters], rows: &[Row])
 }
 
 /// What the devices count over the rows of a run.
-#[tactic(auto, unfolding(crate::specs::Counts::counts_of), using(crate::proofs::Counted::first_none))]
+#[tactic(auto, unfolding(crate::specs::Counts::counts_of), using(crate::proofs::CountedRows::first_none))]
 pub(crate) fn counts_of(
     alloc: Global,
     plan: &Plan,

@@ -7,8 +7,6 @@ mod counts;
 pub mod laws;
 mod log;
 mod names;
-#[cfg(test)]
-mod tests;
 mod totals;
 
 pub use captures::pcap_of;

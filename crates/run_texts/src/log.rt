@@ -1,11 +1,11 @@
 //! The text of a log.
 ghost use Rattle.std.specs.Prelude.{◌≡◌, ◌≤◌, ◌++◌, length, map, All, IfOk, OnOk};
-ghost use Rattle.layout_file.specs.Sound.{IsSound};
+ghost use Rattle.layout.specs.Sound.{IsSound};
 ghost use Rattle.run_texts.specs.Texts.{line_of_row, lines_of_rows, log_of_rows};
 
 use crate::names::{device_names, name_of_device};
 use collision_log::{Row, row_text};
-use layout_file::Layout;
+use layout::Layout;
 use lists::{List, OutOfMemory};
 use std::alloc::Global;
 

@@ -1,8 +1,8 @@
 //! The names of devices.
 ghost use Rattle.std.specs.Prelude.{◌≡◌, [], map, IfOk, slice_get, unwrap_or};
-ghost use Rattle.layout_file.specs.Sound.{device_names};
+ghost use Rattle.layout.specs.Sound.{device_names};
 
-use layout_file::Layout;
+use layout::Layout;
 use lists::OutOfMemory;
 use std::alloc::Global;
 

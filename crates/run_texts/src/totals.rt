@@ -8,6 +8,7 @@ use crate::counts::counts_of;
 use collision_log::{Counters, Row};
 use lists::{List, OutOfMemory};
 use load_plan::Plan;
+use mac_parameters::HALF_BITS_A_BIT;
 use std::alloc::Global;
 
 /// The sums over all devices.
@@ -33,6 +34,7 @@ fn sum(a: u64, b: u64) -> Result<u64, OutOfMemory>
     a.checked_add(b).ok_or(OutOfMemory)
 }
 
+/// How many frames a device neither sent nor gave up.
 fn left_of(counters: &Counters) -> u64
     ensures { result ≡ left_of counters.now }
 {
@@ -42,6 +44,7 @@ fn left_of(counters: &Counters) -> u64
         .saturating_sub(counters.given_up)
 }
 
+/// How many receptions a device dropped, for whatever cause.
 fn dropped_of(counters: &Counters) -> Result<u64, OutOfMemory>
     ensures { IfOk result (λ dropped. dropped ≡ dropped_of counters.now) }
 {
@@ -56,6 +59,7 @@ impl Sums {
     ghost use Rattle.run_texts.specs.Counting.{with_counts};
     ghost use Rattle.run_texts.specs.Counts.{totals};
 
+    /// The sums over no device.
     #[tactic(auto, unfolding(crate::specs::Counts::totals))]
     fn new() -> Sums
         ensures { result ≡ totals [] }
@@ -155,7 +159,7 @@ pub fn totals_of_rows(alloc: Global, plan: &Plan, rows: &[Row]) -> Result<List<u
     let counts = counts_of(alloc, plan, rows)?;
     let sums = totals(counts.as_slice())?;
     let mut text = List::new(alloc);
-    let half_bits = 2 * plan.layout.until_bits;
+    let half_bits = HALF_BITS_A_BIT as u64 * plan.layout.until_bits;
     add_field(&mut text, "half_bits ", half_bits)?;
     text.extend(b"\n")?;
     add_totals(&mut text, &sums)?;

@@ -1,7 +1,7 @@
 use Rattle.std.proofs.Common.{◌≡◌, ◌+◌, get_or, ap, ◌∙◌, arith, rules}
 use Rattle.std.proofs.lemmas.Grind.{common_steps}
 use Rattle.mac_transmit.specs.Sender.{Sender}
-use Rattle.bench.proofs.Elements.{All-take-set, All-drop-set, All-drop-first}
+use Rattle.bench.proofs.ListsChangedInOrder.{All-take-set, All-drop-set, All-drop-first}
 use Rattle.bench.proofs.segment.send_all.Goals as goal
 
 pub loop-k-preserved : goal.loop-k-preserved

@@ -1,8 +1,8 @@
 use Rattle.std.proofs.Common.{◌≡◌, map, drop}
 use Rattle.layout_file.specs.GraphFaults.{edges_of}
-use Rattle.layout_file.specs.Joined.{colours}
+use Rattle.layout.specs.Joined.{colours}
 use Rattle.layout_file.specs.Sites.{seen}
-use Rattle.layout_file.proofs.Colours.{painted_by_all}
+use Rattle.layout_file.proofs.ColoursByTables.{painted_by_all}
 use Rattle.layout_file.proofs.graph.all_colours.Given as goal
 
 abbrev pub invariant-loop-site : goal.invariant-loop-site

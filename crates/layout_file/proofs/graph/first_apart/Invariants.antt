@@ -1,7 +1,7 @@
 use Rattle.std.proofs.Common.{◌≡◌, map, drop}
 use Rattle.layout_file.specs.GraphFaults.{first_apart, edges_of}
 use Rattle.layout_file.specs.Sites.{seen}
-use Rattle.layout_file.proofs.Colours.{first_apart_in}
+use Rattle.layout_file.proofs.ColoursByTables.{first_apart_in}
 use Rattle.layout_file.proofs.graph.first_apart.Given as goal
 
 abbrev pub invariant-loop-site : goal.invariant-loop-site

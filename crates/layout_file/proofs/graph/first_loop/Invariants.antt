@@ -1,7 +1,7 @@
 use Rattle.std.proofs.Common.{◌≡◌, [], map, drop}
 use Rattle.layout_file.specs.GraphFaults.{first_loop}
 use Rattle.layout_file.specs.Sites.{seen}
-use Rattle.layout_file.proofs.Colours.{loop_in}
+use Rattle.layout_file.proofs.ColoursByTables.{loop_in}
 use Rattle.layout_file.proofs.graph.first_loop.Given as goal
 
 abbrev pub invariant-loop-site : goal.invariant-loop-site

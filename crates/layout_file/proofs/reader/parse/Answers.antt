@@ -1,5 +1,5 @@
 use Rattle.std.proofs.Common.{rules}
-use Rattle.layout_file.proofs.Documents.{document-some, document-none}
+use Rattle.layout_file.proofs.ParsedDocuments.{document-some, document-none}
 use Rattle.layout_file.proofs.reader.parse.Goals as goal
 
 pub returns-in-Ok-clause-ok : goal.returns-in-Ok-clause-ok

@@ -1,5 +1,5 @@
 use Rattle.std.proofs.Common.{rules}
-use Rattle.layout_file.proofs.Digits.{octets_of-drop_all}
+use Rattle.layout_file.proofs.OctetsOfDigits.{octets_of-drop_all}
 use Rattle.layout_file.proofs.texts.octets.Goals as goal
 
 pub returns : goal.returns

@@ -1,5 +1,5 @@
 use Rattle.std.proofs.Common.{◌≡◌, ◌+◌, length, option_map}
-use Rattle.layout_file.proofs.Arrays.{tables_from}
+use Rattle.layout_file.proofs.TablesOfArrays.{tables_from}
 use Rattle.layout_file.proofs.tree.count_tables.Given as goal
 
 abbrev pub invariant-loop-item : goal.invariant-loop-item

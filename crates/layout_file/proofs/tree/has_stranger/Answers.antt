@@ -1,4 +1,4 @@
-use Rattle.layout_file.proofs.Arrays.{stranger-keys}
+use Rattle.layout_file.proofs.TablesOfArrays.{stranger-keys}
 use Rattle.layout_file.proofs.tree.has_stranger.Goals as goal
 
 pub loop-key-init : goal.loop-key-init

@@ -1,7 +1,7 @@
 use Rattle.std.proofs.Common.{◌≡◌, not, string_bytes}
 use Rattle.std.specs.List.{list_any}
 use Rattle.layout_file.specs.Tree.{is_listed}
-use Rattle.layout_file.proofs.Arrays.{has_stranger_in}
+use Rattle.layout_file.proofs.TablesOfArrays.{has_stranger_in}
 use Rattle.layout_file.proofs.tree.has_stranger.Given as goal
 
 abbrev pub invariant-loop-key : goal.invariant-loop-key

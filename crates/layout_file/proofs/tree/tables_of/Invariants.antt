@@ -1,6 +1,6 @@
 use Rattle.std.proofs.Common.{◌≡◌, ◌++◌, map, option_map}
 use Rattle.toml.specs.View.{table_view}
-use Rattle.layout_file.proofs.Arrays.{tables_from}
+use Rattle.layout_file.proofs.TablesOfArrays.{tables_from}
 use Rattle.layout_file.proofs.tree.tables_of.Given as goal
 
 abbrev pub invariant-loop-item : goal.invariant-loop-item

@@ -1,5 +1,5 @@
 use Rattle.outside.specs.declared.store.StoreFail.{StoreFail}
-use Rattle.load_files.proofs.Fed.{fed-more}
+use Rattle.load_files.proofs.FedReaders.{fed-more}
 use Rattle.load_files.proofs.load.feed_piece.Goals as goal
 
 pub returns-clause-fed : goal.returns-clause-fed

@@ -1,6 +1,6 @@
 use Rattle.std.proofs.Common.{◌<◌, length, refl, rules, arith}
 use Rattle.load_files.specs.Loaded.{IsUnloadedOf}
-use Rattle.load_files.proofs.Going.{element-at, loaded-none, loaded-stopped, held-same}
+use Rattle.load_files.proofs.LoadsSoFar.{element-at, loaded-none, loaded-stopped, held-same}
 use Rattle.load_files.proofs.loads.read_all.Goals as goal
 
 pub loop-k-init : goal.loop-k-init

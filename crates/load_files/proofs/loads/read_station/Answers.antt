@@ -1,5 +1,5 @@
 use Rattle.std.proofs.Common.{◌≡◌, rules, Some}
-use Rattle.load_files.proofs.Going.{most-after, station-load, station-stopped}
+use Rattle.load_files.proofs.LoadsSoFar.{most-after, station-load, station-stopped}
 use Rattle.load_files.proofs.loads.read_station.Goals as goal
 
 pub returns-in-Some-clause-load : goal.returns-in-Some-clause-load

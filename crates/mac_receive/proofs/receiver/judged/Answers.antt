@@ -1,7 +1,7 @@
 use Rattle.std.proofs.Common.{◌∙◌, sym, ap}
 use Rattle.manchester_line.specs.Reading.{reading}
 use Rattle.mac_receive.specs.Receiver.{judged_row}
-use Rattle.mac_receive.proofs.Judged.{whole_row}
+use Rattle.mac_receive.proofs.RowsOfReceptions.{whole_row}
 use Rattle.mac_receive.proofs.receiver.judged.Goals as goal
 
 pub returns : goal.returns

@@ -1,4 +1,4 @@
-use Rattle.mac_transmit.proofs.Attempting.{attempts_are_lawful}
+use Rattle.mac_transmit.proofs.LawfulAttempts.{attempts_are_lawful}
 use Rattle.mac_transmit.proofs.laws.attempts_are_lawful.Goals as goal
 
 pub returns : goal.returns

@@ -1,4 +1,4 @@
-use Rattle.mac_transmit.proofs.Going.{gaps}
+use Rattle.mac_transmit.proofs.StartGaps.{gaps}
 use Rattle.mac_transmit.proofs.laws.gaps_are_kept.Goals as goal
 
 pub returns : goal.returns

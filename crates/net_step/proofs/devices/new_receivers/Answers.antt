@@ -1,10 +1,10 @@
 use Rattle.std.proofs.Common.{◌≡◌, ◌++◌, ◌∷◌, [], All, subst, sym, arith}
 use Rattle.std.proofs.lemmas.List.Elements.{All-append}
 use Rattle.std.proofs.lemmas.Grind.{common_steps}
-use Rattle.mac_receive.specs.Kept.{Kept, Hears}
-use Rattle.net_step.specs.Net.{new_receiver}
-use Rattle.net_step.specs.Kept.{AllHear}
-use Rattle.net_step.proofs.Hearing.{AllHear-new, All-one}
+use Rattle.mac_receive.specs.KeptReceiver.{Kept, Hears}
+use Rattle.network.specs.Net.{new_receiver}
+use Rattle.net_step.specs.KeptNet.{AllHear}
+use Rattle.net_step.proofs.KeptReceivers.{AllHear-new, All-one}
 use Rattle.net_step.proofs.devices.new_receivers.Goals as goal
 
 pub loop-station-preserved : goal.loop-station-preserved

@@ -1,5 +1,5 @@
 use Rattle.std.proofs.Common.{◌≡◌, map, take}
-use Rattle.net_step.specs.Net.{new_repeater}
+use Rattle.network.specs.Net.{new_repeater}
 use Rattle.net_step.proofs.devices.new_relays.Given as goal
 
 abbrev pub invariant-loop-repeater : goal.invariant-loop-repeater

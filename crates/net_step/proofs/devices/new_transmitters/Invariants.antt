@@ -1,5 +1,5 @@
 use Rattle.std.proofs.Common.{◌≡◌, ◌++◌, All, length, drop}
-use Rattle.net_step.specs.Net.{new_senders}
+use Rattle.network.specs.Net.{new_senders}
 use Rattle.net_step.proofs.devices.new_transmitters.Given as goal
 
 abbrev pub invariant-loop-k : goal.invariant-loop-k

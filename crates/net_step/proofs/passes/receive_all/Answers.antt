@@ -1,12 +1,12 @@
 use Rattle.std.proofs.Common.{◌≡◌, ◌+◌, length, get_or, subst, sym, ap, ◌∙◌, arith, rules}
 use Rattle.std.proofs.lemmas.List.{take_all}
 use Rattle.manchester_line.specs.declared.Sym.TheVariants.{Idle}
-use Rattle.mac_transmit.specs.Sender.{hears}
-use Rattle.mac_receive.specs.Receiver.{Receiving, new_receiving, received}
-use Rattle.mac_receive.specs.Kept.{Kept, Hears}
-use Rattle.net_step.specs.Kept.{Gives}
-use Rattle.net_step.proofs.Elements.{All-take-set, All-drop-set, All-drop-first, get_or-rest, rest-set}
-use Rattle.net_step.proofs.Hearing.{length-AllHear, AllHear-at, AllGive-next, Lends-from}
+use Rattle.manchester_line.specs.Line.{is_signal}
+use Rattle.mac_receive.specs.Receiver.{Receiving, new_receiving, receiver_step}
+use Rattle.mac_receive.specs.KeptReceiver.{Kept, Hears}
+use Rattle.net_step.specs.KeptNet.{Gives}
+use Rattle.net_step.proofs.ChangedElements.{All-take-set, All-drop-set, All-drop-first, get_or-rest, rest-set}
+use Rattle.net_step.proofs.KeptReceivers.{length-AllHear, AllHear-at, AllGive-next, Lends-from}
 use Rattle.net_step.proofs.passes.receive_all.Goals as goal
 
 pub loop-k-preserved : goal.loop-k-preserved
@@ -27,14 +27,14 @@ loop-k-preserved c =
           let r = get_or rs k d in
           let stands : Hears r (get_or c.loop-k.receivers k e) = subst (λ (x : Kept). Hears r x) (sym same) (AllHear-at rs c.args.receivers.now k d e h (omega arith)) in
           let few : length rs ≡ length c.args.receivers.now = length-AllHear rs c.args.receivers.now h in
-          let signal : c.has_signal.result ≡ hears (get_or c.args.emitted.now k Idle) = c.has_signal.ensures in
-          let gives : Gives (received r (get_or c.args.heard.now k Idle) c.has_signal.result) c.step.new.self c.step.result = record {
+          let signal : c.is_signal.result ≡ is_signal (get_or c.args.emitted.now k Idle) = c.is_signal.ensures in
+          let gives : Gives (receiver_step r (get_or c.args.heard.now k Idle) c.is_signal.result) c.step.new.self c.step.result = record {
             hears = c.step.ensures.state r stands;
             event = c.step.ensures.event r stands;
             lends = Lends-from _ _ _ (λ n e. c.step.ensures.octets r n stands (c.step.ensures.event r stands ∙ e));
           } in
           AllGive-next c.args.heard.now c.args.emitted.now rs c.loop-k.receivers c.loop-k.received k Idle Idle d c.step.new.self c.step.result (omega arith) (omega arith) (omega arith) (omega arith) (omega arith)
-          (c.loop-k.invariant.given rs h) (subst (λ x. Gives (received r (get_or c.args.heard.now k Idle) x) c.step.new.self c.step.result) signal gives);
+          (c.loop-k.invariant.given rs h) (subst (λ x. Gives (receiver_step r (get_or c.args.heard.now k Idle) x) c.step.new.self c.step.result) signal gives);
     }
 
 pub returns-clause-steps : goal.returns-clause-steps

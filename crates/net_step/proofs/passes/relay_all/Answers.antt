@@ -3,9 +3,9 @@ use Rattle.std.proofs.lemmas.List.{drop-set-lt, take_more_set}
 use Rattle.std.proofs.Math.Seq.{map-set_same}
 use Rattle.std.proofs.lemmas.Grind.{common_steps}
 use Rattle.repeater_core.specs.Step.{State, after, emitted_by}
-use Rattle.net_step.specs.Net.{bodies_of}
-use Rattle.net_step.specs.Kept.{all_told, told_bodies}
-use Rattle.net_step.proofs.Ports.{ports_more, each_step, lines_step, all_told-more}
+use Rattle.network.specs.Rows.{repeater_bodies, told_bodies}
+use Rattle.net_step.specs.KeptNet.{all_told}
+use Rattle.net_step.proofs.RepeatersInARow.{ports_more, each_step, lines_step, all_told-more}
 use Rattle.net_step.proofs.passes.relay_all.Goals as goal
 
 pub loop-k-preserved : goal.loop-k-preserved
@@ -29,6 +29,6 @@ loop-k-preserved c =
       len = grind (arith, common_steps, c.loop-k.invariant.len);
       len_events = length-set c.loop-k.events k c.step.result ∙ c.loop-k.invariant.len_events ∙ sym (length-set rs k new);
       states = each_step after c.args.heard.now rs (take k rs) _ new from k _ r new h is to (take_more_set rs k new h) (c.step.ensures.state ∙ ap (after _) (sym is)) ∙ c.loop-k.invariant.states;
-      bodies = each_step bodies_of c.args.heard.now rs (all_told (take k rs) (take k c.loop-k.events)) _ (told_bodies (length new.guards) c.step.result) from k _ r new h is to (all_told-more rs c.loop-k.events k new c.step.result h (omega (arith, c.loop-k.invariant.len_events))) (c.step.ensures.bodies ∙ ap (bodies_of _) (sym is)) ∙ c.loop-k.invariant.bodies;
+      bodies = each_step repeater_bodies c.args.heard.now rs (all_told (take k rs) (take k c.loop-k.events)) _ (told_bodies (length new.guards) c.step.result) from k _ r new h is to (all_told-more rs c.loop-k.events k new c.step.result h (omega (arith, c.loop-k.invariant.len_events))) (c.step.ensures.bodies ∙ ap (repeater_bodies _) (sym is)) ∙ c.loop-k.invariant.bodies;
       emitted = lines_step emitted_by c.loop-k.emitted c.step.new.emitted rs from k _ r new h is (omega (arith, emits)) fits (c.step.ensures.emitted ∙ ap emitted_by (sym is)) ∙ c.loop-k.invariant.emitted;
     }

@@ -1,8 +1,9 @@
 use Rattle.std.proofs.Common.{◌≡◌, ◌+◌, ◌++◌, length, map, take, drop}
 use Rattle.std.specs.List.{flat_map}
 use Rattle.repeater_core.specs.Step.{after, emitted_by}
-use Rattle.net_step.specs.Net.{each_repeater, bodies_of}
-use Rattle.net_step.specs.Kept.{ports_of, all_told}
+use Rattle.network.specs.Net.{each_repeater, ports_of}
+use Rattle.network.specs.Rows.{repeater_bodies}
+use Rattle.net_step.specs.KeptNet.{all_told}
 use Rattle.net_step.proofs.passes.relay_all.Given as goal
 
 -- the repeaters below k have stepped, and the ports before `from` are theirs
@@ -15,6 +16,6 @@ invariant-loop-k l =
       len : length l.emitted ≡ length l.heard;
       len_events : length l.events ≡ length l.relays;
       states : take l.k l.relays ++ each_repeater after (drop l.from l.heard) rest ≡ each_repeater after l.heard l.fn.relays;
-      bodies : all_told (take l.k l.relays) (take l.k l.events) ++ each_repeater bodies_of (drop l.from l.heard) rest ≡ each_repeater bodies_of l.heard l.fn.relays;
+      bodies : all_told (take l.k l.relays) (take l.k l.events) ++ each_repeater repeater_bodies (drop l.from l.heard) rest ≡ each_repeater repeater_bodies l.heard l.fn.relays;
       emitted : take l.from l.emitted ++ flat_map emitted_by rest ≡ flat_map emitted_by l.fn.relays;
     }

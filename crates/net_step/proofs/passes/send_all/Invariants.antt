@@ -1,5 +1,5 @@
 use Rattle.std.proofs.Common.{◌≡◌, ◌+◌, ◌++◌, All, length, map, take, drop}
-use Rattle.net_step.specs.Net.{sendings}
+use Rattle.network.specs.Net.{sendings}
 use Rattle.net_step.proofs.passes.send_all.Given as goal
 
 -- the senders below k have stepped, and the rest have not

@@ -1,6 +1,6 @@
 use Rattle.std.proofs.Common.{◌≡◌, ◌++◌, map, take}
 use Rattle.std.specs.List.{flat_map}
-use Rattle.net_step.specs.Taps.{tap_of}
+use Rattle.layout.specs.Taps.{tap_of}
 use Rattle.net_step.proofs.places.taps_of.Given as goal
 
 abbrev pub invariant-loop-station : goal.invariant-loop-station

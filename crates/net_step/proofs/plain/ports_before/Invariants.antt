@@ -1,5 +1,5 @@
 use Rattle.std.proofs.Common.{◌≡◌, ◌*◌, ◌≤◌, take}
-use Rattle.net_step.specs.Kept.{ports_of}
+use Rattle.network.specs.Net.{ports_of}
 use Rattle.net_step.proofs.plain.ports_before.Given as goal
 
 abbrev pub invariant-loop-k : goal.invariant-loop-k

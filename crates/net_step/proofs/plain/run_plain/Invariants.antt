@@ -1,6 +1,6 @@
 use Rattle.std.proofs.Common.{◌≡◌}
-use Rattle.net_step.specs.Net.{net}
-use Rattle.net_step.specs.Kept.{Stands}
+use Rattle.network.specs.Net.{net}
+use Rattle.net_step.specs.KeptNet.{Stands}
 use Rattle.net_step.proofs.plain.run_plain.Given as goal
 
 abbrev pub invariant-loop-t : goal.invariant-loop-t

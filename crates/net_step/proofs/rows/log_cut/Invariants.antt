@@ -1,5 +1,5 @@
 use Rattle.std.proofs.Common.{◌≡◌, ◌++◌, drop}
-use Rattle.net_step.specs.Outputs.{cut_rows}
+use Rattle.network.specs.Outputs.{cut_rows}
 use Rattle.net_step.proofs.rows.log_cut.Given as goal
 
 abbrev pub invariant-loop-k : goal.invariant-loop-k

@@ -1,4 +1,4 @@
-use Rattle.net_step.proofs.Masks.{rows_none}
+use Rattle.network.proofs.PortFlags.{rows_none}
 use Rattle.net_step.proofs.rows.log_repeater.Goals as goal
 
 pub returns-then-events-eq0-3 : goal.returns-then-events-eq0-3

@@ -1,6 +1,6 @@
 use Rattle.std.proofs.Common.{◌≡◌, ◌+◌, ◌++◌, drop}
-use Rattle.net_step.specs.Net.{repeater_rows}
-use Rattle.net_step.specs.Kept.{all_told}
+use Rattle.network.specs.Rows.{repeater_rows}
+use Rattle.net_step.specs.KeptNet.{all_told}
 use Rattle.net_step.proofs.rows.log_repeaters.Given as goal
 
 -- the rows of the repeaters below k are there, and the rest are not

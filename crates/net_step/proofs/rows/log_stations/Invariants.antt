@@ -1,5 +1,5 @@
 use Rattle.std.proofs.Common.{◌≡◌, ◌++◌, drop}
-use Rattle.net_step.specs.Net.{rows_of}
+use Rattle.network.specs.Rows.{rows_of}
 use Rattle.net_step.proofs.rows.log_stations.Given as goal
 
 -- the rows of the stations below k are there, and the rest are not

@@ -1,5 +1,5 @@
 use Rattle.std.proofs.Common.{◌≡◌, ◌++◌, drop}
-use Rattle.net_step.specs.Wires.{numbers_on}
+use Rattle.network.specs.TapsOnSegments.{numbers_on}
 use Rattle.net_step.proofs.segment.numbers_on.Given as goal
 
 abbrev pub invariant-loop-k : goal.invariant-loop-k

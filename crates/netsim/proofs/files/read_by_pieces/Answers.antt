@@ -1,6 +1,6 @@
 use Rattle.std.proofs.Common.{arith, ◌∙◌, rules}
 use Rattle.netsim.specs.Reading.{IsMore}
-use Rattle.netsim.proofs.Fronts.{begun-more, begun-end, begun-full}
+use Rattle.netsim.proofs.ReadByPieces.{begun-more, begun-end, begun-full}
 use Rattle.netsim.proofs.files.read_by_pieces.Goals as goal
 
 pub loop-octets-preserved : goal.loop-octets-preserved

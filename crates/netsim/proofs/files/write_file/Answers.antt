@@ -2,7 +2,7 @@ use Rattle.std.proofs.Common.{◌+◌, take, inr, rules, arith}
 use Rattle.std.proofs.lemmas.List.{take_rest}
 use Rattle.outside.specs.declared.store.StoreFail.{StoreFail}
 use Rattle.outside.specs.Files.{IsAbsent}
-use Rattle.netsim.proofs.Wholes.{put-present, put-next}
+use Rattle.netsim.proofs.WrittenByPieces.{put-present, put-next}
 use Rattle.netsim.proofs.files.write_file.Goals as goal
 
 pub returns-in_err-count-clause-missing : goal.returns-in_err-count-clause-missing

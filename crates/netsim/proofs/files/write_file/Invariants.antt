@@ -1,11 +1,11 @@
 use Rattle.std.proofs.Common.{◌≡◌, ◌≤◌, ◌-◌, length, take}
-use Rattle.netsim.specs.Reading.{put}
+use Rattle.netsim.specs.Reading.{put_file}
 use Rattle.netsim.proofs.files.write_file.Given as goal
 
 abbrev pub invariant-loop-done : goal.invariant-loop-done
 invariant-loop-done g l =
     (l.done ≤ length l.text)
-    × (g.S.Store.held l.store ≡ put l.name (take l.done l.text) (g.S.Store.held l.fn.store))
+    × (g.S.Store.held l.store ≡ put_file l.name (take l.done l.text) (g.S.Store.held l.fn.store))
     × (g.S.Store.read_faults l.fn.store ≤ g.S.Store.read_faults l.store)
     × (g.S.Store.write_faults l.fn.store ≤ g.S.Store.write_faults l.store)
 

@@ -2,7 +2,7 @@ use Rattle.std.proofs.Common.{◌≡◌, rules}
 use Rattle.netsim.specs.declared.ended.Ended.{Ended}
 use Rattle.netsim.specs.Texts.{name_of_capture}
 use Rattle.run_texts.specs.Captures.{pcap_of_taken}
-use Rattle.netsim.proofs.Filed.{broken-same}
+use Rattle.netsim.proofs.FilesInTurn.{broken-same}
 use Rattle.netsim.proofs.outputs.file_capture.Goals as goal
 
 pub returns-clause-err : goal.returns-clause-err

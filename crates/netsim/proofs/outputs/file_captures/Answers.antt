@@ -1,7 +1,7 @@
 use Rattle.std.proofs.Common.{◌<◌, length, rules}
 use Rattle.netsim.specs.Runs.{capture_files}
 use Rattle.netsim.specs.declared.ended.Ended.{Ended}
-use Rattle.netsim.proofs.Filed.{captures-next, captures-end, left-broken, left-none, on-err}
+use Rattle.netsim.proofs.FilesInTurn.{captures-next, captures-end, left-broken, left-none, on-err}
 use Rattle.netsim.proofs.outputs.file_captures.Goals as goal
 
 pub returns-in_err-file_capture-clause-err : goal.returns-in_err-file_capture-clause-err

@@ -1,6 +1,6 @@
 use Rattle.std.proofs.Common.{◌≤◌, drop}
 use Rattle.netsim.specs.Runs.{capture_files}
-use Rattle.netsim.proofs.Filed.{IsLeft}
+use Rattle.netsim.proofs.FilesInTurn.{IsLeft}
 use Rattle.netsim.proofs.outputs.file_captures.Given as goal
 
 abbrev pub invariant-loop-k : goal.invariant-loop-k

@@ -2,7 +2,7 @@ use Rattle.std.proofs.Common.{◌≡◌, rules}
 use Rattle.netsim.specs.declared.ended.Ended.{Ended}
 use Rattle.netsim.specs.Runs.{counters}
 use Rattle.netsim.specs.Texts.{name_of_counters}
-use Rattle.netsim.proofs.Filed.{broken-same}
+use Rattle.netsim.proofs.FilesInTurn.{broken-same}
 use Rattle.netsim.proofs.outputs.file_counters.Goals as goal
 
 pub returns-clause-err : goal.returns-clause-err

@@ -1,6 +1,6 @@
 use Rattle.std.proofs.Common.{◌∙◌, arith}
 use Rattle.netsim.specs.Ended.{Moment}
-use Rattle.netsim.proofs.Ran.{IsRead, plain-ran, plain-unloaded, loaded-before}
+use Rattle.netsim.proofs.RunEnds.{IsRead, plain-ran, plain-unloaded, loaded-before}
 use Rattle.netsim.proofs.plain.plain.Goals as goal
 
 pub returns-in-Ok-read_network_loads : goal.returns-in-Ok-read_network_loads

@@ -1,6 +1,6 @@
 use Rattle.std.proofs.Common.{refl}
 use Rattle.netsim.specs.Ended.{Moment}
-use Rattle.netsim.proofs.Ran.{run-filed, run-unfiled}
+use Rattle.netsim.proofs.RunEnds.{run-filed, run-unfiled}
 use Rattle.netsim.proofs.plain.run_network.Goals as goal
 
 pub returns-in-Ok-file_outputs : goal.returns-in-Ok-file_outputs

@@ -1,9 +1,9 @@
 use Rattle.netsim.specs.Requests.{asked}
 use Rattle.netsim.specs.declared.ended.Ended.TheVariants as ended
-use Rattle.netsim.proofs.Detection.{detected}
-use Rattle.netsim.proofs.Ends.{fault_only, read_only}
-use Rattle.netsim.proofs.Known.{load_only, complete, check_complete}
-use Rattle.netsim.proofs.Told.{done, write_files, broken, memory}
+use Rattle.netsim.proofs.DetectedInTheLog.{detected}
+use Rattle.netsim.proofs.LayoutDecidesStatus.{fault_only, read_only}
+use Rattle.netsim.proofs.LoadsDecideStatus.{load_only, complete, check_complete}
+use Rattle.netsim.proofs.FilesAfterRuns.{done, write_files, broken, memory}
 use Rattle.netsim.proofs.run.netsim.Goals as goal
 
 pub returns-in-Done-clause-read_only : goal.returns-in-Done-clause-read_only

@@ -1,5 +1,5 @@
 use Rattle.outside.specs.declared.store.SinkFail.{SinkFail}
-use Rattle.netsim.proofs.Lines.{said_by}
+use Rattle.netsim.proofs.SaidByPieces.{said_by}
 use Rattle.netsim.proofs.said.say.Goals as goal
 
 pub returns-clause-said : goal.returns-clause-said

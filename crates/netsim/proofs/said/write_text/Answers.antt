@@ -1,7 +1,7 @@
 use Rattle.std.proofs.Common.{rules, arith}
 use Rattle.std.proofs.lemmas.List.{take_rest}
 use Rattle.outside.specs.declared.store.SinkFail.{SinkFail}
-use Rattle.netsim.proofs.Lines.{said-next}
+use Rattle.netsim.proofs.SaidByPieces.{said-next}
 use Rattle.netsim.proofs.said.write_text.Goals as goal
 
 pub loop-done-preserved : goal.loop-done-preserved

@@ -1,6 +1,6 @@
 use Rattle.std.proofs.Common.{◌≡◌, true}
 use Rattle.std.specs.Prelude.{bytes_eq}
-use Rattle.outside.proofs.Places.{placed}
+use Rattle.outside.proofs.FoundFiles.{placed}
 use Rattle.outside.proofs.memory.find.Goals as goal
 
 pub returns-then-eq : goal.returns-then-eq

@@ -1,11 +1,11 @@
 use Rattle.std.proofs.Common.{◌-◌, subst, sym, get_or, arith}
-use Rattle.layout_file.specs.declared.ways.Tap.TheVariants.{Station}
-use Rattle.layout_file.specs.declared.ways.Way.{Way}
-use Rattle.layout_file.specs.Paths.{IsStep}
+use Rattle.layout.specs.declared.ways.Tap.TheVariants.{Station}
+use Rattle.layout.specs.declared.ways.Way.{Way}
+use Rattle.layout.specs.Paths.{IsStep}
 use Rattle.path_checker.specs.declared.stops.Stop.{Stop}
 use Rattle.path_checker.specs.Far.{HasRoom}
-use Rattle.path_checker.proofs.Farthest.{skip_more, station_more, port_more, sum_fits, same_tap_true, next_step, beside_at, onward_from, room_on}
-use Rattle.path_checker.proofs.Tables.{right_found, right_more}
+use Rattle.path_checker.proofs.FarthestStation.{skip_more, station_more, port_more, sum_fits, same_tap_true, next_step, beside_at, onward_from, room_on}
+use Rattle.path_checker.proofs.RightTables.{right_found, right_more}
 use Rattle.path_checker.proofs.far.+farthest.Goals as goal
 
 abbrev nowhere : Stop

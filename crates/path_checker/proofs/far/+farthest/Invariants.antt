@@ -1,6 +1,6 @@
 use Rattle.std.proofs.Common.{take}
 use Rattle.path_checker.specs.Far.{IsFarthest, IsRight}
-use Rattle.path_checker.proofs.Farthest.{IsViaOne}
+use Rattle.path_checker.proofs.FarthestStation.{IsViaOne}
 use Rattle.path_checker.proofs.far.+farthest.Given as goal
 
 abbrev pub decreases-farthest : goal.decreases-farthest

@@ -1,5 +1,5 @@
-use Rattle.path_checker.proofs.Detect.{early_start}
-use Rattle.path_checker.proofs.Grounds.{carries, repeats, lawful}
+use Rattle.path_checker.proofs.OverlapsAreHit.{early_start}
+use Rattle.path_checker.proofs.NetworkLaws.{carries, repeats, lawful}
 use Rattle.path_checker.proofs.laws.early_start.Goals as goal
 
 pub returns : goal.returns

@@ -1,5 +1,5 @@
-use Rattle.path_checker.proofs.Detect.{late_start}
-use Rattle.path_checker.proofs.Grounds.{carries, repeats, lawful}
+use Rattle.path_checker.proofs.OverlapsAreHit.{late_start}
+use Rattle.path_checker.proofs.NetworkLaws.{carries, repeats, lawful}
 use Rattle.path_checker.proofs.laws.late_start.Goals as goal
 
 pub returns : goal.returns

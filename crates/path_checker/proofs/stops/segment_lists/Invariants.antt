@@ -1,5 +1,5 @@
 use Rattle.std.proofs.Common.{◌≡◌, map}
-use Rattle.layout_file.specs.Joined.{counted_up}
+use Rattle.layout.specs.Joined.{counted_up}
 use Rattle.path_checker.specs.Stops.{stops_on}
 use Rattle.path_checker.proofs.stops.segment_lists.Given as goal
 

@@ -1,7 +1,7 @@
 use Rattle.std.proofs.Common.{length}
-use Rattle.path_checker.proofs.Alike.{is_kept}
-use Rattle.path_checker.proofs.Grounds.{carries, repeats, lawful}
-use Rattle.path_checker.proofs.Worst.{worst_low, is_verdict, no_pair_only}
+use Rattle.path_checker.proofs.AlikeLayouts.{is_kept}
+use Rattle.path_checker.proofs.NetworkLaws.{carries, repeats, lawful}
+use Rattle.path_checker.proofs.WorstPair.{worst_low, is_verdict, no_pair_only}
 use Rattle.path_checker.proofs.verdict.check_paths.Goals as goal
 
 pub verdict_of-requires : goal.verdict_of-requires

@@ -1,7 +1,7 @@
-use Rattle.layout_file.specs.declared.ways.Tap.TheVariants.{Station}
-use Rattle.layout_file.specs.declared.ways.Way.TheVariants as way
-use Rattle.path_checker.proofs.Rooms.{has_room}
-use Rattle.path_checker.proofs.Worst.{farthest_apart}
+use Rattle.layout.specs.declared.ways.Tap.TheVariants.{Station}
+use Rattle.layout.specs.declared.ways.Way.TheVariants as way
+use Rattle.path_checker.proofs.ShortWalks.{has_room}
+use Rattle.path_checker.proofs.WorstPair.{farthest_apart}
 use Rattle.path_checker.proofs.verdict.farthest_of.Goals as goal
 
 pub farthest-requires-clause-room : goal.farthest-requires-clause-room

@@ -1,6 +1,6 @@
 use Rattle.std.proofs.Common.{◌≡◌, ℕ, length, subst, arith}
 use Rattle.path_checker.specs.Verdicts.{IsWorstBelow}
-use Rattle.path_checker.proofs.Worst.{worst_more}
+use Rattle.path_checker.proofs.WorstPair.{worst_more}
 use Rattle.path_checker.proofs.verdict.worst_pair.Goals as goal
 
 pub loop-station-preserved : goal.loop-station-preserved

@@ -1,5 +1,5 @@
 use Rattle.std.proofs.Common.{arith}
-use Rattle.repeater_core.proofs.Silent.{ports_at_most}
+use Rattle.repeater_core.proofs.SilentPorts.{ports_at_most}
 use Rattle.repeater_core.proofs.calm.ports_calm.Goals as goal
 
 pub loop-k-init : goal.loop-k-init

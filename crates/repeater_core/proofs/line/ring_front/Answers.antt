@@ -1,4 +1,4 @@
-use Rattle.repeater_core.proofs.Fronts.{front_near, front_far}
+use Rattle.repeater_core.proofs.DelayLineCalm.{front_near, front_far}
 use Rattle.repeater_core.proofs.line.ring_front.Goals as goal
 
 pub returns-then-front-slots : goal.returns-then-front-slots

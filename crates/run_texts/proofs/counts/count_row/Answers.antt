@@ -1,6 +1,6 @@
 use Rattle.std.proofs.Common.{sym, ap, set, ◌∙◌, arith}
 use Rattle.collision_log.specs.Counters.{no_counts}
-use Rattle.run_texts.proofs.Counted.{counted_at, counted_past}
+use Rattle.run_texts.proofs.CountedRows.{counted_at, counted_past}
 use Rattle.run_texts.proofs.counts.count_row.Goals as goal
 
 pub returns-then-device-counts-clause-counts : goal.returns-then-device-counts-clause-counts

@@ -1,5 +1,5 @@
 use Rattle.std.proofs.Common.{◌-◌, ◌^◌, arith}
-use Rattle.run_texts.proofs.Counted.{are_at_most_more, last_row, next_row}
+use Rattle.run_texts.proofs.CountedRows.{are_at_most_more, last_row, next_row}
 use Rattle.run_texts.proofs.counts.count_rows.Goals as goal
 
 pub count_row-requires : goal.count_row-requires

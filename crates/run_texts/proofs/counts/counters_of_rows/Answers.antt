@@ -1,7 +1,7 @@
 use Rattle.std.proofs.Common.{length, ap, arith}
 use Rattle.std.proofs.lemmas.List.{length-map}
-use Rattle.load_plan.proofs.Soundness.{sound_of_plan}
-use Rattle.run_texts.proofs.Counted.{length-counts_of}
+use Rattle.load_plan.proofs.PlansAreSound.{sound_of_plan}
+use Rattle.run_texts.proofs.CountedRows.{length-counts_of}
 use Rattle.run_texts.proofs.ShortNames.{short_names}
 use Rattle.run_texts.proofs.counts.counters_of_rows.Goals as goal
 

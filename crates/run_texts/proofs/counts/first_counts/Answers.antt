@@ -1,4 +1,4 @@
-use Rattle.run_texts.proofs.Counted.{next_station}
+use Rattle.run_texts.proofs.CountedRows.{next_station}
 use Rattle.run_texts.proofs.counts.first_counts.Goals as goal
 
 pub loop-k-preserved : goal.loop-k-preserved

@@ -1,4 +1,4 @@
-use Rattle.run_texts.proofs.Shorts.{captures_are_short, captures_before}
+use Rattle.run_texts.proofs.ShortCaptures.{captures_are_short, captures_before}
 use Rattle.run_texts.proofs.laws.captures_are_short.Goals as goal
 
 pub returns-clause-short : goal.returns-clause-short

@@ -1,4 +1,4 @@
-use Rattle.run_texts.proofs.Left.{frames_are_left}
+use Rattle.run_texts.proofs.FramesLeft.{frames_are_left}
 use Rattle.run_texts.proofs.laws.frames_are_left.Goals as goal
 
 pub returns : goal.returns

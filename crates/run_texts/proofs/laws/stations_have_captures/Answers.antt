@@ -1,4 +1,4 @@
-use Rattle.run_texts.proofs.Stations.{length-captures}
+use Rattle.run_texts.proofs.StationsStay.{length-captures}
 use Rattle.run_texts.proofs.laws.stations_have_captures.Goals as goal
 
 pub returns : goal.returns

@@ -1,4 +1,4 @@
-use Rattle.run_texts.proofs.Added.{next_device}
+use Rattle.run_texts.proofs.DeviceSums.{next_device}
 use Rattle.run_texts.proofs.totals.totals.Goals as goal
 
 pub loop-counters-preserved : goal.loop-counters-preserved

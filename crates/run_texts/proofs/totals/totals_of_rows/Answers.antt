@@ -1,5 +1,5 @@
 use Rattle.std.proofs.Common.{◌≤◌, arith}
-use Rattle.load_plan.proofs.Soundness.{sound_of_plan}
+use Rattle.load_plan.proofs.PlansAreSound.{sound_of_plan}
 use Rattle.run_texts.proofs.totals.totals_of_rows.Goals as goal
 
 pub overflow_mul-half_bits : goal.overflow_mul-half_bits

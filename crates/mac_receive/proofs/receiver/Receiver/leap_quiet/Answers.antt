@@ -1,4 +1,4 @@
-use Rattle.mac_receive.proofs.Leaps.{leapt_quiet, bodies_quiet}
+use Rattle.mac_receive.proofs.LeapsAreSteps.{leapt_quiet, bodies_quiet}
 use Rattle.mac_receive.proofs.receiver.Receiver.leap_quiet.Goals as goal
 
 pub returns-then-n-gt0-clause-state : goal.returns-then-n-gt0-clause-state

@@ -1,6 +1,6 @@
 use Rattle.std.proofs.Common.{◌<◌, ◌∙◌, length, sym, ap, arith}
-use Rattle.mac_receive.specs.Kept.{still}
-use Rattle.mac_receive.proofs.Leaps.{leapt_sending, bodies_sending}
+use Rattle.mac_receive.specs.KeptReceiver.{still}
+use Rattle.mac_receive.proofs.LeapsAreSteps.{leapt_sending, bodies_sending}
 use Rattle.mac_receive.proofs.receiver.Receiver.leap_sending.Goals as goal
 
 pub returns-then-n-gt0-clause-state : goal.returns-then-n-gt0-clause-state

@@ -1,6 +1,6 @@
 use Rattle.std.proofs.Common.{ap, ◌∙◌}
 use Rattle.mac_transmit.specs.Calm.{up_to_most}
-use Rattle.mac_transmit.proofs.Calming.{calm_is}
+use Rattle.mac_transmit.proofs.CalmHalfBits.{calm_is}
 use Rattle.mac_transmit.proofs.transmitter.Transmitter.calm.Goals as goal
 
 pub returns-clause-exact : goal.returns-clause-exact

@@ -1,16 +1,16 @@
 use Rattle.std.proofs.Common.{ap, ◌<◌, sym, ◌∙◌, subst}
 use Rattle.mac_transmit.specs.Sender.{Sender, phase_after}
-use Rattle.mac_transmit.proofs.Keeping.{goes_on}
-use Rattle.mac_transmit.proofs.Symbols.{emitted_clear}
+use Rattle.mac_transmit.proofs.SenderInvariant.{goes_on}
+use Rattle.mac_transmit.proofs.NoClashIsSent.{emitted_clear}
 use Rattle.mac_transmit.proofs.transmitter.Transmitter.go_on.Goals as goal
 
 pub invariant_of-self : goal.invariant_of-self
 invariant_of-self c =
     let q = c.self.inside in
-    let s : Sender = record { queue = q.queue; draws = q.draws; t = q.t; place = q.place; phase = q.phase; defer = q.defer; attempt = q.attempt; last_end = q.last_end; loud_from = q.loud_from } in
+    let s : Sender = record { queue = q.queue; draws = q.draws; t = q.t; place = q.place; phase = q.phase; defer = q.defer; attempt = q.attempt; last_end = q.last_end; carrier_from = q.carrier_from } in
     let early : q.t < 2000000000 = subst (λ (x : Sender). x.t < 2000000000) (sym c.self.view_is) c.requires in (
-      goes_on s c.args.carrier c.phase_with_hit-self-inside.result c.take_turn-turn.result.defer c.loud_since-self-inside.result c.self.invariant.0 early
-          (c.phase_with_hit-self-inside.ensures ∙ ap (λ p. phase_after q.t p c.args.carrier) c.take_turn-turn.ensures.phase) c.take_turn-turn.ensures.defer c.loud_since-self-inside.ensures,
+      goes_on s c.args.carrier c.phase_with_hit-self-inside.result c.take_turn-turn.result.defer c.carrier_since-self-inside.result c.self.invariant.0 early
+          (c.phase_with_hit-self-inside.ensures ∙ ap (λ p. phase_after q.t p c.args.carrier) c.take_turn-turn.ensures.phase) c.take_turn-turn.ensures.defer c.carrier_since-self-inside.ensures,
       c.self.invariant.1,
     )
 

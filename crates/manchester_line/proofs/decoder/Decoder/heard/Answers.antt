@@ -1,7 +1,7 @@
 use Rattle.std.proofs.Common.{◌≡◌, ◌∙◌, rules}
 use Rattle.std.specs.Prelude.{◌||◌}
 use Rattle.std.specs.Option.{is_some}
-use Rattle.manchester_line.proofs.Told.{halves_of, spoiled_of, count_of, spare_of, line_heard}
+use Rattle.manchester_line.proofs.DecoderAnswers.{halves_of, spoiled_of, count_of, spare_of, line_heard}
 use Rattle.manchester_line.proofs.decoder.Decoder.heard.Goals as goal
 use Rattle.manchester_line.proofs.decoder.Decoder.heard.Goals.{then-self, else-self}
 

@@ -1,6 +1,6 @@
 use Rattle.std.proofs.Common.{◌∙◌, sym, arith}
 use Rattle.std.proofs.lemmas.List.{take_all}
-use Rattle.manchester_line.proofs.Told.{octets_of, line_octets}
+use Rattle.manchester_line.proofs.DecoderAnswers.{octets_of, line_octets}
 use Rattle.manchester_line.proofs.decoder.Decoder.octets.Goals as goal
 
 pub returns-then-self-lt-KEPT_OCTETS-clause-first : goal.returns-then-self-lt-KEPT_OCTETS-clause-first

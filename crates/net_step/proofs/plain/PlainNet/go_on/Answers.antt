@@ -7,15 +7,17 @@ use Rattle.manchester_line.specs.declared.Sym.{Sym}
 use Rattle.collision_log.specs.declared.row.Body.{Body}
 use Rattle.collision_log.specs.declared.row.Row.{Row}
 use Rattle.mac_transmit.specs.Sender.{Sender, SendOutcome}
-use Rattle.mac_receive.specs.Kept.{Kept, octets_of}
+use Rattle.mac_receive.specs.KeptReceiver.{Kept, kept_octets}
 use Rattle.repeater_core.specs.Step.{State, after, emitted_by}
 use Rattle.net_step.specs.declared.places.Place.{Place}
-use Rattle.net_step.specs.Net.{sendings, each_repeater, bodies_of, rows_of, repeater_rows, captured}
+use Rattle.network.specs.Net.{sendings, each_repeater}
+use Rattle.network.specs.Captures.{captured}
+use Rattle.network.specs.Rows.{repeater_rows, repeater_bodies, rows_of}
 use Rattle.net_step.specs.Wires.{Wire, heard_at_place, carried}
-use Rattle.net_step.specs.Kept.{KeptNet, stations_hear_kept, ports_hear_kept, all_told, GoesOn}
-use Rattle.net_step.proofs.Hearing.{given-alike}
-use Rattle.net_step.proofs.Standing.{goes_on}
-use Rattle.net_step.proofs.Whole.{whole_next}
+use Rattle.net_step.specs.KeptNet.{KeptNet, stations_hear_kept, ports_hear_kept, all_told, IsNextKept}
+use Rattle.net_step.proofs.KeptReceivers.{given-alike}
+use Rattle.net_step.proofs.StandsForNet.{goes_on}
+use Rattle.net_step.proofs.WholeNet.{whole_next}
 use Rattle.net_step.proofs.plain.PlainNet.go_on.Goals as goal
 
 pub invariant_of-self : goal.invariant_of-self
@@ -110,7 +112,7 @@ returns c =
     let many : length c.deref-7.result.now ≡ length q.senders.items = ap length (c.deref-7.ensures.value ∙ sent) ∙ c.step_stations.auto.sent ∙ ap length c.deref_mut-5.ensures.value ∙ c.self.invariant.sending in
     let outcomes : sendings hs c.deref_mut-2.result.now ≡ sendings hs q.senders.items = ap (sendings hs) c.deref_mut-2.ensures.value in
     let bodies = all_told c.relay_all.new.relays c.relay_all.new.events in
-    let goes : (c.capture_all.new.captures ≡ captured q.t c.deref-11.result.now (map octets_of c.deref-12.result.now) c.deref_mut-12.result.now) → GoesOn first last = λ kept.
+    let goes : (c.capture_all.new.captures ≡ captured q.t c.deref-11.result.now (map kept_octets c.deref-12.result.now) c.deref_mut-12.result.now) → IsNextKept first last = λ kept.
     goes_on first last hs ps es pes c.step_stations.new.sent os bodies stations_hear ports_hear refl
     (senders ∙ c.step_stations.ensures.states ∙ ap (map (λ (o : SendOutcome). o.state)) outcomes)
     (c.step_stations.ensures.emitted ∙ ap (map (λ (o : SendOutcome). o.emitted)) outcomes)
@@ -121,12 +123,12 @@ returns c =
     (c.relay_all.ensures.emitted ∙ ap (flat_map emitted_by) c.deref_mut-7.ensures.value)
     (segments ∙ c.carry_all.ensures ∙ ap₂ (λ (xs : List Sym) (ws : List Wire). map (carried xs) ws) (c.deref-6.ensures.value ∙ row ∙ c.join.ensures ∙ ap₂ (λ (xs ys : List Sym). xs ++ ys) (c.deref-4.ensures.value ∙ emitted) (c.deref-5.ensures.value ∙ port_emitted)) c.deref_mut-11.ensures.value)
     refl
-    (c.relay_all.ensures.bodies ∙ ap (each_repeater bodies_of ps) c.deref_mut-7.ensures.value)
+    (c.relay_all.ensures.bodies ∙ ap (each_repeater repeater_bodies ps) c.deref_mut-7.ensures.value)
     (c.in_ok-log_all.ensures
     ∙ ap₂ (λ (xs : List Row) (bs : List (List Body)). xs ++ repeater_rows q.t (length c.deref-7.result.now) bs)
     (ap₂ (λ (s r : List (Option Body)). q.rows ++ rows_of q.t 0 s r) (c.deref-7.ensures.value ∙ sent) (c.deref-8.ensures.value ∙ received))
     (ap₂ all_told (c.deref-9.ensures.value ∙ relays) (c.deref-10.ensures.value ∙ events))
     ∙ ap (λ n. (q.rows ++ rows_of q.t 0 c.step_stations.new.sent os) ++ repeater_rows q.t n bodies) many)
-    (captures ∙ kept ∙ ap₂ (λ (o : List (Option Body)) (k : List Kept). captured q.t o (map octets_of k) c.deref_mut-12.result.now) (c.deref-11.ensures.value ∙ received) c.deref-12.ensures.value ∙ ap (captured q.t os (map octets_of last.receivers)) c.deref_mut-12.ensures.value) in
-    let moved : (c.capture_all.new.captures ≡ captured q.t c.deref-11.result.now (map octets_of c.deref-12.result.now) c.deref_mut-12.result.now) → GoesOn c.args.self.now last = λ kept. subst (λ k. GoesOn k last) c.self.view_is (goes kept) in
+    (captures ∙ kept ∙ ap₂ (λ (o : List (Option Body)) (k : List Kept). captured q.t o (map kept_octets k) c.deref_mut-12.result.now) (c.deref-11.ensures.value ∙ received) c.deref-12.ensures.value ∙ ap (captured q.t os (map kept_octets last.receivers)) c.deref_mut-12.ensures.value) in
+    let moved : (c.capture_all.new.captures ≡ captured q.t c.deref-11.result.now (map kept_octets c.deref-12.result.now) c.deref_mut-12.result.now) → IsNextKept c.args.self.now last = λ kept. subst (λ k. IsNextKept k last) c.self.view_is (goes kept) in
     search rules

@@ -1,15 +1,16 @@
-use Rattle.std.proofs.Common.{◌≡◌, ◌+◌, ◌-◌, ◌≤◌, [], All, List, length, map, refl, sym, subst, ap, ap₂, ◌∙◌, arith, rules}
+use Rattle.std.proofs.Common.{eqb, ◌≡◌, ◌+◌, ◌-◌, ◌≤◌, [], All, List, length, map, refl, sym, subst, ap, ap₂, ◌∙◌, arith, rules}
 use Rattle.std.specs.List.{range_with_len}
-use Rattle.layout_file.specs.declared.layout.PortLine.{PortLine}
+use Rattle.layout.specs.declared.lines.PortLine.{PortLine}
 use Rattle.mac_transmit.specs.Sender.{Sender}
-use Rattle.mac_receive.specs.Kept.{Kept}
-use Rattle.net_step.specs.Taps.{taps_of}
-use Rattle.net_step.specs.Net.{new_senders, new_receiver, new_repeater, most_octets}
+use Rattle.mac_receive.specs.KeptReceiver.{Kept}
+use Rattle.layout.specs.Taps.{taps_of}
+use Rattle.network.specs.Net.{new_senders, new_receiver, new_repeater}
+use Rattle.mac_parameters.specs.Parameters.{greatest_place, most_octets}
 use Rattle.net_step.specs.Wires.{new_wire, places_from}
-use Rattle.net_step.specs.Kept.{AllHear}
-use Rattle.net_step.proofs.Standing.{stands_new, taps_near, taps_on, few_taps}
-use Rattle.net_step.proofs.Whole.{whole_new, stations_within}
-use Rattle.net_step.proofs.Soundness.{runnable_plan}
+use Rattle.net_step.specs.KeptNet.{AllHear}
+use Rattle.net_step.proofs.StandsForNet.{stands_new, taps_near, taps_on, few_taps}
+use Rattle.net_step.proofs.WholeNet.{whole_new, stations_within}
+use Rattle.network.proofs.RunnablePlans.{runnable_plan}
 use Rattle.net_step.proofs.plain.PlainNet.new.Goals as goal
 
 pub new_segments-requires-clause-few : goal.new_segments-requires-clause-few
@@ -17,7 +18,7 @@ new_segments-requires-clause-few c = omega (arith, few_taps c.args.plan.now.layo
 
 pub new_segments-requires-clause-near : goal.new_segments-requires-clause-near
 new_segments-requires-clause-near c =
-    subst (All (λ (x : PortLine). x.at ≤ 2000)) (sym (c.deref.ensures.value ∙ c.in_ok-taps.ensures)) (taps_near c.args.plan.now.layout (runnable_plan c.args.plan.now))
+    subst (All (λ (x : PortLine). x.at ≤ greatest_place)) (sym (c.deref.ensures.value ∙ c.in_ok-taps.ensures)) (taps_near c.args.plan.now.layout (runnable_plan c.args.plan.now))
 
 pub places_of-requires : goal.places_of-requires
 places_of-requires c = omega (arith, few_taps c.args.plan.now.layout (runnable_plan c.args.plan.now), ap length (c.deref-2.ensures.value ∙ c.in_ok-taps.ensures))
@@ -58,5 +59,5 @@ returns-clause-stands c =
     let places : c.in_ok-places_of.field-0.items ≡ places_from 0 (taps_of l) (taps_of l) = c.in_ok-places_of.ensures ∙ ap (λ ts. places_from 0 ts ts) (c.deref-2.ensures.value ∙ all) in
     let captures : c.in_ok-no_captures.field-0.items ≡ map (λ s. []) l.stations = search rules in
     let senders : c.in_ok-new_transmitters.field-0.items ≡ new_senders l.seed 0 plan.queues = search rules in
-    let receivers : AllHear (map (new_receiver (most_octets l.format)) l.stations) c.in_ok-new_receivers.field-0.items = search rules in
+    let receivers : AllHear (map (new_receiver (most_octets (eqb l.format 2))) l.stations) c.in_ok-new_receivers.field-0.items = search rules in
     stands_new plan _ (taps_near l (runnable_plan c.args.plan.now)) (taps_on l (runnable_plan c.args.plan.now)) refl senders receivers repeaters wires places c.new.ensures captures

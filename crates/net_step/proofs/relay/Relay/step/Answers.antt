@@ -1,8 +1,7 @@
 use Rattle.std.proofs.Common.{◌≡◌, length, sym, subst, ap, arith, rules}
 use Rattle.repeater_core.specs.Step.{State}
-use Rattle.net_step.specs.Net.{bodies_of}
-use Rattle.net_step.specs.Kept.{told_bodies}
-use Rattle.net_step.proofs.Masks.{step_told}
+use Rattle.network.specs.Rows.{repeater_bodies, told_bodies}
+use Rattle.network.proofs.PortFlags.{step_told}
 use Rattle.net_step.proofs.relay.Relay.step.Goals as goal
 
 pub returns-clause-bodies : goal.returns-clause-bodies
@@ -14,5 +13,5 @@ returns-clause-bodies c =
     let heard : length c.args.heard.now ≡ ports = omega (arith, c.requires.heard_len, same, all) in
     let emits : length c.step.new.emits ≡ ports = omega (arith, c.requires.emitted_len, same, all, c.step.auto.emits) in
     let decided : length c.step.new.decided ≡ ports = search rules in
-    subst (λ (x : State). told_bodies ports c.step.result ≡ bodies_of c.args.heard.now x) c.self.view_is
+    subst (λ (x : State). told_bodies ports c.step.result ≡ repeater_bodies c.args.heard.now x) c.self.view_is
     (step_told c.args.heard.now c.step.new.emits c.step.new.decided r ports c.step.result heard emits decided (sym all) c.step.ensures.emits c.step.ensures.decided c.step.ensures.clash c.step.ensures.closed c.step.ensures.opened c.step.ensures.halted)

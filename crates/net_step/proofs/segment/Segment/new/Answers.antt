@@ -1,7 +1,8 @@
 use Rattle.std.proofs.Common.{◌≡◌, length, ap, ◌∙◌, arith}
 use Rattle.cable_segment.specs.Cable.{Told}
-use Rattle.net_step.specs.Wires.{numbers_on, positions_on, cable_places}
-use Rattle.net_step.proofs.OnSegment.{numbers_fit, places_fit}
+use Rattle.net_step.specs.Wires.{cable_places}
+use Rattle.network.specs.TapsOnSegments.{positions_on, numbers_on}
+use Rattle.net_step.proofs.CablePlaces.{places_fit, numbers_fit}
 use Rattle.net_step.proofs.segment.Segment.new.Goals as goal
 
 pub invariant_of-result : goal.invariant_of-result

@@ -2,8 +2,8 @@ use Rattle.std.proofs.Common.{◌≤◌, ◌<◌, ◌+◌, ◌%◌, ◌*◌, ◌
 use Rattle.std.specs.Fn.{iterate}
 use Rattle.std.proofs.Math.Nat.{mod-lt}
 use Rattle.repeater_core.specs.Delayed.{Delayed, rotated}
-use Rattle.repeater_core.specs.Silence.{line_calm, quiet_line}
-use Rattle.repeater_core.proofs.Rings.{AllIdle, ring, IsRound, ring_leaps, ring_fades}
+use Rattle.repeater_core.specs.SilentParts.{line_calm, silent_line}
+use Rattle.repeater_core.proofs.RingLeaps.{AllIdle, ring, IsRound, ring_leaps, ring_filled}
 use Rattle.repeater_core.proofs.line.DelayLine.leap.Goals as goal
 
 pub overflow_add-self : goal.overflow_add-self
@@ -25,14 +25,14 @@ invariant_of-self c =
     } in
     let calm : c.args.n ≤ line_calm (ring q.ports q.delay q.turn q.slots.items) = subst (λ d. c.args.n ≤ line_calm d) (sym c.self.view_is) c.requires.calm in
     let less = c.saturating_sub-self-inside.ensures in
-    let most = h.fading_at_most in
+    let most = h.filled_at_most in
     record {
       turn_below = mod-lt (q.turn + c.args.n) (let some : 0 < q.delay = omega arith in some);
       slots_len = h.slots_len;
       delay_at_most = h.delay_at_most;
-      fading_at_most = omega arith;
-      faded = subst (λ f. AllIdle (drop (f * q.ports) (rotated ((q.turn + c.args.n) % q.delay * q.ports) q.slots.items))) (sym less)
-          (ring_fades c.args.n q.fading q.ports q.delay q.turn q.slots.items round calm h.faded);
+      filled_at_most = omega arith;
+      rest_idle = subst (λ f. AllIdle (drop (f * q.ports) (rotated ((q.turn + c.args.n) % q.delay * q.ports) q.slots.items))) (sym less)
+          (ring_filled c.args.n q.filled q.ports q.delay q.turn q.slots.items round calm h.rest_idle);
     }
 
 pub returns : goal.returns
@@ -46,4 +46,4 @@ returns c =
       delay_at_most = h.delay_at_most;
     } in
     let calm : c.args.n ≤ line_calm (ring q.ports q.delay q.turn q.slots.items) = subst (λ d. c.args.n ≤ line_calm d) (sym c.self.view_is) c.requires.calm in
-    sym (ap (iterate quiet_line c.args.n) (sym c.self.view_is) ∙ ring_leaps c.args.n q.ports q.delay q.turn q.slots.items round calm)
+    sym (ap (iterate silent_line c.args.n) (sym c.self.view_is) ∙ ring_leaps c.args.n q.ports q.delay q.turn q.slots.items round calm)

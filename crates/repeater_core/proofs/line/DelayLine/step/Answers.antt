@@ -2,8 +2,8 @@ use Rattle.std.proofs.Common.{◌≡◌, ◌+◌, ◌*◌, ◌++◌, length, dro
 use Rattle.std.proofs.lemmas.List.{with_items_is}
 use Rattle.manchester_line.specs.declared.Sym.{Sym}
 use Rattle.repeater_core.specs.Delayed.{Delayed, rotated, moved_on, IsRing}
-use Rattle.repeater_core.proofs.Rings.{stepped_ring}
-use Rattle.repeater_core.proofs.Turning.{rotated_turn, same_delayed}
+use Rattle.repeater_core.proofs.RingLeaps.{stepped_ring}
+use Rattle.repeater_core.proofs.NextTurnOfRing.{rotated_turn, same_delayed}
 use Rattle.repeater_core.proofs.line.DelayLine.step.Goals as goal
 
 pub returns-clause-state : goal.returns-clause-state
@@ -30,6 +30,6 @@ invariant_of-self c =
     let whole = with_items_is q.slots c.turn_row.new.slots (search rules) in
     let len : length c.turn_row.new.slots ≡ length q.slots.items = search rules in
     let rows = c.turn_row.ensures.rows ∙ ap (λ (xs : List Sym). drop (length decided) (rotated (q.turn * q.ports) xs) ++ decided) c.deref_mut.ensures.value in
-    subst (IsRing q.ports q.delay c.next_turn-self-inside.result c.fading_after-self-inside.result) (sym whole)
-    (stepped_ring q.ports q.delay q.turn c.next_turn-self-inside.result q.fading c.fading_after-self-inside.result q.slots.items c.turn_row.new.slots decided c.args.silent
-    c.self.invariant n len rows c.next_turn-self-inside.ensures.next c.next_turn-self-inside.ensures.within c.requires.silent c.fading_after-self-inside.ensures)
+    subst (IsRing q.ports q.delay c.next_turn-self-inside.result c.filled_after-self-inside.result) (sym whole)
+    (stepped_ring q.ports q.delay q.turn c.next_turn-self-inside.result q.filled c.filled_after-self-inside.result q.slots.items c.turn_row.new.slots decided c.args.idle
+    c.self.invariant n len rows c.next_turn-self-inside.ensures.next c.next_turn-self-inside.ensures.within c.requires.idle c.filled_after-self-inside.ensures)

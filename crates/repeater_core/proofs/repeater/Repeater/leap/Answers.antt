@@ -1,10 +1,10 @@
 use Rattle.std.proofs.Common.{◌<◌, ◌∙◌, length, map, sym, ap, subst, rules, arith}
 use Rattle.std.proofs.lemmas.List.{with_items_is, length-map}
 use Rattle.std.specs.Fn.{iterate}
-use Rattle.repeater_core.specs.Silence.{quiet_guard, quiet_count}
+use Rattle.repeater_core.specs.SilentParts.{silent_guard, silent_count}
 use Rattle.repeater_core.specs.Step.{State, IsState}
 use Rattle.repeater_core.specs.Calm.{silent_step, IsCalm}
-use Rattle.repeater_core.proofs.Quiet.{calm_within, line_within, leapt, state_at}
+use Rattle.repeater_core.proofs.CalmIsExact.{calm_within, line_within, leapt, state_at}
 use Rattle.repeater_core.proofs.repeater.Repeater.leap.Goals as goal
 
 pub leap-requires-clause-calm : goal.leap-requires-clause-calm
@@ -18,14 +18,14 @@ pub invariant_of-self : goal.invariant_of-self
 invariant_of-self c =
     let q = c.self.inside in
     let r : State = record { mode = q.mode; guards = q.guards.items; counts = q.counts.items; line = q.line } in
-    let guards = with_items_is q.guards c.quiet_guards.new.guards (search rules) in
-    let counts = with_items_is q.counts c.quiet_counts.new.counts (search rules) in
+    let guards = with_items_is q.guards c.silent_guards.new.guards (search rules) in
+    let counts = with_items_is q.counts c.silent_counts.new.counts (search rules) in
     let some : 0 < c.args.n = (let nz = c.if-n-eq0.false in omega arith) in
     let calm = subst (λ r. IsCalm r c.args.n) (sym c.self.view_is) c.requires in
     subst IsState (sym (leapt c.args.n r _ _ _ _ c.self.invariant calm some
-    c.quiet_mode-self-inside.ensures
-    (guards ∙ c.quiet_guards.ensures ∙ ap (map quiet_guard) c.deref_mut.ensures.value)
-    (counts ∙ c.quiet_counts.ensures ∙ ap (map (λ x. iterate quiet_count c.args.n x)) c.deref_mut-2.ensures.value)
+    c.silent_mode-self-inside.ensures
+    (guards ∙ c.silent_guards.ensures ∙ ap (map silent_guard) c.deref_mut.ensures.value)
+    (counts ∙ c.silent_counts.ensures ∙ ap (map (λ x. iterate silent_count c.args.n x)) c.deref_mut-2.ensures.value)
     c.leap.ensures))
     (state_at c.args.n r c.self.invariant)
 
@@ -33,18 +33,18 @@ pub returns-clause-state : goal.returns-clause-state
 returns-clause-state c =
     let q = c.self.inside in
     let r : State = record { mode = q.mode; guards = q.guards.items; counts = q.counts.items; line = q.line } in
-    let guards = with_items_is q.guards c.quiet_guards.new.guards (search rules) in
-    let counts = with_items_is q.counts c.quiet_counts.new.counts (search rules) in
+    let guards = with_items_is q.guards c.silent_guards.new.guards (search rules) in
+    let counts = with_items_is q.counts c.silent_counts.new.counts (search rules) in
     let some : 0 < c.args.n = (let nz = c.if-n-eq0.false in omega arith) in
     let calm = subst (λ r. IsCalm r c.args.n) (sym c.self.view_is) c.requires in
     leapt c.args.n r _ _ _ _ c.self.invariant calm some
-    c.quiet_mode-self-inside.ensures
-    (guards ∙ c.quiet_guards.ensures ∙ ap (map quiet_guard) c.deref_mut.ensures.value)
-    (counts ∙ c.quiet_counts.ensures ∙ ap (map (λ x. iterate quiet_count c.args.n x)) c.deref_mut-2.ensures.value)
+    c.silent_mode-self-inside.ensures
+    (guards ∙ c.silent_guards.ensures ∙ ap (map silent_guard) c.deref_mut.ensures.value)
+    (counts ∙ c.silent_counts.ensures ∙ ap (map (λ x. iterate silent_count c.args.n x)) c.deref_mut-2.ensures.value)
     c.leap.ensures ∙ ap (iterate silent_step c.args.n) c.self.view_is
 
 pub returns-clause-ports : goal.returns-clause-ports
 returns-clause-ports c =
     let q = c.self.inside in
-    let guards = with_items_is q.guards c.quiet_guards.new.guards (search rules) in
-    ap length (guards ∙ c.quiet_guards.ensures ∙ ap (map quiet_guard) c.deref_mut.ensures.value) ∙ length-map q.guards.items quiet_guard ∙ ap (λ (r : State). length r.guards) c.self.view_is
+    let guards = with_items_is q.guards c.silent_guards.new.guards (search rules) in
+    ap length (guards ∙ c.silent_guards.ensures ∙ ap (map silent_guard) c.deref_mut.ensures.value) ∙ length-map q.guards.items silent_guard ∙ ap (λ (r : State). length r.guards) c.self.view_is

@@ -1,7 +1,7 @@
 use Rattle.std.proofs.Common.{◌∙◌, replicate, ap, subst, refl}
 use Rattle.manchester_line.specs.declared.Sym.TheVariants.{Idle}
 use Rattle.repeater_core.specs.Step.{IsState}
-use Rattle.repeater_core.proofs.Still.{still_is, law_repeats, law_ends_long, law_no_clash, law_no_clash_emitted}
+use Rattle.repeater_core.proofs.UnchangedStep.{unchanged_is, law_repeats, law_ends_long, law_no_clash, law_no_clash_emitted}
 use Rattle.repeater_core.proofs.repeater.Repeater.step.Goals as goal
 
 pub returns-clause-repeats : goal.returns-clause-repeats
@@ -16,25 +16,25 @@ returns-clause-no_clash_emitted c = law_no_clash_emitted c.args.self.now c.step_
 pub returns-clause-no_clash_decided : goal.returns-clause-no_clash_decided
 returns-clause-no_clash_decided c = law_no_clash c.args.self.now c.args.hears.now c.step_through.new.decided c.step_through.ensures.decided
 
-pub returns-then-is_still : goal.returns-then-is_still
-returns-then-is_still c =
+pub returns-then-is_unchanged : goal.returns-then-is_unchanged
+returns-then-is_unchanged c =
     let r = c.args.self.now in
     let ss = c.args.hears.now in
     let h = subst IsState c.self.view_is c.self.invariant in
     let emits = c.fill_idle.ensures ∙ ap (λ n. replicate n Idle) c.requires.emits_len in
-    let decided = c.fill_idle-then-is_still.ensures ∙ ap (λ n. replicate n Idle) c.requires.decided_len in
-    let still = still_is ss r c.fill_idle.new.symbols c.fill_idle-then-is_still.new.symbols h (c.is_still.ensures c.if-is_still.true) (c.all_idle.ensures c.if-all_idle.true) c.requires.hears_len emits decided in
+    let decided = c.fill_idle-then-is_unchanged.ensures ∙ ap (λ n. replicate n Idle) c.requires.decided_len in
+    let unchanged = unchanged_is ss r c.fill_idle.new.symbols c.fill_idle-then-is_unchanged.new.symbols h (c.is_unchanged.ensures c.if-is_unchanged.true) (c.all_idle.ensures c.if-all_idle.true) c.requires.hears_len emits decided in
     record {
-      state = still.state;
+      state = unchanged.state;
       ports = refl;
-      emits = still.emits;
-      decided = still.decided;
-      clash = still.clash;
-      closed = still.closed;
-      opened = still.opened;
-      halted = still.halted;
-      repeats = law_repeats r ss c.fill_idle-then-is_still.new.symbols c.requires.hears_len still.decided;
-      ends_long = law_ends_long r ss c.fill_idle-then-is_still.new.symbols h still.decided;
-      no_clash_emitted = law_no_clash_emitted r c.fill_idle.new.symbols h still.emits;
-      no_clash_decided = law_no_clash r ss c.fill_idle-then-is_still.new.symbols still.decided;
+      emits = unchanged.emits;
+      decided = unchanged.decided;
+      clash = unchanged.clash;
+      closed = unchanged.closed;
+      opened = unchanged.opened;
+      halted = unchanged.halted;
+      repeats = law_repeats r ss c.fill_idle-then-is_unchanged.new.symbols c.requires.hears_len unchanged.decided;
+      ends_long = law_ends_long r ss c.fill_idle-then-is_unchanged.new.symbols h unchanged.decided;
+      no_clash_emitted = law_no_clash_emitted r c.fill_idle.new.symbols h unchanged.emits;
+      no_clash_decided = law_no_clash r ss c.fill_idle-then-is_unchanged.new.symbols unchanged.decided;
     }

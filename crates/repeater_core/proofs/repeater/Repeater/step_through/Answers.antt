@@ -2,7 +2,7 @@ use Rattle.std.proofs.Common.{◌≡◌, rules, arith}
 use Rattle.std.proofs.lemmas.Grind.{common_steps}
 use Rattle.repeater_core.specs.declared.modes.Mode.TheVariants.{Idle}
 use Rattle.repeater_core.specs.Step.{mode_next, chosen}
-use Rattle.repeater_core.proofs.Silent.{idle_decides}
+use Rattle.repeater_core.proofs.SilentPorts.{idle_decides}
 use Rattle.repeater_core.proofs.Lawful.{step_state}
 use Rattle.repeater_core.proofs.repeater.Repeater.step_through.Goals as goal
 
@@ -16,7 +16,7 @@ pub returns-clause-decided : goal.returns-clause-decided
 unfolding mode_next chosen
 returns-clause-decided c = search rules
 
-pub step-requires-clause-silent : goal.step-requires-clause-silent
-step-requires-clause-silent c = λ yes.
+pub step-requires-clause-idle : goal.step-requires-clause-idle
+step-requires-clause-idle c = λ yes.
     let m : c.next_mode-self-inside.result ≡ Idle = grind (arith, common_steps) in
     idle_decides c.next_mode-self-inside.result c.args.hears.now _ _ m c.decide_all-halted.ensures.decided

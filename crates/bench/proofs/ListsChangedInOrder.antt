@@ -1,0 +1,20 @@
+-- What holds for the elements of a list that is changed in order, from its front on.
+use Rattle.std.proofs.Common.{◌≡◌, ℕ, ◌+◌, ◌<◌, List, All, length, take, drop, set, get_or, sym, subst, ap, ◌∙◌, arith, length-set, length-drop, get_or-set_same, get_or-drop}
+use Rattle.std.proofs.lemmas.List.{take-set, drop-set-lt, drop-drop}
+use Rattle.std.proofs.lemmas.List.Elements.{All-more, All-drop}
+
+-- one element more that was changed
+pub All-take-set : {X : Type 0} (P : X → Type 0) (xs : List X) (k : ℕ) (y : X) → k < length xs → All P (take k xs) → P y → All P (take (k + 1) (set xs k y))
+All-take-set P xs k y h before now =
+    All-more P (set xs k y) k y (omega (arith, length-set xs k y)) (rw (take-set xs k y) before) (subst P (sym (get_or-set_same xs k y y h)) now)
+
+-- the elements behind it stay
+pub All-drop-set : {X : Type 0} (P : X → Type 0) (xs : List X) (k : ℕ) (y : X) → All P (drop k xs) → All P (drop (k + 1) (set xs k y))
+All-drop-set P xs k y later =
+    rw (drop-set-lt (k + 1) xs k y (omega arith)) (let more : All P (drop 1 (drop k xs)) = All-drop P 1 (drop k xs) later in rw drop-drop at more)
+
+-- the first of the rest
+pub All-drop-first : {X : Type 0} (P : X → Type 0) (xs : List X) (k : ℕ) (d : X) → k < length xs → All P (drop k xs) → P (get_or xs k d)
+All-drop-first P xs k d h later =
+    let first = later 0 d (omega (arith, length-drop k xs)) in
+    subst P (get_or-drop k xs 0 d ∙ (let e : k + 0 ≡ k = omega arith in ap (λ i. get_or xs i d) e)) first

@@ -1,0 +1,9 @@
+pub mod Cuts
+pub mod Joins
+pub mod Separations
+pub mod Sides
+pub mod PathsOverEdges
+pub mod WalksOverEdges
+pub mod OneDistance
+pub mod SoundTaps
+pub mod WalksBack

@@ -1,5 +1,0 @@
-use Rattle.layout_file.proofs.SoundTaps.{sound_one_distance}
-use Rattle.layout_file.proofs.laws.one_distance.Goals as goal
-
-pub returns : goal.returns
-returns c = sound_one_distance

@@ -1,7 +1,0 @@
-use Rattle.std.proofs.Common.{◌≡◌, ℕ, ◌<◌, get_or}
-use Rattle.manchester_line.specs.declared.Sym.TheVariants.{Idle}
-use Rattle.manchester_line.specs.Line.{header_at}
-use Rattle.manchester_line.proofs.line.put_header.Given as goal
-
-abbrev pub invariant-loop-i : goal.invariant-loop-i
-invariant-loop-i l = (k : ℕ) → k < l.i → get_or l.out k Idle ≡ header_at k

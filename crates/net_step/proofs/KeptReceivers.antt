@@ -1,0 +1,139 @@
+-- Receivers and what they stand for, one after another.
+use Rattle.std.proofs.Common.{◌≡◌, ℕ, zero, suc, ◌+◌, ◌<◌, All, List, [], ◌∷◌, ◌++◌, length, map, take, set, get_or, Option, Some, None, refl, sym, subst, ap, ap₂, ◌∙◌, arith}
+use Rattle.std.proofs.lemmas.List.{take_more_set, take_more, map-append}
+use Rattle.layout.specs.declared.lines.StationLine.{StationLine}
+use Rattle.manchester_line.specs.declared.Sym.{Sym}
+use Rattle.collision_log.specs.declared.row.Body.{Body}
+use Rattle.collision_log.specs.declared.row.Body.TheVariants.{Sent, Collided, GivenUp, Cut, Received, Dropped, Clash, Closed, Opened, Halted}
+use Rattle.manchester_line.specs.Line.{is_signal}
+use Rattle.mac_receive.specs.Receiver.{Receiving, Reception, receiver_step}
+use Rattle.mac_receive.specs.KeptReceiver.{Kept, Hears, kept_octets}
+use Rattle.network.specs.declared.outputs.Taken.{Taken}
+use Rattle.network.specs.Net.{new_receiver, receptions}
+use Rattle.network.specs.Captures.{captured, taken_by}
+use Rattle.net_step.specs.KeptNet.{AllHear, AllGive, Gives, Lends}
+
+pub length-AllHear : (rs : List Receiving) (ks : List Kept) → AllHear rs ks → length rs ≡ length ks
+length-AllHear [] [] h = refl
+length-AllHear [] (k ∷ ks) h = absurd h
+length-AllHear (r ∷ rs) [] h = absurd h
+length-AllHear (r ∷ rs) (k ∷ ks) h = ap suc (length-AllHear rs ks h.1)
+
+-- the receiver at a place
+pub AllHear-at : (rs : List Receiving) (ks : List Kept) (i : ℕ) (d : Receiving) (e : Kept) → AllHear rs ks → i < length ks → Hears (get_or rs i d) (get_or ks i e)
+AllHear-at [] [] i d e h l = absurd (omega arith)
+AllHear-at [] (k ∷ ks) i d e h l = absurd h
+AllHear-at (r ∷ rs) [] i d e h l = absurd h
+AllHear-at (r ∷ rs) (k ∷ ks) zero d e h l = h.0
+AllHear-at (r ∷ rs) (k ∷ ks) (suc i) d e h l = AllHear-at rs ks i d e h.1 (omega arith)
+
+receptions-suc : (hs es : List Sym) (rs : List Receiving) (i : ℕ) (a b : Sym) (d : Receiving) → i < length hs → i < length es → i < length rs →
+    receptions (take (suc i) hs) (take (suc i) es) (take (suc i) rs) ≡ receptions (take i hs) (take i es) (take i rs) ++ receiver_step (get_or rs i d) (get_or hs i a) (is_signal (get_or es i b)) ∷ []
+receptions-suc [] es rs i a b d lh le lr = absurd (omega arith)
+receptions-suc (h ∷ hs) [] rs i a b d lh le lr = absurd (omega arith)
+receptions-suc (h ∷ hs) (e ∷ es) [] i a b d lh le lr = absurd (omega arith)
+receptions-suc (h ∷ hs) (e ∷ es) (r ∷ rs) zero a b d lh le lr = refl
+receptions-suc (h ∷ hs) (e ∷ es) (r ∷ rs) (suc i) a b d lh le lr = ap (λ xs. receiver_step r h (is_signal e) ∷ xs) (receptions-suc hs es rs i a b d (omega arith) (omega arith) (omega arith))
+
+-- the receptions of one station more
+pub receptions-more : (hs es : List Sym) (rs : List Receiving) (i : ℕ) (a b : Sym) (d : Receiving) → i < length hs → i < length es → i < length rs →
+    receptions (take (i + 1) hs) (take (i + 1) es) (take (i + 1) rs) ≡ receptions (take i hs) (take i es) (take i rs) ++ receiver_step (get_or rs i d) (get_or hs i a) (is_signal (get_or es i b)) ∷ []
+receptions-more hs es rs i a b d lh le lr = let e : i + 1 ≡ suc i = omega arith in rw e (receptions-suc hs es rs i a b d lh le lr)
+
+-- what a receiver lends where it received a frame, in each case
+pub Lends-from : (event : Option Body) (octets kept : List ℕ) → ((n : ℕ) → event ≡ Some (Received n) → kept ≡ octets) → Lends event octets kept
+Lends-from None octets kept h = tt
+Lends-from (Some (Received n)) octets kept h = h n refl
+Lends-from (Some (Sent f s a)) octets kept h = tt
+Lends-from (Some (Collided f s a p d)) octets kept h = tt
+Lends-from (Some (GivenUp f s p)) octets kept h = tt
+Lends-from (Some (Cut f s a p)) octets kept h = tt
+Lends-from (Some (Dropped w n)) octets kept h = tt
+Lends-from (Some Clash) octets kept h = tt
+Lends-from (Some (Closed p)) octets kept h = tt
+Lends-from (Some (Opened p)) octets kept h = tt
+Lends-from (Some (Halted p)) octets kept h = tt
+
+-- one receiver more that gave something
+pub AllGive-more : (rs : List Reception) (ks : List Kept) (os : List (Option Body)) (r : Reception) (k : Kept) (o : Option Body) → AllGive rs ks os → Gives r k o → AllGive (rs ++ r ∷ []) (ks ++ k ∷ []) (os ++ o ∷ [])
+AllGive-more [] [] [] r k o h g = (g, tt)
+AllGive-more [] [] (x ∷ os) r k o h g = absurd h
+AllGive-more [] (y ∷ ks) os r k o h g = absurd h
+AllGive-more (z ∷ rs) [] os r k o h g = absurd h
+AllGive-more (z ∷ rs) (y ∷ ks) [] r k o h g = absurd h
+AllGive-more (z ∷ rs) (y ∷ ks) (x ∷ os) r k o h g = (h.0, AllGive-more rs ks os r k o h.1 g)
+
+-- one step more of the receivers
+pub AllGive-next : (hs es : List Sym) (rs : List Receiving) (ks : List Kept) (os : List (Option Body)) (i : ℕ) (a b : Sym) (d : Receiving) (k : Kept) (o : Option Body) →
+    i < length hs → i < length es → i < length rs → i < length ks → i < length os →
+    AllGive (receptions (take i hs) (take i es) (take i rs)) (take i ks) (take i os) → Gives (receiver_step (get_or rs i d) (get_or hs i a) (is_signal (get_or es i b))) k o →
+    AllGive (receptions (take (i + 1) hs) (take (i + 1) es) (take (i + 1) rs)) (take (i + 1) (set ks i k)) (take (i + 1) (set os i o))
+AllGive-next hs es rs ks os i a b d k o lh le lr lk lo before now =
+    rw (receptions-more hs es rs i a b d lh le lr, take_more_set ks i k lk, take_more_set os i o lo) (AllGive-more _ _ _ _ _ _ before now)
+
+-- what receivers stand for after what they gave
+pub AllHear-given : (rs : List Reception) (ks : List Kept) (os : List (Option Body)) → AllGive rs ks os → AllHear (map (λ r. r.state) rs) ks
+AllHear-given [] [] os h = tt
+AllHear-given [] (y ∷ ks) os h = absurd h
+AllHear-given (z ∷ rs) [] os h = absurd h
+AllHear-given (z ∷ rs) (y ∷ ks) [] h = absurd h
+AllHear-given (z ∷ rs) (y ∷ ks) (x ∷ os) h = (h.0.hears, AllHear-given rs ks os h.1)
+
+-- the events that they gave
+pub events-given : (rs : List Reception) (ks : List Kept) (os : List (Option Body)) → AllGive rs ks os → os ≡ map (λ r. r.event) rs
+events-given [] [] [] h = refl
+events-given [] [] (x ∷ os) h = absurd h
+events-given [] (y ∷ ks) os h = absurd h
+events-given (z ∷ rs) [] os h = absurd h
+events-given (z ∷ rs) (y ∷ ks) [] h = absurd h
+events-given (z ∷ rs) (y ∷ ks) (x ∷ os) h = ap₂ ◌∷◌ h.0.event (events-given rs ks os h.1)
+
+taken-lent : (t : ℕ) (event : Option Body) (octets kept : List ℕ) → Lends event octets kept → taken_by t event kept ≡ taken_by t event octets
+taken-lent t None octets kept h = refl
+taken-lent t (Some (Received n)) octets kept h = ap (λ os. taken_by t (Some (Received n)) os) h
+taken-lent t (Some (Sent f s a)) octets kept h = refl
+taken-lent t (Some (Collided f s a p d)) octets kept h = refl
+taken-lent t (Some (GivenUp f s p)) octets kept h = refl
+taken-lent t (Some (Cut f s a p)) octets kept h = refl
+taken-lent t (Some (Dropped w n)) octets kept h = refl
+taken-lent t (Some Clash) octets kept h = refl
+taken-lent t (Some (Closed p)) octets kept h = refl
+taken-lent t (Some (Opened p)) octets kept h = refl
+taken-lent t (Some (Halted p)) octets kept h = refl
+
+-- the captures get what was given
+pub captured-given : (t : ℕ) (rs : List Reception) (ks : List Kept) (os : List (Option Body)) (cs : List (List Taken)) → AllGive rs ks os →
+    captured t os (map kept_octets ks) cs ≡ captured t (map (λ r. r.event) rs) (map (λ r. r.octets) rs) cs
+captured-given t [] [] [] cs h = refl
+captured-given t [] [] (x ∷ os) cs h = absurd h
+captured-given t [] (y ∷ ks) os cs h = absurd h
+captured-given t (z ∷ rs) [] os cs h = absurd h
+captured-given t (z ∷ rs) (y ∷ ks) [] cs h = absurd h
+captured-given t (z ∷ rs) (y ∷ ks) (x ∷ os) [] h = refl
+captured-given t (z ∷ rs) (y ∷ ks) (x ∷ os) (c ∷ cs) h =
+    ap₂ (λ (one : List Taken) (rest : List (List Taken)). (c ++ one) ∷ rest) (ap (λ e. taken_by t e (kept_octets y)) h.0.event ∙ taken-lent t z.event z.octets (kept_octets y) h.0.lends) (captured-given t rs ks os cs h.1)
+
+-- one receiver more that stands for one
+pub AllHear-more : (rs : List Receiving) (ks : List Kept) (r : Receiving) (k : Kept) → AllHear rs ks → Hears r k → AllHear (rs ++ r ∷ []) (ks ++ k ∷ [])
+AllHear-more [] [] r k h g = (g, tt)
+AllHear-more [] (y ∷ ks) r k h g = absurd h
+AllHear-more (z ∷ rs) [] r k h g = absurd h
+AllHear-more (z ∷ rs) (y ∷ ks) r k h g = (h.0, AllHear-more rs ks r k h.1 g)
+
+-- one new receiver more
+pub AllHear-new : (most : ℕ) (stations : List StationLine) (ks : List Kept) (i : ℕ) (d : StationLine) (k : Kept) → i < length stations → AllHear (map (new_receiver most) (take i stations)) ks → Hears (new_receiver most (get_or stations i d)) k →
+    AllHear (map (new_receiver most) (take (i + 1) stations)) (ks ++ k ∷ [])
+AllHear-new most stations ks i d k l h g =
+    rw (take_more stations i d l, map-append (new_receiver most) (take i stations) (get_or stations i d ∷ [])) (AllHear-more _ ks _ k h g)
+
+-- the same with other names for what is heard, emitted and kept
+pub given-alike : (hs hs' es es' : List Sym) (ks ks' kn kn' : List Kept) (os : List (Option Body)) → hs ≡ hs' → es ≡ es' → ks ≡ ks' → kn ≡ kn' →
+    ((rs : List Receiving) → AllHear rs ks → AllGive (receptions hs es rs) kn os) → (rs : List Receiving) → AllHear rs ks' → AllGive (receptions hs' es' rs) kn' os
+given-alike hs hs' es es' ks ks' kn kn' os eh ee ek en given rs h =
+    let first : AllHear rs ks = subst (λ xs. AllHear rs xs) (sym ek) h in
+    subst (λ xs. AllGive (receptions hs' es' rs) xs os) en (subst (λ xs. AllGive (receptions hs' xs rs) kn os) ee (subst (λ xs. AllGive (receptions xs es rs) kn os) eh (given rs first)))
+
+-- one receiver that has made no step
+pub All-one : (k : Kept) → k.steps ≡ 0 → All (λ (r : Kept). r.steps ≡ 0) (k ∷ [])
+All-one k h zero d l = h
+All-one k h (suc i) d l = absurd (omega arith)

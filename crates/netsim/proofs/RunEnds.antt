@@ -1,0 +1,99 @@
+-- The end of a run, from what was read and what was written.
+use Rattle.std.proofs.Common.{◌≡◌, ℕ, ◌≤◌, Option, Ok, List, inl, inr, arith}
+use Rattle.capture_file.specs.declared.entries.Record.{Record}
+use Rattle.layout.specs.declared.lines.Layout.{Layout}
+use Rattle.load_files.specs.Loaded.{IsLoaded, Whole}
+use Rattle.load_plan.specs.declared.plan.Plan.{Plan}
+use Rattle.outside.specs.Files.{Files, Rose}
+use Rattle.netsim.specs.declared.ended.Ended.{Ended}
+use Rattle.netsim.specs.declared.ended.Ended.TheVariants as ended
+use Rattle.netsim.specs.Ended.{Moment, IsJudged, IsFiledEnd, IsFileEnd, IsPlainEnd, IsRunEnd, IsText, IsUnloadedSaid, IsUnfiled}
+use Rattle.netsim.specs.Reading.{put_all, IsBrokenAmong, IsSaid}
+use Rattle.netsim.specs.Runs.{IsMadeOf, IsSummary, run_files}
+
+-- the files are whole, and the summary was written
+pub run-filed : (network : Layout) (loads : List (List Record)) (prefix : List ℕ) (plan : Plan) (before after : Moment) (e : Ended) (summary text : List ℕ) → IsMadeOf network loads plan
+    → after.held ≡ put_all (run_files prefix plan) before.held → IsSummary plan summary → text ≡ summary → IsText text before.written after.written before.faults after.faults e → IsRunEnd network loads prefix before after e
+run-filed network loads prefix plan before after e summary text made held right is written = inr (plan, made, inl (held, (summary, right, rw is at written)))
+
+unfiled_by : (prefix : List ℕ) (plan : Plan) (before after : Moment) (e : Ended) → IsBrokenAmong (run_files prefix plan) before.held after.held → IsFileEnd before.writes after.writes e → after.written ≡ before.written → IsUnfiled prefix plan before after e
+unfiled_by prefix plan before after ended.Done broken end silent = absurd end
+unfiled_by prefix plan before after ended.Words broken end silent = absurd end
+unfiled_by prefix plan before after ended.Layout broken end silent = absurd end
+unfiled_by prefix plan before after ended.Load broken end silent = absurd end
+unfiled_by prefix plan before after ended.Read broken end silent = absurd end
+unfiled_by prefix plan before after ended.Write broken end silent = (broken, end, silent)
+unfiled_by prefix plan before after ended.Memory broken end silent = (broken, silent)
+
+-- a file could not be written
+pub run-unfiled : (network : Layout) (loads : List (List Record)) (prefix : List ℕ) (plan : Plan) (before after : Moment) (e : Ended) → IsMadeOf network loads plan
+    → IsBrokenAmong (run_files prefix plan) before.held after.held → IsFileEnd before.writes after.writes e → after.written ≡ before.written → IsRunEnd network loads prefix before after e
+run-unfiled network loads prefix plan before after e made broken end silent = inr (plan, made, inr (unfiled_by prefix plan before after e broken end silent))
+
+-- reading changed nothing but the counts of the store
+pub record IsRead (before mid : Moment) : Type 0 where
+  pub held : mid.held ≡ before.held
+  pub reads : before.reads ≤ mid.reads
+  pub writes : before.writes ≤ mid.writes
+  pub written : mid.written ≡ before.written
+  pub faults : mid.faults ≡ before.faults
+  pub refused : mid.refused ≡ before.refused
+
+rose-before : (a b c : ℕ) → a ≤ b → Rose b c → Rose a c
+rose-before a b c le rose = omega (arith, le, rose)
+
+unfiled_before : (prefix : List ℕ) (plan : Plan) (before mid after : Moment) (e : Ended) → IsRead before mid → IsUnfiled prefix plan mid after e → IsUnfiled prefix plan before after e
+unfiled_before prefix plan before mid after ended.Done read un = un
+unfiled_before prefix plan before mid after ended.Words read un = un
+unfiled_before prefix plan before mid after ended.Layout read un = un
+unfiled_before prefix plan before mid after ended.Load read un = un
+unfiled_before prefix plan before mid after ended.Read read un = un
+unfiled_before prefix plan before mid after ended.Write read un =
+    (rw read.held at un.0, rose-before before.writes mid.writes after.writes read.writes un.1, rw read.written at un.2)
+unfiled_before prefix plan before mid after ended.Memory read un = (rw read.held at un.0, rw read.written at un.1)
+
+-- the run of a layout that was read with its loads
+pub plain-ran : (layout prefix : List ℕ) (network : Layout) (loads : List (List Record)) (before mid after : Moment) (e : Ended) → IsRead before mid → IsJudged layout before.held (Ok network)
+    → IsLoaded before.held network.stations (Whole loads) → IsRunEnd network loads prefix mid after e → IsPlainEnd layout prefix before after e
+plain-ran layout prefix network loads before mid after e read judged loaded end =
+    elim end [
+      | inl unrun ↦ inr (inr (inl (unrun.0, rw read.held at unrun.1, rw read.written at unrun.2)))
+      | inr ran ↦ (
+          let made : IsMadeOf network loads ran.0 = ran.1 in
+          let filed : IsFiledEnd prefix ran.0 before after e = elim ran.2 [
+            | inl all ↦ inl (rw read.held at all.0, (all.1.0, all.1.1, rw (read.written, read.faults) at all.1.2))
+            | inr un ↦ inr (unfiled_before prefix ran.0 before mid after e read un)
+          ] in
+          inr (inr (inr (record { network = network; judged = judged; plan = ran.0; planned = record { layout = made.layout; loads = loads; loaded = loaded; queues = made.queues; skips = made.skips }; filed = filed })))
+          )
+    ]
+
+said_before : (line : List ℕ) (before mid after : Moment) → IsRead before mid → IsSaid line mid.written after.written mid.refused after.refused → IsSaid line before.written after.written before.refused after.refused
+said_before line before mid after read said = rw (read.written, read.refused) at said
+
+unloaded_before : (network : Layout) (before mid after : Moment) (e : Ended) → IsRead before mid → IsUnloadedSaid network mid after e → IsUnloadedSaid network before after e
+unloaded_before network before mid after ended.Done read said = said
+unloaded_before network before mid after ended.Words read said = said
+unloaded_before network before mid after ended.Layout read said = said
+unloaded_before network before mid after ended.Load read said =
+    record { station = said.station; fault = said.fault; loaded = rw read.held at said.loaded; name = said.name; named = said.named; said = said_before _ before mid after read said.said }
+unloaded_before network before mid after ended.Read read said =
+    record {
+      station = said.station;
+      name = said.name;
+      named = said.named;
+      unread = elim said.unread [ inl absent ↦ inl (rw read.held at absent) | inr rose ↦ inr (rose-before before.reads mid.reads after.reads read.reads rose) ];
+      said = said_before _ before mid after read said.said;
+    }
+unloaded_before network before mid after ended.Write read said = said
+unloaded_before network before mid after ended.Memory read said = rw read.written at said
+
+-- the loads of a layout could not be read
+pub plain-unloaded : (layout prefix : List ℕ) (network : Layout) (before mid after : Moment) (e : Ended) → IsRead before mid → IsJudged layout before.held (Ok network) → after.held ≡ mid.held
+    → IsUnloadedSaid network mid after e → IsPlainEnd layout prefix before after e
+plain-unloaded layout prefix network before mid after e read judged held said =
+    inr (inl (record { network = network; judged = judged; said = unloaded_before network before mid after e read said }, rw read.held at held))
+
+-- the loads that were read are those that were held
+pub loaded-before : (held mid : Option Files) (network : Layout) (loads : List (List Record)) → mid ≡ held → IsLoaded mid network.stations (Whole loads) → IsLoaded held network.stations (Whole loads)
+loaded-before held mid network loads is loaded = rw is at loaded

@@ -1,0 +1,11 @@
+pub mod TapsOnSegments
+pub mod PortFlags
+pub mod RunnablePlans
+pub mod DelayLines
+pub mod AbsoluteTimes
+pub mod FramedQueues
+pub mod TapNumbers
+pub mod SegmentsCarry
+pub mod PortsRepeat
+pub mod StationAttempts
+pub mod LoggedAttempts

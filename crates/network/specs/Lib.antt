@@ -1,0 +1,11 @@
+pub mod Rows
+pub mod Captures
+pub mod Net
+pub mod Hearing
+pub mod TapsOnSegments
+pub mod Times
+pub mod Apart
+pub mod Runnable
+pub mod Outputs
+pub mod Attempts
+pub mod Signals

@@ -1,7 +1,0 @@
-use Rattle.std.proofs.Common.{◌≡◌, take, true}
-use Rattle.std.specs.List.{All}
-use Rattle.repeater_core.specs.Silence.{is_settled}
-use Rattle.repeater_core.proofs.calm.guards_settled.Given as goal
-
-abbrev pub invariant-loop-k : goal.invariant-loop-k
-invariant-loop-k l = All (λ g. is_settled g ≡ true) (take l.k l.guards)

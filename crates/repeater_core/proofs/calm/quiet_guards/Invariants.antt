@@ -1,9 +1,0 @@
-use Rattle.std.proofs.Common.{◌≡◌, ◌++◌, length, map, take, drop}
-use Rattle.repeater_core.specs.Silence.{quiet_guard}
-use Rattle.repeater_core.proofs.calm.quiet_guards.Given as goal
-
-abbrev pub invariant-loop-k : goal.invariant-loop-k
-invariant-loop-k l = record {
-  len : length l.guards ≡ length l.fn.guards;
-  states : take l.k l.guards ++ map quiet_guard (drop l.k l.guards) ≡ map quiet_guard l.fn.guards;
-}

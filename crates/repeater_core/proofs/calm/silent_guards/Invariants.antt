@@ -1,0 +1,9 @@
+use Rattle.std.proofs.Common.{◌≡◌, ◌++◌, length, map, take, drop}
+use Rattle.repeater_core.specs.SilentParts.{silent_guard}
+use Rattle.repeater_core.proofs.calm.silent_guards.Given as goal
+
+abbrev pub invariant-loop-k : goal.invariant-loop-k
+invariant-loop-k l = record {
+  len : length l.guards ≡ length l.fn.guards;
+  states : take l.k l.guards ++ map silent_guard (drop l.k l.guards) ≡ map silent_guard l.fn.guards;
+}

@@ -1,0 +1,24 @@
+use Rattle.std.proofs.Common.{◌≡◌, ◌∙◌, length, sym, ap, subst, arith}
+use Rattle.repeater_core.specs.Modes.{activity_from}
+use Rattle.repeater_core.specs.Step.{State}
+use Rattle.repeater_core.specs.Steady.{mode_steady, ports_steady, IsSteady, HaveNoEvents}
+use Rattle.repeater_core.proofs.SteadyCount.{fits}
+use Rattle.repeater_core.proofs.repeater.Repeater.steady.Goals as goal
+
+pub returns : goal.returns
+returns c =
+    let q = c.self.inside in
+    let hears = c.args.hears.now in
+    let n = c.min-3.result in
+    let r : State = record { mode = q.mode; guards = q.guards.items; counts = q.counts.items; line = q.line } in
+    let l : length hears ≡ length r.guards = c.requires.hears_len ∙ ap (λ (r : State). length r.guards) (sym c.self.view_is) in
+    let mode : c.mode_steady.result ≡ mode_steady r.mode (activity_from 0 r.guards hears) =
+    c.mode_steady.ensures ∙ ap (mode_steady r.mode) (c.active_ports-active.ensures ∙ ap (λ gs. activity_from 0 gs hears) c.deref.ensures.value) in
+    let ports : c.ports_steady.result ≡ ports_steady r.mode 0 r.counts = c.ports_steady.ensures ∙ ap (ports_steady r.mode 0) c.deref-2.ensures.value in
+    let guards = subst (λ gs. HaveNoEvents c.guards_calm.result hears c.front.new.emits gs) c.deref-3.ensures.value c.guards_calm.ensures in
+    record {
+      steady =
+          subst (λ r. IsSteady hears r n) c.self.view_is
+          (fits n hears c.front.new.emits r c.self.invariant l c.front.ensures (omega arith) (omega arith)
+          (λ i b k d. guards i b k (omega arith)) (let few = c.alike.ensures.few in omega arith) (λ k b. c.alike.ensures.alike k (omega arith)));
+    }

@@ -1,0 +1,139 @@
+//! Steady half bits, in which nothing happens but counts: what becomes of guards, counts and the delay line in them.
+ghost use Rattle.std.specs.Prelude.{◌≡◌, ◌≤◌, ◌<◌, ℕ, suc, length, map};
+ghost use Rattle.std.specs.Fn.{iterate};
+ghost use Rattle.manchester_line.specs.Line.{is_signal};
+ghost use Rattle.repeater_core.specs.Counts.{choices_from};
+ghost use Rattle.mac_parameters.specs.Parameters.{most_ports};
+ghost use Rattle.repeater_core.specs.Modes.{IsMode};
+ghost use Rattle.repeater_core.specs.Steady.{at_each, count_by, guard_by, kinds_of, line_later, mode_on, port_steady, ports_steady, sent_text, texted, AreSentFor, HaveNoEvents};
+
+use crate::counts::PortCount;
+use crate::line::DelayLine;
+use crate::modes::{MOST_STEADY, Mode, mode_on, sends_to, sent_text, wish};
+use crate::ports::collision_at;
+use mac_parameters::JABBER_LIMIT;
+use manchester_line::{Sym, is_signal};
+use port_partition::PortGuard;
+
+/// What would be decided for each port in this mode.
+pub fn decide_row(mode: Mode, hears: &[Sym], counts: &[PortCount], decided: &mut [Sym])
+    requires few { length counts.now ≤ most_ports }
+    requires as_many { length decided.old ≡ length counts.now }
+    ensures { decided.new ≡ map (λ c. c.symbol) (choices_from mode hears.now 0 counts.now) }
+{
+    for k in 0..counts.len() {
+        let count = &counts[k];
+        decided[k] = count.would_decide(wish(mode, hears, k as u32));
+    }
+}
+
+fn port_steady(sends: bool, count: &PortCount) -> u32
+    ensures { result ≡ port_steady sends count.now }
+{
+    if !sends {
+        MOST_STEADY
+    } else if count.rest == 0 {
+        JABBER_LIMIT - count.run
+    } else {
+        count.rest
+    }
+}
+
+/// For how many half bits each port is sent a signal in this mode, or rests, or neither, as in the first.
+pub fn ports_steady(mode: Mode, counts: &[PortCount]) -> u32
+    requires { length counts.now ≤ most_ports }
+    ensures { result ≡ ports_steady mode 0 counts.now }
+{
+    let mut steady = MOST_STEADY;
+    for k in 0..counts.len() {
+        steady = steady.min(port_steady(sends_to(mode, k as u32), &counts[k]));
+    }
+    steady
+}
+
+/// For how many half bits alike no guard has an event.
+pub fn guards_calm(guards: &[PortGuard], hears: &[Sym], emits: &[Sym]) -> u32
+    requires hears_len { length hears.now ≡ length guards.now }
+    requires emits_len { length emits.now ≡ length guards.now }
+    ensures { HaveNoEvents result hears.now emits.now guards.now }
+{
+    let mut calm = MOST_STEADY;
+    for k in 0..guards.len() {
+        let guard = &guards[k];
+        calm = calm.min(guard.calm(
+            is_signal(hears[k]),
+            collision_at(hears[k], emits[k]),
+            is_signal(emits[k]),
+        ));
+    }
+    calm
+}
+
+/// Each guard's n half bits alike.
+pub fn leap_guards(guards: &mut [PortGuard], hears: &[Sym], emits: &[Sym], n: u32)
+    requires hears_len { length hears.now ≡ length guards.old }
+    requires emits_len { length emits.now ≡ length guards.old }
+    requires calm { HaveNoEvents n hears.now emits.now guards.old }
+    ensures { guards.new ≡ at_each (λ k g. iterate (guard_by k) n g) (kinds_of hears.now (map is_signal emits.now)) guards.old }
+{
+    for k in 0..guards.len() {
+        let guard = &mut guards[k];
+        guard.leap(
+            n,
+            is_signal(hears[k]),
+            collision_at(hears[k], emits[k]),
+            is_signal(emits[k]),
+        );
+    }
+}
+
+/// Each port's counts after n half bits in which it is sent a signal or not, as it is in this row.
+pub fn leap_counts(counts: &mut [PortCount], decided: &[Sym], n: u32)
+    requires as_many { length decided.now ≡ length counts.old }
+    requires sent { AreSentFor n decided.now counts.old }
+    ensures { counts.new ≡ at_each (λ b c. iterate (count_by b) n c) (map is_signal decided.now) counts.old }
+{
+    for k in 0..counts.len() {
+        let count = &mut counts[k];
+        count.leap(is_signal(decided[k]), n);
+    }
+}
+
+/// Sends this text to the ports that are sent a signal.
+fn set_text(decided: &mut [Sym], text: Sym)
+    ensures { decided.new ≡ texted (map is_signal decided.old) text }
+{
+    for k in 0..decided.len() {
+        if is_signal(decided[k]) {
+            decided[k] = text;
+        }
+    }
+}
+
+/// The delay line after n half bits in which the mode changes by its counts alone and sends its text to the ports that are
+/// sent a signal in this row, and the mode after them.
+pub fn leap_line(
+    line: &mut DelayLine,
+    mode: Mode,
+    hears: &[Sym],
+    n: u32,
+    decided: &mut [Sym],
+    emits: &mut [Sym],
+) -> Mode
+    requires decided_len { length decided.old ≡ line.old.ports }
+    requires emits_len { length emits.old ≡ line.old.ports }
+    requires modes { (k : ℕ) → k < n → IsMode (iterate mode_on k mode) }
+    requires texts { (k : ℕ) → k < n → map is_signal (texted (map is_signal decided.old) (sent_text (mode_on (iterate mode_on k mode)) hears.now)) ≡ map is_signal decided.old }
+    ensures mode { result ≡ iterate mode_on n mode }
+    ensures line { line.new ≡ line_later hears.now (map is_signal decided.old) n mode line.old }
+{
+    let mut mode = mode;
+    let mut left = n;
+    while left > 0 {
+        mode = mode_on(mode);
+        set_text(decided, sent_text(mode, hears));
+        line.step(false, decided, emits);
+        left -= 1;
+    }
+    mode
+}
