@@ -11,3 +11,5 @@ mod steps;
 mod texts;
 #[cfg(test)]
 mod verdicts;
+#[cfg(test)]
+mod windows;

@@ -1,0 +1,41 @@
+use Rattle.std.proofs.Common.{◌≡◌, ◌+◌, ◌<◌, ◌≤◌, ◌++◌, min, drop, map, length, get_or, sym, ap, ap₂, ◌∙◌, arith}
+use Rattle.std.specs.List.{flat_map}
+use Rattle.std.proofs.lemmas.List.{length-map, at_drop_more}
+use Rattle.layout.specs.declared.lines.RepeaterLine.{RepeaterLine}
+use Rattle.layout.specs.Taps.{tap_of}
+use Rattle.net_parts.specs.Windows.{nearest}
+use Rattle.net_parts.proofs.NearestTaps.{nearest_two}
+use Rattle.net_parts.proofs.timing.nearest.Goals as goal
+
+pub loop-k-init : goal.loop-k-init
+loop-k-init c =
+    let l = c.args.layout.now in
+    let two = nearest_two c.args.tap c.args.here 0 (map tap_of l.stations) (flat_map (λ (r : RepeaterLine). r.ports) l.repeaters) in
+    let many = length-map l.stations tap_of in
+    let first = c.len-first.ensures in
+    let z : 0 + length (map tap_of l.stations) ≡ c.len-first.result = omega (arith, many, first) in
+    let rest = ap₂ (λ j rs. nearest c.args.tap c.args.here j (flat_map (λ (r : RepeaterLine). r.ports) rs)) z (sym c.as_slice-repeaters.ensures) in
+    let station = c.nearest_station-least.ensures.way ∙ ap (λ ss. nearest c.args.tap c.args.here 0 (map tap_of ss)) c.as_slice.ensures in
+    let stations = c.requires.sound.stations_most in
+    record { so_far = ap₂ min station (sym rest) ∙ sym two; most = c.nearest_station-least.ensures.most; few = omega (arith, first, stations) }
+
+pub loop-k-preserved : goal.loop-k-preserved
+loop-k-preserved c =
+    let l = c.args.layout.now in
+    let rs = c.as_slice-repeaters.result.now in
+    let d = c.index-repeaters-k.result in
+    let k = c.loop-k.k in
+    let rest = flat_map (λ (r : RepeaterLine). r.ports) (drop (k + 1) rs) in
+    let ports = c.as_slice-ports.result.now in
+    let two = nearest_two c.args.tap c.args.here c.loop-k.first ports rest in
+    let split = at_drop_more (λ xs. nearest c.args.tap c.args.here c.loop-k.first (flat_map (λ (r : RepeaterLine). r.ports) xs)) rs k d c.loop-k-test.true in
+    let this = ap (λ xs. nearest c.args.tap c.args.here c.loop-k.first (xs ++ rest)) c.as_slice-ports.ensures in
+    let before = c.loop-k.invariant.so_far in
+    let way = c.nearest_port.ensures.way in
+    let least = c.min-least.ensures in
+    let most = c.loop-k.invariant.most in
+    let in_it : k < length l.repeaters = omega (arith, c.loop-k-test.true, ap length c.as_slice-repeaters.ensures) in
+    let row = c.requires.sound.repeaters k d in_it in
+    let few : length ports ≤ 32 = let f = row.ports_most in let e = ap length (c.as_slice-ports.ensures ∙ ap (λ xs. (get_or xs k d).ports) c.as_slice-repeaters.ensures) in omega (arith, f, e) in
+    let first = c.loop-k.invariant.few in
+    record { so_far = omega (arith, two, split, this, before, way, least); most = omega (arith, most, least); few = omega (arith, few, first) }

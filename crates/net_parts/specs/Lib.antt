@@ -1,0 +1,11 @@
+pub mod Windows
+pub mod Machines
+pub mod SegmentParts
+pub mod RepeaterParts
+pub mod Standing
+pub mod Parts
+pub mod Parcels
+pub mod Boards
+pub mod OutputsOfParts
+pub mod PartLaws
+pub mod CalmPieces
