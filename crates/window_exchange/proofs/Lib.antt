@@ -1,0 +1,2 @@
+pub mod MailNamesTell
+pub mod StepsKeepBalance

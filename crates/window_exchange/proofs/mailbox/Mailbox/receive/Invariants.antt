@@ -1,0 +1,6 @@
+use Rattle.std.proofs.Common.{◌≡◌}
+use Rattle.crossbeam_queue.specs.Passes.{view, IsPassOf}
+use Rattle.window_exchange.proofs.mailbox.Mailbox.receive.Given as goal
+
+abbrev pub invariant-loop : goal.invariant-loop
+invariant-loop g l = IsPassOf l.self.queue l.pass.pass × (view l.pass.pass ≡ view l.initial.pass.pass)

@@ -1,0 +1,2 @@
+pub mod MailNames
+pub mod Balance
