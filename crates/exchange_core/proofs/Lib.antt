@@ -1,0 +1,12 @@
+pub mod EdgesOfParts
+pub mod SoundHoldings
+pub mod EdgePlaces
+pub mod HolderFields
+pub mod ChangedRacks
+pub mod SoundShares
+pub mod EitherAnswer
+pub mod TakenParcels
+pub mod HandedParts
+pub mod GrownShares
+pub mod BoardTies
+pub mod ShareLaws

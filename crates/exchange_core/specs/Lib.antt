@@ -1,0 +1,4 @@
+pub mod Holdings
+pub mod Holders
+pub mod Shares
+pub mod Ties

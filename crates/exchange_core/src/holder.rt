@@ -1,0 +1,338 @@
+//! One part and the places of its parcels.
+ghost use Rattle.std.specs.Prelude.{◌≡◌, ◌<◌, ◌+◌, ℕ, false, true, not, length, map, All, replicate, IfOk, OnOk, OnErr, IsTrue, ◌↔◌, slice_index_or, slice_set};
+ghost use Rattle.net_parts.specs.declared.parcel.Parcel.{Parcel};
+ghost use Rattle.net_parts.specs.Windows.{windows};
+ghost use Rattle.net_parts.specs.Parts.{is_segment_part, edges_of_part};
+ghost use Rattle.net_parts.specs.Parcels.{IsTrueParcel};
+ghost use Rattle.net_parts.specs.Boards.{place_in, has_edge};
+ghost use Rattle.exchange_core.specs.Holdings.{Holding, IsHoldingReady, IsHoldingClean, IsSoundHolding, IsOnWay, edges_of_parcels, absent_parcel, emptied_parcel, parcel_of_edge, is_here, added_segment, added_repeater, reserved_holding, refused_holding, run_holding, spoil_holding, vacate_holding, take_holding};
+ghost use Rattle.exchange_core.specs.Shares.{AreParcelsFor, may_post, has_place};
+
+use lists::OutOfMemory;
+use net_parts::{Parcel, ParcelList, Part, Symbols};
+use std::alloc::Global;
+use std::marker::Model;
+use std::mem::replace;
+
+/// A part with the places of its parcels. In the place of a parcel that is away lies one that has left by the same way,
+/// spoiled and empty, so that whether the part is ready is told by the parcels alone.
+#[derive(Drop)]
+pub struct Holder<P: Part> {
+    alloc: Global,
+    part: P,
+    number: u32,
+    window: u64,
+    windows: u64,
+    segment: bool,
+    lost: bool,
+    refused: bool,
+    reserved: bool,
+    parcels: Vec<Parcel>,
+    away: Vec<bool>,
+}
+
+impl<P: Part> Model for Holder<P> {
+    ghost use Rattle.exchange_core.specs.Holdings.{Holding};
+    ghost use Rattle.exchange_core.specs.Holders.{IsHolder, held_as};
+
+    ghost Value = { Holding };
+
+    ghost view = { λ s. held_as (P.plan s.part) (P.number s.part) (P.at s.part) s.window s.lost s.refused s.reserved s.parcels.items s.away.items };
+
+    ghost invariant = { λ s. IsHolder s.number s.windows s.segment (P.reserved s.part) (held_as (P.plan s.part) (P.number s.part) (P.at s.part) s.window s.lost s.refused s.reserved s.parcels.items s.away.items) };
+}
+
+impl<P: Part> Holder<P> {
+    /// A segment with its parcels.
+    pub fn segment(alloc: Global, part: P, parcels: ParcelList) -> Result<Holder<P>, OutOfMemory>
+        requires kind { is_segment_part (P.plan part) (P.number part) ≡ true }
+        requires parcels { AreParcelsFor (P.plan part) (P.number part) (P.at part) parcels }
+        ensures { IfOk result (λ h. h ≡ added_segment (P.plan part) (P.number part) (P.at part) parcels) }
+    {
+        let parcels = in_order(alloc, parcels)?;
+        let away = vec![in alloc; false; parcels.len()]?;
+        let number = part.part();
+        let window = part.window();
+        let windows = part.windows();
+        Ok(Holder {
+            alloc,
+            part,
+            number,
+            window,
+            windows,
+            segment: true,
+            lost: false,
+            refused: false,
+            reserved: false,
+            parcels,
+            away,
+        })
+    }
+
+    /// A repeater, whose parcels are all away.
+    pub fn repeater(alloc: Global, part: P) -> Result<Holder<P>, OutOfMemory>
+        requires { is_segment_part (P.plan part) (P.number part) ≡ false }
+        ensures { IfOk result (λ h. h ≡ added_repeater (P.plan part) (P.number part) (P.at part)) }
+    {
+        let parcels = absent_parcels(alloc, part.edges())?;
+        let away = vec![in alloc; true; parcels.len()]?;
+        let number = part.part();
+        let window = part.window();
+        let windows = part.windows();
+        Ok(Holder {
+            alloc,
+            part,
+            number,
+            window,
+            windows,
+            segment: false,
+            lost: false,
+            refused: false,
+            reserved: false,
+            parcels,
+            away,
+        })
+    }
+
+    /// What is so of every holder.
+    pub fn sound(&self)
+        ensures { IsSoundHolding self.now }
+    {
+        let _ = &self.part;
+    }
+
+    /// The part's number.
+    pub fn number(&self) -> u32
+        ensures { result ≡ self.now.number }
+    {
+        self.number
+    }
+
+    /// The part's window.
+    pub fn window(&self) -> u64
+        ensures { result ≡ self.now.window }
+    {
+        self.window
+    }
+
+    /// Whether the part is lost.
+    pub fn lost(&self) -> bool
+        ensures { result ≡ self.now.lost }
+    {
+        self.lost
+    }
+
+    /// Whether the window is one of the run's, and all parcels are here with its stamp.
+    pub fn ready(&self) -> bool
+        ensures { IsTrue result ↔ IsHoldingReady self.now }
+    {
+        self.window < self.windows
+            && are_on_way(!self.segment, self.window, self.parcels.as_slice())
+    }
+
+    /// Whether no parcel is spoiled.
+    pub fn clean(&self) -> bool
+        ensures { IsTrue result ↔ IsHoldingClean self.now }
+    {
+        are_clean(self.parcels.as_slice())
+    }
+
+    /// Takes the memory that a window needs.
+    pub fn reserve(&mut self) -> Result<(), OutOfMemory>
+        ensures ok { OnOk result (self.new ≡ reserved_holding self.old) }
+        ensures err { OnErr result (self.new ≡ refused_holding self.old) }
+    {
+        let answer = self.part.reserve_window();
+        if answer.is_ok() {
+            self.reserved = true;
+        } else {
+            self.reserved = false;
+            self.refused = true;
+        }
+        answer
+    }
+
+    /// Runs the part's window.
+    pub fn run(&mut self)
+        requires ready { IsHoldingReady self.old }
+        requires clean { IsHoldingClean self.old }
+        requires kept { self.old.lost ≡ false }
+        requires room { self.old.reserved ≡ true }
+        ensures { self.new ≡ run_holding self.old }
+    {
+        self.part.run_window(self.parcels.as_mut_slice());
+        self.window += 1;
+        self.refused = false;
+        self.reserved = false;
+    }
+
+    /// Gives the part up for its window.
+    pub fn spoil(&mut self)
+        requires { IsHoldingReady self.old }
+        ensures { self.new ≡ spoil_holding self.old }
+    {
+        let next = self.window + 1;
+        let stamp = if self.segment { self.window } else { next };
+        empty_all(&mut self.parcels, self.segment, stamp);
+        self.lost = true;
+        self.refused = false;
+        self.window = next;
+    }
+
+    /// Whether one of the parcels is that of this edge.
+    pub fn has(&self, edge: u32) -> bool
+        ensures { result ≡ has_edge (edges_of_parcels self.now.parcels) edge }
+    {
+        has_edge(self.parcels.as_slice(), edge)
+    }
+
+    /// Whether the parcel of this edge is here and goes to the other part.
+    pub fn may_post(&self, edge: u32) -> bool
+        requires { has_edge (edges_of_parcels self.now.parcels) edge ≡ true }
+        ensures { result ≡ may_post edge (Some self.now) }
+    {
+        let place = place_in(self.parcels.as_slice(), edge);
+        !self.away[place] && self.parcels[place].to_repeater == self.segment
+    }
+
+    /// Hands out the parcel of this edge.
+    pub fn post(&mut self, edge: u32) -> Parcel
+        requires { has_edge (edges_of_parcels self.old.parcels) edge ≡ true }
+        ensures value { result ≡ parcel_of_edge edge self.old }
+        ensures new { self.new ≡ vacate_holding edge self.old }
+    {
+        let place = place_in(self.parcels.as_slice(), edge);
+        self.away[place] = true;
+        let absent = absent_parcel(self.alloc, edge, self.segment);
+        replace(&mut self.parcels[place], absent)
+    }
+
+    /// Puts a parcel in its place.
+    pub fn take(&mut self, parcel: Parcel)
+        requires edge { has_edge (edges_of_parcels self.old.parcels) parcel.edge ≡ true }
+        requires honest { IsTrueParcel self.old.plan parcel }
+        ensures { self.new ≡ take_holding parcel self.old }
+    {
+        let place = place_in(self.parcels.as_slice(), parcel.edge);
+        self.away[place] = false;
+        self.parcels[place] = parcel;
+    }
+
+    /// The part alone.
+    pub fn into_part(self) -> P
+        ensures plan { P.plan result ≡ self.plan }
+        ensures number { P.number result ≡ self.number }
+        ensures at { P.at result ≡ self.at }
+    {
+        let Holder {
+            alloc: _,
+            part,
+            number: _,
+            window: _,
+            windows: _,
+            segment: _,
+            lost: _,
+            refused: _,
+            reserved: _,
+            parcels: _,
+            away: _,
+        } = self;
+        part
+    }
+}
+
+/// Whether all parcels go this way with this stamp.
+fn are_on_way(to_repeater: bool, window: u64, parcels: &[Parcel]) -> bool
+    ensures { IsTrue result ↔ All (IsOnWay to_repeater window) parcels.now }
+{
+    parcels
+        .iter()
+        .all(|p| p.to_repeater == to_repeater && p.window == window)
+}
+
+/// Whether no parcel is spoiled.
+fn are_clean(parcels: &[Parcel]) -> bool
+    ensures { IsTrue result ↔ All (λ (p : Parcel). p.spoiled ≡ false) parcels.now }
+{
+    parcels.iter().all(|p| !p.spoiled)
+}
+
+/// The place of the first parcel of this edge, from 0, or behind the last.
+fn place_in(parcels: &[Parcel], edge: u32) -> usize
+    ensures place { result ≡ place_in (edges_of_parcels parcels.now) edge }
+    ensures within { has_edge (edges_of_parcels parcels.now) edge ≡ true → result < length parcels.now }
+{
+    for i in 0..parcels.len() {
+        if parcels[i].edge == edge {
+            return i;
+        }
+    }
+    parcels.len()
+}
+
+/// Whether one of the parcels is of this edge.
+fn has_edge(parcels: &[Parcel], edge: u32) -> bool
+    ensures { result ≡ has_edge (edges_of_parcels parcels.now) edge }
+{
+    for i in 0..parcels.len() {
+        if parcels[i].edge == edge {
+            return true;
+        }
+    }
+    false
+}
+
+/// What lies in the place of a parcel that is away, which takes no memory.
+fn absent_parcel(alloc: Global, edge: u32, to_repeater: bool) -> Parcel
+    ensures { result ≡ absent_parcel to_repeater edge }
+{
+    Parcel {
+        edge,
+        window: 0,
+        to_repeater,
+        symbols: Symbols::none(alloc),
+        spoiled: true,
+    }
+}
+
+/// What lies in the places of a repeater's parcels that are away.
+fn absent_parcels(alloc: Global, edges: &[u32]) -> Result<Vec<Parcel>, OutOfMemory>
+    ensures { IfOk result (λ parcels. parcels.items ≡ map (absent_parcel false) edges.now) }
+{
+    let mut parcels = Vec::new(alloc);
+    for i in 0..edges.len() {
+        parcels.push(absent_parcel(alloc, edges[i], false))?;
+    }
+    Ok(parcels)
+}
+
+/// The same parcels in the same order.
+fn in_order(alloc: Global, parcels: ParcelList) -> Result<Vec<Parcel>, OutOfMemory>
+    ensures { IfOk result (λ all. all.items ≡ parcels) }
+{
+    let mut rest = parcels;
+    let mut all = Vec::with_capacity(alloc, rest.len())?;
+    while let Some(parcel) = rest.pop() {
+        all.insert(0, parcel)?;
+    }
+    Ok(all)
+}
+
+/// Turns and stamps all parcels, without symbols and spoiled.
+fn empty_all(parcels: &mut Vec<Parcel>, to_repeater: bool, window: u64)
+    ensures { parcels.new.items ≡ map (emptied_parcel to_repeater window) parcels.old.items }
+{
+    for i in 0..parcels.len() {
+        empty(&mut parcels[i], to_repeater, window);
+    }
+}
+
+/// Turns and stamps a parcel, without symbols and spoiled.
+fn empty(parcel: &mut Parcel, to_repeater: bool, window: u64)
+    ensures { parcel.new ≡ emptied_parcel to_repeater window parcel.old }
+{
+    parcel.window = window;
+    parcel.to_repeater = to_repeater;
+    parcel.symbols.cut(0);
+    parcel.spoiled = true;
+}

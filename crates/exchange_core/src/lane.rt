@@ -1,0 +1,303 @@
+//! Parts of one kind.
+ghost use Rattle.std.specs.Prelude.{◌≡◌, ◌<◌, ◌≤◌, ◌+◌, ◌++◌, ◌&&◌, [], ℕ, false, true, length, map, if◌then◌else◌, OnOk, OnErr, IfSome, None, Some, slice_index_or, slice_set, vec_len, vec_capacity};
+ghost use Rattle.net_parts.specs.declared.parcel.Parcel.{Parcel};
+ghost use Rattle.net_parts.specs.Parcels.{IsTrueParcel};
+ghost use Rattle.exchange_core.specs.Holdings.{Holding, IsHoldingReady, IsHoldingClean, reserved_holding, refused_holding, run_holding, spoil_holding, vacate_holding, take_holding};
+ghost use Rattle.exchange_core.specs.Shares.{Rack, part_on, is_owned, changed, change_on, has_place, may_post, parcel_in, widened, add_on, handed, handed_as, handed_out, IsAddedInOrder};
+
+use crate::holder::Holder;
+use lists::OutOfMemory;
+use net_parts::{Parcel, Part};
+use std::alloc::Global;
+use std::marker::Model;
+
+/// Parts of one kind, each at the place of its number, and room to hand them out in the order in which they were added.
+#[derive(Drop)]
+pub struct Lane<P: Part> {
+    places: Vec<Option<Holder<P>>>,
+    order: Vec<u32>,
+    spare: Vec<P>,
+}
+
+impl<P: Part> Model for Lane<P> {
+    ghost use Rattle.std.specs.Prelude.{◌≡◌, ◌≤◌, [], vec_len, vec_capacity};
+    ghost use Rattle.exchange_core.specs.Shares.{Rack, rack};
+
+    ghost Value = { Rack };
+
+    ghost view = { λ s. rack s.places.items s.order.items };
+
+    ghost invariant = { λ s. (s.spare.items ≡ []) × (vec_len s.order ≤ vec_capacity s.spare) };
+}
+
+impl<P: Part> Lane<P> {
+    /// No parts, which takes no memory.
+    pub fn new(alloc: Global) -> Lane<P>
+        ensures places { result.places ≡ [] }
+        ensures order { result.order ≡ [] }
+    {
+        Lane {
+            places: Vec::new(alloc),
+            order: Vec::new(alloc),
+            spare: Vec::new(alloc),
+        }
+    }
+
+    /// Whether there is a part of this number.
+    pub fn owns(&self, part: u32) -> bool
+        ensures { result ≡ is_owned (part_on part self.now) }
+    {
+        let part = part as usize;
+        part < self.places.len() && self.places[part].is_some()
+    }
+
+    /// The part of this number.
+    pub fn get(&self, part: u32) -> &Holder<P>
+        requires { is_owned (part_on part self.now) ≡ true }
+        ensures { part_on part self.now ≡ Some result.now }
+    {
+        let part = part as usize;
+        if part < self.places.len() {
+            if let Some(holder) = &self.places[part] {
+                return holder;
+            }
+        }
+        unreachable!()
+    }
+
+    /// Adds a part. On refusal it is dropped.
+    pub fn add(&mut self, holder: Holder<P>) -> Result<(), OutOfMemory>
+        ensures ok { OnOk result (self.new ≡ add_on holder self.old) }
+        ensures err { OnErr result (self.new ≡ self.old) }
+    {
+        let number = holder.number();
+        let place = number as usize;
+        self.order.reserve(1)?;
+        self.spare.reserve(self.order.len() + 1)?;
+        widen(&mut self.places, place + 1)?;
+        self.places[place] = Some(holder);
+        let _ = self.order.push(number);
+        Ok(())
+    }
+
+    /// Takes the memory that the window of a part needs.
+    pub fn reserve(&mut self, part: u32) -> Result<(), OutOfMemory>
+        requires { is_owned (part_on part self.old) ≡ true }
+        ensures ok { OnOk result (self.new ≡ change_on reserved_holding part self.old) }
+        ensures err { OnErr result (self.new ≡ change_on refused_holding part self.old) }
+    {
+        let part = part as usize;
+        if part < self.places.len() {
+            return reserve_at(&mut self.places[part]);
+        }
+        unreachable!()
+    }
+
+    /// Runs the window of a part.
+    pub fn run(&mut self, part: u32)
+        requires owned { is_owned (part_on part self.old) ≡ true }
+        requires ready { IfSome (part_on part self.old) IsHoldingReady }
+        requires clean { IfSome (part_on part self.old) IsHoldingClean }
+        requires kept { IfSome (part_on part self.old) (λ h. h.lost ≡ false) }
+        requires room { IfSome (part_on part self.old) (λ h. h.reserved ≡ true) }
+        ensures { self.new ≡ change_on run_holding part self.old }
+    {
+        let part = part as usize;
+        if part < self.places.len() {
+            run_at(&mut self.places[part]);
+            return;
+        }
+        unreachable!()
+    }
+
+    /// Gives a part up for its window.
+    pub fn spoil(&mut self, part: u32)
+        requires owned { is_owned (part_on part self.old) ≡ true }
+        requires ready { IfSome (part_on part self.old) IsHoldingReady }
+        ensures { self.new ≡ change_on spoil_holding part self.old }
+    {
+        let part = part as usize;
+        if part < self.places.len() {
+            spoil_at(&mut self.places[part]);
+            return;
+        }
+        unreachable!()
+    }
+
+    /// Whether a part has this edge.
+    pub fn has(&self, part: u32, edge: u32) -> bool
+        ensures { result ≡ has_place edge (part_on part self.now) }
+    {
+        let part = part as usize;
+        part < self.places.len() && has_at(&self.places[part], edge)
+    }
+
+    /// Whether the parcel of this edge is at a part that has the edge, and goes to the other part.
+    pub fn may_post(&self, part: u32, edge: u32) -> bool
+        ensures { result ≡ (has_place edge (part_on part self.now) && may_post edge (part_on part self.now)) }
+    {
+        let part = part as usize;
+        part < self.places.len() && may_post_at(&self.places[part], edge)
+    }
+
+    /// Hands out the parcel of an edge.
+    pub fn post(&mut self, part: u32, edge: u32) -> Parcel
+        requires { has_place edge (part_on part self.old) ≡ true }
+        ensures value { result ≡ parcel_in edge (part_on part self.old) }
+        ensures new { self.new ≡ change_on (vacate_holding edge) part self.old }
+    {
+        let part = part as usize;
+        if part < self.places.len() {
+            return post_at(&mut self.places[part], edge);
+        }
+        unreachable!()
+    }
+
+    /// Drops the parcel of an edge.
+    pub fn empty(&mut self, part: u32, edge: u32)
+        ensures { self.new ≡ (if has_place edge (part_on part self.old) then change_on (vacate_holding edge) part self.old else self.old) }
+    {
+        if self.has(part, edge) {
+            let _ = self.post(part, edge);
+        }
+    }
+
+    /// Puts a parcel in its place.
+    pub fn take(&mut self, part: u32, parcel: Parcel)
+        requires edge { has_place parcel.edge (part_on part self.old) ≡ true }
+        requires honest { IfSome (part_on part self.old) (λ h. IsTrueParcel h.plan parcel) }
+        ensures { self.new ≡ change_on (take_holding parcel) part self.old }
+    {
+        let part = part as usize;
+        if part < self.places.len() {
+            take_at(&mut self.places[part], parcel);
+            return;
+        }
+        unreachable!()
+    }
+
+    /// The parts in the order in which they were added, which takes no memory. The parcels are dropped.
+    pub fn into_parts(self) -> Vec<P>
+        requires { IsAddedInOrder self }
+        ensures { map (λ p. handed_as (P.plan p) (P.number p) (P.at p)) result.items ≡ handed_out self }
+    {
+        let Lane {
+            places,
+            order,
+            spare,
+        } = self;
+        let mut places = places;
+        let mut spare = spare;
+        for i in 0..order.len() {
+            let _ = spare.push(take_out(&mut places, order[i]));
+        }
+        spare
+    }
+}
+
+/// Takes the part of this number out of its place.
+fn take_out<P: Part>(places: &mut Vec<Option<Holder<P>>>, part: u32) -> P
+    requires { is_owned (slice_index_or places.old.items part None) ≡ true }
+    ensures value { handed_as (P.plan result) (P.number result) (P.at result) ≡ handed (slice_index_or places.old.items part None) }
+    ensures rest { places.new.items ≡ slice_set places.old.items part None }
+{
+    let place = part as usize;
+    if place < places.len() {
+        if let Some(holder) = places[place].take() {
+            return holder.into_part();
+        }
+    }
+    unreachable!()
+}
+
+/// Widens the places to so many at least, or leaves them.
+fn widen<P: Part>(places: &mut Vec<Option<Holder<P>>>, count: usize) -> Result<(), OutOfMemory>
+    ensures ok { OnOk result (places.new.items ≡ widened count places.old.items) }
+    ensures err { OnErr result (places.new.items ≡ places.old.items) }
+{
+    if places.len() < count {
+        places.reserve(count - places.len())?;
+        while places.len() < count {
+            let _ = places.push(None);
+        }
+    }
+    Ok(())
+}
+
+/// Takes the memory that the window of the part in this place needs.
+fn reserve_at<P: Part>(place: &mut Option<Holder<P>>) -> Result<(), OutOfMemory>
+    requires { is_owned place.old ≡ true }
+    ensures ok { OnOk result (place.new ≡ changed reserved_holding place.old) }
+    ensures err { OnErr result (place.new ≡ changed refused_holding place.old) }
+{
+    if let Some(holder) = place {
+        return holder.reserve();
+    }
+    unreachable!()
+}
+
+/// Runs the window of the part in this place.
+fn run_at<P: Part>(place: &mut Option<Holder<P>>)
+    requires ready { IfSome place.old IsHoldingReady }
+    requires clean { IfSome place.old IsHoldingClean }
+    requires kept { IfSome place.old (λ h. h.lost ≡ false) }
+    requires room { IfSome place.old (λ h. h.reserved ≡ true) }
+    ensures { place.new ≡ changed run_holding place.old }
+{
+    if let Some(holder) = place {
+        holder.run();
+    }
+}
+
+/// Gives the part in this place up for its window.
+fn spoil_at<P: Part>(place: &mut Option<Holder<P>>)
+    requires ready { IfSome place.old IsHoldingReady }
+    ensures { place.new ≡ changed spoil_holding place.old }
+{
+    if let Some(holder) = place {
+        holder.spoil();
+    }
+}
+
+/// Whether the part in this place has this edge.
+fn has_at<P: Part>(place: &Option<Holder<P>>, edge: u32) -> bool
+    ensures { result ≡ has_place edge place.now }
+{
+    match place {
+        Some(holder) => holder.has(edge),
+        None => false,
+    }
+}
+
+/// Whether the part in this place has this edge, and its parcel is there and goes to the other part.
+fn may_post_at<P: Part>(place: &Option<Holder<P>>, edge: u32) -> bool
+    ensures { result ≡ (has_place edge place.now && may_post edge place.now) }
+{
+    match place {
+        Some(holder) => holder.has(edge) && holder.may_post(edge),
+        None => false,
+    }
+}
+
+/// Hands out the parcel of an edge of the part in this place.
+fn post_at<P: Part>(place: &mut Option<Holder<P>>, edge: u32) -> Parcel
+    requires { has_place edge place.old ≡ true }
+    ensures value { result ≡ parcel_in edge place.old }
+    ensures new { place.new ≡ changed (vacate_holding edge) place.old }
+{
+    if let Some(holder) = place {
+        return holder.post(edge);
+    }
+    unreachable!()
+}
+
+/// Puts a parcel to the part in this place.
+fn take_at<P: Part>(place: &mut Option<Holder<P>>, parcel: Parcel)
+    requires edge { has_place parcel.edge place.old ≡ true }
+    requires honest { IfSome place.old (λ h. IsTrueParcel h.plan parcel) }
+    ensures { place.new ≡ changed (take_holding parcel) place.old }
+{
+    if let Some(holder) = place {
+        holder.take(parcel);
+    }
+}

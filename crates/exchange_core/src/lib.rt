@@ -1,0 +1,12 @@
+//! What one worker owns: parts of one plan and the parcels at them. Its calls are the events of a board.
+#![tactic(auto)]
+
+mod holder;
+mod lane;
+pub mod laws;
+mod share;
+
+pub use share::{PartList, Share};
+
+#[cfg(test)]
+mod tests;
