@@ -1,0 +1,2 @@
+mod RowsInOrder
+mod SoundDemo

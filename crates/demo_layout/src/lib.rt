@@ -1,0 +1,12 @@
+//! The layout of demo, which is a family of networks, one for each number of repeaters.
+#![tactic(auto)]
+
+mod making;
+mod row_texts;
+mod rows;
+mod sent_frames;
+
+pub use making::demo;
+
+#[cfg(test)]
+mod tests;
