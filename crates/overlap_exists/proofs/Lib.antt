@@ -1,0 +1,5 @@
+mod HitsInPreamble
+mod NearPairsOverlap
+mod NearPairsWithin
+mod SoundNearExample
+mod DetectedNearPairs

@@ -1,0 +1,2 @@
+pub mod NearPairs
+pub mod DetectedCollisions
