@@ -85,8 +85,11 @@ pub trait Sink {
         ensures refusal { IsSinkRefusal bytes.now result → Rose (refused self.old) (refused self.new) };
 }
 
-/// Where a part waits at the beginning of a window until it may go on.
+/// Where a part waits at the beginning of a window until it may go on, and where a run's progress can be counted.
 pub trait Gate: Sync {
+    /// A run of so many parts, windows a part and half bits begins: called once, before its first window.
+    fn begin(&self, parts: u32, windows: u64, half_bits: u64);
+
     /// Lets the part of this number into the window of this number, both counted from 0.
     fn enter(&self, part: u32, window: u64);
 }
@@ -96,5 +99,7 @@ pub trait Gate: Sync {
 pub struct OpenGate;
 
 impl Gate for OpenGate {
+    fn begin(&self, _parts: u32, _windows: u64, _half_bits: u64) {}
+
     fn enter(&self, _part: u32, _window: u64) {}
 }

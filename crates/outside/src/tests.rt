@@ -77,5 +77,6 @@ fn a_folder_keeps_real_files(rt: HostRuntime) -> Result<(), Fail> {
 fn the_standard_output_takes_a_piece(rt: HostRuntime) {
     let mut sink = OutSink::new(&rt);
     assert_eq!(rt; sink.write(b"netsim\n"), Ok(7));
+    OpenGate.begin(1, 2, 3000);
     OpenGate.enter(0, 1);
 }
