@@ -11,10 +11,16 @@ fn a_row_closes_and_a_clean_run_lets_open(rt: HostRuntime) {
         assert_eq!(rt; guard.step(false, false, false), GuardEvent::None);
     }
     assert_eq!(rt; guard.step(true, true, true), GuardEvent::Closed);
-    for _ in 0..1_030 {
+    for _ in 0..1_023 {
         assert_eq!(rt; guard.step(true, false, false), GuardEvent::None);
     }
-    assert!(rt; guard.closed);
+    let mut early = guard;
+    assert_eq!(rt; early.step(false, false, false), GuardEvent::None);
+    assert!(rt; early.closed);
+    assert_eq!(rt; guard.step(true, false, false), GuardEvent::None);
+    let mut later = guard;
+    assert_eq!(rt; later.step(true, false, false), GuardEvent::None);
+    assert_eq!(rt; later.step(false, false, false), GuardEvent::Opened);
     assert_eq!(rt; guard.step(false, false, false), GuardEvent::Opened);
     assert!(rt; !guard.closed);
 }
