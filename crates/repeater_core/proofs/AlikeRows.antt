@@ -1,8 +1,10 @@
 -- The rows of a ring that have signals at the places of the first, one by one from the oldest on.
-use Rattle.std.proofs.Common.{◌≡◌, ℕ, ◌+◌, ◌*◌, ◌<◌, List, length, map, take, drop, sym, ap, subst, ◌∙◌, arith, inl, inr, length-drop}
+use Rattle.std.proofs.Common.{◌≡◌, ℕ, ◌+◌, ◌*◌, ◌<◌, ◌≤◌, false, List, length, map, take, drop, get_or, sym, ap, subst, ◌∙◌, arith, inl, inr, length-drop, length-take-le}
 use Rattle.std.proofs.lemmas.Bool.{cases_lt}
-use Rattle.std.proofs.lemmas.List.{take-append-le}
+use Rattle.std.proofs.lemmas.List.{take-append-le, get_or-map}
+use Rattle.std.proofs.lemmas.Grind.{common_steps}
 use Rattle.manchester_line.specs.declared.Sym.{Sym}
+use Rattle.manchester_line.specs.declared.Sym.TheVariants.{Idle}
 use Rattle.manchester_line.specs.Line.{is_signal}
 use Rattle.repeater_core.specs.Delayed.{rotated, turn_after}
 use Rattle.repeater_core.proofs.NextTurnOfRing.{rotated_turn}
@@ -31,3 +33,16 @@ one_alike row p delay turn n items rows front m lr np ring here before k b = eli
       sym (take-append-le p (drop (row * p) rows) (take (row * p) rows) (omega arith)) ∙ ap (take p) (sym ring) ∙ ap (λ i. take i (rotated (turn * p) items)) (sym np) in
       subst (λ i. map is_signal (take p (drop (i * p) rows)) ≡ map is_signal front) same (ap (map is_signal) first ∙ here)
 ]
+
+-- where a row has its signals at the places of another, each of its symbols is a signal where the other's is
+pub flag_at : (k h : ℕ) (slots front : List Sym) (s t : Sym) → k < length front → h + length front ≤ length slots → map is_signal (take (length front) (rotated h slots)) ≡ map is_signal front
+    → is_signal (get_or slots (h + k) s) ≡ is_signal (get_or front k t)
+flag_at k h slots front s t l m e =
+    let d = length-drop h slots in
+    let cut : take (length front) (rotated h slots) ≡ take (length front) (drop h slots) = take-append-le (length front) (drop h slots) (take h slots) (omega arith) in
+    let long : length (take (length front) (drop h slots)) ≡ length front = length-take-le (length front) (drop h slots) (omega arith) in
+    let at : get_or (take (length front) (drop h slots)) k Idle ≡ get_or slots (h + k) Idle = grind (arith, common_steps) in
+    let here : get_or slots (h + k) s ≡ get_or slots (h + k) Idle = grind (arith, common_steps) in
+    let there : get_or front k t ≡ get_or front k Idle = grind (arith, common_steps) in
+    ap is_signal (here ∙ sym at) ∙ sym (get_or-map is_signal (take (length front) (drop h slots)) k Idle false (omega arith))
+    ∙ ap (λ xs. get_or xs k false) (ap (map is_signal) (sym cut) ∙ e) ∙ get_or-map is_signal front k Idle false l ∙ sym (ap is_signal there)

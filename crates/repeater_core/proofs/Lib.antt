@@ -1,3 +1,4 @@
+pub mod PutRow
 pub mod JoinedActivities
 pub mod NextTurnOfRing
 pub mod OutputIsLong
@@ -14,3 +15,5 @@ pub mod SteadyLeap
 pub mod SteadyState
 pub mod SteadyCount
 pub mod AlikeRows
+pub mod SteadyMost
+pub mod SteadyRows

@@ -33,7 +33,7 @@ mode_stays m a l = grind (arith, nat_tests)
 mode_falls : (n : ℕ) (m : Mode) (a : Activity) → suc n ≤ mode_steady m a → n ≤ mode_steady (mode_on m) a
 mode_falls n m a l = grind (arith, nat_tests)
 
-sends_same : (m : Mode) (q : ℕ) → sends_to (mode_on m) q ≡ sends_to m q
+pub sends_same : (m : Mode) (q : ℕ) → sends_to (mode_on m) q ≡ sends_to m q
 sends_same Idle q = refl
 sends_same (Repeat n i) q = refl
 sends_same (Extend n i j) q = refl
@@ -70,7 +70,7 @@ open_awake true w c e l z =
     let pos : 0 < jabber_limit - c.run = grind (arith, nat_tests) in
     let x = class_awake w c pos in (x.0 ∙ e, x.1)
 
-class_choice : (s : Bool) (w : Sym) (c : Count) → is_signal w ≡ s → 0 < port_steady s c → (is_signal (choice w c).symbol ≡ s && eqb c.rest 0) × ((choice w c).halted ≡ false)
+pub class_choice : (s : Bool) (w : Sym) (c : Count) → is_signal w ≡ s → 0 < port_steady s c → (is_signal (choice w c).symbol ≡ s && eqb c.rest 0) × ((choice w c).halted ≡ false)
 class_choice s w c e l = choose (λ (x : Choice). (is_signal x.symbol ≡ s && eqb c.rest 0) × (x.halted ≡ false)) (eqb c.rest 0) (choice_awake w c) _
     (λ z. let y = open_awake s w c e l (let n : c.rest ≡ 0 = grind (arith, nat_tests) in n) in (y.0 ∙ sym (ap (λ b. s && b) z ∙ and_true' s), y.1))
     (λ z. (sym (ap (λ b. s && b) z ∙ and_false' s), refl))
@@ -112,7 +112,7 @@ flags_same n m q [] l = refl
 flags_same n m q (c ∷ cs) l =
     ap₂ ◌∷◌ (ap (λ s. s && eqb (count_by (sends_to m q && eqb c.rest 0) c).rest 0) (sends_same m q) ∙ flag_same n (sends_to m q) c (omega arith)) (flags_same n m (q + 1) cs (omega arith))
 
-wish_signal : (m : Mode) (hears : List Sym) (q : ℕ) → IsRepeatable hears m → is_signal (wish_of m hears q) ≡ sends_to m q
+pub wish_signal : (m : Mode) (hears : List Sym) (q : ℕ) → IsRepeatable hears m → is_signal (wish_of m hears q) ≡ sends_to m q
 wish_signal Idle hears q h = refl
 wish_signal (Repeat n i) hears q h =
     let text = cond (ltb i preamble_length) (preamble_at i) (get_or hears n sy.Idle) in
@@ -129,7 +129,7 @@ CalmBy n (k ∷ ks) (g ∷ gs) = HasNoEvent k.hears k.clash k.emits n g × CalmB
 CalmBy n [] gs = Unit {0}
 CalmBy n (k ∷ ks) [] = Unit {0}
 
-calm_by : (n : ℕ) (hs es : List Sym) (gs : List Guard) → length hs ≡ length gs → length es ≡ length gs → HaveNoEvents n hs es gs → CalmBy n (kinds_of hs (map is_signal es)) gs
+pub calm_by : (n : ℕ) (hs es : List Sym) (gs : List Guard) → length hs ≡ length gs → length es ≡ length gs → HaveNoEvents n hs es gs → CalmBy n (kinds_of hs (map is_signal es)) gs
 calm_by n [] es gs l m h = tt
 calm_by n (x ∷ hs) [] gs l m h = tt
 calm_by n (x ∷ hs) (e ∷ es) [] l m h = tt
@@ -158,7 +158,7 @@ none_opens n p (k ∷ ks) (g ∷ gs) h =
 closed_same : (k : Kind) (g : Guard) → event_of g k.hears k.clash ≡ event.None → (guard_by k g).closed ≡ g.closed
 closed_same k g e = grind (arith, nat_tests)
 
-active_same : (n k : ℕ) (hs : List Sym) (bs : List Bool) (gs : List Guard) → length hs ≡ length gs → length bs ≡ length gs → CalmBy (suc n) (kinds_of hs bs) gs
+pub active_same : (n k : ℕ) (hs : List Sym) (bs : List Bool) (gs : List Guard) → length hs ≡ length gs → length bs ≡ length gs → CalmBy (suc n) (kinds_of hs bs) gs
     → activity_from k (at_each guard_by (kinds_of hs bs) gs) hs ≡ activity_from k gs hs
 active_same n k [] bs [] l m h = refl
 active_same n k (x ∷ hs) bs [] l m h = absurd (omega arith)
@@ -169,7 +169,7 @@ active_same n k (x ∷ hs) (b ∷ bs) (g ∷ gs) l m h =
     (active_same n (k + 1) hs bs gs (omega arith) (omega arith) h.1)
 
 -- the delay line
-row_on : (n k p delay : ℕ) (rows decided : List Sym) → length rows ≡ delay * p → k < n → suc n ≤ delay → take p (drop (k * p) (drop p rows ++ decided)) ≡ take p (drop (suc k * p) rows)
+pub row_on : (n k p delay : ℕ) (rows decided : List Sym) → length rows ≡ delay * p → k < n → suc n ≤ delay → take p (drop (k * p) (drop p rows ++ decided)) ≡ take p (drop (suc k * p) rows)
 row_on n k p delay rows decided len l m =
     let room : (k + 2) * p ≤ delay * p = mul-le-mul_right p (let a : k + 2 ≤ delay = omega arith in a) in
     let a = length-drop p rows in

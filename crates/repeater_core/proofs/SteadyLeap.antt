@@ -105,3 +105,16 @@ told_at n k h b e hs es gs s t g l lh le eh eb ee told =
     (subst (λ x. HasNoEvent (is_signal (get_or hs k sy.Idle)) (collides (get_or hs k sy.Idle) (get_or es k sy.Idle)) x n (get_or gs k g)) (ee ∙ ap is_signal ea)
     (subst (λ x. HasNoEvent (is_signal (get_or hs k sy.Idle)) x e n (get_or gs k g)) (eb ∙ ap₂ collides ha ea)
     (subst (λ x. HasNoEvent x b e n (get_or gs k g)) (eh ∙ ap is_signal ha) told)))
+
+pub back_at : (n k : ℕ) (h b e : Bool) (hs es : List Sym) (gs : List Guard) (s t : Sym) (g : Guard)
+    → k < length gs → k < length hs → k < length es → h ≡ is_signal (get_or hs k s) → b ≡ collides (get_or hs k s) (get_or es k t) → e ≡ is_signal (get_or es k t)
+    → HasNoEvent (is_signal (get_or hs k sy.Idle)) (collides (get_or hs k sy.Idle) (get_or es k sy.Idle)) (is_signal (get_or es k sy.Idle)) n (get_or gs k new_guard)
+    → HasNoEvent h b e n (get_or gs k g)
+back_at n k h b e hs es gs s t g l lh le eh eb ee told =
+    let ha : get_or hs k s ≡ get_or hs k sy.Idle = same_at k hs hs s sy.Idle lh refl in
+    let ea : get_or es k t ≡ get_or es k sy.Idle = same_at k es es t sy.Idle le refl in
+    let ga : get_or gs k g ≡ get_or gs k new_guard = same_at k gs gs g new_guard l refl in
+    subst (λ x. HasNoEvent x b e n (get_or gs k g)) (sym (eh ∙ ap is_signal ha))
+    (subst (λ x. HasNoEvent (is_signal (get_or hs k sy.Idle)) x e n (get_or gs k g)) (sym (eb ∙ ap₂ collides ha ea))
+    (subst (λ x. HasNoEvent (is_signal (get_or hs k sy.Idle)) (collides (get_or hs k sy.Idle) (get_or es k sy.Idle)) x n (get_or gs k g)) (sym (ee ∙ ap is_signal ea))
+    (subst (λ x. HasNoEvent (is_signal (get_or hs k sy.Idle)) (collides (get_or hs k sy.Idle) (get_or es k sy.Idle)) (is_signal (get_or es k sy.Idle)) n x) (sym ga) told)))

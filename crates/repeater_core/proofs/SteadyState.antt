@@ -56,7 +56,7 @@ no_events n p zero (x ∷ ks) (g ∷ gs) kd d l m c o = λ k b. none_of _ (not_o
 no_events n p (suc q) (x ∷ ks) (g ∷ gs) kd d l m c o =
     no_events n (p + 1) q ks gs kd d (omega arith) (omega arith) (λ k b. (not_one _ p _ (c k b)).1) (λ k b. (not_one _ p _ (o k b)).1)
 
-kinds_length : (hs es : List Sym) → length es ≡ length hs → length (kinds_of hs (map is_signal es)) ≡ length hs
+pub kinds_length : (hs es : List Sym) → length es ≡ length hs → length (kinds_of hs (map is_signal es)) ≡ length hs
 kinds_length [] es l = refl
 kinds_length (h ∷ hs) [] l = absurd (omega arith)
 kinds_length (h ∷ hs) (e ∷ es) l = ap suc (kinds_length hs es (omega arith))
@@ -126,7 +126,7 @@ pub length_decided : (r : State) (hears : List Sym) → IsState r → length (de
 unfolding chosen
 length_decided r hears h = length-map (chosen hears r) (λ c. c.symbol) ∙ length_choices (mode_next hears r) hears 0 r.counts ∙ h.counts_len
 
-at_k : (n k : ℕ) (r : State) (hears : List Sym) → IsSteady hears r n → k < n → iterate (after hears) k r ≡ steady_later hears (map is_signal (emitted_by r)) (map is_signal (decided_by hears r)) k r
+pub at_k : (n k : ℕ) (r : State) (hears : List Sym) → IsSteady hears r n → k < n → iterate (after hears) k r ≡ steady_later hears (map is_signal (emitted_by r)) (map is_signal (decided_by hears r)) k r
 at_k n k r hears s l = steady_is k hears (map is_signal (emitted_by r)) (map is_signal (decided_by hears r)) r (λ i m. s i (omega arith))
 
 pub first_decided : (n : ℕ) (r : State) (hears : List Sym) → IsSteady hears r n → 0 < n → map (λ c. c.symbol) (choices_from (mode_on r.mode) hears 0 r.counts) ≡ decided_by hears r
@@ -152,13 +152,13 @@ have_no_events n r hears h l s =
     (λ k b. ap (λ xs. mask_from 0 (map is_closing xs)) (sym (events_at n k r hears h l s b)) ∙ (s k b).none_closes)
     (λ k b. ap (λ xs. mask_from 0 (map is_opening xs)) (sym (events_at n k r hears h l s b)) ∙ (s k b).none_opens)
 
-counts_at : (n k : ℕ) (r : State) (hears : List Sym) → IsState r → IsSteady hears r n → k < n
+pub counts_at : (n k : ℕ) (r : State) (hears : List Sym) → IsState r → IsSteady hears r n → k < n
     → (iterate (after hears) k r).counts ≡ at_each (λ x c. iterate (count_by x) k c) (map is_signal (decided_by hears r)) r.counts
 counts_at n k r hears h s b =
     ap (λ (x : State). x.counts) (at_k n k r hears s b)
     ∙ each_later count_by k (map is_signal (decided_by hears r)) r.counts (length-map (decided_by hears r) is_signal ∙ length_decided r hears h ∙ sym h.counts_len)
 
-sent_at_k : (n k : ℕ) (r : State) (hears : List Sym) → IsState r → IsSteady hears r n → k < n
+pub sent_at_k : (n k : ℕ) (r : State) (hears : List Sym) → IsState r → IsSteady hears r n → k < n
     → map is_signal (map (λ c. c.symbol) (choices_from (mode_next hears (iterate (after hears) k r)) hears 0 (at_each (λ x c. iterate (count_by x) k c) (map is_signal (decided_by hears r)) r.counts))) ≡ map is_signal (decided_by hears r)
 unfolding chosen
 sent_at_k n k r hears h s b =
@@ -174,7 +174,7 @@ are_sent n r hears h pos s = λ q l.
 pub modes_are : (n : ℕ) (r : State) (hears : List Sym) → IsState r → length hears ≡ length r.guards → IsSteady hears r n → (k : ℕ) → k < n → IsMode (iterate mode_on k r.mode)
 modes_are n r hears h l s k b = subst IsMode (ap (λ (x : State). x.mode) (at_k n k r hears s b)) (state_later k r hears h l).mode_counts
 
-texts_at : (k : ℕ) (r : State) (hears : List Sym) → decided_by hears r ≡ texted (map is_signal (decided_by hears r)) (sent_text (mode_next hears r) hears)
+pub texts_at : (k : ℕ) (r : State) (hears : List Sym) → decided_by hears r ≡ texted (map is_signal (decided_by hears r)) (sent_text (mode_next hears r) hears)
 unfolding chosen
 texts_at k r hears = decides_text (mode_next hears r) hears 0 r.counts
 

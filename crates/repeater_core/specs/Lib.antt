@@ -7,3 +7,4 @@ pub mod Step
 pub mod SilentParts
 pub mod Calm
 pub mod Steady
+pub mod Classes

@@ -1,6 +1,6 @@
 -- Steady half bits, in which the ports, closed ones too, hear what they heard before and nothing happens but counts
 -- (profile, for the modes and guards of clause 9). Ports and half bits count from 0.
-use Rattle.std.specs.Prelude.{ℕ, zero, suc, ◌≡◌, ◌≢◌, ◌+◌, ◌-◌, ◌*◌, ◌<◌, Bool, true, false, ◌==◌, ◌&&◌, min, nat_lt, if◌then◌else◌, List, [], ◌∷◌, length, map, take, drop, slice_index_or}
+use Rattle.std.specs.Prelude.{ℕ, zero, suc, ◌≡◌, ◌≢◌, ◌+◌, ◌-◌, ◌*◌, ◌<◌, ◌≤◌, Bool, true, false, ◌==◌, ◌&&◌, min, nat_lt, if◌then◌else◌, List, [], ◌∷◌, length, map, take, drop, slice_index_or}
 use Rattle.mac_parameters.specs.Parameters.{preamble_length, fragment_extension, jabber_limit}
 use Rattle.std.specs.Fn.{iterate}
 use Rattle.manchester_line.specs.declared.Sym.{Sym}
@@ -93,6 +93,10 @@ abbrev pub line_later : List Sym → List Bool → ℕ → Mode → Delayed → 
 line_later hears deciding zero mode d = d
 line_later hears deciding (suc n) mode d =
     line_later hears deciding n (mode_on mode) (moved_on (texted deciding (sent_text (mode_on mode) hears)) d)
+
+-- no port's output is longer than the limit at which it is halted
+abbrev pub RunsWithin : List Count → Type 0
+RunsWithin cs = (q : ℕ) → q < length cs → (slice_index_or cs q (resting_count 0)).run ≤ jabber_limit
 
 -- each guard has no event in n half bits in which its port hears and emits symbols of these classes
 abbrev pub HaveNoEvents : ℕ → List Sym → List Sym → List Guard → Type 0

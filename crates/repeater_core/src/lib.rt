@@ -17,4 +17,6 @@ pub use modes::Mode;
 pub use repeater::{Repeater, RepeaterEvents};
 
 #[cfg(test)]
+mod class_tests;
+#[cfg(test)]
 mod tests;

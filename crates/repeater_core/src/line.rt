@@ -9,7 +9,7 @@ ghost use Rattle.mac_parameters.specs.Parameters.{most_ports};
 ghost use Rattle.repeater_core.specs.Delayed.{rotated, turn_after, moved_on, oldest};
 ghost use Rattle.repeater_core.specs.SilentParts.{idle_front, line_calm, silent_line};
 ghost use Rattle.manchester_line.specs.Line.{is_signal};
-ghost use Rattle.repeater_core.specs.Steady.{AreAlikeRows};
+ghost use Rattle.repeater_core.specs.Steady.{AreAlikeRows, texted};
 
 use crate::calm::idle_front;
 use crate::limits::MOST_CALM;
@@ -54,6 +54,24 @@ fn turn_row(slots: &mut [Sym], head: usize, decided: &[Sym], emits: &mut [Sym])
     }
 }
 
+/// The text where there is a signal, and else Idle.
+fn text_at(flag: Sym, text: Sym) -> Sym
+    ensures { result ≡ (if is_signal flag then text else Idle) }
+{
+    if is_signal(flag) { text } else { Sym::Idle }
+}
+
+/// Puts a row in at `head`: the text at the places of signals in `flags`, and Idle at the others.
+fn put_row(slots: &mut [Sym], head: usize, flags: &[Sym], text: Sym)
+    requires { head + length flags.now ≤ length slots.old }
+    ensures len { length slots.new ≡ length slots.old }
+    ensures rows { rotated (head + length flags.now) slots.new ≡ drop (length flags.now) (rotated head slots.old) ++ texted (map is_signal flags.now) text }
+{
+    for k in 0..flags.len() {
+        slots[head + k] = text_at(flags[k], text);
+    }
+}
+
 /// Copies the row at `head`.
 fn copy_row(slots: &[Sym], head: usize, row: &mut [Sym])
     requires within { head + length row.old ≤ length slots.now }
@@ -67,7 +85,8 @@ fn copy_row(slots: &[Sym], head: usize, row: &mut [Sym])
 /// Whether the row at `head` has signals at the places of `front`.
 fn row_alike(slots: &[Sym], head: usize, front: &[Sym]) -> bool
     requires within { head + length front.now ≤ length slots.now }
-    ensures { IsTrue result → map is_signal (take (length front.now) (rotated head slots.now)) ≡ map is_signal front.now }
+    ensures alike { IsTrue result → map is_signal (take (length front.now) (rotated head slots.now)) ≡ map is_signal front.now }
+    ensures differs { map is_signal (take (length front.now) (rotated head slots.now)) ≡ map is_signal front.now → IsTrue result }
 {
     for k in 0..front.len() {
         if is_signal(slots[head + k]) != is_signal(front[k]) {
@@ -141,6 +160,16 @@ impl DelayLine {
         self.filled = filled_after(idle, self.filled, self.delay);
     }
 
+    /// One half bit, in which this text is decided for the ports that have a signal in `flags`, and Idle for the others.
+    pub fn send(&mut self, flags: &[Sym], text: Sym)
+        requires { length flags.now ≡ self.old.ports }
+        ensures { self.new ≡ moved_on (texted (map is_signal flags.now) text) self.old }
+    {
+        put_row(&mut self.slots, self.turn * self.ports, flags, text);
+        self.turn = next_turn(self.turn, self.delay);
+        self.filled = filled_after(text == Sym::Idle, self.filled, self.delay);
+    }
+
     /// What the ports emit in this half bit.
     pub fn front(&self, emits: &mut [Sym])
         requires { length emits.old ≡ self.now.ports }
@@ -155,6 +184,7 @@ impl DelayLine {
         requires front_len { length front.now ≡ self.now.ports }
         ensures few { result ≤ self.now.delay }
         ensures alike { AreAlikeRows result self.now }
+        ensures greatest { result < self.now.delay → ¬ AreAlikeRows (result + 1) self.now }
     {
         let mut turn = self.turn;
         for row in 0..self.delay {

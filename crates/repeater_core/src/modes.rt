@@ -9,6 +9,7 @@ ghost use Rattle.repeater_core.specs.SilentParts.{sends_for, sends_to, silent_mo
 ghost use Rattle.repeater_core.specs.Modes.{joined, activity_at, count_of, jams_of, next_count, mode_after, activity_from, is_tx_clash, wish_of};
 ghost use Rattle.manchester_line.specs.Line.{is_signal};
 ghost use Rattle.repeater_core.specs.Steady.{mode_on, mode_steady, sent_text};
+ghost use Rattle.repeater_core.specs.Classes.{text_for};
 
 use crate::limits::{JAM_PERIOD, MOST_CALM};
 use mac_parameters::{FRAGMENT_EXTENSION, PREAMBLE};
@@ -293,6 +294,20 @@ pub fn sent_text(mode: Mode, hears: &[Sym]) -> Sym
         Mode::Idle => Sym::Idle,
         Mode::Repeat { i, .. } if i < PREAMBLE => header_sym(i),
         Mode::Repeat { n, .. } => heard_by(hears, n),
+        Mode::Extend { j, .. } => jam_sym(j),
+        Mode::RxClash { i, .. } => jam_sym(i),
+        Mode::TxClash { i } => jam_sym(i),
+        Mode::OnePort { i, .. } => jam_sym(i),
+    }
+}
+
+/// What a mode sends, to whom it does, where the port that it repeats hears this.
+pub fn text_for(mode: Mode, heard: Sym) -> Sym
+    ensures { result ≡ text_for mode heard }
+{
+    match mode {
+        Mode::Idle => Sym::Idle,
+        Mode::Repeat { i, .. } => { if i < PREAMBLE { header_sym(i) } else { heard } }
         Mode::Extend { j, .. } => jam_sym(j),
         Mode::RxClash { i, .. } => jam_sym(i),
         Mode::TxClash { i } => jam_sym(i),

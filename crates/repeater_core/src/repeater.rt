@@ -1,5 +1,5 @@
 //! A repeater.
-ghost use Rattle.std.specs.Prelude.{◌≡◌, ◌<◌, ◌≤◌, length, map, slice_get, slice_index_or, Some, IfOk, IsTrue};
+ghost use Rattle.std.specs.Prelude.{◌≡◌, ◌<◌, ◌≤◌, ◌+◌, ◌-◌, List, length, map, slice_get, slice_index_or, Some, IfOk, IsTrue};
 ghost use Rattle.std.specs.Fn.{iterate};
 ghost use Rattle.repeater_core.specs.Calm.{silent_step, IsUneventful, IsCalm, IsUnchanged};
 ghost use Rattle.std.specs.List.{All};
@@ -10,7 +10,10 @@ ghost use Rattle.mac_parameters.specs.Parameters.{most_ports};
 ghost use Rattle.repeater_core.specs.declared.modes.Mode.TheVariants.{Idle};
 ghost use Rattle.repeater_core.specs.Counts.{resting_count};
 ghost use Rattle.repeater_core.specs.Step.{State, new_state, resumed_state, after, emitted_by, decided_by, clash_begins, closed_mask, opened_mask, halted_mask, resting_by};
+ghost use Rattle.manchester_line.specs.declared.Sym.{Sym};
+ghost use Rattle.manchester_line.specs.Line.{is_signal};
 ghost use Rattle.repeater_core.specs.Steady.{IsSteady};
+ghost use Rattle.repeater_core.specs.Classes.{after_rows, texts_after, AreHeardAs, AreSteadyRows, DecideTexts, EmitRows, IsOfSource};
 ghost use Rattle.repeater_core.specs.Laws.{HasNoClash, Repeats, EndsLong};
 
 use crate::calm::{
@@ -21,7 +24,9 @@ use crate::counts::{PortCount, resting_counts};
 use crate::line::DelayLine;
 use crate::modes::{Mode, active_ports, collision, mode_on, mode_steady, next_mode, silent_mode};
 use crate::ports::{decide_all, guard_all};
-use crate::steady::{decide_row, guards_calm, leap_counts, leap_guards, leap_line, ports_steady};
+use crate::steady::{
+    decide_row, guards_calm, leap_counts, leap_guards, leap_line, leap_texts, ports_steady,
+};
 use lists::OutOfMemory;
 use manchester_line::Sym;
 use port_partition::PortGuard;
@@ -225,12 +230,14 @@ impl Repeater {
         self.line.leap(n);
     }
 
-    /// A number of steady half bits in which the ports hear these symbols: nothing happens in so many but counts. What is
-    /// emitted in the first of them is written.
+    /// For how many half bits, as far as the delay, in which the ports hear these symbols nothing happens but counts: the
+    /// steady half bits. What is emitted in the first of them is written.
     pub fn steady(&self, hears: &[Sym], emits: &mut [Sym]) -> u32
         requires hears_len { length hears.now ≡ length self.now.guards }
         requires emits_len { length emits.old ≡ length self.now.guards }
         ensures steady { IsSteady hears.now self.now result }
+        ensures greatest { result < self.now.line.delay → ¬ IsSteady hears.now self.now (result + 1) }
+        ensures emits { emits.new ≡ emitted_by self.now }
     {
         self.line.front(emits);
         let active = active_ports(&self.guards, hears);
@@ -250,6 +257,10 @@ impl Repeater {
         requires steady { IsSteady hears.now self.old n }
         ensures state { self.new ≡ iterate (after hears.now) n self.old }
         ensures ports { length self.new.guards ≡ length self.old.guards }
+        ensures emits { 0 < n → emits.new ≡ emitted_by (iterate (after hears.now) (n - 1) self.old) }
+        ensures decided { 0 < n → decided.new ≡ decided_by hears.now (iterate (after hears.now) (n - 1) self.old) }
+        ensures none_emitted { n ≡ 0 → emits.new ≡ emits.old }
+        ensures none_decided { n ≡ 0 → decided.new ≡ decided.old }
     {
         if n == 0 {
             return;
@@ -259,5 +270,45 @@ impl Repeater {
         leap_guards(&mut self.guards, hears, emits, n);
         leap_counts(&mut self.counts, decided, n);
         self.mode = leap_line(&mut self.line, self.mode, hears, n, decided, emits);
+    }
+
+    /// The state after as many half bits as `heard` has symbols, at most 4,096, which are steady by their classes: in each of
+    /// them each port hears Idle, a signal or Clash as it does in the row `hears`, and nothing happens but counts. `heard` is
+    /// what the port that the mode repeats hears in them, and any symbols in the other modes. Written are what is emitted and
+    /// decided in the first of them, and what is sent in each: it is decided for the ports that get a signal in the first,
+    /// and Idle for the others.
+    pub fn leap_classes(
+        &mut self,
+        hears: &[Sym],
+        heard: &[Sym],
+        emits: &mut [Sym],
+        decided: &mut [Sym],
+        sent: &mut [Sym],
+    )
+        requires hears_len { length hears.now ≡ length self.old.guards }
+        requires emits_len { length emits.old ≡ length self.old.guards }
+        requires decided_len { length decided.old ≡ length self.old.guards }
+        requires sent_len { length sent.old ≡ length heard.now }
+        requires few { length heard.now ≤ most_calm }
+        requires source { IsOfSource self.old.mode hears.now heard.now }
+        requires steady { IsSteady hears.now self.old (length heard.now) }
+        ensures state { (rows : List (List Sym)) → AreHeardAs hears.now self.old.mode heard.now rows → self.new ≡ after_rows rows self.old }
+        ensures ports { length self.new.guards ≡ length self.old.guards }
+        ensures emits { 0 < length heard.now → emits.new ≡ emitted_by self.old }
+        ensures decided { 0 < length heard.now → decided.new ≡ decided_by hears.now self.old }
+        ensures sent { sent.new ≡ texts_after self.old.mode heard.now }
+        ensures steps { (rows : List (List Sym)) → AreHeardAs hears.now self.old.mode heard.now rows → AreSteadyRows rows (map is_signal (emitted_by self.old)) (map is_signal (decided_by hears.now self.old)) self.old }
+        ensures decisions { (rows : List (List Sym)) → AreHeardAs hears.now self.old.mode heard.now rows → DecideTexts rows (map is_signal (decided_by hears.now self.old)) sent.new self.old }
+        ensures emissions { (rows : List (List Sym)) → AreHeardAs hears.now self.old.mode heard.now rows → EmitRows rows self.old }
+    {
+        if heard.is_empty() {
+            return;
+        }
+        let n = heard.len() as u32;
+        decide_row(mode_on(self.mode), hears, &self.counts, decided);
+        self.line.front(emits);
+        leap_guards(&mut self.guards, hears, emits, n);
+        leap_counts(&mut self.counts, decided, n);
+        self.mode = leap_texts(&mut self.line, self.mode, heard, decided, sent);
     }
 }

@@ -1,15 +1,18 @@
 //! Steady half bits, in which nothing happens but counts: what becomes of guards, counts and the delay line in them.
-ghost use Rattle.std.specs.Prelude.{◌≡◌, ◌≤◌, ◌<◌, ℕ, suc, length, map};
+ghost use Rattle.std.specs.Prelude.{◌≡◌, ◌≤◌, ◌<◌, ◌+◌, ◌-◌, ℕ, suc, length, map};
 ghost use Rattle.std.specs.Fn.{iterate};
 ghost use Rattle.manchester_line.specs.Line.{is_signal};
 ghost use Rattle.repeater_core.specs.Counts.{choices_from};
-ghost use Rattle.mac_parameters.specs.Parameters.{most_ports};
+ghost use Rattle.mac_parameters.specs.Parameters.{jabber_limit, most_ports};
+ghost use Rattle.repeater_core.specs.Delayed.{oldest};
+ghost use Rattle.repeater_core.specs.Limits.{most_calm};
 ghost use Rattle.repeater_core.specs.Modes.{IsMode};
-ghost use Rattle.repeater_core.specs.Steady.{at_each, count_by, guard_by, kinds_of, line_later, mode_on, port_steady, ports_steady, sent_text, texted, AreSentFor, HaveNoEvents};
+ghost use Rattle.repeater_core.specs.Steady.{at_each, count_by, guard_by, kinds_of, line_later, mode_on, port_steady, ports_steady, sent_text, texted, AreSentFor, HaveNoEvents, RunsWithin};
+ghost use Rattle.repeater_core.specs.Classes.{line_with, texts_after};
 
 use crate::counts::PortCount;
 use crate::line::DelayLine;
-use crate::modes::{MOST_STEADY, Mode, mode_on, sends_to, sent_text, wish};
+use crate::modes::{MOST_STEADY, Mode, mode_on, sends_to, sent_text, text_for, wish};
 use crate::ports::collision_at;
 use mac_parameters::JABBER_LIMIT;
 use manchester_line::{Sym, is_signal};
@@ -28,8 +31,10 @@ pub fn decide_row(mode: Mode, hears: &[Sym], counts: &[PortCount], decided: &mut
 }
 
 fn port_steady(sends: bool, count: &PortCount) -> u32
-    ensures { result ≡ port_steady sends count.now }
+    ensures steady { result ≡ port_steady sends count.now }
+    ensures within { count.now.run ≤ jabber_limit }
 {
+    let _run = count.run;
     if !sends {
         MOST_STEADY
     } else if count.rest == 0 {
@@ -42,7 +47,8 @@ fn port_steady(sends: bool, count: &PortCount) -> u32
 /// For how many half bits each port is sent a signal in this mode, or rests, or neither, as in the first.
 pub fn ports_steady(mode: Mode, counts: &[PortCount]) -> u32
     requires { length counts.now ≤ most_ports }
-    ensures { result ≡ ports_steady mode 0 counts.now }
+    ensures steady { result ≡ ports_steady mode 0 counts.now }
+    ensures within { RunsWithin counts.now }
 {
     let mut steady = MOST_STEADY;
     for k in 0..counts.len() {
@@ -55,7 +61,8 @@ pub fn ports_steady(mode: Mode, counts: &[PortCount]) -> u32
 pub fn guards_calm(guards: &[PortGuard], hears: &[Sym], emits: &[Sym]) -> u32
     requires hears_len { length hears.now ≡ length guards.now }
     requires emits_len { length emits.now ≡ length guards.now }
-    ensures { HaveNoEvents result hears.now emits.now guards.now }
+    ensures calm { HaveNoEvents result hears.now emits.now guards.now }
+    ensures greatest { result < most_calm → ¬ HaveNoEvents (result + 1) hears.now emits.now guards.now }
 {
     let mut calm = MOST_STEADY;
     for k in 0..guards.len() {
@@ -126,6 +133,8 @@ pub fn leap_line(
     requires texts { (k : ℕ) → k < n → map is_signal (texted (map is_signal decided.old) (sent_text (mode_on (iterate mode_on k mode)) hears.now)) ≡ map is_signal decided.old }
     ensures mode { result ≡ iterate mode_on n mode }
     ensures line { line.new ≡ line_later hears.now (map is_signal decided.old) n mode line.old }
+    ensures emits { 0 < n → emits.new ≡ oldest (line_later hears.now (map is_signal decided.old) (n - 1) mode line.old) }
+    ensures decided { 0 < n → decided.new ≡ texted (map is_signal decided.old) (sent_text (iterate mode_on n mode) hears.now) }
 {
     let mut mode = mode;
     let mut left = n;
@@ -134,6 +143,32 @@ pub fn leap_line(
         set_text(decided, sent_text(mode, hears));
         line.step(false, decided, emits);
         left -= 1;
+    }
+    mode
+}
+
+/// The delay line after half bits in which the mode changes by its counts alone and sends its text to the ports that have a
+/// signal in this row, while the port that it repeats hears `heard`; the mode after them. What it sends is written.
+pub fn leap_texts(
+    line: &mut DelayLine,
+    mode: Mode,
+    heard: &[Sym],
+    decided: &[Sym],
+    sent: &mut [Sym],
+) -> Mode
+    requires decided_len { length decided.now ≡ line.old.ports }
+    requires sent_len { length sent.old ≡ length heard.now }
+    requires modes { (k : ℕ) → k < length heard.now → IsMode (iterate mode_on k mode) }
+    ensures mode { result ≡ iterate mode_on (length heard.now) mode }
+    ensures line { line.new ≡ line_with (map is_signal decided.now) (texts_after mode heard.now) line.old }
+    ensures sent { sent.new ≡ texts_after mode heard.now }
+{
+    let mut mode = mode;
+    for k in 0..heard.len() {
+        mode = mode_on(mode);
+        let text = text_for(mode, heard[k]);
+        sent[k] = text;
+        line.send(decided, text);
     }
     mode
 }

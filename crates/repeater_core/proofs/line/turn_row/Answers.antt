@@ -1,20 +1,9 @@
-use Rattle.std.proofs.Common.{◌≡◌, ℕ, ◌+◌, ◌<◌, ◌++◌, [], ◌∷◌, List, length, take, drop, set, get_or, sym, ap, ◌∙◌, append_assoc, arith}
-use Rattle.std.proofs.lemmas.Grind.{common_steps, take-set_at}
-use Rattle.std.proofs.lemmas.List.{take_more, drop-drop}
+use Rattle.std.proofs.Common.{◌≡◌, ℕ, ◌+◌, ◌<◌, List, length, take, drop, set, get_or, sym, ap, ◌∙◌, arith}
+use Rattle.std.proofs.lemmas.Grind.{common_steps}
 use Rattle.manchester_line.specs.declared.Sym.{Sym}
 use Rattle.manchester_line.specs.declared.Sym.TheVariants.{Idle}
+use Rattle.repeater_core.proofs.PutRow.{put_one, leave_rest}
 use Rattle.repeater_core.proofs.line.turn_row.Goals as goal
-
-put_one : (h k : ℕ) (old new ds : List Sym) → h + k < length new → k < length ds → take (h + k) new ≡ take h old ++ take k ds
-    → take (h + (k + 1)) (set new (h + k) (get_or ds k Idle)) ≡ take h old ++ take (k + 1) ds
-put_one h k old new ds l m e =
-    take-set_at new (h + k) (h + (k + 1)) (get_or ds k Idle) (omega arith) l ∙ ap (λ xs. xs ++ get_or ds k Idle ∷ []) e
-    ∙ append_assoc (take h old) (take k ds) (get_or ds k Idle ∷ []) ∙ ap (λ xs. take h old ++ xs) (sym (take_more ds k Idle m))
-
-leave_rest : (i : ℕ) (old new : List Sym) (s : Sym) → drop i new ≡ drop i old → drop (i + 1) (set new i s) ≡ drop (i + 1) old
-leave_rest i old new s e =
-    let kept : drop (i + 1) (set new i s) ≡ drop (i + 1) new = grind (arith, common_steps) in
-    kept ∙ sym (drop-drop 1 i new) ∙ ap (drop 1) e ∙ drop-drop 1 i old
 
 same_at : (i : ℕ) (old new : List Sym) → drop i new ≡ drop i old → get_or new i Idle ≡ get_or old i Idle
 same_at i old new e =

@@ -2,7 +2,7 @@ use Rattle.std.proofs.Common.{◌≡◌, suc, ◌-◌, length, map, sym, ap, ap�
 use Rattle.std.proofs.lemmas.List.{length-map}
 use Rattle.std.specs.Fn.{iterate}
 use Rattle.manchester_line.specs.Line.{is_signal}
-use Rattle.repeater_core.specs.Delayed.{Delayed, moved_on}
+use Rattle.repeater_core.specs.Delayed.{Delayed, moved_on, oldest}
 use Rattle.repeater_core.specs.Modes.{IsMode}
 use Rattle.repeater_core.specs.Steady.{line_later, mode_on, sent_text, texted}
 use Rattle.repeater_core.proofs.steady.leap_line.Goals as goal
@@ -32,4 +32,13 @@ loop-left-preserved c =
       line_then =
           ap₂ (λ m d. line_later hears flags less m d) next (c.step.ensures.state ∙ ap (λ ds. moved_on ds c.loop-left.line) row)
           ∙ sym (ap (λ n. line_later hears flags n mode c.loop-left.line) more) ∙ i.line_then;
+      within = (let w = i.within in omega arith);
+      before = λ some.
+          let more' : left - 1 ≡ suc (less - 1) = omega arith in
+          ap₂ (λ m d. line_later hears flags (less - 1) m d) next (c.step.ensures.state ∙ ap (λ ds. moved_on ds c.loop-left.line) row)
+          ∙ sym (ap (λ n. line_later hears flags n mode c.loop-left.line) more') ∙ i.before (omega arith);
+      emitted = λ none some.
+          let last : left - 1 ≡ 0 = omega arith in
+          c.step.ensures.emits ∙ ap oldest (sym (ap (λ n. line_later hears flags n mode c.loop-left.line) last) ∙ i.before (omega arith));
+      sent = λ _. row ∙ sym (ap (λ m. texted flags (sent_text m hears)) next);
     }

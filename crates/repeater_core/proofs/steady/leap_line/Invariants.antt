@@ -1,6 +1,7 @@
-use Rattle.std.proofs.Common.{◌≡◌, ◌<◌, ℕ, length, map}
+use Rattle.std.proofs.Common.{◌≡◌, ◌-◌, ◌<◌, ◌≤◌, ℕ, length, map}
 use Rattle.std.specs.Fn.{iterate}
 use Rattle.manchester_line.specs.Line.{is_signal}
+use Rattle.repeater_core.specs.Delayed.{oldest}
 use Rattle.repeater_core.specs.Modes.{IsMode}
 use Rattle.repeater_core.specs.Steady.{line_later, mode_on, sent_text, texted}
 use Rattle.repeater_core.proofs.steady.leap_line.Given as goal
@@ -15,6 +16,10 @@ invariant-loop-left l = record {
   texts : (k : ℕ) → k < l.left → map is_signal (texted (map is_signal l.fn.decided) (sent_text (mode_on (iterate mode_on k l.mode)) l.hears)) ≡ map is_signal l.fn.decided;
   mode_then : iterate mode_on l.left l.mode ≡ iterate mode_on l.n l.fn.mode;
   line_then : line_later l.hears (map is_signal l.fn.decided) l.left l.mode l.line ≡ line_later l.hears (map is_signal l.fn.decided) l.n l.fn.mode l.fn.line;
+  within : l.left ≤ l.n;
+  before : 0 < l.left → line_later l.hears (map is_signal l.fn.decided) (l.left - 1) l.mode l.line ≡ line_later l.hears (map is_signal l.fn.decided) (l.n - 1) l.fn.mode l.fn.line;
+  emitted : l.left ≡ 0 → 0 < l.n → l.emits ≡ oldest (line_later l.hears (map is_signal l.fn.decided) (l.n - 1) l.fn.mode l.fn.line);
+  sent : l.left < l.n → l.decided ≡ texted (map is_signal l.fn.decided) (sent_text l.mode l.hears);
 }
 
 -- proposed from the loop's first test

@@ -18,7 +18,7 @@ loop-row-preserved c =
     let lr : length rows ≡ q.delay * p = rotated_len (q.turn * p) items ∙ c.self.invariant.slots_len in
     let n : length c.args.front.now ≡ p = c.requires.front_len ∙ sym (ap (λ (d : Delayed). d.ports) c.self.view_is) in
     let yes : c.row_alike.result ≡ true = grind (arith, common_steps) in
-    let here = subst (λ xs. map is_signal (take (length c.args.front.now) (rotated (c.loop-row.turn * p) xs)) ≡ map is_signal c.args.front.now) c.deref.ensures.value (c.row_alike.ensures yes) in
+    let here = subst (λ xs. map is_signal (take (length c.args.front.now) (rotated (c.loop-row.turn * p) xs)) ≡ map is_signal c.args.front.now) c.deref.ensures.value (c.row_alike.ensures.alike yes) in
     record {
       turn_below = c.next_turn-turn.ensures.within;
       ring = next_ring row p q.delay c.loop-row.turn c.next_turn-turn.result items rows i.turn_below below c.self.invariant.slots_len lr c.next_turn-turn.ensures.next i.ring;
