@@ -1,0 +1,9 @@
+pub mod FreshFrames
+pub mod FreshRows
+pub mod NeededRoom
+pub mod ReceivedWindows
+pub mod Receptions
+pub mod RepeaterRows
+pub mod Rooms
+pub mod Sendings
+pub mod Signals
