@@ -58,7 +58,7 @@ module _ (h : Holding) (b : Board) (s : IsSoundHolding h) (a : Agrees h b) where
   mine k d in' = ap (has_edge es) (each_edge k d in') ∙ has_each es k 0 (let m = many in omega (arith, m, in'))
 
   module _ (r : IsHoldingReady h) where
-    here : (k : ℕ) (d : Parcel) → k < length h.parcels → get_or h.away k true ≡ false
+    pub here : (k : ℕ) (d : Parcel) → k < length h.parcels → get_or h.away k true ≡ false
     here k d in' = elim (get_or h.away k true) as (λ x. get_or h.away k true ≡ x → x ≡ false) [
       | true ↦ λ is. absurd (not_both way (sym (s.turned k d in' (get_or_default h.away k false true (let p = s.places in omega (arith, p, in')) ∙ is)) ∙ (r.1 k d in').0))
       | false ↦ λ _. refl
@@ -182,7 +182,7 @@ module _ (h : Holding) (b : Board) (s : IsSoundHolding h) (a : Agrees h b) (e : 
       ∙ a.parcels k d within (sym (get_or-set_other h.away (place_of_edge e h) k flag true ne) ∙ away)
       ∙ sym (ap (parcel_on_board spot) same)
 
-  vacate_agrees : (now : ParcelOnBoard) → Agrees (vacate_holding e h) (record b { parcel = put_at e now b.parcel })
+  pub vacate_agrees : (now : ParcelOnBoard) → Agrees (vacate_holding e h) (record b { parcel = put_at e now b.parcel })
   vacate_agrees now = record {
     part = a.part;
     parcels = λ k d in' away. elim (cases_eq k (place_of_edge e h)) [
@@ -191,7 +191,7 @@ module _ (h : Holding) (b : Board) (s : IsSoundHolding h) (a : Agrees h b) (e : 
     ];
   }
 
-  on_board : is_here e h ≡ true → b.parcel e ≡ parcel_on_board spot (parcel_of_edge e h)
+  pub on_board : is_here e h ≡ true → b.parcel e ≡ parcel_on_board spot (parcel_of_edge e h)
   on_board here =
       let d = absent_parcel false e in
       let edge : (parcel_of_edge e h).edge ≡ e = edge_in_place e h.parcels d has in

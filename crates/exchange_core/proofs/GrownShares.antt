@@ -52,7 +52,7 @@ module _ (h : Holding) (r : Rack) where
   added_same : part_on h.number (add_on h r) ≡ Some h
   added_same = let l = wide (h.number + 1) r.places in get_or-set_same (widened (h.number + 1) r.places) h.number (Some h) None (omega (arith, l))
 
-  added_other : (v : ℕ) → v ≢ h.number → part_on v (add_on h r) ≡ part_on v r
+  pub added_other : (v : ℕ) → v ≢ h.number → part_on v (add_on h r) ≡ part_on v r
   added_other v ne = get_or-set_other (widened (h.number + 1) r.places) h.number v (Some h) None ne ∙ append_none r.places (h.number + 1 - length r.places) v
 
   pub added_on : (v : ℕ) (after : Holding) → part_on v (add_on h r) ≡ Some after → (C : Type 0) → (v ≡ h.number → after ≡ h → C) → (part_on v r ≡ Some after → C) → C

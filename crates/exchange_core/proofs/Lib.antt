@@ -10,3 +10,5 @@ pub mod HandedParts
 pub mod GrownShares
 pub mod BoardTies
 pub mod ShareLaws
+pub mod HoldingsOnBoards
+pub mod SharesOnBoards

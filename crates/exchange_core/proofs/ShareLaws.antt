@@ -1,17 +1,17 @@
 -- What those who call a share need to know of it.
-use Rattle.std.proofs.Common.{◌≡◌, ℕ, ◌<◌, Bool, true, false, not, cond, List, length, map, get_or, refl, sym, ap, ◌∙◌, arith}
-use Rattle.std.specs.Prelude.{Option, Some, None, if◌then◌else◌}
+use Rattle.std.proofs.Common.{◌≡◌, ◌≢◌, ℕ, ◌<◌, Bool, true, false, not, cond, List, length, map, get_or, refl, sym, ap, ◌∙◌, arith, subst, true≢false}
+use Rattle.std.specs.Prelude.{Option, Some, None, IfSome, if◌then◌else◌}
 use Rattle.std.proofs.lemmas.List.{length-map}
 use Rattle.load_plan.specs.declared.plan.Plan.{Plan}
 use Rattle.net_parts.specs.declared.parcel.Parcel.{Parcel}
 use Rattle.net_parts.specs.Parts.{is_segment_part, edges_of_part}
 use Rattle.net_parts.specs.Parcels.{IsTrueParcel, true_parcel}
-use Rattle.exchange_core.specs.Holdings.{Holding}
-use Rattle.exchange_core.specs.Shares.{Rack, Held, nothing_held, part_on, part_of_kind_on, with_segment, with_repeater, IsOfPlan, part_of, is_owned, changed, change, change_on}
+use Rattle.exchange_core.specs.Holdings.{Holding, MayBeSpoiled, reserved_holding, refused_holding}
+use Rattle.exchange_core.specs.Shares.{Rack, Held, nothing_held, part_on, part_of_kind_on, with_segment, with_repeater, IsOfPlan, part_of, owns, is_owned, changed, change, change_on}
 use Rattle.exchange_core.specs.Ties.{ParcelsServe, PartsChange}
 use Rattle.exchange_core.proofs.SoundHoldings.{get_map, edges_made, all_made}
 use Rattle.exchange_core.proofs.ChangedRacks.{comes_of, found_changed, owned_same, none_not_some}
-use Rattle.exchange_core.proofs.GrownShares.{added_on}
+use Rattle.exchange_core.proofs.GrownShares.{added_on, added_other}
 
 pub parcels_serve : ParcelsServe
 parcels_serve plan u w =
@@ -62,3 +62,26 @@ module _ (plan : Plan) (s : Held) (of : IsOfPlan plan s) where
 pub plan_of_nothing : (plan : Plan) → IsOfPlan plan nothing_held
 plan_of_nothing plan true v g is = absurd (none_not_some g is)
 plan_of_nothing plan false v g is = absurd (none_not_some g is)
+
+-- A part that is added is the only one more.
+pub unowned_with_segment : (h : Holding) (u : ℕ) (s : Held) → u ≢ h.number → owns u s ≡ false → owns u (with_segment h s) ≡ false
+unowned_with_segment h u s ne none = ap (λ o. is_owned (if is_owned o then o else part_on u s.repeaters)) (added_other h s.segments u ne) ∙ none
+
+pub unowned_with_repeater : (h : Holding) (u : ℕ) (s : Held) → u ≢ h.number → owns u s ≡ false → owns u (with_repeater h s) ≡ false
+unowned_with_repeater h u s ne none = ap (λ o. is_owned (if is_owned (part_on u s.segments) then part_on u s.segments else o)) (added_other h s.repeaters u ne) ∙ none
+
+-- A part to which room was refused may be given up.
+refused_may : (o : Option Holding) → IfSome (changed refused_holding o) MayBeSpoiled
+refused_may None = tt
+refused_may (Some h) = λ l _ _. true≢false l
+
+pub refused_may_be_spoiled : (u : ℕ) (s s' : Held) → s' ≡ change refused_holding u s → IfSome (part_of u s') MayBeSpoiled
+refused_may_be_spoiled u s s' is = subst (λ o. IfSome o MayBeSpoiled) (sym (ap (part_of u) is ∙ parts_change refused_holding u s)) (refused_may (part_of u s))
+
+-- A part to which room was given has it.
+reserved_has : (o : Option Holding) → IfSome (changed reserved_holding o) (λ h. h.reserved ≡ true)
+reserved_has None = tt
+reserved_has (Some h) = refl
+
+pub reserved_has_room : (u : ℕ) (s s' : Held) → s' ≡ change reserved_holding u s → IfSome (part_of u s') (λ h. h.reserved ≡ true)
+reserved_has_room u s s' is = subst (λ o. IfSome o (λ h. h.reserved ≡ true)) (sym (ap (part_of u) is ∙ parts_change reserved_holding u s)) (reserved_has (part_of u s))

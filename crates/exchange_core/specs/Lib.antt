@@ -2,3 +2,4 @@ pub mod Holdings
 pub mod Holders
 pub mod Shares
 pub mod Ties
+pub mod SharesOnBoards

@@ -6,7 +6,10 @@ mod lane;
 pub mod laws;
 mod share;
 
+pub use holder::Holder;
 pub use share::{PartList, Share};
 
+#[cfg(test)]
+mod fake_part;
 #[cfg(test)]
 mod tests;

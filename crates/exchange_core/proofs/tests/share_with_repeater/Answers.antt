@@ -2,7 +2,7 @@ use Rattle.std.proofs.Common.{◌≡◌, sym, subst, ◌∙◌}
 use Rattle.net_parts.specs.Parcels.{arrived}
 use Rattle.exchange_core.specs.Shares.{AreParcelsFor}
 use Rattle.exchange_core.proofs.ShareLaws.{parcels_serve}
-use Rattle.exchange_core.proofs.tests.share_of_one.Goals as goal
+use Rattle.exchange_core.proofs.tests.share_with_repeater.Goals as goal
 
 pub add_segment-requires-clause-parcels : goal.add_segment-requires-clause-parcels
 add_segment-requires-clause-parcels c κs =
