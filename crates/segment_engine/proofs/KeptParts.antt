@@ -1,0 +1,161 @@
+-- What a segment keeps stands for its part's state.
+use Rattle.std.proofs.Common.{◌≡◌, ℕ, zero, suc, ◌<◌, All, Bool, true, false, cond, eqb, None, List, [], ◌∷◌, ◌++◌, map, length, get_or, refl, sym, subst, ap, ◌∙◌, arith}
+use Rattle.std.proofs.lemmas.List.{get_or-map, length-map}
+use Rattle.std.proofs.lemmas.Bool.{false≢true}
+use Rattle.std.proofs.lemmas.Bool.Decides.{nat_tests}
+use Rattle.manchester_line.specs.declared.Sym.{Sym}
+use Rattle.manchester_line.specs.declared.Sym.TheVariants.{Idle, Hi, Lo, Clash}
+use Rattle.manchester_line.specs.Line.{is_signal}
+use Rattle.mac_parameters.specs.Parameters.{most_octets}
+use Rattle.layout.specs.declared.lines.StationLine.{StationLine}
+use Rattle.load_plan.specs.declared.plan.Plan.{Plan}
+use Rattle.mac_receive.specs.Receiver.{Receiving, Reception, new_receiving, receiver_step, quiet, reception_ended, extended}
+use Rattle.mac_receive.specs.KeptReceiver.{Kept, Hears}
+use Rattle.network.specs.Times.{heard, emitted}
+use Rattle.net_step.specs.KeptNet.{AllHear}
+use Rattle.net_step.proofs.KeptReceivers.{length-AllHear, AllHear-at}
+use Rattle.net_parts.specs.Windows.{time, lookahead}
+use Rattle.net_parts.specs.SegmentParts.{wiring}
+use Rattle.net_parts.specs.Standing.{receiver_at, segment_at}
+use Rattle.net_parts.specs.OutputsOfParts.{rows_handed_out, captures_handed_out, cut_rows_on}
+use Rattle.net_parts.specs.Parts.{PartState, OfSegment, OfRepeater, is_segment_part, part_of_kind, part_at}
+use Rattle.net_parts.proofs.NetworkFacts.{station_facts}
+use Rattle.net_parts.proofs.DeviceSteps.{receiver_next}
+use Rattle.window_room.specs.Rooms.{Room, KeepsRoom}
+use Rattle.window_room.specs.NeededRoom.{Demand, Covers, IsDemandWithin, stations_demand, demand_times, station_demand}
+use Rattle.window_room.proofs.PaidRoom.{any_stations}
+use Rattle.mac_transmit.specs.Sender.{Sender}
+use Rattle.segment_engine.specs.declared.running.Running.{Running}
+use Rattle.segment_engine.specs.RunningStates.{IsRunningAt}
+use Rattle.segment_engine.specs.KeptParts.{KeepsSegment, StandsInNetwork, is_segment_state, segment_state}
+use Rattle.segment_engine.proofs.Beginnings.{receiver_new, stations_within}
+
+-- the part that stands at a window is a segment
+part_is : (plan : Plan) (s wd t : ℕ) → s < length plan.layout.segments → t ≡ time plan wd → part_at plan s wd ≡ OfSegment (segment_at plan (lookahead plan.layout) (wiring plan.layout s) t)
+unfolding part_at
+part_is plan s wd t below at =
+    let is : is_segment_part plan s ≡ true = grind (arith, nat_tests) in
+    ap (λ b. part_of_kind plan b s (time plan wd)) is ∙ ap (λ u. OfSegment (segment_at plan (lookahead plan.layout) (wiring plan.layout s) u)) (sym at)
+
+pub kept_of : (plan : Plan) (s wd front : ℕ) (a : Running) → s < length plan.layout.segments → a.t ≡ time plan wd → IsRunningAt plan s front a → KeepsSegment a (part_at plan s wd)
+kept_of plan s wd front a below at is =
+    let st = is.stations in
+    subst (KeepsSegment a) (sym (part_is plan s wd a.t below at)) (record {
+      kind = refl;
+      time = refl;
+      senders = st.senders;
+      as_many = sym (length-AllHear (map (λ k. receiver_at plan k a.t) (wiring plan.layout s).stations) a.receivers.items st.receivers);
+      receivers = λ i d r h. AllHear-at (map (λ k. receiver_at plan k a.t) (wiring plan.layout s).stations) a.receivers.items i r d st.receivers h;
+      rows = st.logged;
+      captures = st.kept;
+    })
+
+-- receivers one by one, and all of them
+hear_each : (f : ℕ → Receiving) (ks : List ℕ) (rs : List Kept) → length rs ≡ length ks → ((i : ℕ) (d : Kept) → i < length rs → Hears (f (get_or ks i 0)) (get_or rs i d)) → AllHear (map f ks) rs
+hear_each f [] [] l h = tt
+hear_each f [] (r ∷ rs) l h = absurd (omega (arith, l))
+hear_each f (k ∷ ks) [] l h = absurd (omega (arith, l))
+hear_each f (k ∷ ks) (r ∷ rs) l h = (h 0 r (omega arith), hear_each f ks rs (omega (arith, l)) (λ i d m. h (suc i) d (omega (arith, m))))
+
+pub running_of : (plan : Plan) (s front : ℕ) (a : Running) → StandsInNetwork plan s front a → IsRunningAt plan s front a
+running_of plan s front a is = record {
+  stations = record {
+    senders = is.senders;
+    receivers = hear_each (λ k. receiver_at plan k a.t) (wiring plan.layout s).stations a.receivers.items is.as_many is.receivers;
+    times = is.times;
+    steps = is.steps;
+    logged = is.logged;
+    kept = is.kept;
+  };
+  lines = is.lines;
+  hearing = is.hearing;
+  emitting = is.emitting;
+}
+
+pub standing_of : (plan : Plan) (s front : ℕ) (a : Running) → IsRunningAt plan s front a → StandsInNetwork plan s front a
+standing_of plan s front a is =
+    let st = is.stations in
+    let ks = (wiring plan.layout s).stations in
+    let f = λ (k : ℕ). receiver_at plan k a.t in
+    let many = sym (length-AllHear (map f ks) a.receivers.items st.receivers) ∙ length-map ks f in
+    record {
+      senders = st.senders;
+      as_many = many;
+      receivers = λ i d h.
+          let dr : Receiving = new_receiving 0 0 in
+          subst (λ (r : Receiving). Hears r (get_or a.receivers.items i d)) (get_or-map f ks i 0 dr (omega (arith, h, many))) (AllHear-at (map f ks) a.receivers.items i dr d st.receivers h);
+      times = st.times;
+      steps = st.steps;
+      logged = st.logged;
+      kept = st.kept;
+      lines = is.lines;
+      hearing = is.hearing;
+      emitting = is.emitting;
+    }
+
+-- what such a part hands out
+pub handed_rows : (plan : Plan) (u : ℕ) (p : PartState) → is_segment_state p ≡ true → (segment_state p).rows ++ cut_rows_on (segment_state p).t (wiring plan.layout u).stations (segment_state p).senders ≡ rows_handed_out plan u p
+handed_rows plan u (OfSegment x) h = refl
+handed_rows plan u (OfRepeater x) h = absurd (false≢true h)
+
+pub handed_captures : (p : PartState) → is_segment_state p ≡ true → (segment_state p).captures ≡ captures_handed_out p
+handed_captures (OfSegment x) h = refl
+handed_captures (OfRepeater x) h = absurd (false≢true h)
+
+-- the most octets of what the receivers take
+no_station : StationLine
+no_station = record { name = []; segment = 0; at = 0; load = None; lose = 0 }
+
+most_ended : (r : Receiving) (hs : List Sym) → (reception_ended r hs).state.most ≡ r.most
+most_ended r [] = refl
+most_ended r (s ∷ ss) = refl
+
+most_if : (b : Bool) (x y : Reception) (m : ℕ) → x.state.most ≡ m → y.state.most ≡ m → (cond b x y).state.most ≡ m
+most_if true x y m a c = a
+most_if false x y m a c = c
+
+most_step : (r : Receiving) (heard : Sym) (sending : Bool) → (receiver_step r heard sending).state.most ≡ r.most
+most_step r heard true = refl
+most_step r Idle false = most_if r.deaf (quiet (record r { deaf = false; halves = [] })) (reception_ended r r.halves) r.most refl (most_ended r r.halves)
+most_step r Hi false = most_if r.deaf (quiet r) (extended r Hi) r.most refl refl
+most_step r Lo false = most_if r.deaf (quiet r) (extended r Lo) r.most refl refl
+most_step r Clash false = most_if r.deaf (quiet r) (extended r Clash) r.most refl refl
+
+receiver_most : (plan : Plan) (k t : ℕ) → k < length plan.layout.stations → (receiver_at plan k t).most ≡ most_octets (eqb plan.layout.format 2)
+receiver_most plan k zero h = ap (λ (r : Receiving). r.most) (receiver_new plan k no_station h)
+receiver_most plan k (suc t) h =
+    ap (λ (r : Receiving). r.most) (receiver_next plan (station_facts plan) k t h)
+    ∙ most_step (receiver_at plan k t) (heard plan k t) (is_signal (emitted plan k t))
+    ∙ receiver_most plan k t h
+
+pub all_most : (plan : Plan) (s t : ℕ) (rs : List Kept) → AllHear (map (λ k. receiver_at plan k t) (wiring plan.layout s).stations) rs → All (λ k. k.most ≡ most_octets (eqb plan.layout.format 2)) rs
+all_most plan s t rs hear = λ i d h.
+    let ks = (wiring plan.layout s).stations in
+    let f = λ (k : ℕ). receiver_at plan k t in
+    let many = length-AllHear (map f ks) rs hear in
+    let size = length-map ks f in
+    let in_it : i < length ks = omega (arith, h, many, size) in
+    let dr : Receiving = new_receiving 0 0 in
+    (AllHear-at (map f ks) rs i dr d hear h).same_most
+    ∙ ap (λ (r : Receiving). r.most) (get_or-map f ks i 0 dr in_it)
+    ∙ receiver_most plan (get_or ks i 0) t (stations_within plan s i 0 in_it)
+
+pub covers_kept : (d : Demand) (old new : Room) → KeepsRoom 0 0 0 old new → Covers d old → Covers d new
+covers_kept d old new k c = record {
+  for_rows = let x = k.keeps_rows in let y = c.for_rows in omega (arith, x, y);
+  for_frames = let x = k.keeps_frames in let y = c.for_frames in omega (arith, x, y);
+  for_octets = let x = k.keeps_octets in let y = c.for_octets in omega (arith, x, y);
+}
+
+pub covers_within : (a b : Demand) (room : Room) → IsDemandWithin a b → Covers b room → Covers a room
+covers_within a b room w c = record {
+  for_rows = let x = w.fewer_rows in let y = c.for_rows in omega (arith, x, y);
+  for_frames = let x = w.fewer_frames in let y = c.for_frames in omega (arith, x, y);
+  for_octets = let x = w.fewer_octets in let y = c.for_octets in omega (arith, x, y);
+}
+
+-- room that was reserved is enough
+pub room_reserved : (ss : List Sender) (ks : List Kept) (m n most : ℕ) (room : Room) → All (λ k. k.most ≡ most) ks → m ≡ length ks → Covers (demand_times m (station_demand most n)) room → Covers (stations_demand n ss ks) room
+room_reserved ss ks m n most room all is c =
+    covers_within (stations_demand n ss ks) (demand_times (length ks) (station_demand most n)) room (any_stations ss ks n most all)
+    (subst (λ x. Covers (demand_times x (station_demand most n)) room) is c)

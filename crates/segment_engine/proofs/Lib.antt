@@ -1,0 +1,12 @@
+pub mod Spans
+pub mod HeldLines
+pub mod LinesHear
+pub mod StationRoom
+pub mod StationsStep
+pub mod HalfBits
+pub mod TapsNear
+pub mod WindowLines
+pub mod WindowParcels
+pub mod Beginnings
+pub mod KeptParts
+pub mod HandedOut

@@ -1,0 +1,140 @@
+-- What a segment's taps hear by its lines is what they hear in the network.
+use Rattle.std.proofs.Common.{◌≡◌, ℕ, suc, ◌+◌, ◌-◌, ◌<◌, ◌≤◌, cond, eqb, leb, ltb, inl, inr, List, [], ◌∷◌, map, drop, take, length, get_or, refl, sym, ap, ap₂, ◌∙◌, arith}
+use Rattle.std.proofs.lemmas.List.{get_or-map, length-map}
+use Rattle.std.proofs.lemmas.Bool.{cases_lt}
+use Rattle.std.proofs.lemmas.Bool.Decides.{nat_tests}
+use Rattle.manchester_line.specs.declared.Sym.{Sym}
+use Rattle.manchester_line.specs.declared.Sym.TheVariants.{Idle}
+use Rattle.manchester_line.specs.Line.{mix_of}
+use Rattle.mac_parameters.specs.Distances.{distance}
+use Rattle.mac_parameters.specs.Parameters.{greatest_place, greatest_delay}
+use Rattle.cable_segment.specs.Bus.{heard_among, heard_at}
+use Rattle.load_plan.specs.declared.plan.Plan.{Plan}
+use Rattle.network.specs.Times.{heard, emitted, earlier}
+use Rattle.net_parts.specs.Machines.{span}
+use Rattle.net_parts.specs.SegmentParts.{Wiring, wiring}
+use Rattle.net_parts.specs.Standing.{arrives, port_hears}
+use Rattle.net_parts.specs.CalmPieces.{told_by_lines}
+use Rattle.net_parts.specs.PartLaws.{IsLead}
+use Rattle.net_parts.proofs.NetworkFacts.{StationFacts}
+use Rattle.net_parts.proofs.LateRows.{if_true, if_false, span_of}
+use Rattle.net_parts.proofs.SegmentHearing.{station_hears, port_hears_so}
+use Rattle.segment_engine.specs.TapLines.{TapLine, no_line, reach, symbol_on, half_bits_back, heard_of_lines, heard_by_lines}
+use Rattle.segment_engine.specs.PartStates.{AreLinesAt}
+use Rattle.segment_engine.proofs.Spans.{take-span, drop-span}
+use Rattle.segment_engine.proofs.HeldLines.{line_before}
+
+test_true : {X : Type 0} (a b : ℕ) (x y : X) → a < b → cond (ltb a b) x y ≡ x
+test_true a b x y h = grind (arith, nat_tests)
+
+test_false : {X : Type 0} (a b : ℕ) (x y : X) → b ≤ a → cond (ltb a b) x y ≡ y
+test_false a b x y h = grind (arith, nat_tests)
+
+-- one half bit later it was as much longer ago
+earlier_more : (f : ℕ → Sym) (t back : ℕ) → earlier f t back ≡ earlier f (suc t) (back + 1)
+earlier_more f t back = elim (cases_lt t back) [
+  | inl early ↦ if_false {m = back} {n = t} _ _ early ∙ sym (if_false {m = back + 1} {n = suc t} _ _ (omega arith))
+  | inr there ↦
+      let same : t - back ≡ suc t - (back + 1) = omega arith in
+      if_true {m = back} {n = t} _ _ there ∙ ap f same ∙ sym (if_true {m = back + 1} {n = suc t} _ _ (omega arith))
+]
+
+-- the mix over lines is the mix over taps
+mixed_alike : (L t p at q : ℕ) (told : ℕ → ℕ → Sym) (ls : List TapLine) →
+    ((i r : ℕ) → i < length ls → r ≡ q + i → earlier (symbol_on (get_or ls i no_line)) t (half_bits_back L at (get_or ls i no_line)) ≡ told (distance at (get_or ls i no_line).at) r) →
+    heard_of_lines L t p at q ls ≡ heard_among told p at q (map (λ (l : TapLine). l.at) ls)
+mixed_alike L t p at q told [] same = refl
+mixed_alike L t p at q told (l ∷ ls) same =
+    ap₂ mix_of
+    (ap (λ s. cond (eqb q p) Idle s) (same 0 q (omega arith) (omega arith)))
+    (mixed_alike L t p at (q + 1) told ls (λ i r h e. same (suc i) r (omega arith) (omega (arith, e))))
+
+module _ (plan : Plan) (facts : StationFacts plan) (L s t front : ℕ) (lead : IsLead plan.layout L) (ls : List TapLine)
+    (are : AreLinesAt plan (wiring plan.layout s) L t front ls) (front_ahead : t < front)
+    (near : (r : ℕ) → r < length (wiring plan.layout s).positions → get_or (wiring plan.layout s).positions r 0 ≤ greatest_place)
+    (short : (p : ℕ) → p < length (wiring plan.layout s).edges → get_or (wiring plan.layout s).delays p 0 ≤ greatest_delay) where
+  abbrev w : Wiring
+  w = wiring plan.layout s
+
+  abbrev n : ℕ
+  n = length w.stations
+
+  line_of : ℕ → TapLine
+  line_of r = get_or ls r no_line
+
+  truth : ℕ → ℕ → Sym
+  truth r u = emitted plan (get_or w.stations r 0) u
+
+  -- what the lines say where a tap is near enough, and else what is so
+  told : ℕ → ℕ → Sym
+  told back r = cond (leb back greatest_place) (earlier (symbol_on (line_of r)) t (back + (line_of r).delay - L)) (told_by_lines plan w L truth t back r)
+
+  stations_told : (r back : ℕ) → r < n → 1 ≤ back → told back r ≡ earlier (emitted plan (get_or w.stations r 0)) t back
+  unfolding told line_of truth
+  stations_told r back h some = elim (cases_lt greatest_place back) [
+    | inl far ↦ if_false {m = back} {n = greatest_place} _ _ far ∙ test_true r n _ _ h
+    | inr close ↦
+        let e : back + L - L ≡ back = omega arith in
+        if_true {m = back} {n = greatest_place} _ _ close
+        ∙ ap (λ d. earlier (symbol_on (get_or ls r no_line)) t (back + d - L)) (are.no_delays r h)
+        ∙ ap (earlier (symbol_on (get_or ls r no_line)) t) e
+        ∙ line_before (emitted plan (get_or w.stations r 0)) t t (get_or ls r no_line) (are.emissions r h) back (omega (arith, close)) (λ there. omega (arith, some, there))
+  ]
+
+  ports_told : (p back : ℕ) → p < length w.edges → L ≤ back + get_or w.delays p 0 →
+      told back (n + p) ≡ earlier (arrives plan L (get_or w.edges p 0)) (suc t) (back + get_or w.delays p 0 + 1 - L)
+  unfolding told line_of truth
+  ports_told p back h far = elim (cases_lt greatest_place back) [
+    | inl away ↦
+        let at : n + p - n ≡ p = omega arith in
+        if_false {m = back} {n = greatest_place} _ _ away
+        ∙ test_false (n + p) n _ _ (omega arith)
+        ∙ ap (λ j. earlier (arrives plan L (get_or w.edges j 0)) (suc t) (back + get_or w.delays j 0 + 1 - L)) at
+    | inr close ↦
+        let d = get_or w.delays p 0 in
+        let small : d ≤ greatest_delay = short p h in
+        let e : back + d - L + 1 ≡ back + d + 1 - L = omega (arith, far) in
+        let in_reach : back + d - L ≤ reach = omega (arith, close, small) in
+        if_true {m = back} {n = greatest_place} _ _ close
+        ∙ ap (λ x. earlier (symbol_on (get_or ls (n + p) no_line)) t (back + x - L)) (are.delays p h)
+        ∙ line_before (arrives plan L (get_or w.edges p 0)) front t (get_or ls (n + p) no_line) (are.arrivals p h) (back + d - L) in_reach (λ there. omega (arith, front_ahead))
+        ∙ earlier_more (arrives plan L (get_or w.edges p 0)) t (back + d - L)
+        ∙ ap (earlier (arrives plan L (get_or w.edges p 0)) (suc t)) e
+  ]
+
+  places_size : length ls ≡ length w.positions
+  places_size = sym (length-map ls (λ (l : TapLine). l.at)) ∙ ap length are.places
+
+  place_at : (i : ℕ) → i < length ls → (get_or ls i no_line).at ≡ get_or w.positions i 0
+  place_at i h = sym (get_or-map (λ (l : TapLine). l.at) ls i no_line 0 h) ∙ ap (λ xs. get_or xs i 0) are.places
+
+  -- what a tap hears by the lines
+  by_bus : (p : ℕ) → p < length ls → heard_by_lines L t ls p ≡ heard_at told w.positions p
+  unfolding told line_of
+  by_bus p h =
+      let at = (get_or ls p no_line).at in
+      mixed_alike L t p at 0 told ls (λ i r l e.
+      let d = distance at (get_or ls i no_line).at in
+      let a : at ≤ greatest_place = let z = place_at p h in let m = near p (omega (arith, h, places_size)) in omega (arith, z, m) in
+      let b : (get_or ls i no_line).at ≤ greatest_place = let z = place_at i l in let m = near i (omega (arith, l, places_size)) in omega (arith, z, m) in
+      let same : r ≡ i = omega (arith, e) in
+      sym (ap (told d) same ∙ if_true {m = d} {n = greatest_place} _ _ (omega (arith, a, b))))
+      ∙ ap (λ xs. heard_among told p at 0 xs) are.places
+      ∙ ap (λ x. heard_among told p x 0 w.positions) (place_at p h)
+
+  pub stations_by_lines : take n (span (heard_by_lines L t ls) 0 (length ls)) ≡ map (λ k. heard plan k t) w.stations
+  stations_by_lines =
+      let many = are.many in
+      take-span (heard_by_lines L t ls) 0 (length ls) n (omega (arith, many))
+      ∙ span_of (heard_by_lines L t ls) (λ k. heard plan k t) 0 w.stations (λ r m h e.
+      by_bus m (omega (arith, many, h, e)) ∙ station_hears plan facts L s t lead told stations_told ports_told r m h (omega (arith, e)))
+
+  pub ports_by_lines : drop n (span (heard_by_lines L t ls) 0 (length ls)) ≡ map (λ e. port_hears plan e t) w.edges
+  ports_by_lines =
+      let many = are.many in
+      let first : 0 + n ≡ n = omega arith in
+      let rest : length ls - n ≡ length w.edges = omega (arith, many) in
+      drop-span (heard_by_lines L t ls) 0 (length ls) n (omega (arith, many))
+      ∙ ap₂ (λ a b. span (heard_by_lines L t ls) a b) first rest
+      ∙ span_of (heard_by_lines L t ls) (λ e. port_hears plan e t) n w.edges (λ p m h e.
+      by_bus m (omega (arith, many, h, e)) ∙ port_hears_so plan facts L s t lead told stations_told ports_told p m h e)

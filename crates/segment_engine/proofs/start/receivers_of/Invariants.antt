@@ -1,0 +1,10 @@
+use Rattle.std.proofs.Common.{◌≡◌, All, map, take}
+use Rattle.net_parts.specs.Standing.{receiver_at}
+use Rattle.net_step.specs.KeptNet.{AllHear}
+use Rattle.segment_engine.proofs.start.receivers_of.Given as goal
+
+abbrev pub invariant-loop-i : goal.invariant-loop-i
+invariant-loop-i l = record {
+  steps : All (λ r. r.steps ≡ 0) l.receivers.items;
+  receivers : AllHear (map (λ k. receiver_at l.plan k 0) (take l.i l.stations)) l.receivers.items;
+}

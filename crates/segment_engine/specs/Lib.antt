@@ -1,0 +1,6 @@
+pub mod TapLines
+pub mod NewLines
+pub mod StationPasses
+pub mod PartStates
+pub mod RunningStates
+pub mod KeptParts

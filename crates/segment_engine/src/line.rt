@@ -1,0 +1,122 @@
+//! The line of a tap: the symbols of half bits one after another, the latest of which still reach other taps.
+ghost use Rattle.std.specs.Prelude.{◌≡◌, ◌<◌, ◌≤◌, ◌+◌, ◌^◌, [], ◌∷◌, length, IfOk};
+ghost use Rattle.network.specs.Times.{earlier};
+ghost use Rattle.segment_engine.specs.TapLines.{TapLine, symbol_on, half_bits_back, line_extended, slid};
+
+use lists::OutOfMemory;
+use mac_parameters::{GREATEST_DELAY, GREATEST_PLACE};
+use manchester_line::Sym;
+use std::alloc::Global;
+use std::marker::Model;
+
+/// Nothing that is further back on a line reaches another tap.
+pub const REACH: usize = GREATEST_PLACE as usize + GREATEST_DELAY as usize;
+
+/// A line, from half bit `base` on, of a tap at a place in half bits from its segment's end. What stands on it for a half
+/// bit is emitted `delay` half bits later, less the half bits of a window.
+#[derive(Drop)]
+pub struct Line {
+    at: u32,
+    delay: u32,
+    base: u64,
+    symbols: Vec<Sym>,
+}
+
+impl Model for Line {
+    ghost use Rattle.std.specs.Prelude.{◌-◌, vec_len, vec_capacity};
+    ghost use Rattle.segment_engine.specs.TapLines.{TapLine};
+
+    ghost Value = { TapLine };
+
+    ghost view = { λ s. record {
+      at = s.at;
+      delay = s.delay;
+      base = s.base;
+      symbols = s.symbols.items;
+      room = vec_capacity s.symbols - vec_len s.symbols;
+    } };
+}
+
+impl Line {
+    /// The empty line of a tap from half bit 0 on, with room for so many symbols.
+    pub fn new(alloc: Global, at: u32, delay: u32, room: usize) -> Result<Line, OutOfMemory>
+        ensures place { IfOk result (λ line. line.at ≡ at) }
+        ensures delay { IfOk result (λ line. line.delay ≡ delay) }
+        ensures base { IfOk result (λ line. line.base ≡ 0) }
+        ensures symbols { IfOk result (λ line. line.symbols ≡ []) }
+        ensures room { IfOk result (λ line. room ≤ line.room) }
+    {
+        Ok(Line {
+            at,
+            delay,
+            base: 0,
+            symbols: Vec::with_capacity(alloc, room)?,
+        })
+    }
+
+    /// The place of its tap.
+    pub fn place(&self) -> u32
+        ensures { result ≡ self.now.at }
+    {
+        self.at
+    }
+
+    /// What stands on it for a half bit.
+    fn symbol(&self, u: u64) -> Sym
+        ensures { result ≡ symbol_on self.now u }
+    {
+        if u < self.base {
+            return Sym::Idle;
+        }
+        let i = u - self.base;
+        if i < self.symbols.len() as u64 {
+            self.symbols[i as usize]
+        } else {
+            Sym::Idle
+        }
+    }
+
+    /// What a tap at a place hears of it in half bit `t`.
+    pub fn reaches(&self, at: u32, lookahead: u32, t: u64) -> Sym
+        ensures { result ≡ earlier (symbol_on self.now) t (half_bits_back lookahead at self.now) }
+    {
+        let way = u64::from(at.abs_diff(self.at)) + u64::from(self.delay);
+        let back = way.saturating_sub(u64::from(lookahead));
+        if back <= t {
+            self.symbol(t - back)
+        } else {
+            Sym::Idle
+        }
+    }
+
+    /// Puts the next symbol on it.
+    pub fn push(&mut self, s: Sym)
+        requires { 0 < self.old.room }
+        ensures { self.new ≡ line_extended self.old (s ∷ []) }
+    {
+        self.symbols.push_reserved(s);
+    }
+
+    /// Puts the next symbols on it.
+    pub fn extend(&mut self, piece: &[Sym])
+        requires { length piece.now ≤ self.old.room }
+        ensures { self.new ≡ line_extended self.old piece.now }
+    {
+        for i in 0..piece.len() {
+            self.push(piece[i]);
+        }
+    }
+
+    /// Makes room for so many symbols: where there is less, it drops those that reach no other tap any more.
+    pub fn slide(&mut self, room: usize)
+        requires { self.old.base + length self.old.symbols < 2 ^ 64 }
+        ensures { self.new ≡ slid room self.old }
+    {
+        let len = self.symbols.len();
+        if self.symbols.capacity() - len < room {
+            let gone = len.saturating_sub(REACH);
+            self.symbols.drain(..gone);
+            self.base += gone as u64;
+        }
+    }
+}

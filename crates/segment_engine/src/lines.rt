@@ -1,0 +1,85 @@
+//! Passes over the lines of a segment's taps.
+ghost use Rattle.std.specs.Prelude.{◌≡◌, ◌<◌, ◌≤◌, ◌+◌, ◌^◌, ◌==◌, ℕ, if◌then◌else◌, [], ◌∷◌, All, length, slice_index_or};
+ghost use Rattle.manchester_line.specs.declared.Sym.TheVariants.{Idle};
+ghost use Rattle.net_parts.specs.Machines.{span};
+ghost use Rattle.net_parts.specs.declared.parcel.Parcel.{Parcel};
+ghost use Rattle.network.specs.Times.{earlier};
+ghost use Rattle.segment_engine.specs.TapLines.{TapLine, heard_by_lines, heard_of_lines, no_line, symbol_on, half_bits_back, line_extended, slid};
+
+use crate::line::Line;
+use manchester_line::{Sym, mix};
+use net_parts::Parcel;
+
+/// What tap `p`, at a place, hears of tap `q`'s line in half bit `t`.
+fn heard_of(line: &Line, p: usize, q: usize, at: u32, lookahead: u32, t: u64) -> Sym
+    ensures { result ≡ if q == p then Idle else earlier (symbol_on line.now) t (half_bits_back lookahead at line.now) }
+{
+    if q == p {
+        Sym::Idle
+    } else {
+        line.reaches(at, lookahead, t)
+    }
+}
+
+/// What tap `p` hears in half bit `t`.
+fn hear(lines: &[Line], p: usize, lookahead: u32, t: u64) -> Sym
+    requires { p < length lines.now }
+    ensures { result ≡ heard_by_lines lookahead t lines.now p }
+{
+    let at = lines[p].place();
+    let mut sound = Sym::Idle;
+    for q in 0..lines.len() {
+        sound = mix(sound, heard_of(&lines[q], p, q, at, lookahead, t));
+    }
+    sound
+}
+
+/// What each tap hears in half bit `t`.
+pub fn hear_all(lines: &[Line], lookahead: u32, t: u64, heard: &mut [Sym])
+    requires { length heard.old ≡ length lines.now }
+    ensures { heard.new ≡ span (heard_by_lines lookahead t lines.now) 0 (length lines.now) }
+{
+    for p in 0..lines.len() {
+        heard[p] = hear(lines, p, lookahead, t);
+    }
+}
+
+/// Puts what each station emits on its line: those lines come first.
+pub fn tell(lines: &mut [Line], emitted: &[Sym])
+    requires few { length emitted.now ≤ length lines.old }
+    requires room { (r : ℕ) (d : TapLine) → r < length emitted.now → 0 < (slice_index_or lines.old r d).room }
+    ensures told { (r : ℕ) (d : TapLine) → r < length emitted.now →
+        slice_index_or lines.new r d ≡ line_extended (slice_index_or lines.old r d) (slice_index_or emitted.now r Idle ∷ []) }
+    ensures others { (r : ℕ) (d : TapLine) → length emitted.now ≤ r →
+        slice_index_or lines.new r d ≡ slice_index_or lines.old r d }
+{
+    for r in 0..emitted.len() {
+        lines[r].push(emitted[r]);
+    }
+}
+
+/// Makes room for so many symbols on each line.
+pub fn slide_all(lines: &mut [Line], room: usize)
+    requires { (r : ℕ) (d : TapLine) → r < length lines.old →
+        (slice_index_or lines.old r d).base + length (slice_index_or lines.old r d).symbols < 2 ^ 64 }
+    ensures { (r : ℕ) (d : TapLine) → r < length lines.new →
+        slice_index_or lines.new r d ≡ slid room (slice_index_or lines.old r d) }
+{
+    for r in 0..lines.len() {
+        lines[r].slide(room);
+    }
+}
+
+/// Puts what came in for the ports on their lines, the first of which is at place `from`.
+pub fn take_in(lines: &mut [Line], from: usize, parcels: &[Parcel])
+    requires within { from + length parcels.now ≤ length lines.old }
+    requires room { (p r : ℕ) (d : TapLine) (e : Parcel) → p < length parcels.now → r ≡ from + p →
+        length (slice_index_or parcels.now p e).symbols ≤ (slice_index_or lines.old r d).room }
+    ensures came { (p r : ℕ) (d : TapLine) (e : Parcel) → p < length parcels.now → r ≡ from + p →
+        slice_index_or lines.new r d ≡ line_extended (slice_index_or lines.old r d) (slice_index_or parcels.now p e).symbols }
+    ensures others { (r : ℕ) (d : TapLine) → r < from → slice_index_or lines.new r d ≡ slice_index_or lines.old r d }
+{
+    for p in 0..parcels.len() {
+        lines[from + p].extend(parcels[p].symbols.as_slice());
+    }
+}

@@ -1,0 +1,170 @@
+//! A segment as a part.
+ghost use Rattle.std.specs.Prelude.{◌≡◌, ◌<◌, ◌≤◌, ◌+◌, ◌*◌, ◌++◌, ◌==◌, true, length, IfOk, OnOk};
+ghost use Rattle.mac_parameters.specs.Parameters.{most_octets as most_octets_of};
+ghost use Rattle.net_parts.specs.OutputsOfParts.{cut_rows_on, rows_of_part, captures_of_part};
+ghost use Rattle.net_parts.specs.Parts.{part_at};
+ghost use Rattle.network.specs.Rows.{row_of};
+ghost use Rattle.net_parts.specs.Windows.{time as time_of, windows as windows_of};
+ghost use Rattle.segment_engine.specs.KeptParts.{KeepsSegment, StandsInNetwork};
+ghost use Rattle.window_room.specs.NeededRoom.{Covers, stations_demand};
+
+use crate::running::Running;
+use crate::segment::Segment;
+use crate::start::start;
+use crate::window::run;
+use collision_log::{Body, Row, Rows};
+use lists::OutOfMemory;
+use load_plan::Plan;
+use mac_parameters::most_octets;
+use mac_transmit::Transmitter;
+use net_parts::{Parcel, Part, PartOutputs};
+use std::alloc::Global;
+use window_room::reserve_stations;
+
+/// A segment with its stations, half bit by half bit over a line of symbols for each of its taps.
+#[derive(Drop)]
+pub struct SegmentPart {
+    segment: Segment,
+    window: u64,
+    most: u32,
+    reserved: bool,
+    state: Running,
+    ghost stands: { StandsInNetwork segment.plan.value segment.number (window * segment.lookahead) state },
+    ghost at_time: { state.t ≡ time_of segment.plan.value window },
+    ghost octets: { most ≡ most_octets_of (segment.plan.value.layout.format == 2) },
+    ghost room: { reserved ≡ true → Covers (stations_demand segment.lookahead state.senders.items state.receivers.items) state.room },
+    ghost kept: { KeepsSegment state (part_at segment.plan.value segment.number window) },
+}
+
+/// Writes the row of an event, if there is one.
+fn push_row(rows: &mut Rows, t: u64, device: u32, event: Option<Body>) -> Result<(), OutOfMemory>
+    ensures { OnOk result (rows.new ≡ rows.old ++ row_of t device event) }
+{
+    match event {
+        Some(body) => rows.push(Row { t, device, body }),
+        None => Ok(()),
+    }
+}
+
+/// Writes the rows of the sendings that are under way at the end `t` of a run.
+fn log_cut(
+    t: u64,
+    stations: &[u32],
+    senders: &[Transmitter],
+    rows: &mut Rows,
+) -> Result<(), OutOfMemory>
+    requires { length senders.now ≡ length stations.now }
+    ensures { OnOk result (rows.new ≡ rows.old ++ cut_rows_on t stations.now senders.now) }
+{
+    for k in 0..senders.len() {
+        push_row(rows, t, stations[k], senders[k].cut())?;
+    }
+    Ok(())
+}
+
+impl SegmentPart {
+    /// Segment number `segment`, from 0, of a plan, before half bit 0.
+    pub fn new(alloc: Global, plan: &Plan, segment: u32) -> Result<SegmentPart, OutOfMemory>
+        requires { segment < length plan.now.layout.segments }
+        ensures plan { IfOk result (λ part. part.segment.plan.value ≡ plan.now) }
+        ensures number { IfOk result (λ part. part.segment.number ≡ segment) }
+        ensures at { IfOk result (λ part. part.window ≡ 0) }
+    {
+        let of = Segment::new(alloc, plan, segment)?;
+        let state = start(alloc, &of, plan)?;
+        Ok(SegmentPart {
+            segment: of,
+            window: 0,
+            most: most_octets(plan.layout.format == 2),
+            reserved: false,
+            state,
+        })
+    }
+
+    /// Its rows and the captures of its stations, in their order; with the Cut rows, when all windows were made.
+    pub fn take_out(self) -> Result<PartOutputs, OutOfMemory>
+        ensures part { IfOk result (λ outputs. outputs.part ≡ self.segment.number) }
+        ensures rows { self.window ≡ windows_of self.segment.plan.value →
+            IfOk result (λ outputs. outputs.rows ≡ rows_of_part self.segment.plan.value self.segment.number) }
+        ensures captures { self.window ≡ windows_of self.segment.plan.value →
+            IfOk result (λ outputs. outputs.captures ≡ captures_of_part self.segment.plan.value self.segment.number) }
+    {
+        let SegmentPart {
+            segment,
+            window,
+            most: _,
+            reserved: _,
+            state,
+        } = self;
+        let Running {
+            t,
+            senders,
+            receivers: _,
+            lines: _,
+            heard: _,
+            emitted: _,
+            mut room,
+        } = state;
+        room.settle()?;
+        let mut outputs = room.into_outputs();
+        if window == segment.windows {
+            log_cut(t, &segment.stations, &senders, &mut outputs.rows)?;
+        }
+        Ok(PartOutputs {
+            part: segment.number,
+            rows: outputs.rows,
+            captures: outputs.captures,
+        })
+    }
+}
+
+impl Part for SegmentPart {
+    ghost use Rattle.segment_engine.specs.KeptParts.{KeepsSegment};
+
+    ghost plan = { λ s. s.segment.plan.value };
+
+    ghost number = { λ s. s.segment.number };
+
+    ghost at = { λ s. s.window };
+
+    ghost reserved = { λ s. s.reserved };
+
+    ghost keeps = { λ s state. KeepsSegment s.state state };
+
+    fn part(&self) -> u32 {
+        self.segment.number
+    }
+
+    fn window(&self) -> u64 {
+        self.window
+    }
+
+    fn windows(&self) -> u64 {
+        self.segment.windows
+    }
+
+    fn edges(&self) -> &[u32] {
+        self.segment.edges.as_slice()
+    }
+
+    fn reserve_window(&mut self) -> Result<(), OutOfMemory> {
+        reserve_stations(
+            &mut self.state.room,
+            self.segment.stations.len(),
+            self.most,
+            self.segment.lookahead,
+        )?;
+        self.reserved = true;
+        Ok(())
+    }
+
+    fn run_window(&mut self, parcels: &mut [Parcel]) {
+        run(&self.segment, self.window, &mut self.state, parcels);
+        self.window += 1;
+        self.reserved = false;
+    }
+
+    ghost within = { λ s. s.segment.within_parts };
+
+    ghost stands = { λ s. s.kept };
+}

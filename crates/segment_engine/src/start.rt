@@ -1,0 +1,111 @@
+//! A segment before half bit 0.
+ghost use Rattle.std.specs.Prelude.{◌≡◌, ◌<◌, ◌≤◌, ◌+◌, ◌*◌, if◌then◌else◌, nat_lt, All, length, map, slice_index, IfOk};
+ghost use Rattle.network.specs.Attempts.{sender_at};
+ghost use Rattle.net_parts.specs.Standing.{receiver_at};
+ghost use Rattle.net_step.specs.KeptNet.{AllHear};
+ghost use Rattle.segment_engine.specs.NewLines.{AreNewLines, IsNewLine, new_delay};
+ghost use Rattle.segment_engine.specs.RunningStates.{IsRunningAt};
+
+use crate::line::{Line, REACH};
+use crate::running::Running;
+use crate::segment::Segment;
+use crate::taps::{delays_of, places_on, taps_of};
+use backoff_draw::Draws;
+use lists::OutOfMemory;
+use load_plan::Plan;
+use mac_parameters::most_octets;
+use mac_receive::Receiver;
+use mac_transmit::Transmitter;
+use manchester_line::Sym;
+use std::alloc::Global;
+use window_room::RowRoom;
+
+/// The senders of these stations.
+fn senders_of(alloc: Global, plan: &Plan, stations: &[u32]) -> Result<Vec<Transmitter>, OutOfMemory>
+    requires { All (λ k. k < length plan.now.layout.stations) stations.now }
+    ensures { IfOk result (λ senders. senders.items ≡ map (λ k. sender_at plan.now k 0) stations.now) }
+{
+    let queues = plan.queues.as_slice();
+    let seed = plan.layout.seed;
+    let mut senders = Vec::new(alloc);
+    for i in 0..stations.len() {
+        let k = stations[i];
+        senders.push(Transmitter::new(queues[k as usize].copy()?, Draws::new(seed, k)))?;
+    }
+    Ok(senders)
+}
+
+/// The receivers of these stations.
+fn receivers_of(alloc: Global, plan: &Plan, stations: &[u32]) -> Result<Vec<Receiver>, OutOfMemory>
+    requires { All (λ k. k < length plan.now.layout.stations) stations.now }
+    ensures receivers { IfOk result (λ receivers. AllHear (map (λ k. receiver_at plan.now k 0) stations.now) receivers.items) }
+    ensures steps { IfOk result (λ receivers. All (λ r. r.steps ≡ 0) receivers.items) }
+{
+    let lines = plan.layout.stations.as_slice();
+    let most = most_octets(plan.layout.format == 2);
+    let mut receivers = Vec::new(alloc);
+    for i in 0..stations.len() {
+        receivers.push(Receiver::new_for(lines[stations[i] as usize].lose, most))?;
+    }
+    Ok(receivers)
+}
+
+/// The delay of the line of tap `r`: a station's is a window.
+fn delay_of(r: usize, stations: usize, lookahead: u32, edges: &[u32], delays: &[u32]) -> u32
+    requires port { stations ≤ r → r < stations + length edges.now }
+    requires within { All (λ e. e < length delays.now) edges.now }
+    ensures { result ≡ new_delay stations lookahead edges.now delays.now r }
+{
+    if r < stations {
+        lookahead
+    } else {
+        delays[edges[r - stations] as usize]
+    }
+}
+
+/// The lines of taps at these places, of which the first so many are those of stations.
+fn lines_of(
+    alloc: Global,
+    places: &[u32],
+    stations: usize,
+    lookahead: u32,
+    edges: &[u32],
+    delays: &[u32],
+) -> Result<Vec<Line>, OutOfMemory>
+    requires many { length places.now ≡ stations + length edges.now }
+    requires within { All (λ e. e < length delays.now) edges.now }
+    ensures { IfOk result (λ lines. AreNewLines places.now stations lookahead edges.now delays.now lines.items) }
+{
+    let room = 2 * REACH + lookahead as usize;
+    let mut lines = Vec::new(alloc);
+    for r in 0..places.len() {
+        let delay = delay_of(r, stations, lookahead, edges, delays);
+        lines.push(Line::new(alloc, places[r], delay, room)?)?;
+    }
+    Ok(lines)
+}
+
+/// A segment before half bit 0.
+pub fn start(alloc: Global, of: &Segment, plan: &Plan) -> Result<Running, OutOfMemory>
+    requires { of.now.plan.value ≡ plan.now }
+    ensures at { IfOk result (λ state. IsRunningAt plan.now of.now.number 0 state) }
+    ensures time { IfOk result (λ state. state.t ≡ 0) }
+{
+    let taps = taps_of(alloc, &plan.layout)?;
+    let places = places_on(alloc, &taps, of.number)?;
+    let delays = delays_of(alloc, plan.layout.repeaters.as_slice())?;
+    let stations = of.stations.len();
+    let edges = of.edges.as_slice();
+    let senders = senders_of(alloc, plan, &of.stations)?;
+    let receivers = receivers_of(alloc, plan, &of.stations)?;
+    let lines = lines_of(alloc, &places, stations, of.lookahead, edges, &delays)?;
+    Ok(Running {
+        t: 0,
+        senders,
+        receivers,
+        lines,
+        heard: vec![in alloc; Sym::Idle; places.len()]?,
+        emitted: vec![in alloc; Sym::Idle; stations]?,
+        room: RowRoom::new(alloc, stations)?,
+    })
+}

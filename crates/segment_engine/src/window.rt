@@ -1,0 +1,51 @@
+//! A window of a segment.
+ghost use Rattle.std.specs.Prelude.{◌≡◌, ◌<◌, ◌≤◌, ◌+◌, ◌*◌, map};
+ghost use Rattle.net_parts.specs.Windows.{time};
+ghost use Rattle.net_parts.specs.SegmentParts.{wiring};
+ghost use Rattle.net_parts.specs.Parcels.{arrived, refilled};
+ghost use Rattle.segment_engine.specs.PartStates.{half_filled};
+ghost use Rattle.segment_engine.specs.RunningStates.{IsRunningAt, HaveLinesRoom};
+ghost use Rattle.window_room.specs.NeededRoom.{Covers, stations_demand};
+
+use crate::lines::{slide_all, take_in};
+use crate::parcels::turn;
+use crate::running::{Running, half_bit};
+use crate::segment::Segment;
+use net_parts::Parcel;
+
+/// What came in for the ports in a window is put on their lines, and there is room for what the stations emit in it.
+fn begin(of: &Segment, window: u64, state: &mut Running, parcels: &[Parcel])
+    requires at { IsRunningAt of.now.plan.value of.now.number (window * of.now.lookahead) state.old }
+    requires time { state.old.t ≡ window * of.now.lookahead }
+    requires in_time { state.old.t < 2000000000 }
+    requires parcels { parcels.now
+        ≡ map (half_filled of.now.plan.value of.now.lookahead window 0) (wiring of.now.plan.value.layout of.now.number).edges }
+    ensures at { IsRunningAt of.now.plan.value of.now.number ((window + 1) * of.now.lookahead) state.new }
+    ensures time { state.new.t ≡ state.old.t }
+    ensures senders { state.new.senders ≡ state.old.senders }
+    ensures receivers { state.new.receivers ≡ state.old.receivers }
+    ensures room { state.new.room ≡ state.old.room }
+    ensures lines { HaveLinesRoom of.now.plan.value of.now.number of.now.lookahead state.new.lines.items }
+{
+    slide_all(&mut state.lines, of.lookahead as usize);
+    take_in(&mut state.lines, of.stations.len(), parcels);
+}
+
+/// A window of a segment, which refills the parcels and turns them.
+pub fn run(of: &Segment, window: u64, state: &mut Running, parcels: &mut [Parcel])
+    requires at { IsRunningAt of.now.plan.value of.now.number (window * of.now.lookahead) state.old }
+    requires time { state.old.t ≡ time of.now.plan.value window }
+    requires below { window < of.now.windows }
+    requires parcels { parcels.old ≡ arrived of.now.plan.value of.now.number window }
+    requires room { Covers (stations_demand of.now.lookahead state.old.senders.items state.old.receivers.items) state.old.room }
+    ensures at { IsRunningAt of.now.plan.value of.now.number ((window + 1) * of.now.lookahead) state.new }
+    ensures time { state.new.t ≡ time of.now.plan.value (window + 1) }
+    ensures parcels { parcels.new ≡ refilled of.now.plan.value of.now.number window }
+{
+    begin(of, window, state, parcels);
+    let count = u64::from(of.lookahead).min(of.half_bits - state.t) as u32;
+    for k in 0..count {
+        half_bit(of, window, k, state, parcels);
+    }
+    turn(parcels, count as usize);
+}
