@@ -1,0 +1,5 @@
+pub mod RowsApart
+pub mod LoggedPorts
+pub mod RepeaterWindows
+pub mod RepeatersAsParts
+pub mod LeapedHalfBits

@@ -1,0 +1,4 @@
+pub mod RowWaits
+pub mod KeptRepeaters
+pub mod Logging
+pub mod RepeaterNumbers

@@ -1,0 +1,172 @@
+//! A repeater that makes half bits, with its rows.
+ghost use Rattle.std.specs.Prelude.{◌≡◌, ◌<◌, ◌≤◌, ◌+◌, ◌-◌, ◌^◌, [], All, length, IfOk, OnOk};
+ghost use Rattle.load_plan.specs.declared.plan.Plan.{Plan};
+ghost use Rattle.mac_parameters.specs.Parameters.{greatest_delay, most_ports};
+ghost use Rattle.net_parts.specs.RepeaterParts.{repeater_step};
+ghost use Rattle.net_parts.specs.Standing.{repeater_at};
+ghost use Rattle.repeater_core.specs.Step.{decided_by, new_state};
+ghost use Rattle.repeater_engine.specs.KeptRepeaters.{HaveRow, KeptRepeater, parcels_after, row_brought};
+ghost use Rattle.repeater_engine.specs.RowWaits.{HasRowRoom};
+
+use crate::parcels::{hear_all, put_all};
+use crate::rows::{log_events, rows_in};
+use lists::OutOfMemory;
+use load_plan::Plan;
+use manchester_line::Sym;
+use net_parts::Parcel;
+use network::Outputs;
+use repeater_core::Repeater;
+use std::alloc::Global;
+use std::marker::Model;
+use std::snapshot::Snapshot;
+use window_room::RowRoom;
+
+/// A repeater before half bit `t`, its device's number and its rows. `heard`, `emitted` and `decided` have a symbol for
+/// each of its ports.
+#[derive(Drop)]
+pub struct RepeaterEngine {
+    t: u64,
+    device: u32,
+    ports: u32,
+    repeater: Repeater,
+    log: RowRoom,
+    heard: Vec<Sym>,
+    emitted: Vec<Sym>,
+    decided: Vec<Sym>,
+}
+
+impl Model for RepeaterEngine {
+    ghost use Rattle.std.specs.Prelude.{length};
+    ghost use Rattle.repeater_engine.specs.KeptRepeaters.{KeptRepeater, AreSized};
+
+    ghost Value = { KeptRepeater };
+
+    ghost view = { λ e. record {
+      device = e.device;
+      state = record { t = e.t; repeater = e.repeater; rows = e.log.rows };
+      room = e.log.row_room;
+    } };
+
+    ghost invariant = { λ e. AreSized e.ports e.repeater e.log (length e.heard.items) (length e.emitted.items) (length e.decided.items) };
+}
+
+impl RepeaterEngine {
+    ghost use Rattle.std.specs.Prelude.{◌≡◌, ◌<◌, ◌≤◌, ◌+◌, ◌-◌, ◌^◌, [], All, length, IfOk, OnOk};
+    ghost use Rattle.mac_parameters.specs.Parameters.{greatest_delay, most_ports};
+    ghost use Rattle.net_parts.specs.RepeaterParts.{repeater_step};
+    ghost use Rattle.repeater_core.specs.Step.{decided_by, new_state};
+    ghost use Rattle.repeater_engine.specs.KeptRepeaters.{HaveRow, row_brought};
+    ghost use Rattle.repeater_engine.specs.RowWaits.{HasRowRoom};
+
+    /// The repeater of this device before half bit 0, of 2 to 32 ports and with a delay of 1 to 200 half bits.
+    pub fn new(
+        alloc: Global,
+        device: u32,
+        ports: u32,
+        delay: u32,
+    ) -> Result<RepeaterEngine, OutOfMemory>
+        requires two_ports { 2 ≤ ports }
+        requires ports_at_most { ports ≤ most_ports }
+        requires some_delay { 1 ≤ delay }
+        requires delay_at_most { delay ≤ greatest_delay }
+        ensures device { IfOk result (λ e. e.device ≡ device) }
+        ensures state { IfOk result (λ e. e.state ≡ record { t = 0; repeater = new_state ports delay; rows = [] }) }
+    {
+        let count = ports as usize;
+        Ok(RepeaterEngine {
+            t: 0,
+            device,
+            ports,
+            repeater: Repeater::new(alloc, ports, delay)?,
+            log: RowRoom::new(alloc, 0)?,
+            heard: vec![in alloc; Sym::Idle; count]?,
+            emitted: vec![in alloc; Sym::Idle; count]?,
+            decided: vec![in alloc; Sym::Idle; count]?,
+        })
+    }
+
+    /// Takes room for the rows of so many half bits.
+    pub fn reserve(&mut self, half_bits: usize) -> Result<(), OutOfMemory>
+        requires { half_bits < 2 ^ 32 }
+        ensures device { self.new.device ≡ self.old.device }
+        ensures state { self.new.state ≡ self.old.state }
+        ensures kept { self.old.room ≤ self.new.room }
+        ensures room { OnOk result (HasRowRoom (length self.new.state.repeater.guards) half_bits self.new.room self.new.state.repeater) }
+    {
+        let rows = rows_in(self.ports as usize, half_bits);
+        self.log.reserve(rows, 0, 0)
+    }
+
+    /// Half bit `k` of the `n` of a window: each port hears what its parcel brings for it, and what is decided for it takes
+    /// its place.
+    pub fn half_bit(&mut self, parcels: &mut [Parcel], k: usize, n: usize)
+        requires many { length parcels.old ≡ length self.old.state.repeater.guards }
+        requires long { All (λ p. k < length p.symbols) parcels.old }
+        requires left { k < n }
+        requires time { self.old.state.t < 2 ^ 63 }
+        requires room { HasRowRoom (length self.old.state.repeater.guards) (n - k) self.old.room self.old.state.repeater }
+        ensures device { self.new.device ≡ self.old.device }
+        ensures state { self.new.state ≡ repeater_step self.old.device (row_brought k parcels.old) self.old.state }
+        ensures ports { length self.new.state.repeater.guards ≡ length self.old.state.repeater.guards }
+        ensures parcels { HaveRow k (decided_by (row_brought k parcels.old) self.old.state.repeater) parcels.old parcels.new }
+        ensures room { HasRowRoom (length self.new.state.repeater.guards) (n - (k + 1)) self.new.room self.new.state.repeater }
+    {
+        hear_all(parcels, k, &mut self.heard);
+        let events = self
+            .repeater
+            .step(&self.heard, &mut self.emitted, &mut self.decided);
+        put_all(parcels, k, &self.decided);
+        log_events(
+            &mut self.log,
+            self.t,
+            self.device,
+            self.ports as usize,
+            events,
+        );
+        self.t += 1;
+    }
+
+    /// The rows so far. It takes memory for those that lie in the room of a window.
+    pub fn into_outputs(self) -> Result<Outputs, OutOfMemory>
+        ensures rows { IfOk result (λ outputs. outputs.rows ≡ self.state.rows) }
+        ensures captures { IfOk result (λ outputs. outputs.captures ≡ []) }
+    {
+        let RepeaterEngine {
+            t: _,
+            device: _,
+            ports: _,
+            repeater: _,
+            mut log,
+            heard: _,
+            emitted: _,
+            decided: _,
+        } = self;
+        log.settle()?;
+        Ok(log.into_outputs())
+    }
+}
+
+/// Makes the `n` half bits of window `window` of repeater number `repeater` of a plan, in which it stands.
+pub fn make_window(
+    engine: &mut RepeaterEngine,
+    parcels: &mut [Parcel],
+    plan: &Snapshot<Plan>,
+    repeater: u32,
+    window: u64,
+    n: usize,
+)
+    requires repeater { repeater < length plan.now.value.layout.repeaters }
+    requires device { engine.old.device ≡ length plan.now.value.layout.stations + repeater }
+    requires time { engine.old.state.t + n < 2 ^ 62 }
+    requires room { HasRowRoom (length engine.old.state.repeater.guards) n engine.old.room engine.old.state.repeater }
+    requires stands { engine.old.state ≡ repeater_at plan.now.value repeater engine.old.state.t }
+    requires parcels { parcels.old ≡ parcels_after plan.now.value repeater window engine.old.state.t n 0 }
+    ensures device { engine.new.device ≡ engine.old.device }
+    ensures stands { engine.new.state ≡ repeater_at plan.now.value repeater (engine.old.state.t + n) }
+    ensures parcels { parcels.new ≡ parcels_after plan.now.value repeater window engine.old.state.t n n }
+{
+    let _ = plan;
+    for k in 0..n {
+        engine.half_bit(parcels, k, n);
+    }
+}

@@ -1,0 +1,12 @@
+//! A repeater as a part of a network: it makes its windows by itself, and takes no memory in them.
+#![tactic(auto)]
+
+mod engine;
+mod parcels;
+mod part;
+mod rows;
+
+pub use part::RepeaterPart;
+
+#[cfg(test)]
+mod tests;
