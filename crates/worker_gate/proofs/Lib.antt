@@ -1,0 +1,2 @@
+pub mod KeptPlans
+pub mod GatheredParts

@@ -1,0 +1,9 @@
+use Rattle.std.proofs.Common.{◌≡◌, ℕ, All, length}
+use Rattle.std.specs.Prelude.{Some, vec_len}
+use Rattle.worker_gate.proofs.gather.put_parts.Given as goal
+
+abbrev pub invariant-loop-part : goal.invariant-loop-part
+invariant-loop-part g l = All (λ s. Some (g.S.Part.plan s) ≡ g.P.Planned.plan) l.parts.items
+
+abbrev pub decreases-loop-part : goal.decreases-loop-part
+decreases-loop-part g l = vec_len l.parts

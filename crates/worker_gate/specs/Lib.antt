@@ -1,0 +1,3 @@
+pub mod PlannedShares
+pub mod FinishedParts
+pub mod PartMakers

@@ -1,0 +1,146 @@
+//! The kits of a run.
+ghost use Rattle.std.specs.Prelude.{◌≡◌, ◌<◌, ◌+◌, ◌≤◌, Some, length};
+ghost use Rattle.worker_gate.specs.PartMakers.{MayMake, MakesParts};
+
+use crate::dealing::{outlets_of_repeater, outlets_of_segment, owner_of, owners};
+use crate::desk::{Desk, Segments};
+use crate::kit::{Duty, Kit};
+use lists::OutOfMemory;
+use load_plan::Plan;
+use net_parts::Part;
+use std::alloc::Global;
+use window_exchange::Planned;
+
+/// A kit for each of so many workers, which have all parts together.
+pub fn make_kits<
+    P: Planned + Send,
+    S: Part,
+    R: Part,
+    F: Fn(u32) -> Result<S, OutOfMemory>,
+    H: Fn(u32) -> Result<R, OutOfMemory>,
+>(
+    alloc: Global,
+    plan: &Plan,
+    workers: u32,
+    segment: &F,
+    repeater: &H,
+) -> Result<Vec<Kit<P, S, R>>, OutOfMemory>
+    requires boxed { Some plan.now ≡ P.plan }
+    requires may_segment { MayMake (length plan.now.layout.segments) (F.pre segment.now) }
+    requires segments { MakesParts S.plan S.number S.at plan.now 0 (F.post segment.now) }
+    requires may_repeater { MayMake (length plan.now.layout.repeaters) (H.pre repeater.now) }
+    requires repeaters { MakesParts R.plan R.number R.at plan.now (length plan.now.layout.segments) (H.post repeater.now) }
+{
+    let owners = owners(alloc, &plan.layout, workers)?;
+    let mut kits = Vec::new(alloc);
+    for number in 0..workers {
+        kits.push(make_kit(alloc, plan, owners.as_slice(), number, segment, repeater)?)?;
+    }
+    Ok(kits)
+}
+
+/// The kit of one worker.
+fn make_kit<
+    P: Planned + Send,
+    S: Part,
+    R: Part,
+    F: Fn(u32) -> Result<S, OutOfMemory>,
+    H: Fn(u32) -> Result<R, OutOfMemory>,
+>(
+    alloc: Global,
+    plan: &Plan,
+    owners: &[u32],
+    number: u32,
+    segment: &F,
+    repeater: &H,
+) -> Result<Kit<P, S, R>, OutOfMemory>
+    requires boxed { Some plan.now ≡ P.plan }
+    requires may_segment { MayMake (length plan.now.layout.segments) (F.pre segment.now) }
+    requires segments { MakesParts S.plan S.number S.at plan.now 0 (F.post segment.now) }
+    requires may_repeater { MayMake (length plan.now.layout.repeaters) (H.pre repeater.now) }
+    requires repeaters { MakesParts R.plan R.number R.at plan.now (length plan.now.layout.segments) (H.post repeater.now) }
+{
+    let mut duties = Vec::new(alloc);
+    let segments: Segments<P, S, R> = deal_segments(
+        alloc,
+        plan,
+        owners,
+        number,
+        segment,
+        &mut duties,
+    )?;
+    let mut desk = segments.into_desk();
+    deal_repeaters(
+        alloc,
+        plan,
+        owners,
+        number,
+        repeater,
+        &mut desk,
+        &mut duties,
+    )?;
+    Ok(Kit::new(number, plan, desk, duties))
+}
+
+/// The segments of one worker, and its duties with them.
+fn deal_segments<P: Planned, S: Part, R: Part, F: Fn(u32) -> Result<S, OutOfMemory>>(
+    alloc: Global,
+    plan: &Plan,
+    owners: &[u32],
+    number: u32,
+    segment: &F,
+    duties: &mut Vec<Duty>,
+) -> Result<Segments<P, S, R>, OutOfMemory>
+    requires boxed { Some plan.now ≡ P.plan }
+    requires may_segment { MayMake (length plan.now.layout.segments) (F.pre segment.now) }
+    requires segments { MakesParts S.plan S.number S.at plan.now 0 (F.post segment.now) }
+{
+    let Ok(count) = u32::try_from(plan.layout.segments.len()) else {
+        return Err(OutOfMemory);
+    };
+    let mut segments = Segments::new(alloc);
+    for i in 0..count {
+        if owner_of(owners, i as usize) != number {
+            continue;
+        }
+        let part = segment(i)?;
+        segments.add(alloc, plan, part)?;
+        let outlets = outlets_of_segment(alloc, &plan.layout, owners, i)?;
+        duties.push(Duty { part: i, outlets })?;
+    }
+    Ok(segments)
+}
+
+/// Gives one worker its repeaters, and its duties with them.
+fn deal_repeaters<P: Planned, S: Part, R: Part, H: Fn(u32) -> Result<R, OutOfMemory>>(
+    alloc: Global,
+    plan: &Plan,
+    owners: &[u32],
+    number: u32,
+    repeater: &H,
+    desk: &mut Desk<P, S, R>,
+    duties: &mut Vec<Duty>,
+) -> Result<(), OutOfMemory>
+    requires boxed { Some plan.now ≡ P.plan }
+    requires may_repeater { MayMake (length plan.now.layout.repeaters) (H.pre repeater.now) }
+    requires repeaters { MakesParts R.plan R.number R.at plan.now (length plan.now.layout.segments) (H.post repeater.now) }
+{
+    let Ok(count) = u32::try_from(plan.layout.repeaters.len()) else {
+        return Err(OutOfMemory);
+    };
+    let segments = plan.layout.segments.len();
+    for i in 0..count {
+        if owner_of(owners, segments.saturating_add(i as usize)) != number {
+            continue;
+        }
+        let part = repeater(i)?;
+        let number = part.part();
+        desk.add_repeater(plan, part)?;
+        let outlets = outlets_of_repeater(alloc, &plan.layout, owners, i)?;
+        duties.push(Duty {
+            part: number,
+            outlets,
+        })?;
+    }
+    Ok(())
+}

@@ -1,0 +1,162 @@
+//! What a worker owns of the plan that a type carries.
+ghost use Rattle.std.specs.Prelude.{◌≡◌, ◌<◌, ◌≤◌, ◌+◌, [], true, false, All, IfSome, Some, length};
+ghost use Rattle.net_parts.specs.Parcels.{IsTrueParcel};
+ghost use Rattle.exchange_core.specs.Holdings.{IsHoldingReady, IsHoldingClean};
+ghost use Rattle.exchange_core.specs.Shares.{rack, owns, part_of};
+ghost use Rattle.worker_gate.specs.PlannedShares.{IsPlannedShare, StaysPlanned};
+
+use exchange_core::Share;
+use lists::OutOfMemory;
+use load_plan::Plan;
+use net_parts::{Parcel, Part, opening};
+use std::alloc::Global;
+use std::marker::PhantomData;
+use window_exchange::Planned;
+
+/// The segments of a worker, which may get more of them.
+#[derive(Drop)]
+pub struct Segments<P: Planned, S: Part, R: Part> {
+    share: Share<S, R>,
+    of: PhantomData<P>,
+    ghost planned: { IsPlannedShare P.plan share },
+    ghost alone: { share.repeaters ≡ rack [] [] },
+}
+
+/// The parts of a worker, and the parcels at them.
+#[derive(Drop)]
+pub struct Desk<P: Planned, S: Part, R: Part> {
+    share: Share<S, R>,
+    of: PhantomData<P>,
+    ghost planned: { IsPlannedShare P.plan share },
+}
+
+impl<P: Planned, S: Part, R: Part> Segments<P, S, R> {
+    /// No parts.
+    pub fn new(alloc: Global) -> Segments<P, S, R> {
+        Segments {
+            share: Share::new(alloc),
+            of: PhantomData,
+        }
+    }
+
+    /// Adds a segment with the parcels of the first window.
+    pub fn add(&mut self, alloc: Global, plan: &Plan, part: S) -> Result<(), OutOfMemory>
+        requires boxed { Some plan.now ≡ P.plan }
+        requires plan { S.plan part ≡ plan.now }
+        requires number { S.number part < length plan.now.layout.segments }
+        requires start { S.at part ≡ 0 }
+    {
+        let number = part.part();
+        if self.share.owns(number) {
+            return Err(OutOfMemory);
+        }
+        let parcels = opening(alloc, plan, number)?;
+        self.share.add_segment(part, parcels)
+    }
+
+    /// The same parts, which may get repeaters.
+    pub fn into_desk(self) -> Desk<P, S, R> {
+        let Segments { share, of: _ } = self;
+        Desk {
+            share,
+            of: PhantomData,
+        }
+    }
+}
+
+impl<P: Planned, S: Part, R: Part> Desk<P, S, R> {
+    /// No parts.
+    pub fn new(alloc: Global) -> Desk<P, S, R> {
+        let none: Segments<P, S, R> = Segments::new(alloc);
+        none.into_desk()
+    }
+
+    /// Adds a repeater.
+    pub fn add_repeater(&mut self, plan: &Plan, part: R) -> Result<(), OutOfMemory>
+        requires boxed { Some plan.now ≡ P.plan }
+        requires plan { R.plan part ≡ plan.now }
+        requires number { length plan.now.layout.segments ≤ R.number part }
+    {
+        if self.share.owns(part.part()) {
+            return Err(OutOfMemory);
+        }
+        self.share.add_repeater(part)
+    }
+
+    /// Makes the part's window, or gives the part up after want of memory, if all its parcels are here. Says whether they are.
+    pub fn step(&mut self, part: u32) -> bool {
+        step(&mut self.share, part)
+    }
+
+    /// Hands out the parcel of an edge, if it is here and goes to where it isn't.
+    pub fn post(&mut self, edge: u32) -> Option<Parcel>
+        ensures { IfSome result (λ parcel. IfSome P.plan (λ plan. IsTrueParcel plan parcel)) }
+    {
+        if self.share.refilled(edge) {
+            Some(self.share.post(edge))
+        } else {
+            None
+        }
+    }
+
+    /// Puts a parcel to its part, if that is here, and drops it otherwise.
+    pub fn take(&mut self, parcel: Parcel)
+        requires { IfSome P.plan (λ plan. IsTrueParcel plan parcel) }
+    {
+        if self.share.awaits(&parcel) {
+            self.share.take(parcel);
+        }
+    }
+
+    /// Whether the part has made so many windows, or was given up for them, or isn't here.
+    pub fn is_past(&self, part: u32, windows: u64) -> bool {
+        !self.share.owns(part) || self.share.window(part) >= windows
+    }
+
+    /// Whether the part was given up.
+    pub fn is_lost(&self, part: u32) -> bool {
+        self.share.owns(part) && self.share.lost(part)
+    }
+
+    /// The parts alone, in the order in which they were added.
+    pub fn into_parts(self) -> (Vec<S>, Vec<R>)
+        ensures segments { All (λ s. Some (S.plan s) ≡ P.plan) result.0.items }
+        ensures repeaters { All (λ r. Some (R.plan r) ≡ P.plan) result.1.items }
+    {
+        let Desk { share, of: _ } = self;
+        share.into_parts()
+    }
+}
+
+/// Makes the part's window, or gives the part up after want of memory, if all its parcels are here. Says whether they are.
+fn step<S: Part, R: Part>(share: &mut Share<S, R>, part: u32) -> bool
+    ensures { StaysPlanned share.old share.new }
+{
+    if !share.owns(part) || !share.ready(part) {
+        return false;
+    }
+    if share.lost(part) {
+        share.spoil(part);
+        return true;
+    }
+    if !share.clean(part) {
+        share.spoil(part);
+        return true;
+    }
+    make(share, part);
+    true
+}
+
+/// Makes the part's window, or gives the part up after want of memory.
+fn make<S: Part, R: Part>(share: &mut Share<S, R>, part: u32)
+    requires owned { owns part share.old ≡ true }
+    requires ready { IfSome (part_of part share.old) IsHoldingReady }
+    requires clean { IfSome (part_of part share.old) IsHoldingClean }
+    requires kept { IfSome (part_of part share.old) (λ h. h.lost ≡ false) }
+    ensures { StaysPlanned share.old share.new }
+{
+    match share.reserve(part) {
+        Ok(()) => share.run(part),
+        Err(_) => share.spoil(part),
+    }
+}

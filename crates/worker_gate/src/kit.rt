@@ -1,0 +1,195 @@
+//! What a worker works on.
+ghost use Rattle.std.specs.Prelude.{◌≡◌, true, All, IfSome, Some};
+ghost use Rattle.load_plan.specs.declared.plan.Plan.{Plan};
+ghost use Rattle.net_parts.specs.Parcels.{IsTrueParcel};
+ghost use Rattle.worker_gate.specs.PlannedShares.{has_plan, the_plan};
+
+use crate::dealing::Outlet;
+use crate::desk::Desk;
+use crate::port::Port;
+use load_plan::Plan;
+use net_parts::{Parcel, Part, windows};
+use std::alloc::Global;
+use std::sync::Wait;
+use window_exchange::{Mail, Named, Planned};
+
+/// The ports of a worker to the boxes of all.
+pub type Ports<P, S, R> = Vec<Port<P, Kit<P, S, R>>>;
+
+/// A part of a worker, and to which workers its parcels go.
+#[derive(Drop)]
+pub struct Duty {
+    pub part: u32,
+    pub outlets: Vec<Outlet>,
+}
+
+/// All that a worker works on: parts of the plan that the type carries, and what to do with them.
+#[derive(Drop)]
+pub struct Kit<P: Planned, S: Part, R: Part> {
+    number: u32,
+    windows: u64,
+    desk: Desk<P, S, R>,
+    duties: Vec<Duty>,
+    ghost named: { has_plan P.plan ≡ true },
+}
+
+impl<P: Planned + Send, S: Part, R: Part> Named for Kit<P, S, R> {
+    ghost plan = { λ kit. the_plan P.plan kit.named };
+
+    ghost name = { λ kit. kit.number };
+
+    fn number(&self) -> u32 {
+        self.number
+    }
+}
+
+impl<P: Planned + Send, S: Part, R: Part> Kit<P, S, R> {
+    /// Parts of the plan for the worker of this number.
+    #[tactic(auto, using(crate::proofs::KeptPlans::plan_is_there))]
+    pub fn new(number: u32, plan: &Plan, desk: Desk<P, S, R>, duties: Vec<Duty>) -> Kit<P, S, R>
+        requires { Some plan.now ≡ P.plan }
+    {
+        Kit {
+            number,
+            windows: windows(plan),
+            desk,
+            duties,
+        }
+    }
+
+    /// No parts, with which a worker ends.
+    pub fn idle(alloc: Global, number: u32, plan: &Plan) -> Kit<P, S, R>
+        requires { Some plan.now ≡ P.plan }
+    {
+        Kit::new(number, plan, Desk::new(alloc), Vec::new(alloc))
+    }
+
+    /// Makes one window of each part whose parcels are here, and hands its parcels on. Says whether it made one.
+    pub fn turn<X: Wait>(&mut self, rt: &X, ports: &mut Ports<P, S, R>) -> bool {
+        turn(
+            rt,
+            &mut self.desk,
+            self.duties.as_slice(),
+            self.number,
+            ports,
+        )
+    }
+
+    /// Makes all windows where all parts are this worker's.
+    pub fn run_alone(&mut self) {
+        for _window in 0..self.windows {
+            turn_alone(&mut self.desk, self.duties.as_slice());
+        }
+    }
+
+    /// Puts a parcel to its part, if that is here, and drops it otherwise.
+    pub fn take(&mut self, parcel: Parcel)
+        requires { IfSome P.plan (λ plan. IsTrueParcel plan parcel) }
+    {
+        self.desk.take(parcel);
+    }
+
+    /// Whether all windows of all parts are made.
+    pub fn is_done(&self) -> bool {
+        for i in 0..self.duties.len() {
+            if !self.desk.is_past(self.duties[i].part, self.windows) {
+                return false;
+            }
+        }
+        true
+    }
+
+    /// Whether a part was given up.
+    pub fn has_lost(&self) -> bool {
+        for i in 0..self.duties.len() {
+            if self.desk.is_lost(self.duties[i].part) {
+                return true;
+            }
+        }
+        false
+    }
+
+    /// The parts alone.
+    pub fn into_parts(self) -> (Vec<S>, Vec<R>)
+        ensures segments { All (λ s. Some (S.plan s) ≡ P.plan) result.0.items }
+        ensures repeaters { All (λ r. Some (R.plan r) ≡ P.plan) result.1.items }
+    {
+        let Kit {
+            number: _,
+            windows: _,
+            desk,
+            duties: _,
+        } = self;
+        desk.into_parts()
+    }
+}
+
+/// Makes one window of each part whose parcels are here, and hands its parcels on. Says whether it made one.
+fn turn<P: Planned + Send, S: Part, R: Part, X: Wait>(
+    rt: &X,
+    desk: &mut Desk<P, S, R>,
+    duties: &[Duty],
+    number: u32,
+    ports: &mut Ports<P, S, R>,
+) -> bool {
+    let mut made = false;
+    for i in 0..duties.len() {
+        if desk.step(duties[i].part) {
+            made = true;
+            hand_on(rt, desk, duties[i].outlets.as_slice(), number, ports);
+        }
+    }
+    made
+}
+
+/// The same where all parts are this worker's.
+fn turn_alone<P: Planned, S: Part, R: Part>(desk: &mut Desk<P, S, R>, duties: &[Duty]) {
+    for i in 0..duties.len() {
+        if desk.step(duties[i].part) {
+            hand_over(desk, duties[i].outlets.as_slice());
+        }
+    }
+}
+
+/// Brings the parcels of these edges that leave to the workers of their parts.
+fn hand_on<P: Planned + Send, S: Part, R: Part, X: Wait>(
+    rt: &X,
+    desk: &mut Desk<P, S, R>,
+    outlets: &[Outlet],
+    number: u32,
+    ports: &mut Ports<P, S, R>,
+) {
+    for k in 0..outlets.len() {
+        let Some(parcel) = desk.post(outlets[k].edge) else {
+            continue;
+        };
+        if outlets[k].worker == number {
+            desk.take(parcel);
+        } else {
+            send_to(rt, ports, outlets[k].worker, parcel);
+        }
+    }
+}
+
+/// Sends a parcel to a worker.
+fn send_to<P: Planned + Send, S: Part, R: Part, X: Wait>(
+    rt: &X,
+    ports: &mut Ports<P, S, R>,
+    worker: u32,
+    parcel: Parcel,
+)
+    requires { IfSome P.plan (λ plan. IsTrueParcel plan parcel) }
+{
+    if let Some(port) = ports.get_mut(worker as usize) {
+        port.send(rt, Mail::Parcel(parcel));
+    }
+}
+
+/// Brings the parcels of these edges that leave to the parts here.
+fn hand_over<P: Planned, S: Part, R: Part>(desk: &mut Desk<P, S, R>, outlets: &[Outlet]) {
+    for k in 0..outlets.len() {
+        if let Some(parcel) = desk.post(outlets[k].edge) {
+            desk.take(parcel);
+        }
+    }
+}

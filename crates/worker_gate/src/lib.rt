@@ -1,0 +1,20 @@
+//! Workers that run the parts of a plan beside each other, each in a thread of its own, and hand parcels to each other through
+//! mailboxes; and parts that pass a gate at the beginning of each of their windows.
+#![tactic(auto)]
+
+mod crew;
+mod dealing;
+mod desk;
+mod gated;
+mod gather;
+mod kit;
+mod port;
+mod run;
+mod threads;
+mod worker;
+
+pub use gated::Gated;
+pub use run::run_planned;
+
+#[cfg(test)]
+mod tests;

@@ -1,0 +1,93 @@
+//! Boxes with passes of them.
+ghost use Rattle.std.specs.Prelude.{◌≡◌, ◌<◌, []};
+ghost use Rattle.std.specs.Arc.{arc_value};
+ghost use Rattle.crossbeam_queue.specs.Passes.{view, IsPassOf};
+ghost use Rattle.window_exchange.specs.Balance.{name_lists};
+ghost use Rattle.window_exchange.specs.MailNames.{IsHonest};
+
+use lists::OutOfMemory;
+use std::alloc::Global;
+use std::sync::{Arc, Wait};
+use window_exchange::{Mail, MailPass, Mailbox, Named, Planned};
+
+/// A box with a pass of it.
+#[derive(Drop)]
+pub struct Port<P: Planned, U: Named> {
+    mailbox: Arc<Mailbox<P, U>, Global>,
+    pass: MailPass<P, U>,
+    ghost of: { IsPassOf (arc_value mailbox).queue pass.pass },
+}
+
+/// A box with a pass of it that has put and taken nothing.
+#[derive(Drop)]
+struct FreshPort<P: Planned, U: Named> {
+    mailbox: Arc<Mailbox<P, U>, Global>,
+    pass: MailPass<P, U>,
+    ghost of: { IsPassOf (arc_value mailbox).queue pass.pass },
+    ghost fresh: { view pass.pass ≡ name_lists [] [] },
+}
+
+impl<P: Planned, U: Named> FreshPort<P, U> {
+    /// A new box with room for so many mails.
+    fn new(alloc: Global, room: u32) -> Result<FreshPort<P, U>, OutOfMemory>
+        requires { 0 < room }
+    {
+        let (mailbox, pass) = Mailbox::new(alloc, room)?;
+        let mailbox = Arc::new(alloc, mailbox)?;
+        Ok(FreshPort { mailbox, pass })
+    }
+
+    /// A port to this box.
+    fn port(&mut self) -> Result<Port<P, U>, OutOfMemory> {
+        let mailbox = Arc::try_clone(&self.mailbox)?;
+        let pass = mailbox.split(&mut self.pass);
+        Ok(Port { mailbox, pass })
+    }
+}
+
+impl<P: Planned, U: Named> Port<P, U> {
+    /// Puts mail into the box.
+    pub fn send<X: Wait>(&mut self, rt: &X, mail: Mail<U>)
+        requires { IsHonest U.plan P.plan mail }
+    {
+        self.mailbox.send(rt, &mut self.pass, mail);
+    }
+
+    /// Takes the oldest mail out of the box.
+    pub fn receive<X: Wait>(&mut self, rt: &X) -> Mail<U>
+        ensures { IsHonest U.plan P.plan result }
+    {
+        self.mailbox.receive(rt, &mut self.pass)
+    }
+}
+
+/// For each of so many workers its ports to the boxes of all, each box with room for so many mails.
+pub fn make_ports<P: Planned, U: Named>(
+    alloc: Global,
+    workers: u32,
+    room: u32,
+) -> Result<Vec<Vec<Port<P, U>>>, OutOfMemory>
+    requires { 0 < room }
+{
+    let mut boxes: Vec<FreshPort<P, U>> = Vec::new(alloc);
+    for _worker in 0..workers {
+        boxes.push(FreshPort::new(alloc, room)?)?;
+    }
+    let mut rows = Vec::new(alloc);
+    for _worker in 0..workers {
+        rows.push(ports_to(alloc, &mut boxes)?)?;
+    }
+    Ok(rows)
+}
+
+/// A port to each box.
+fn ports_to<P: Planned, U: Named>(
+    alloc: Global,
+    boxes: &mut Vec<FreshPort<P, U>>,
+) -> Result<Vec<Port<P, U>>, OutOfMemory> {
+    let mut ports = Vec::new(alloc);
+    for i in 0..boxes.len() {
+        ports.push(boxes[i].port()?)?;
+    }
+    Ok(ports)
+}

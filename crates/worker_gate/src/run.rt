@@ -1,0 +1,163 @@
+//! The run of a plan by workers.
+ghost use Rattle.std.specs.Prelude.{◌≡◌, ◌<◌, ◌≤◌, ◌+◌, IfOk, IfSome, Some, length};
+ghost use Rattle.worker_gate.specs.FinishedParts.{AreFinished};
+ghost use Rattle.worker_gate.specs.PartMakers.{MayMake, MakesParts};
+
+use crate::crew::make_kits;
+use crate::gather::{gather, put_parts};
+use crate::kit::Kit;
+use crate::threads::run_threads;
+use exchange_core::PartList;
+use lists::OutOfMemory;
+use load_plan::Plan;
+use mac_parameters::HALF_BITS_A_BIT;
+use net_parts::{Part, windows};
+use outside::Gate;
+use std::alloc::Global;
+use std::marker::Brand;
+use std::sync::Wait;
+use std::thread::Threads;
+use window_exchange::Planned;
+
+/// Runs a plan by 1 to 64 workers, the caller being one of them, on parts that closures make: `make_segment` and
+/// `make_repeater` are told the number of a segment and of a repeater, from 0. The gate is told that the run begins. Answers the
+/// parts, each once, in order of numbers, each with all its windows made, or want of memory. It may wait.
+pub fn run_planned<
+    S: Part,
+    R: Part,
+    F: Fn(u32) -> Result<S, OutOfMemory>,
+    H: Fn(u32) -> Result<R, OutOfMemory>,
+    G: Gate,
+    X: Threads + Wait + Sync,
+>(
+    rt: &X,
+    alloc: Global,
+    plan: &Plan,
+    workers: u32,
+    gate: &G,
+    make_segment: &F,
+    make_repeater: &H,
+) -> Result<(PartList<S>, PartList<R>), OutOfMemory>
+    requires least { 1 ≤ workers }
+    requires most { workers ≤ 64 }
+    requires may_segment { MayMake (length plan.now.layout.segments) (F.pre make_segment.now) }
+    requires segments { MakesParts S.plan S.number S.at plan.now 0 (F.post make_segment.now) }
+    requires may_repeater { MayMake (length plan.now.layout.repeaters) (H.pre make_repeater.now) }
+    requires repeaters { MakesParts R.plan R.number R.at plan.now (length plan.now.layout.segments) (H.post make_repeater.now) }
+    ensures segments { IfOk result (λ r. AreFinished S.plan S.number S.at plan.now 0 (length plan.now.layout.segments) r.0.items) }
+    ensures repeaters { IfOk result (λ r. AreFinished R.plan R.number R.at plan.now (length plan.now.layout.segments) (length plan.now.layout.repeaters) r.1.items) }
+{
+    let parts = plan
+        .layout
+        .segments
+        .len()
+        .saturating_add(plan.layout.repeaters.len());
+    let half_bits = plan
+        .layout
+        .until_bits
+        .saturating_mul(u64::from(HALF_BITS_A_BIT));
+    gate.begin(
+        u32::try_from(parts).unwrap_or(u32::MAX),
+        windows(plan),
+        half_bits,
+    );
+    run_boxed::<Brand, S, R, F, H, X>(rt, alloc, plan, workers, make_segment, make_repeater)
+}
+
+/// The same for a plan that a type carries, without the gate. Where the workers' parts aren't whole, they are made anew and run
+/// alone.
+fn run_boxed<
+    P: Planned + Send,
+    S: Part,
+    R: Part,
+    F: Fn(u32) -> Result<S, OutOfMemory>,
+    H: Fn(u32) -> Result<R, OutOfMemory>,
+    X: Threads + Wait + Sync,
+>(
+    rt: &X,
+    alloc: Global,
+    plan: &Plan,
+    workers: u32,
+    segment: &F,
+    repeater: &H,
+) -> Result<(Vec<S>, Vec<R>), OutOfMemory>
+    requires boxed { Some plan.now ≡ P.plan }
+    requires may_segment { MayMake (length plan.now.layout.segments) (F.pre segment.now) }
+    requires segments { MakesParts S.plan S.number S.at plan.now 0 (F.post segment.now) }
+    requires may_repeater { MayMake (length plan.now.layout.repeaters) (H.pre repeater.now) }
+    requires repeaters { MakesParts R.plan R.number R.at plan.now (length plan.now.layout.segments) (H.post repeater.now) }
+    ensures segments { IfOk result (λ r. AreFinished S.plan S.number S.at plan.now 0 (length plan.now.layout.segments) r.0.items) }
+    ensures repeaters { IfOk result (λ r. AreFinished R.plan R.number R.at plan.now (length plan.now.layout.segments) (length plan.now.layout.repeaters) r.1.items) }
+{
+    if workers > 1 {
+        let kits = run_threads::<P, S, R, F, H, X>(rt, alloc, plan, workers, segment, repeater)?;
+        if let Some(parts) = whole::<P, S, R>(alloc, plan, kits)? {
+            return Ok(parts);
+        }
+    }
+    let kits = run_alone::<P, S, R, F, H>(alloc, plan, segment, repeater)?;
+    match whole::<P, S, R>(alloc, plan, kits)? {
+        Some(parts) => Ok(parts),
+        None => Err(OutOfMemory),
+    }
+}
+
+/// One worker's run, without a box and without a thread.
+fn run_alone<
+    P: Planned + Send,
+    S: Part,
+    R: Part,
+    F: Fn(u32) -> Result<S, OutOfMemory>,
+    H: Fn(u32) -> Result<R, OutOfMemory>,
+>(alloc: Global, plan: &Plan, segment: &F, repeater: &H) -> Result<Vec<Kit<P, S, R>>, OutOfMemory>
+    requires boxed { Some plan.now ≡ P.plan }
+    requires may_segment { MayMake (length plan.now.layout.segments) (F.pre segment.now) }
+    requires segments { MakesParts S.plan S.number S.at plan.now 0 (F.post segment.now) }
+    requires may_repeater { MayMake (length plan.now.layout.repeaters) (H.pre repeater.now) }
+    requires repeaters { MakesParts R.plan R.number R.at plan.now (length plan.now.layout.segments) (H.post repeater.now) }
+{
+    let mut kits = make_kits::<P, S, R, F, H>(alloc, plan, 1, segment, repeater)?;
+    for i in 0..kits.len() {
+        kits[i].run_alone();
+    }
+    Ok(kits)
+}
+
+/// All parts of the kits in order; none where one isn't there or hasn't made all windows. Where a part was given up, memory was
+/// short.
+fn whole<P: Planned + Send, S: Part, R: Part>(
+    alloc: Global,
+    plan: &Plan,
+    kits: Vec<Kit<P, S, R>>,
+) -> Result<Option<(Vec<S>, Vec<R>)>, OutOfMemory>
+    requires boxed { Some plan.now ≡ P.plan }
+    ensures segments { IfOk result (λ o. IfSome o (λ r. AreFinished S.plan S.number S.at plan.now 0 (length plan.now.layout.segments) r.0.items)) }
+    ensures repeaters { IfOk result (λ o. IfSome o (λ r. AreFinished R.plan R.number R.at plan.now (length plan.now.layout.segments) (length plan.now.layout.repeaters) r.1.items)) }
+{
+    let Ok(first) = u32::try_from(plan.layout.segments.len()) else {
+        return Err(OutOfMemory);
+    };
+    let Ok(others) = u32::try_from(plan.layout.repeaters.len()) else {
+        return Err(OutOfMemory);
+    };
+    if first.checked_add(others).is_none() {
+        return Err(OutOfMemory);
+    }
+    let mut segments = Vec::new(alloc);
+    let mut repeaters = Vec::new(alloc);
+    for kit in kits {
+        if kit.has_lost() {
+            return Err(OutOfMemory);
+        }
+        let (some, more) = kit.into_parts();
+        put_parts::<P, S>(&mut segments, some)?;
+        put_parts::<P, R>(&mut repeaters, more)?;
+    }
+    let Some(segments) = gather(alloc, plan, segments, 0, first)? else {
+        return Ok(None);
+    };
+    let Some(repeaters) = gather(alloc, plan, repeaters, first, others)? else {
+        return Ok(None);
+    };
+    Ok(Some((segments, repeaters)))
+}

@@ -1,0 +1,171 @@
+//! Workers in threads of their own, and the caller among them.
+ghost use Rattle.std.specs.Prelude.{◌≡◌, ◌<◌, ◌+◌, Some, length};
+ghost use denote.Param.Send.{IsSend};
+ghost use Rattle.worker_gate.specs.PartMakers.{MayMake, MakesParts};
+
+use crate::crew::make_kits;
+use crate::dealing::count_edges;
+use crate::kit::{Kit, Ports};
+use crate::port::make_ports;
+use crate::worker::{live, work};
+use lists::OutOfMemory;
+use load_plan::Plan;
+use net_parts::Part;
+use std::alloc::Global;
+use std::sync::Wait;
+use std::thread;
+use std::thread::{JoinHandle, Scope, Threads};
+use window_exchange::{Mail, Named, Planned};
+
+/// Starts the worker of this number, if a thread can be made.
+fn start<'s, E, P: Planned + Send + 's, S: Part + 's, R: Part + 's, X: Wait + Sync>(
+    scope: &Scope<'s, E>,
+    rt: &'s X,
+    ports: Ports<P, S, R>,
+    number: u32,
+) -> Option<JoinHandle<Option<Kit<P, S, R>>>> {
+    match scope.spawn(move || -> Option<Kit<P, S, R>> { live(rt, ports, number) }) {
+        Ok(handle) => Some(handle),
+        Err(_) => None,
+    }
+}
+
+/// Makes a kit for each of so many workers, then sends them, and works on the caller's own. Where memory is short, each worker
+/// gets a kit with which it ends.
+fn lead<
+    P: Planned + Send,
+    S: Part,
+    R: Part,
+    F: Fn(u32) -> Result<S, OutOfMemory>,
+    H: Fn(u32) -> Result<R, OutOfMemory>,
+    X: Wait,
+>(
+    rt: &X,
+    alloc: Global,
+    plan: &Plan,
+    ports: &mut Ports<P, S, R>,
+    workers: u32,
+    segment: &F,
+    repeater: &H,
+) -> Result<Kit<P, S, R>, OutOfMemory>
+    requires boxed { Some plan.now ≡ P.plan }
+    requires may_segment { MayMake (length plan.now.layout.segments) (F.pre segment.now) }
+    requires segments { MakesParts S.plan S.number S.at plan.now 0 (F.post segment.now) }
+    requires may_repeater { MayMake (length plan.now.layout.repeaters) (H.pre repeater.now) }
+    requires repeaters { MakesParts R.plan R.number R.at plan.now (length plan.now.layout.segments) (H.post repeater.now) }
+{
+    match make_kits::<P, S, R, F, H>(alloc, plan, workers, segment, repeater) {
+        Ok(kits) => {
+            let mut own = send_kits(rt, alloc, plan, ports, kits);
+            work(rt, 0, &mut own, ports);
+            Ok(own)
+        }
+        Err(fault) => {
+            for number in 1..workers {
+                send_kit(rt, ports, Kit::idle(alloc, number, plan));
+            }
+            Err(fault)
+        }
+    }
+}
+
+/// Sends all kits but the caller's, which is given back.
+fn send_kits<P: Planned + Send, S: Part, R: Part, X: Wait>(
+    rt: &X,
+    alloc: Global,
+    plan: &Plan,
+    ports: &mut Ports<P, S, R>,
+    kits: Vec<Kit<P, S, R>>,
+) -> Kit<P, S, R>
+    requires { Some plan.now ≡ P.plan }
+{
+    let mut own = Kit::idle(alloc, 0, plan);
+    for kit in kits {
+        if kit.number() == 0 {
+            own = kit;
+        } else {
+            send_kit(rt, ports, kit);
+        }
+    }
+    own
+}
+
+/// Sends a kit to the worker of its number.
+#[tactic(auto, using(crate::proofs::KeptPlans::the_plan_is))]
+fn send_kit<P: Planned + Send, S: Part, R: Part, X: Wait>(
+    rt: &X,
+    ports: &mut Ports<P, S, R>,
+    kit: Kit<P, S, R>,
+) {
+    if let Some(port) = ports.get_mut(kit.number() as usize) {
+        port.send(rt, Mail::Kit(kit));
+    }
+}
+
+/// Runs the plan by so many workers, or as many fewer as there are threads, each part at one of them. Answers their kits.
+pub fn run_threads<
+    P: Planned + Send,
+    S: Part,
+    R: Part,
+    F: Fn(u32) -> Result<S, OutOfMemory>,
+    H: Fn(u32) -> Result<R, OutOfMemory>,
+    X: Threads + Wait + Sync,
+>(
+    rt: &X,
+    alloc: Global,
+    plan: &Plan,
+    workers: u32,
+    segment: &F,
+    repeater: &H,
+) -> Result<Vec<Kit<P, S, R>>, OutOfMemory>
+    requires boxed { Some plan.now ≡ P.plan }
+    requires may_segment { MayMake (length plan.now.layout.segments) (F.pre segment.now) }
+    requires segments { MakesParts S.plan S.number S.at plan.now 0 (F.post segment.now) }
+    requires may_repeater { MayMake (length plan.now.layout.repeaters) (H.pre repeater.now) }
+    requires repeaters { MakesParts R.plan R.number R.at plan.now (length plan.now.layout.segments) (H.post repeater.now) }
+{
+    let Some(room) = count_edges(&plan.layout).checked_add(1) else {
+        return Err(OutOfMemory);
+    };
+    let mut rows = make_ports::<P, Kit<P, S, R>>(alloc, workers, room)?;
+    if rows.is_empty() {
+        return Err(OutOfMemory);
+    }
+    let mine = rows.remove(0);
+    let handles = Vec::with_capacity(alloc, rows.len())?;
+    let kits = Vec::with_capacity(alloc, workers as usize)?;
+    thread::scope(
+        thread::scope_env(),
+        rt,
+        |scope| -> Result<Vec<Kit<P, S, R>>, OutOfMemory>
+            requires crossing { IsSend P.row × IsSend S.row × IsSend R.row }
+            requires boxed { Some plan.now ≡ P.plan }
+            requires may_segment { MayMake (length plan.now.layout.segments) (F.pre segment.now) }
+            requires segments { MakesParts S.plan S.number S.at plan.now 0 (F.post segment.now) }
+            requires may_repeater { MayMake (length plan.now.layout.repeaters) (H.pre repeater.now) }
+            requires repeaters { MakesParts R.plan R.number R.at plan.now (length plan.now.layout.segments) (H.post repeater.now) }
+        {
+            let mut mine = mine;
+            let mut handles = handles;
+            let mut kits = kits;
+            let mut count = 1u32;
+            for row in rows {
+                let Some(handle) = start(scope, rt, row, count) else {
+                    break;
+                };
+                let _ = handles.push(handle);
+                count = count.saturating_add(1);
+            }
+            let own = lead::<P, S, R, F, H, X>(
+                rt, alloc, plan, &mut mine, count, segment, repeater,
+            );
+            for handle in handles {
+                if let Some(kit) = handle.join(rt) {
+                    let _ = kits.push(kit);
+                }
+            }
+            kits.push(own?)?;
+            Ok(kits)
+        },
+    )
+}
