@@ -107,43 +107,17 @@ abbrev pub IsLongAs : List ℕ → Option Files → ℕ → Type 0
 IsLongAs name None count = Unit {0}
 IsLongAs name (Some files) count = option_map length (file_of name files) ≡ Some count
 
--- the reader was given so many octets of the front of a file, and none where there is no file
-abbrev pub IsFedOf : Option (List ℕ) → ℕ → Reader → Type 0
-IsFedOf None seen reader = seen ≡ 0
-IsFedOf (Some octets) seen reader = (seen ≤ length octets) × Reads (take seen octets) reader
-
--- where the store tells its files, the reader was given so many octets of the front of this one
-abbrev pub IsFed : List ℕ → Option Files → ℕ → Reader → Type 0
-IsFed name None seen reader = Unit {0}
-IsFed name (Some files) seen reader = IsFedOf (file_of name files) seen reader
-
 -- the loads of all stations, once the stations before k are read and their loads have so many octets
 abbrev pub IsLoadedSo : Option Files → List StationLine → List (List Record) → ℕ → ℕ → Type 0
 IsLoadedSo None stations so_far before k = Unit {0}
 IsLoadedSo (Some files) stations so_far before k =
     loaded files stations ≡ with_before so_far (loaded_from files before k (drop k stations))
 
--- the file is there and has at most so many octets
-abbrev pub EndsBy : Option (List ℕ) → ℕ → Type 0
-EndsBy None from = ⊥
-EndsBy (Some octets) from = length octets ≤ from
-
--- where the store tells its files, this one is there and has at most so many octets
-abbrev pub FileEndsBy : List ℕ → Option Files → ℕ → Type 0
-FileEndsBy name None from = Unit {0}
-FileEndsBy name (Some files) from = EndsBy (file_of name files) from
-
 -- why a load that may have so many octets could not be read, by the failed reads before and after
 abbrev pub IsUnloaded : ℕ → List ℕ → Option Files → ℕ → ℕ → Unloaded → Type 0
 IsUnloaded most name held reads risen (unloaded.Fault fault) = IsJudgedLoad most name held (Err fault)
 IsUnloaded most name held reads risen unloaded.Unread = IsAbsent name held ⊎ Rose reads risen
 IsUnloaded most name held reads risen unloaded.OutOfMemory = Unit {0}
-
--- why a load could not be read before it was judged
-abbrev pub IsUnread : List ℕ → Option Files → ℕ → ℕ → Unloaded → Type 0
-IsUnread name held reads risen (unloaded.Fault fault) = ⊥
-IsUnread name held reads risen unloaded.Unread = IsAbsent name held ⊎ Rose reads risen
-IsUnread name held reads risen unloaded.OutOfMemory = Unit {0}
 
 -- a load as it was read, where the loads before it have so many octets
 abbrev pub IsLoadOf : ℕ → Option (List ℕ) → Option Files → Load → Type 0

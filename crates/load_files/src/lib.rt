@@ -7,3 +7,6 @@ mod stop;
 
 pub use loads::read_loads;
 pub use stop::LoadStop;
+
+#[cfg(test)]
+mod tests;

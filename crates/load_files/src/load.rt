@@ -3,10 +3,11 @@ ghost use Rattle.std.specs.Prelude.{◌≡◌, ◌≤◌, ◌<◌, ◌+◌, ℕ,
 ghost use Rattle.capture_file.specs.Captures.{capture_fault};
 ghost use Rattle.capture_file.specs.Reading.{Reads};
 ghost use Rattle.capture_file.specs.declared.fault.CaptureFault.{CaptureFault};
-ghost use Rattle.load_files.specs.Loaded.{FileEndsBy, IsFed, IsJudgedLoad, IsLongAs, IsUnloaded, IsUnread, judged_by, most_of_load};
+ghost use Rattle.load_files.specs.Loaded.{IsJudgedLoad, IsLongAs, IsUnloaded, judged_by, most_of_load};
 ghost use Rattle.load_files.specs.declared.load.Unloaded.TheVariants as unloaded;
 
 use capture_file::{CaptureFault, CaptureReader, Records};
+use file_pieces::{Taker, read_pieces};
 use lists::OutOfMemory;
 use outside::{Store, StoreFail};
 use std::alloc::Global;
@@ -37,34 +38,20 @@ pub(crate) struct Load {
     pub octets: usize,
 }
 
-/// One more piece of a file from a place on, at most so many octets and at most the room; none at the end.
-fn feed_piece<S: Store>(
-    store: &mut S,
-    name: &str,
-    from: usize,
-    most: usize,
-    room: &mut [u8],
-    reader: &mut CaptureReader,
-) -> Result<usize, Unloaded>
-    requires most { 0 < most }
-    requires room { 0 < length room.old }
-    ensures fed { IfOk result (λ n. IsFed name.now (S.held store.old) from reader.old → IsFed name.now (S.held store.old) (from + n) reader.new) }
-    ensures few { IfOk result (λ n. n ≤ most) }
-    ensures end { IfOk result (λ n. n ≡ 0 → FileEndsBy name.now (S.held store.old) from) }
-    ensures unread { IfErr result (λ u. IsUnread name.now (S.held store.old) (S.read_faults store.old) (S.read_faults store.new) u) }
-    ensures held { S.held store.new ≡ S.held store.old }
-    ensures reads { S.read_faults store.old ≤ S.read_faults store.new }
-    ensures writes { S.write_faults store.old ≤ S.write_faults store.new }
-{
-    let most = most.min(room.len());
-    let into = &mut room[..most];
-    let count = match store.read(name, from as u64, into) {
-        Ok(count) => count,
-        Err(StoreFail::OutOfMemory) => return Err(Unloaded::OutOfMemory),
-        Err(_) => return Err(Unloaded::Unread),
-    };
-    reader.feed(&into[..count])?;
-    Ok(count)
+/// The reader of a load, which takes its pieces.
+#[derive(Drop)]
+struct LoadReader {
+    reader: CaptureReader,
+}
+
+impl Taker for LoadReader {
+    ghost use Rattle.capture_file.specs.Reading.{Reads};
+
+    ghost given = { λ load octets. Reads octets load.reader };
+
+    fn take(&mut self, piece: &[u8]) -> Result<(), OutOfMemory> {
+        self.reader.feed(piece)
+    }
 }
 
 /// What a reader of a whole load answers.
@@ -98,14 +85,13 @@ pub(crate) fn read_load<S: Store>(
     ensures reads { S.read_faults store.old ≤ S.read_faults store.new }
     ensures writes { S.write_faults store.old ≤ S.write_faults store.new }
 {
-    let mut reader = CaptureReader::new(alloc);
-    let mut seen = 0;
-    while seen <= most {
-        let count = feed_piece(store, name, seen, most + 1 - seen, room, &mut reader)?;
-        if count == 0 {
-            return finish(reader, seen);
-        }
-        seen += count;
+    let mut load = LoadReader {
+        reader: CaptureReader::new(alloc),
+    };
+    match read_pieces(store, name, most, room, &mut load) {
+        Ok(seen) if seen <= most => finish(load.reader, seen),
+        Ok(_) => Err(Unloaded::Fault(CaptureFault::TooLarge)),
+        Err(StoreFail::OutOfMemory) => Err(Unloaded::OutOfMemory),
+        Err(_) => Err(Unloaded::Unread),
     }
-    Err(Unloaded::Fault(CaptureFault::TooLarge))
 }

@@ -19,7 +19,7 @@ const MOST_OF_LOAD: usize = 67_108_864;
 const MOST_OF_LOADS: usize = 268_435_456;
 
 /// The most octets that are read at once (profile).
-const PIECE: usize = 65_536;
+pub(crate) const PIECE: usize = 65_536;
 
 impl From<OutOfMemory> for LoadStop {
     ghost use Rattle.std.specs.Prelude.{◌≡◌};
