@@ -1,0 +1,10 @@
+pub mod BodyTexts
+pub mod Numbers
+pub mod Words
+pub mod FoundFields
+pub mod FoundBodies
+pub mod BodiesAgain
+pub mod WholeLines
+pub mod LinesRead
+pub mod LinesApart
+pub mod RowsRead
