@@ -1,0 +1,5 @@
+pub mod Lengthened
+pub mod Crossings
+pub mod Reaches
+pub mod Parts
+pub mod Slacks
