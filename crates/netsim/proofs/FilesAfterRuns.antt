@@ -1,90 +1,92 @@
--- What a run leaves of its files and of its summary, by how the call ended.
-use Rattle.std.proofs.Common.{◌≡◌, ◌⊎◌, ℕ, Option, None, Some, List, inl, inr}
+-- What a call leaves of files and of the sink, by how it ended.
+use Rattle.std.proofs.Common.{◌≡◌, ◌⊎◌, ℕ, Option, None, Some, List, refl, inl, inr}
 use Rattle.outside.specs.Files.{Rose}
-use Rattle.netsim.specs.declared.ended.Ended.{Ended}
-use Rattle.netsim.specs.declared.ended.Ended.TheVariants as ended
-use Rattle.netsim.specs.Ended.{Moment, IsEndOf, IsPlainEnd, IsRun, IsUnrun}
-use Rattle.netsim.specs.Requests.{Asked, Check, Plain, Help, Version}
-use Rattle.netsim.specs.Statuses.{IfPlain, IsRunHeld, IsRunBroken, AreRunFilesHeld}
+use Rattle.layout.specs.declared.lines.Layout.{Layout}
+use Rattle.netsim.specs.declared.endings.Ending.{Ending}
+use Rattle.netsim.specs.declared.endings.Ending.TheVariants as ending
+use Rattle.netsim.specs.Endings.{IsAnswer, IsEarly, IsEndOf, IsPlainEnd, IsRun, IsTellingEnd, IsText, IsTold, IsUnloadedSaid, IsUnrun, Says, status_of}
+use Rattle.netsim.specs.Moments.{Moment}
+use Rattle.netsim.specs.Requests.{Asked, asked, Check, Slack, Plain, Help, Version}
+use Rattle.netsim.specs.Statuses.{AreSlacksDone, IfCheck, IfPlain, IfSlack, IfTelling, IsCheckDone, IsRunBroken, IsRunDone, IsRunRefused, IsSummaryCut, IsTellingCut, IsTellingDone}
+use Rattle.netsim.specs.StatusLaws.{AreFailuresSilent, AreFilesWhole, AreTellingsCutShort, AreTellingsRefused, AreTextsCutShort, AreTextsFailed, AreTextsWritten, AreWordsSaid, DoTellingsKeepFiles, DoTextsKeepFiles}
+use Rattle.netsim.specs.Texts.{line_of_words_fault}
+use Rattle.netsim.specs.Runs.{run_files}
+use Rattle.netsim.specs.Writing.{added, IsBrokenAmong, IsCutShort}
+use Rattle.netsim.proofs.EndingsByStatus.{end_at, of_tellings, of_texts, plain_end}
 
-never_unrun : (X : Type 0) (before after : Moment) (e : Ended) → (e ≡ ended.Memory → ⊥) → IsUnrun before after e → X
+-- an ending that isn't want of memory is no end before a run
+never_unrun : (X : Type 0) (before after : Moment) (e : Ending) → (e ≡ ending.Memory → ⊥) → IsUnrun before after e → X
 never_unrun X before after e never unrun = absurd (never unrun.0)
 
+-- an ending that comes neither early nor of want of memory is that of a run
+run_of : (layout prefix : List ℕ) (before after : Moment) (e : Ending) → (IsEarly layout before after e → ⊥) → ((network : Layout) → IsUnloadedSaid network before after e → ⊥) → (e ≡ ending.Memory → ⊥)
+    → IsPlainEnd layout prefix before after e → IsRun layout prefix before after e
+run_of layout prefix before after e early unloaded memory h =
+    elim h [
+      | inl one ↦ absurd (early one.0)
+      | inr later ↦ elim later [
+        | inl two ↦ absurd (unloaded two.0.network two.0.said)
+        | inr on ↦ elim on [ inl unrun ↦ absurd (memory unrun.0) | inr run ↦ run ]
+      ]
+    ]
+
 -- a run was done
-run_done : (layout prefix : List ℕ) (before after : Moment) → IsPlainEnd layout prefix before after ended.Done → IsRun layout prefix before after ended.Done
-run_done layout prefix before after h =
-    elim h [
-      | inl early ↦ absurd early.0
-      | inr later ↦ elim later [
-        | inl unloaded ↦ absurd unloaded.0.said
-        | inr on ↦ elim on [ inl unrun ↦ never_unrun _ before after ended.Done (λ e. cc) unrun | inr run ↦ run ]
-      ]
-    ]
+run_done : (layout prefix : List ℕ) (before after : Moment) → IsPlainEnd layout prefix before after ending.Done → IsRun layout prefix before after ending.Done
+run_done layout prefix before after h = run_of layout prefix before after ending.Done (λ early. early) (λ network said. said) (λ e. cc) h
 
-run_written : (layout prefix : List ℕ) (before after : Moment) → IsPlainEnd layout prefix before after ended.Write → IsRun layout prefix before after ended.Write
-run_written layout prefix before after h =
-    elim h [
-      | inl early ↦ absurd early.0
-      | inr later ↦ elim later [
-        | inl unloaded ↦ absurd unloaded.0.said
-        | inr on ↦ elim on [ inl unrun ↦ never_unrun _ before after ended.Write (λ e. cc) unrun | inr run ↦ run ]
-      ]
-    ]
+run_written : (layout prefix : List ℕ) (before after : Moment) → IsPlainEnd layout prefix before after ending.Write → IsRun layout prefix before after ending.Write
+run_written layout prefix before after h = run_of layout prefix before after ending.Write (λ early. early) (λ network said. said) (λ e. cc) h
 
-held_of : (layout prefix : List ℕ) (before after : Moment) → IsRun layout prefix before after ended.Done → IsRunHeld layout prefix before.held after.held before.written after.written
+held_of : (layout prefix : List ℕ) (before after : Moment) → IsRun layout prefix before after ending.Done → IsRunDone layout prefix before after
 held_of layout prefix before after run =
     elim run.filed [
-      | inl all ↦ record { network = run.network; judged = run.judged; plan = run.plan; planned = run.planned; holds = (all.0, (all.1.0, all.1.1, all.1.2)) }
+      | inl all ↦ record { network = run.network; judged = run.judged; plan = run.plan; planned = run.planned; files = all.0; summary = all.1.0; summed = all.1.1; written = all.1.2 }
       | inr some ↦ absurd some
     ]
 
-pub done : (o : Option Asked) (before after : Moment) → IsEndOf o before after ended.Done → IfPlain o (λ layout prefix. IsRunHeld layout prefix before.held after.held before.written after.written)
-done None before after h = tt
-done (Some Help) before after h = tt
-done (Some Version) before after h = tt
-done (Some (Check layout)) before after h = tt
-done (Some (Plain layout prefix)) before after h = held_of layout prefix before after (run_done layout prefix before after h)
+-- status 0 of a run
+pub done : (words : List (List ℕ)) (entry exit : Moment) (status : ℕ) → IsAnswer words entry exit status → status ≡ 0 → IfPlain (asked words) (λ layout prefix. IsRunDone layout prefix entry exit)
+done words entry exit status answer zero layout prefix is =
+    held_of layout prefix entry exit (run_done layout prefix entry exit (plain_end (asked words) layout prefix entry exit ending.Done is (end_at words entry exit status 0 answer zero)))
 
-broken_of : (layout prefix : List ℕ) (before after : Moment) → IsRun layout prefix before after ended.Write → IsRunBroken layout prefix before.held after.held before.written after.written
+-- a run that left some of its files, or a front of its summary
+run_left : (layout prefix : List ℕ) (before after : Moment) (e : Ending) (run : IsRun layout prefix before after e)
+    → (IsBrokenAmong (run_files prefix run.plan) before.held after.held × (after.written ≡ before.written)) ⊎ IsSummaryCut prefix run.plan before after → IsRunBroken layout prefix before after
+run_left layout prefix before after e run left = record { network = run.network; judged = run.judged; plan = run.plan; planned = run.planned; left = left }
+
+broken_of : (layout prefix : List ℕ) (before after : Moment) → IsRun layout prefix before after ending.Write → IsRunBroken layout prefix before after
 broken_of layout prefix before after run =
-    elim run.filed [
-      | inl all ↦ record { network = run.network; judged = run.judged; plan = run.plan; planned = run.planned; holds = inr (all.0, (all.1.0, all.1.1, all.1.2.0)) }
-      | inr some ↦ record { network = run.network; judged = run.judged; plan = run.plan; planned = run.planned; holds = inl (some.0, some.2) }
-    ]
+    run_left layout prefix before after ending.Write run
+    (elim run.filed [ inl all ↦ inr (record { files = all.0; summary = all.1.0; summed = all.1.1; cut = all.1.2.0 }) | inr some ↦ inl (some.0, some.2) ])
 
-pub broken : (o : Option Asked) (before after : Moment) → IsEndOf o before after ended.Write → IfPlain o (λ layout prefix. IsRunBroken layout prefix before.held after.held before.written after.written)
-broken None before after h = tt
-broken (Some Help) before after h = tt
-broken (Some Version) before after h = tt
-broken (Some (Check layout)) before after h = tt
-broken (Some (Plain layout prefix)) before after h = broken_of layout prefix before after (run_written layout prefix before after h)
+written_at : (words : List (List ℕ)) (entry exit : Moment) (status : ℕ) (layout prefix : List ℕ) → IsAnswer words entry exit status → status ≡ 5 → asked words ≡ Some (Plain layout prefix) → IsRun layout prefix entry exit ending.Write
+written_at words entry exit status layout prefix answer five is =
+    run_written layout prefix entry exit (plain_end (asked words) layout prefix entry exit ending.Write is (end_at words entry exit status 5 answer five))
 
-pub write_files : (o : Option Asked) (before after : Moment) → IsEndOf o before after ended.Write → ¬ Rose before.writes after.writes → IfPlain o (λ layout prefix. AreRunFilesHeld layout prefix before.held after.held)
-write_files None before after h never = tt
-write_files (Some Help) before after h never = tt
-write_files (Some Version) before after h never = tt
-write_files (Some (Check layout)) before after h never = tt
-write_files (Some (Plain layout prefix)) before after h never =
-    let run : IsRun layout prefix before after ended.Write = run_written layout prefix before after h in
+-- status 5 of a run
+pub broken : (words : List (List ℕ)) (entry exit : Moment) (status : ℕ) → IsAnswer words entry exit status → status ≡ 5 → IfPlain (asked words) (λ layout prefix. IsRunBroken layout prefix entry exit)
+broken words entry exit status answer five layout prefix is = broken_of layout prefix entry exit (written_at words entry exit status layout prefix answer five is)
+
+pub files_are_whole : AreFilesWhole
+files_are_whole words entry exit status answer five never layout prefix is =
+    let run : IsRun layout prefix entry exit ending.Write = written_at words entry exit status layout prefix answer five is in
     elim run.filed [
-      | inl all ↦ record { network = run.network; judged = run.judged; plan = run.plan; planned = run.planned; holds = all.0 }
+      | inl all ↦ record { network = run.network; judged = run.judged; plan = run.plan; planned = run.planned; files = all.0 }
       | inr some ↦ absurd (never some.1)
     ]
 
-refused_of : (layout prefix : List ℕ) (before after : Moment) → IsRun layout prefix before after ended.Memory → IsRunBroken layout prefix before.held after.held before.written after.written
-refused_of layout prefix before after run =
-    elim run.filed [
-      | inl all ↦ record { network = run.network; judged = run.judged; plan = run.plan; planned = run.planned; holds = inr (all.0, (all.1.0, all.1.1, all.1.2)) }
-      | inr some ↦ record { network = run.network; judged = run.judged; plan = run.plan; planned = run.planned; holds = inl (some.0, some.1) }
-    ]
+pub failures_are_silent : AreFailuresSilent
+failures_are_silent words entry exit status answer five never layout prefix is =
+    let run : IsRun layout prefix entry exit ending.Write = written_at words entry exit status layout prefix answer five is in
+    elim run.filed [ inl all ↦ absurd (never all.1.2.1) | inr some ↦ some.2 ]
 
-pub memory : (o : Option Asked) (before after : Moment) → IsEndOf o before after ended.Memory
-    → IfPlain o (λ layout prefix. ((after.held ≡ before.held) × (after.written ≡ before.written)) ⊎ IsRunBroken layout prefix before.held after.held before.written after.written)
-memory None before after h = tt
-memory (Some Help) before after h = tt
-memory (Some Version) before after h = tt
-memory (Some (Check layout)) before after h = tt
-memory (Some (Plain layout prefix)) before after h =
+refused_of : (layout prefix : List ℕ) (before after : Moment) → IsRun layout prefix before after ending.Memory → IsRunBroken layout prefix before after
+refused_of layout prefix before after run =
+    run_left layout prefix before after ending.Memory run
+    (elim run.filed [ inl all ↦ inr (record { files = all.0; summary = all.1.0; summed = all.1.1; cut = all.1.2 }) | inr some ↦ inl (some.0, some.1) ])
+
+memory_of : (layout prefix : List ℕ) (before after : Moment) → IsPlainEnd layout prefix before after ending.Memory → IsRunRefused layout prefix before after
+memory_of layout prefix before after h =
     elim h [
       | inl early ↦ inl (early.1, early.0)
       | inr later ↦ elim later [
@@ -92,3 +94,91 @@ memory (Some (Plain layout prefix)) before after h =
         | inr on ↦ elim on [ inl unrun ↦ inl (unrun.1, unrun.2) | inr run ↦ inr (refused_of layout prefix before after run) ]
       ]
     ]
+
+-- status 6 of a run
+pub memory : (words : List (List ℕ)) (entry exit : Moment) (status : ℕ) → IsAnswer words entry exit status → status ≡ 6
+    → IfPlain (asked words) (λ layout prefix. IsRunRefused layout prefix entry exit)
+memory words entry exit status answer six layout prefix is =
+    memory_of layout prefix entry exit (plain_end (asked words) layout prefix entry exit ending.Memory is (end_at words entry exit status 6 answer six))
+
+telling_done : (Tells : Layout → List ℕ → Type 0) (layout : List ℕ) (before after : Moment) → IsTellingEnd Tells layout before after ending.Done → IsTellingDone Tells layout before after
+telling_done Tells layout before after h =
+    elim h.1 [
+      | inl early ↦ absurd early
+      | inr told ↦ record { network = told.network; judged = told.judged; text = told.text; right = told.right; written = told.written; held = h.0 }
+    ]
+
+-- status 0 of a form that only tells of a layout
+tellings_are_done : (words : List (List ℕ)) (entry exit : Moment) (status : ℕ) → IsAnswer words entry exit status → status ≡ 0 → IfTelling (asked words) (λ Tells layout. IsTellingDone Tells layout entry exit)
+tellings_are_done words entry exit status answer zero =
+    of_tellings (asked words) entry exit ending.Done (λ Tells layout. IsTellingDone Tells layout entry exit) (λ Tells layout end. telling_done Tells layout entry exit end) (end_at words entry exit status 0 answer zero)
+
+-- status 0 of a check
+pub checked : (words : List (List ℕ)) (entry exit : Moment) (status : ℕ) → IsAnswer words entry exit status → status ≡ 0 → IfCheck (asked words) (λ layout. IsCheckDone layout entry exit)
+checked words entry exit status answer zero = (tellings_are_done words entry exit status answer zero).0
+
+-- status 0 where the slacks are asked for
+pub slacks_done : (words : List (List ℕ)) (entry exit : Moment) (status : ℕ) → IsAnswer words entry exit status → status ≡ 0 → IfSlack (asked words) (λ layout. AreSlacksDone layout entry exit)
+slacks_done words entry exit status answer zero = (tellings_are_done words entry exit status answer zero).1
+
+cut_of : (Tells : Layout → List ℕ → Type 0) (layout : List ℕ) (before after : Moment) (e : Ending) (told : IsTold Tells layout before after e) → IsCutShort told.text before.written after.written → IsTellingCut Tells layout before after
+cut_of Tells layout before after e told cut = record { network = told.network; judged = told.judged; text = told.text; right = told.right; cut = cut }
+
+telling_failed : (Tells : Layout → List ℕ → Type 0) (layout : List ℕ) (before after : Moment) → IsTellingEnd Tells layout before after ending.Write → Rose before.faults after.faults × IsTellingCut Tells layout before after
+telling_failed Tells layout before after h = elim h.1 [ inl early ↦ absurd early | inr told ↦ (told.written.1, cut_of Tells layout before after ending.Write told told.written.0) ]
+
+pub tellings_are_cut_short : AreTellingsCutShort
+tellings_are_cut_short words entry exit status answer five =
+    of_tellings (asked words) entry exit ending.Write (λ Tells layout. Rose entry.faults exit.faults × IsTellingCut Tells layout entry exit) (λ Tells layout end. telling_failed Tells layout entry exit end) (end_at words entry exit status 5 answer five)
+
+telling_refused : (Tells : Layout → List ℕ → Type 0) (layout : List ℕ) (before after : Moment) → IsTellingEnd Tells layout before after ending.Memory → (after.written ≡ before.written) ⊎ IsTellingCut Tells layout before after
+telling_refused Tells layout before after h = elim h.1 [ inl early ↦ inl early | inr told ↦ inr (cut_of Tells layout before after ending.Memory told told.written) ]
+
+pub tellings_are_refused : AreTellingsRefused
+tellings_are_refused words entry exit status answer six =
+    of_tellings (asked words) entry exit ending.Memory (λ Tells layout. (exit.written ≡ entry.written) ⊎ IsTellingCut Tells layout entry exit) (λ Tells layout end. telling_refused Tells layout entry exit end) (end_at words entry exit status 6 answer six)
+
+pub tellings_keep_files : DoTellingsKeepFiles
+tellings_keep_files words entry exit status answer = of_tellings (asked words) entry exit answer.by (λ Tells layout. exit.held ≡ entry.held) (λ Tells layout end. end.0) answer.allowed
+
+pub texts_are_written : AreTextsWritten
+texts_are_written words entry exit status answer zero =
+    of_texts (asked words) entry exit ending.Done (λ text. exit.written ≡ added text entry.written) (λ text end. end.0) (end_at words entry exit status 0 answer zero)
+
+pub texts_are_failed : AreTextsFailed
+texts_are_failed words entry exit status answer five =
+    of_texts (asked words) entry exit ending.Write (λ text. Rose entry.faults exit.faults) (λ text end. end.0.1) (end_at words entry exit status 5 answer five)
+
+pub texts_keep_files : DoTextsKeepFiles
+texts_keep_files words entry exit status answer = of_texts (asked words) entry exit answer.by (λ text. exit.held ≡ entry.held) (λ text end. end.1) answer.allowed
+
+text_cut : (text : List ℕ) (before after : Moment) (e : Ending) → IsText text before.written after.written before.faults after.faults e → (status_of e ≡ 0) ⊎ IsCutShort text before.written after.written
+text_cut text before after ending.Done written = inl refl
+text_cut text before after ending.Words written = absurd written
+text_cut text before after ending.Layout written = absurd written
+text_cut text before after ending.Load written = absurd written
+text_cut text before after ending.Read written = absurd written
+text_cut text before after ending.Write written = inr written.0
+text_cut text before after ending.Memory written = inr written
+
+pub texts_are_cut_short : AreTextsCutShort
+texts_are_cut_short words entry exit status answer =
+    rw answer.is (of_texts (asked words) entry exit answer.by (λ text. (status_of answer.by ≡ 0) ⊎ IsCutShort text entry.written exit.written) (λ text end. text_cut text entry exit answer.by end.0) answer.allowed)
+
+words_said_of : (o : Option Asked) (entry exit : Moment) → IsEndOf o entry exit ending.Words → Says line_of_words_fault entry exit
+words_said_of None entry exit h = h.2
+words_said_of (Some Help) entry exit h = absurd h.0
+words_said_of (Some Version) entry exit h = absurd h.0
+words_said_of (Some (Check layout)) entry exit h = elim h.1 [ inl early ↦ absurd early | inr checked ↦ absurd checked.written ]
+words_said_of (Some (Slack layout)) entry exit h = elim h.1 [ inl early ↦ absurd early | inr checked ↦ absurd checked.written ]
+words_said_of (Some (Plain layout prefix)) entry exit h =
+    elim h [
+      | inl early ↦ absurd early.0
+      | inr later ↦ elim later [
+        | inl unloaded ↦ absurd unloaded.0.said
+        | inr on ↦ elim on [ inl unrun ↦ never_unrun _ entry exit ending.Words (λ e. cc) unrun | inr run ↦ elim run.filed [ inl all ↦ absurd all.1.2 | inr some ↦ absurd some ] ]
+      ]
+    ]
+
+pub words_are_said : AreWordsSaid
+words_are_said words entry exit status answer one = words_said_of (asked words) entry exit (end_at words entry exit status 1 answer one)

@@ -4,12 +4,15 @@ use Rattle.std.specs.Prelude.{IfSome}
 use Rattle.outside.specs.Files.{Files, IsAbsent, Rose}
 use Rattle.layout.specs.declared.lines.Layout.{Layout}
 use Rattle.layout_file.specs.declared.fault.LayoutFault.{LayoutFault}
-use Rattle.netsim.specs.declared.ended.Ended.{Ended}
-use Rattle.netsim.specs.declared.ended.Ended.TheVariants as ended
-use Rattle.netsim.specs.Ended.{Moment, IsEndOf, IsJudged, HasFault, IsEarly, IsUnrun, status_of}
+use Rattle.netsim.specs.declared.endings.Ending.{Ending}
+use Rattle.netsim.specs.declared.endings.Ending.TheVariants as ending
+use Rattle.netsim.specs.Moments.{Moment}
+use Rattle.netsim.specs.Endings.{IsEndOf, IsPlainEnd, IsTellingEnd, IsJudged, HasFault, IsEarly, IsFaultSaid, IsUnrun, status_of}
 use Rattle.netsim.specs.Reading.{front_of}
-use Rattle.netsim.specs.Requests.{Asked, Check, Plain, Help, Version}
-use Rattle.netsim.specs.Statuses.{IfLayout, IsFaultStatus}
+use Rattle.netsim.specs.Requests.{Asked, asked, Check, Slack, Plain, Help, Version}
+use Rattle.netsim.specs.Statuses.{IsFaultStatus, IsLayoutWith, IsUnreadOrMemory}
+use Rattle.netsim.specs.StatusLaws.{AreLayoutFaultsSaid, DoAbsentLayoutsDecide, DoLayoutFaultsDecide}
+use Rattle.netsim.proofs.EndingsByStatus.{end_at, of_tellings, plain_end}
 
 pub absent_unjudged : (name : List ℕ) (held : Option Files) (verdict : Result Layout LayoutFault) → IsAbsent name held → IsJudged name held verdict → ⊥
 unfolding front_of
@@ -33,14 +36,14 @@ no_fault_of X name (Some files) network judged = λ fault. absurd (good_or_fault
 
 -- an end that came early
 module _ (layout : List ℕ) (before after : Moment) where
-  early_absent : (e : Ended) → IsAbsent layout before.held → IsEarly layout before after e → (status_of e ≡ 4) ⊎ (status_of e ≡ 6)
-  early_absent ended.Done absent early = absurd early
-  early_absent ended.Words absent early = absurd early
-  early_absent ended.Layout absent early = absurd (absent_unjudged layout before.held (Err early.0) absent early.1)
-  early_absent ended.Load absent early = absurd early
-  early_absent ended.Read absent early = inl refl
-  early_absent ended.Write absent early = absurd early
-  early_absent ended.Memory absent early = inr refl
+  early_absent : (e : Ending) → IsAbsent layout before.held → IsEarly layout before after e → (status_of e ≡ 4) ⊎ (status_of e ≡ 6)
+  early_absent ending.Done absent early = absurd early
+  early_absent ending.Words absent early = absurd early
+  early_absent ending.Layout absent early = absurd (absent_unjudged layout before.held (Err early.0) absent early.1)
+  early_absent ending.Load absent early = absurd early
+  early_absent ending.Read absent early = inl refl
+  early_absent ending.Write absent early = absurd early
+  early_absent ending.Memory absent early = inr refl
 
 -- where a read failed or the layout isn't held
 unread_status : (X : Type 0) (layout : List ℕ) (held : Option Files) (reads risen : ℕ) (P : Files → Type 0) → ((files : Files) → IsAbsent layout (Some files) → P files → ⊥) → (Rose reads risen → X)
@@ -53,30 +56,29 @@ absent_faulty : (layout : List ℕ) (files : Files) → IsAbsent layout (Some fi
 absent_faulty layout files absent fault = absent_unjudged layout (Some files) (Err fault.0) absent fault.1
 
 -- early ends where the layout has a fault
-early_faulty : (layout : List ℕ) (before after : Moment) (e : Ended) → IsEarly layout before after e
+early_faulty : (layout : List ℕ) (before after : Moment) (e : Ending) → IsEarly layout before after e
     → IfSome before.held (λ files. HasFault layout (Some files) → IsFaultStatus 2 (status_of e) before.reads after.reads)
-early_faulty layout before after ended.Done early = absurd early
-early_faulty layout before after ended.Words early = absurd early
-early_faulty layout before after ended.Layout early = some_of before.held _ (λ files fault. inl refl)
-early_faulty layout before after ended.Load early = absurd early
-early_faulty layout before after ended.Read early =
+early_faulty layout before after ending.Done early = absurd early
+early_faulty layout before after ending.Words early = absurd early
+early_faulty layout before after ending.Layout early = some_of before.held _ (λ files fault. inl refl)
+early_faulty layout before after ending.Load early = absurd early
+early_faulty layout before after ending.Read early =
     unread_status (IsFaultStatus 2 4 before.reads after.reads) layout before.held before.reads after.reads (λ files. HasFault layout (Some files)) (absent_faulty layout) (λ rose. inr (inr (refl, rose))) early.0
-early_faulty layout before after ended.Write early = absurd early
-early_faulty layout before after ended.Memory early = some_of before.held _ (λ files fault. inr (inl refl))
+early_faulty layout before after ending.Write early = absurd early
+early_faulty layout before after ending.Memory early = some_of before.held _ (λ files fault. inr (inl refl))
 
-unrun_faulty : (fault : ℕ) (P : Files → Type 0) (before after : Moment) (e : Ended) → IsUnrun before after e
+unrun_faulty : (fault : ℕ) (P : Files → Type 0) (before after : Moment) (e : Ending) → IsUnrun before after e
     → IfSome before.held (λ files. P files → IsFaultStatus fault (status_of e) before.reads after.reads)
 unrun_faulty fault P before after e unrun = some_of before.held _ (λ files p. let six : status_of e ≡ 6 = ap status_of unrun.0 in inr (inl six))
 
--- status 2 where the layout has a fault
-pub fault_only : (o : Option Asked) (before after : Moment) (e : Ended) → IsEndOf o before after e
-    → IfLayout o (λ layout. IfSome before.held (λ files. HasFault layout (Some files) → IsFaultStatus 2 (status_of e) before.reads after.reads))
-fault_only None before after e h = tt
-fault_only (Some Help) before after e h = tt
-fault_only (Some Version) before after e h = tt
-fault_only (Some (Check layout)) before after e h =
-    elim h.1 [ inl early ↦ early_faulty layout before after e early | inr checked ↦ no_fault_of (IsFaultStatus 2 (status_of e) before.reads after.reads) layout before.held checked.network checked.judged ]
-fault_only (Some (Plain layout prefix)) before after e h =
+telling_faulty : (Tells : Layout → List ℕ → Type 0) (layout : List ℕ) (before after : Moment) (e : Ending) → IsTellingEnd Tells layout before after e
+    → IfSome before.held (λ files. HasFault layout (Some files) → IsFaultStatus 2 (status_of e) before.reads after.reads)
+telling_faulty Tells layout before after e h =
+    elim h.1 [ inl early ↦ early_faulty layout before after e early | inr told ↦ no_fault_of (IsFaultStatus 2 (status_of e) before.reads after.reads) layout before.held told.network told.judged ]
+
+plain_faulty : (layout prefix : List ℕ) (before after : Moment) (e : Ending) → IsPlainEnd layout prefix before after e
+    → IfSome before.held (λ files. HasFault layout (Some files) → IsFaultStatus 2 (status_of e) before.reads after.reads)
+plain_faulty layout prefix before after e h =
     elim h [
       | inl early ↦ early_faulty layout before after e early.0
       | inr later ↦ elim later [
@@ -88,16 +90,22 @@ fault_only (Some (Plain layout prefix)) before after e h =
       ]
     ]
 
--- a layout that isn't held is not judged
-pub read_only : (o : Option Asked) (before after : Moment) (e : Ended) → IsEndOf o before after e
-    → IfLayout o (λ layout. IsAbsent layout before.held → (status_of e ≡ 4) ⊎ (status_of e ≡ 6))
-read_only None before after e h = tt
-read_only (Some Help) before after e h = tt
-read_only (Some Version) before after e h = tt
-read_only (Some (Check layout)) before after e h =
-    λ absent. elim h.1 [ inl early ↦ early_absent layout before after e absent early | inr checked ↦ absurd (absent_unjudged layout before.held (Ok checked.network) absent checked.judged) ]
-read_only (Some (Plain layout prefix)) before after e h =
-    λ absent. elim h [
+-- status 2 where the layout has a fault
+pub layout_faults_decide : DoLayoutFaultsDecide
+layout_faults_decide words entry exit status answer =
+    rw answer.is (
+      of_tellings (asked words) entry exit answer.by (λ Tells layout. IfSome entry.held (λ files. HasFault layout (Some files) → IsFaultStatus 2 (status_of answer.by) entry.reads exit.reads))
+          (λ Tells layout end. telling_faulty Tells layout entry exit answer.by end) answer.allowed,
+      λ layout prefix is. plain_faulty layout prefix entry exit answer.by (plain_end (asked words) layout prefix entry exit answer.by is answer.allowed),
+    )
+
+telling_absent : (Tells : Layout → List ℕ → Type 0) (layout : List ℕ) (before after : Moment) (e : Ending) → IsTellingEnd Tells layout before after e → IsAbsent layout before.held → IsUnreadOrMemory (status_of e)
+telling_absent Tells layout before after e h absent =
+    elim h.1 [ inl early ↦ early_absent layout before after e absent early | inr told ↦ absurd (absent_unjudged layout before.held (Ok told.network) absent told.judged) ]
+
+plain_absent : (layout prefix : List ℕ) (before after : Moment) (e : Ending) → IsPlainEnd layout prefix before after e → IsAbsent layout before.held → IsUnreadOrMemory (status_of e)
+plain_absent layout prefix before after e h absent =
+    elim h [
       | inl early ↦ early_absent layout before after e absent early.0
       | inr later ↦ elim later [
         | inl unloaded ↦ absurd (absent_unjudged layout before.held (Ok unloaded.0.network) absent unloaded.0.judged)
@@ -107,3 +115,37 @@ read_only (Some (Plain layout prefix)) before after e h =
         ]
       ]
     ]
+
+-- a layout that isn't held is not judged
+pub absent_layouts_decide : DoAbsentLayoutsDecide
+absent_layouts_decide words entry exit status answer =
+    rw answer.is (
+      of_tellings (asked words) entry exit answer.by (λ Tells layout. IsAbsent layout entry.held → IsUnreadOrMemory (status_of answer.by))
+          (λ Tells layout end. telling_absent Tells layout entry exit answer.by end) answer.allowed,
+      λ layout prefix is. plain_absent layout prefix entry exit answer.by (plain_end (asked words) layout prefix entry exit answer.by is answer.allowed),
+    )
+
+layout_unrun : ending.Layout ≡ ending.Memory → ⊥
+layout_unrun e = cc
+
+words_layout : ending.Layout ≡ ending.Words → ⊥
+words_layout e = cc
+
+-- status 2 comes of a layout with a fault
+faulty_of : (o : Option Asked) (entry exit : Moment) → IsEndOf o entry exit ending.Layout → IsLayoutWith o (λ layout. IsFaultSaid layout entry exit)
+faulty_of None entry exit h = absurd (words_layout h.0)
+faulty_of (Some Help) entry exit h = absurd h.0
+faulty_of (Some Version) entry exit h = absurd h.0
+faulty_of (Some (Check layout)) entry exit h = elim h.1 [ inl early ↦ early | inr checked ↦ absurd checked.written ]
+faulty_of (Some (Slack layout)) entry exit h = elim h.1 [ inl early ↦ early | inr checked ↦ absurd checked.written ]
+faulty_of (Some (Plain layout prefix)) entry exit h =
+    elim h [
+      | inl early ↦ early.0
+      | inr later ↦ elim later [
+        | inl unloaded ↦ absurd unloaded.0.said
+        | inr on ↦ elim on [ inl unrun ↦ absurd (layout_unrun unrun.0) | inr run ↦ elim run.filed [ inl all ↦ absurd all.1.2 | inr some ↦ absurd some ] ]
+      ]
+    ]
+
+pub layout_faults_are_said : AreLayoutFaultsSaid
+layout_faults_are_said words entry exit status answer is = faulty_of (asked words) entry exit (end_at words entry exit status 2 answer is)

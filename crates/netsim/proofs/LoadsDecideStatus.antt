@@ -8,11 +8,14 @@ use Rattle.layout.specs.declared.lines.Layout.{Layout}
 use Rattle.layout_file.specs.declared.fault.LayoutFault.{LayoutFault}
 use Rattle.load_files.specs.Loaded.{Loaded, IsLoaded, IsFirstAbsent, Whole, Faulty, Absent, loaded}
 use Rattle.load_plan.specs.declared.plan.Plan.{Plan}
-use Rattle.netsim.specs.declared.ended.Ended.{Ended}
-use Rattle.netsim.specs.declared.ended.Ended.TheVariants as ended
-use Rattle.netsim.specs.Ended.{Moment, IsEndOf, IsJudged, IsEarly, IsUnloadedSaid, IsUnrun, IsFiledEnd, IsText, status_of}
-use Rattle.netsim.specs.Requests.{Asked, Check, Plain, Help, Version}
-use Rattle.netsim.specs.Statuses.{IfCheck, IfPlain, IsFaultStatus, IsDoneOrMemory, HasLoadFault}
+use Rattle.netsim.specs.declared.endings.Ending.{Ending}
+use Rattle.netsim.specs.declared.endings.Ending.TheVariants as ending
+use Rattle.netsim.specs.Moments.{Moment}
+use Rattle.netsim.specs.Endings.{IsAnswer, IsEndOf, IsPlainEnd, IsTellingEnd, IsJudged, IsEarly, IsLoadFaultSaid, IsUnloadedSaid, IsUnrun, IsFiledEnd, IsText, status_of}
+use Rattle.netsim.specs.Requests.{Asked, asked, Check, Slack, Plain, Help, Version}
+use Rattle.netsim.specs.Statuses.{HasAbsentLoad, HasLoadFault, IsDoneOrMemory, IsFaultStatus, IsNetworkWith, IsPlainWith, IsReadFaultSaid, IsUnhindered, IsUnreadOrMemory}
+use Rattle.netsim.specs.StatusLaws.{AreLoadFaultsSaid, AreReadFaultsSaid, AreTellingsComplete, AreTextsComplete, DoAbsentLoadsDecide, DoLoadFaultsDecide}
+use Rattle.netsim.proofs.EndingsByStatus.{end_at, of_tellings, of_texts, plain_end}
 use Rattle.netsim.proofs.LayoutDecidesStatus.{absent_unjudged, good_or_faulty, same_network}
 
 -- some network was judged good, and its loads are these
@@ -65,43 +68,39 @@ pub record Says (X : ℕ → Loaded → Type 0) (reads risen : ℕ) : Type 0 whe
   pub fault : (station : ℕ) (f : CaptureFault) → X 3 (Faulty station f)
 
 module _ (X : ℕ → Loaded → Type 0) (layout : List ℕ) (before after : Moment) (says : Says X before.reads after.reads) where
-  early_known : (e : Ended) → IsEarly layout before after e → IfKnown layout before.held (X (status_of e))
-  early_known ended.Done early = absurd early
-  early_known ended.Words early = absurd early
-  early_known ended.Layout early = known_faulty layout before.held (X 2) early.0 early.1
-  early_known ended.Load early = absurd early
-  early_known ended.Read early = known_unread layout before.held before.reads after.reads (X 4) says.rose early.0
-  early_known ended.Write early = absurd early
-  early_known ended.Memory early = always layout before.held (X 6) says.memory
+  early_known : (e : Ending) → IsEarly layout before after e → IfKnown layout before.held (X (status_of e))
+  early_known ending.Done early = absurd early
+  early_known ending.Words early = absurd early
+  early_known ending.Layout early = known_faulty layout before.held (X 2) early.0 early.1
+  early_known ending.Load early = absurd early
+  early_known ending.Read early = known_unread layout before.held before.reads after.reads (X 4) says.rose early.0
+  early_known ending.Write early = absurd early
+  early_known ending.Memory early = always layout before.held (X 6) says.memory
 
-  unloaded_known : (network : Layout) (e : Ended) → IsJudged layout before.held (Ok network) → IsUnloadedSaid network before after e → IfKnown layout before.held (X (status_of e))
-  unloaded_known network ended.Done judged said = absurd said
-  unloaded_known network ended.Words judged said = absurd said
-  unloaded_known network ended.Layout judged said = absurd said
-  unloaded_known network ended.Load judged said = known_loads layout before.held network (Faulty said.station said.fault) (X 3) judged said.loaded (says.fault said.station said.fault)
-  unloaded_known network ended.Read judged said = known_absent layout before.held network said.name before.reads after.reads (X 4) judged (says.absent said.name) says.rose said.unread
-  unloaded_known network ended.Write judged said = absurd said
-  unloaded_known network ended.Memory judged said = always layout before.held (X 6) says.memory
+  unloaded_known : (network : Layout) (e : Ending) → IsJudged layout before.held (Ok network) → IsUnloadedSaid network before after e → IfKnown layout before.held (X (status_of e))
+  unloaded_known network ending.Done judged said = absurd said
+  unloaded_known network ending.Words judged said = absurd said
+  unloaded_known network ending.Layout judged said = absurd said
+  unloaded_known network ending.Load judged said = known_loads layout before.held network (Faulty said.station said.fault) (X 3) judged said.loaded (says.fault said.station said.fault)
+  unloaded_known network ending.Read judged said = known_absent layout before.held network said.name before.reads after.reads (X 4) judged (says.absent said.name) says.rose said.unread
+  unloaded_known network ending.Write judged said = absurd said
+  unloaded_known network ending.Memory judged said = always layout before.held (X 6) says.memory
 
-  unrun_known : (e : Ended) → IsUnrun before after e → IfKnown layout before.held (X (status_of e))
+  unrun_known : (e : Ending) → IsUnrun before after e → IfKnown layout before.held (X (status_of e))
   unrun_known e unrun = let six : 6 ≡ status_of e = sym (ap status_of unrun.0) in always layout before.held (X (status_of e)) (λ l. subst (λ n. X n l) six (says.memory l))
 
 -- what an end of a run says, where it is known what it says of a run
-pub plain_known : (X : ℕ → Loaded → Type 0) (o : Option Asked) (before after : Moment) (e : Ended) → Says X before.reads after.reads
-    → ((loads : List (List Record)) (prefix : List ℕ) (plan : Plan) → IsFiledEnd prefix plan before after e → X (status_of e) (Whole loads)) → IsEndOf o before after e
-    → IfPlain o (λ layout prefix. IfKnown layout before.held (X (status_of e)))
-plain_known X None before after e says ran h = tt
-plain_known X (Some Help) before after e says ran h = tt
-plain_known X (Some Version) before after e says ran h = tt
-plain_known X (Some (Check layout)) before after e says ran h = tt
-plain_known X (Some (Plain layout prefix)) before after e says ran h =
+plain_known : (X : ℕ → Loaded → Type 0) (layout prefix : List ℕ) (before after : Moment) (e : Ending) → Says X before.reads after.reads
+    → ((loads : List (List Record)) (plan : Plan) → IsFiledEnd prefix plan before after e → X (status_of e) (Whole loads)) → IsPlainEnd layout prefix before after e
+    → IfKnown layout before.held (X (status_of e))
+plain_known X layout prefix before after e says ran h =
     elim h [
       | inl early ↦ early_known X layout before after says e early.0
       | inr later ↦ elim later [
         | inl unloaded ↦ unloaded_known X layout before after says unloaded.0.network e unloaded.0.judged unloaded.0.said
         | inr on ↦ elim on [
           | inl unrun ↦ unrun_known X layout before after says e unrun
-          | inr run ↦ known_loads layout before.held run.network (Whole run.planned.loads) (X (status_of e)) run.judged run.planned.loaded (ran run.planned.loads prefix run.plan run.filed)
+          | inr run ↦ known_loads layout before.held run.network (Whole run.planned.loads) (X (status_of e)) run.judged run.planned.loaded (ran run.planned.loads run.plan run.filed)
         ]
       ]
     ]
@@ -128,20 +127,39 @@ known_fault layout (Some files) n reads risen known =
 whole_or : (X : Type 0) (loads : List (List Record)) (station : ℕ) (f : CaptureFault) → Whole loads ≡ Faulty station f → X
 whole_or X loads station f is = absurd (cc)
 
-if_plain : (o : Option Asked) (P Q : List ℕ → List ℕ → Type 0) → ((layout prefix : List ℕ) → P layout prefix → Q layout prefix) → IfPlain o P → IfPlain o Q
-if_plain None P Q on h = tt
-if_plain (Some Help) P Q on h = tt
-if_plain (Some Version) P Q on h = tt
-if_plain (Some (Check layout)) P Q on h = tt
-if_plain (Some (Plain layout prefix)) P Q on h = on layout prefix h
-
 -- status 3 where a load has a fault
-pub load_only : (o : Option Asked) (before after : Moment) (e : Ended) → IsEndOf o before after e
-    → IfPlain o (λ layout prefix. IfSome before.held (λ files. (station : ℕ) (f : CaptureFault) → HasLoadFault layout (Some files) station f → IsFaultStatus 3 (status_of e) before.reads after.reads))
-load_only o before after e h =
-    if_plain o (λ layout prefix. IfKnown layout before.held (FaultSays before.reads after.reads (status_of e))) _
-    (λ layout prefix known. known_fault layout before.held (status_of e) before.reads after.reads known)
-    (plain_known (FaultSays before.reads after.reads) o before after e (fault_says before.reads after.reads) (λ loads prefix plan filed station f is. whole_or _ loads station f is) h)
+pub load_faults_decide : DoLoadFaultsDecide
+load_faults_decide words entry exit status answer =
+    rw answer.is (λ layout prefix is. known_fault layout entry.held (status_of answer.by) entry.reads exit.reads
+    (plain_known (FaultSays entry.reads exit.reads) layout prefix entry exit answer.by (fault_says entry.reads exit.reads) (λ loads plan filed station f w. whole_or _ loads station f w)
+    (plain_end (asked words) layout prefix entry exit answer.by is answer.allowed)))
+
+-- a load that isn't held has its status
+abbrev AbsentSays : ℕ → Loaded → Type 0
+AbsentSays n l = (name : List ℕ) → l ≡ Absent name → IsUnreadOrMemory n
+
+absent_says : (reads risen : ℕ) → Says AbsentSays reads risen
+absent_says reads risen = record {
+  memory = λ l name is. inr refl;
+  rose = λ l rose name is. inl refl;
+  absent = λ a name is. inl refl;
+  fault = λ s g name is. cc;
+}
+
+known_missing : (layout : List ℕ) (held : Option Files) (n : ℕ) → IfKnown layout held (AbsentSays n)
+    → IfSome held (λ files. (name : List ℕ) → HasAbsentLoad layout (Some files) name → IsUnreadOrMemory n)
+known_missing layout None n known = tt
+known_missing layout (Some files) n known = λ name has. known (Absent name) (record { network = has.0; judged = has.1; is = has.2 }) name refl
+
+whole_absent : (X : Type 0) (loads : List (List Record)) (name : List ℕ) → Whole loads ≡ Absent name → X
+whole_absent X loads name is = absurd (cc)
+
+-- status 4 where a load isn't held
+pub absent_loads_decide : DoAbsentLoadsDecide
+absent_loads_decide words entry exit status answer =
+    rw answer.is (λ layout prefix is. known_missing layout entry.held (status_of answer.by)
+    (plain_known AbsentSays layout prefix entry exit answer.by (absent_says entry.reads exit.reads) (λ loads plan filed name w. whole_absent _ loads name w)
+    (plain_end (asked words) layout prefix entry exit answer.by is answer.allowed)))
 
 -- whole loads, and no fault of the outside
 abbrev WholeSays : ℕ → ℕ → ℕ → ℕ → ℕ → ℕ → ℕ → Loaded → Type 0
@@ -156,69 +174,120 @@ whole_says reads read writes written faults faulted = record {
   fault = λ s g loads is r w f. cc;
 }
 
-known_whole : (layout : List ℕ) (held : Option Files) (reads read writes written faults faulted n : ℕ) → IfKnown layout held (WholeSays reads read writes written faults faulted n)
-    → IfSome held (λ files. (network : Layout) → IsJudged layout (Some files) (Ok network) → (loads : List (List Record)) → IsLoaded (Some files) network.stations (Whole loads)
-    → ¬ Rose reads read → ¬ Rose writes written → ¬ Rose faults faulted → IsDoneOrMemory n)
-known_whole layout None reads read writes written faults faulted n known = tt
-known_whole layout (Some files) reads read writes written faults faulted n known =
-    λ network good loads is. known (Whole loads) (record { network = network; judged = good; is = is }) loads refl
+known_whole : (layout : List ℕ) (held : Option Files) (X : Loaded → Type 0) (files : Files) (network : Layout) (loads : List (List Record)) → held ≡ Some files → IsJudged layout (Some files) (Ok network)
+    → IsLoaded (Some files) network.stations (Whole loads) → IfKnown layout held X → X (Whole loads)
+known_whole layout held X files network loads told good is known =
+    let all : IfKnown layout (Some files) X = rw told at known in all (Whole loads) (record { network = network; judged = good; is = is })
 
-filed_whole : (prefix : List ℕ) (plan : Plan) (before after : Moment) (e : Ended) → IsFiledEnd prefix plan before after e → ¬ Rose before.writes after.writes → ¬ Rose before.faults after.faults → IsDoneOrMemory (status_of e)
-filed_whole prefix plan before after ended.Done filed w f = inl refl
-filed_whole prefix plan before after ended.Words filed w f = elim filed [ inl all ↦ absurd all.1.2 | inr some ↦ absurd some ]
-filed_whole prefix plan before after ended.Layout filed w f = elim filed [ inl all ↦ absurd all.1.2 | inr some ↦ absurd some ]
-filed_whole prefix plan before after ended.Load filed w f = elim filed [ inl all ↦ absurd all.1.2 | inr some ↦ absurd some ]
-filed_whole prefix plan before after ended.Read filed w f = elim filed [ inl all ↦ absurd all.1.2 | inr some ↦ absurd some ]
-filed_whole prefix plan before after ended.Write filed w f = elim filed [ inl all ↦ absurd (f all.1.2.1) | inr some ↦ absurd (w some.1) ]
-filed_whole prefix plan before after ended.Memory filed w f = inr refl
+filed_whole : (prefix : List ℕ) (plan : Plan) (before after : Moment) (e : Ending) → IsFiledEnd prefix plan before after e → ¬ Rose before.writes after.writes → ¬ Rose before.faults after.faults → IsDoneOrMemory (status_of e)
+filed_whole prefix plan before after ending.Done filed w f = inl refl
+filed_whole prefix plan before after ending.Words filed w f = elim filed [ inl all ↦ absurd all.1.2 | inr some ↦ absurd some ]
+filed_whole prefix plan before after ending.Layout filed w f = elim filed [ inl all ↦ absurd all.1.2 | inr some ↦ absurd some ]
+filed_whole prefix plan before after ending.Load filed w f = elim filed [ inl all ↦ absurd all.1.2 | inr some ↦ absurd some ]
+filed_whole prefix plan before after ending.Read filed w f = elim filed [ inl all ↦ absurd all.1.2 | inr some ↦ absurd some ]
+filed_whole prefix plan before after ending.Write filed w f = elim filed [ inl all ↦ absurd (f all.1.2.1) | inr some ↦ absurd (w some.1) ]
+filed_whole prefix plan before after ending.Memory filed w f = inr refl
 
 -- a run that nothing hinders is done
-pub complete : (o : Option Asked) (before after : Moment) (e : Ended) → IsEndOf o before after e
-    → IfPlain o (λ layout prefix. IfSome before.held (λ files. (network : Layout) → IsJudged layout (Some files) (Ok network) → (loads : List (List Record)) → IsLoaded (Some files) network.stations (Whole loads)
-    → ¬ Rose before.reads after.reads → ¬ Rose before.writes after.writes → ¬ Rose before.faults after.faults → IsDoneOrMemory (status_of e)))
-complete o before after e h =
-    if_plain o (λ layout prefix. IfKnown layout before.held (WholeSays before.reads after.reads before.writes after.writes before.faults after.faults (status_of e))) _
-    (λ layout prefix known. known_whole layout before.held before.reads after.reads before.writes after.writes before.faults after.faults (status_of e) known)
-    (plain_known (WholeSays before.reads after.reads before.writes after.writes before.faults after.faults) o before after e (whole_says before.reads after.reads before.writes after.writes before.faults after.faults)
-    (λ loads prefix plan filed again is r w f. filed_whole prefix plan before after e filed w f) h)
+pub complete : (words : List (List ℕ)) (entry exit : Moment) (status : ℕ) → IsAnswer words entry exit status → IsUnhindered words entry exit → IsDoneOrMemory status
+complete words entry exit status answer free =
+    rw answer.is (known_whole free.layout entry.held (WholeSays entry.reads exit.reads entry.writes exit.writes entry.faults exit.faults (status_of answer.by)) free.files free.network free.loads free.told free.judged free.loaded
+    (plain_known (WholeSays entry.reads exit.reads entry.writes exit.writes entry.faults exit.faults) free.layout free.prefix entry exit answer.by (whole_says entry.reads exit.reads entry.writes exit.writes entry.faults exit.faults)
+    (λ loads plan filed again is r w f. filed_whole free.prefix plan entry exit answer.by filed w f)
+    (plain_end (asked words) free.layout free.prefix entry exit answer.by free.asks answer.allowed)) free.loads refl free.reads free.writes free.faults)
 
-abbrev CheckSays : ℕ → ℕ → ℕ → ℕ → ℕ → Loaded → Type 0
-CheckSays reads read faults faulted n l = ¬ Rose reads read → ¬ Rose faults faulted → IsDoneOrMemory n
+abbrev TellingSays : ℕ → ℕ → ℕ → ℕ → ℕ → Loaded → Type 0
+TellingSays reads read faults faulted n l = ¬ Rose reads read → ¬ Rose faults faulted → IsDoneOrMemory n
 
-known_check : (layout : List ℕ) (held : Option Files) (reads read faults faulted n : ℕ) → IfKnown layout held (CheckSays reads read faults faulted n)
+known_telling : (layout : List ℕ) (held : Option Files) (reads read faults faulted n : ℕ) → IfKnown layout held (TellingSays reads read faults faulted n)
     → IfSome held (λ files. (network : Layout) → IsJudged layout (Some files) (Ok network) → ¬ Rose reads read → ¬ Rose faults faulted → IsDoneOrMemory n)
-known_check layout None reads read faults faulted n known = tt
-known_check layout (Some files) reads read faults faulted n known =
+known_telling layout None reads read faults faulted n known = tt
+known_telling layout (Some files) reads read faults faulted n known =
     λ network good. known (loaded files network.stations) (record { network = network; judged = good; is = refl })
 
-text_whole : (text : List ℕ) (before after : Moment) (e : Ended) → IsText text before.written after.written before.faults after.faults e → ¬ Rose before.faults after.faults → IsDoneOrMemory (status_of e)
-text_whole text before after ended.Done written never = inl refl
-text_whole text before after ended.Words written never = absurd written
-text_whole text before after ended.Layout written never = absurd written
-text_whole text before after ended.Load written never = absurd written
-text_whole text before after ended.Read written never = absurd written
-text_whole text before after ended.Write written never = absurd (never written.1)
-text_whole text before after ended.Memory written never = inr refl
+text_whole : (text : List ℕ) (before after : Moment) (e : Ending) → IsText text before.written after.written before.faults after.faults e → ¬ Rose before.faults after.faults → IsDoneOrMemory (status_of e)
+text_whole text before after ending.Done written never = inl refl
+text_whole text before after ending.Words written never = absurd written
+text_whole text before after ending.Layout written never = absurd written
+text_whole text before after ending.Load written never = absurd written
+text_whole text before after ending.Read written never = absurd written
+text_whole text before after ending.Write written never = absurd (never written.1)
+text_whole text before after ending.Memory written never = inr refl
 
-early_checked : (layout : List ℕ) (before after : Moment) (e : Ended) → IsEarly layout before after e → IfKnown layout before.held (CheckSays before.reads after.reads before.faults after.faults (status_of e))
-early_checked layout before after ended.Done early = absurd early
-early_checked layout before after ended.Words early = absurd early
-early_checked layout before after ended.Layout early = known_faulty layout before.held (CheckSays before.reads after.reads before.faults after.faults 2) early.0 early.1
-early_checked layout before after ended.Load early = absurd early
-early_checked layout before after ended.Read early =
-    known_unread layout before.held before.reads after.reads (CheckSays before.reads after.reads before.faults after.faults 4) (λ l rose r f. absurd (r rose)) early.0
-early_checked layout before after ended.Write early = absurd early
-early_checked layout before after ended.Memory early = always layout before.held (CheckSays before.reads after.reads before.faults after.faults 6) (λ l r f. inr refl)
+early_told : (layout : List ℕ) (before after : Moment) (e : Ending) → IsEarly layout before after e → IfKnown layout before.held (TellingSays before.reads after.reads before.faults after.faults (status_of e))
+early_told layout before after ending.Done early = absurd early
+early_told layout before after ending.Words early = absurd early
+early_told layout before after ending.Layout early = known_faulty layout before.held (TellingSays before.reads after.reads before.faults after.faults 2) early.0 early.1
+early_told layout before after ending.Load early = absurd early
+early_told layout before after ending.Read early =
+    known_unread layout before.held before.reads after.reads (TellingSays before.reads after.reads before.faults after.faults 4) (λ l rose r f. absurd (r rose)) early.0
+early_told layout before after ending.Write early = absurd early
+early_told layout before after ending.Memory early = always layout before.held (TellingSays before.reads after.reads before.faults after.faults 6) (λ l r f. inr refl)
 
--- a check that nothing hinders is done
-pub check_complete : (o : Option Asked) (before after : Moment) (e : Ended) → IsEndOf o before after e
-    → IfCheck o (λ layout. IfSome before.held (λ files. (network : Layout) → IsJudged layout (Some files) (Ok network) → ¬ Rose before.reads after.reads → ¬ Rose before.faults after.faults → IsDoneOrMemory (status_of e)))
-check_complete None before after e h = tt
-check_complete (Some Help) before after e h = tt
-check_complete (Some Version) before after e h = tt
-check_complete (Some (Plain layout prefix)) before after e h = tt
-check_complete (Some (Check layout)) before after e h =
-    known_check layout before.held before.reads after.reads before.faults after.faults (status_of e) (elim h.1 [
-      | inl early ↦ early_checked layout before after e early
-      | inr checked ↦ always layout before.held (CheckSays before.reads after.reads before.faults after.faults (status_of e)) (λ l r f. text_whole checked.line before after e checked.written f)
-    ])
+telling_known : (Tells : Layout → List ℕ → Type 0) (layout : List ℕ) (before after : Moment) (e : Ending) → IsTellingEnd Tells layout before after e → IfKnown layout before.held (TellingSays before.reads after.reads before.faults after.faults (status_of e))
+telling_known Tells layout before after e h =
+    elim h.1 [
+      | inl early ↦ early_told layout before after e early
+      | inr told ↦ always layout before.held (TellingSays before.reads after.reads before.faults after.faults (status_of e)) (λ l r f. text_whole told.text before after e told.written f)
+    ]
+
+-- a form that only tells of a layout is done where nothing hinders it
+pub tellings_are_complete : AreTellingsComplete
+tellings_are_complete words entry exit status answer =
+    rw answer.is (of_tellings (asked words) entry exit answer.by
+    (λ Tells layout. IfSome entry.held (λ files. (network : Layout) → IsJudged layout (Some files) (Ok network) → ¬ Rose entry.reads exit.reads → ¬ Rose entry.faults exit.faults → IsDoneOrMemory (status_of answer.by)))
+    (λ Tells layout end. known_telling layout entry.held entry.reads exit.reads entry.faults exit.faults (status_of answer.by) (telling_known Tells layout entry exit answer.by end)) answer.allowed)
+
+pub texts_are_complete : AreTextsComplete
+texts_are_complete words entry exit status answer =
+    rw answer.is (of_texts (asked words) entry exit answer.by (λ text. ¬ Rose entry.faults exit.faults → IsDoneOrMemory (status_of answer.by)) (λ text end never. text_whole text entry exit answer.by end.0 never) answer.allowed)
+
+words_load : ending.Load ≡ ending.Words → ⊥
+words_load e = cc
+
+load_unrun : ending.Load ≡ ending.Memory → ⊥
+load_unrun e = cc
+
+words_read : ending.Read ≡ ending.Words → ⊥
+words_read e = cc
+
+read_unrun : ending.Read ≡ ending.Memory → ⊥
+read_unrun e = cc
+
+load_faulty_of : (o : Option Asked) (entry exit : Moment) → IsEndOf o entry exit ending.Load → IsPlainWith o (λ layout prefix. IsNetworkWith layout entry.held (λ network. IsLoadFaultSaid network entry exit))
+load_faulty_of None entry exit h = absurd (words_load h.0)
+load_faulty_of (Some Help) entry exit h = absurd h.0
+load_faulty_of (Some Version) entry exit h = absurd h.0
+load_faulty_of (Some (Check layout)) entry exit h = elim h.1 [ inl early ↦ absurd early | inr checked ↦ absurd checked.written ]
+load_faulty_of (Some (Slack layout)) entry exit h = elim h.1 [ inl early ↦ absurd early | inr checked ↦ absurd checked.written ]
+load_faulty_of (Some (Plain layout prefix)) entry exit h =
+    elim h [
+      | inl early ↦ absurd early.0
+      | inr later ↦ elim later [
+        | inl unloaded ↦ (unloaded.0.network, unloaded.0.judged, unloaded.0.said)
+        | inr on ↦ elim on [ inl unrun ↦ absurd (load_unrun unrun.0) | inr run ↦ elim run.filed [ inl all ↦ absurd all.1.2 | inr some ↦ absurd some ] ]
+      ]
+    ]
+
+-- status 3 comes of a load with a fault
+pub load_faults_are_said : AreLoadFaultsSaid
+load_faults_are_said words entry exit status answer is = load_faulty_of (asked words) entry exit (end_at words entry exit status 3 answer is)
+
+unread_of : (o : Option Asked) (entry exit : Moment) → IsEndOf o entry exit ending.Read → IsReadFaultSaid o entry exit
+unread_of None entry exit h = absurd (words_read h.0)
+unread_of (Some Help) entry exit h = absurd h.0
+unread_of (Some Version) entry exit h = absurd h.0
+unread_of (Some (Check layout)) entry exit h = elim h.1 [ inl early ↦ early | inr checked ↦ absurd checked.written ]
+unread_of (Some (Slack layout)) entry exit h = elim h.1 [ inl early ↦ early | inr checked ↦ absurd checked.written ]
+unread_of (Some (Plain layout prefix)) entry exit h =
+    elim h [
+      | inl early ↦ inl early.0
+      | inr later ↦ elim later [
+        | inl unloaded ↦ inr (unloaded.0.network, unloaded.0.judged, unloaded.0.said)
+        | inr on ↦ elim on [ inl unrun ↦ absurd (read_unrun unrun.0) | inr run ↦ elim run.filed [ inl all ↦ absurd all.1.2 | inr some ↦ absurd some ] ]
+      ]
+    ]
+
+-- status 4 comes of a file that isn't held or of a failed read
+pub read_faults_are_said : AreReadFaultsSaid
+read_faults_are_said words entry exit status answer is = unread_of (asked words) entry exit (end_at words entry exit status 4 answer is)

@@ -5,28 +5,29 @@ use Rattle.layout.specs.declared.lines.Layout.{Layout}
 use Rattle.load_files.specs.Loaded.{IsLoaded, Whole}
 use Rattle.load_plan.specs.declared.plan.Plan.{Plan}
 use Rattle.outside.specs.Files.{Files, Rose}
-use Rattle.netsim.specs.declared.ended.Ended.{Ended}
-use Rattle.netsim.specs.declared.ended.Ended.TheVariants as ended
-use Rattle.netsim.specs.Ended.{Moment, IsJudged, IsFiledEnd, IsFileEnd, IsPlainEnd, IsRunEnd, IsText, IsUnloadedSaid, IsUnfiled}
-use Rattle.netsim.specs.Reading.{put_all, IsBrokenAmong, IsSaid}
+use Rattle.netsim.specs.declared.endings.Ending.{Ending}
+use Rattle.netsim.specs.declared.endings.Ending.TheVariants as ending
+use Rattle.netsim.specs.Moments.{Moment}
+use Rattle.netsim.specs.Endings.{IsJudged, IsFiledEnd, IsFileEnd, IsPlainEnd, IsRunEnd, IsText, IsUnloadedSaid, IsUnfiled}
+use Rattle.netsim.specs.Writing.{put_all, IsBrokenAmong, IsSaid}
 use Rattle.netsim.specs.Runs.{IsMadeOf, IsSummary, run_files}
 
 -- the files are whole, and the summary was written
-pub run-filed : (network : Layout) (loads : List (List Record)) (prefix : List ℕ) (plan : Plan) (before after : Moment) (e : Ended) (summary text : List ℕ) → IsMadeOf network loads plan
+pub run-filed : (network : Layout) (loads : List (List Record)) (prefix : List ℕ) (plan : Plan) (before after : Moment) (e : Ending) (summary text : List ℕ) → IsMadeOf network loads plan
     → after.held ≡ put_all (run_files prefix plan) before.held → IsSummary plan summary → text ≡ summary → IsText text before.written after.written before.faults after.faults e → IsRunEnd network loads prefix before after e
 run-filed network loads prefix plan before after e summary text made held right is written = inr (plan, made, inl (held, (summary, right, rw is at written)))
 
-unfiled_by : (prefix : List ℕ) (plan : Plan) (before after : Moment) (e : Ended) → IsBrokenAmong (run_files prefix plan) before.held after.held → IsFileEnd before.writes after.writes e → after.written ≡ before.written → IsUnfiled prefix plan before after e
-unfiled_by prefix plan before after ended.Done broken end silent = absurd end
-unfiled_by prefix plan before after ended.Words broken end silent = absurd end
-unfiled_by prefix plan before after ended.Layout broken end silent = absurd end
-unfiled_by prefix plan before after ended.Load broken end silent = absurd end
-unfiled_by prefix plan before after ended.Read broken end silent = absurd end
-unfiled_by prefix plan before after ended.Write broken end silent = (broken, end, silent)
-unfiled_by prefix plan before after ended.Memory broken end silent = (broken, silent)
+unfiled_by : (prefix : List ℕ) (plan : Plan) (before after : Moment) (e : Ending) → IsBrokenAmong (run_files prefix plan) before.held after.held → IsFileEnd before.writes after.writes e → after.written ≡ before.written → IsUnfiled prefix plan before after e
+unfiled_by prefix plan before after ending.Done broken end silent = absurd end
+unfiled_by prefix plan before after ending.Words broken end silent = absurd end
+unfiled_by prefix plan before after ending.Layout broken end silent = absurd end
+unfiled_by prefix plan before after ending.Load broken end silent = absurd end
+unfiled_by prefix plan before after ending.Read broken end silent = absurd end
+unfiled_by prefix plan before after ending.Write broken end silent = (broken, end, silent)
+unfiled_by prefix plan before after ending.Memory broken end silent = (broken, silent)
 
 -- a file could not be written
-pub run-unfiled : (network : Layout) (loads : List (List Record)) (prefix : List ℕ) (plan : Plan) (before after : Moment) (e : Ended) → IsMadeOf network loads plan
+pub run-unfiled : (network : Layout) (loads : List (List Record)) (prefix : List ℕ) (plan : Plan) (before after : Moment) (e : Ending) → IsMadeOf network loads plan
     → IsBrokenAmong (run_files prefix plan) before.held after.held → IsFileEnd before.writes after.writes e → after.written ≡ before.written → IsRunEnd network loads prefix before after e
 run-unfiled network loads prefix plan before after e made broken end silent = inr (plan, made, inr (unfiled_by prefix plan before after e broken end silent))
 
@@ -42,18 +43,18 @@ pub record IsRead (before mid : Moment) : Type 0 where
 rose-before : (a b c : ℕ) → a ≤ b → Rose b c → Rose a c
 rose-before a b c le rose = omega (arith, le, rose)
 
-unfiled_before : (prefix : List ℕ) (plan : Plan) (before mid after : Moment) (e : Ended) → IsRead before mid → IsUnfiled prefix plan mid after e → IsUnfiled prefix plan before after e
-unfiled_before prefix plan before mid after ended.Done read un = un
-unfiled_before prefix plan before mid after ended.Words read un = un
-unfiled_before prefix plan before mid after ended.Layout read un = un
-unfiled_before prefix plan before mid after ended.Load read un = un
-unfiled_before prefix plan before mid after ended.Read read un = un
-unfiled_before prefix plan before mid after ended.Write read un =
+unfiled_before : (prefix : List ℕ) (plan : Plan) (before mid after : Moment) (e : Ending) → IsRead before mid → IsUnfiled prefix plan mid after e → IsUnfiled prefix plan before after e
+unfiled_before prefix plan before mid after ending.Done read un = un
+unfiled_before prefix plan before mid after ending.Words read un = un
+unfiled_before prefix plan before mid after ending.Layout read un = un
+unfiled_before prefix plan before mid after ending.Load read un = un
+unfiled_before prefix plan before mid after ending.Read read un = un
+unfiled_before prefix plan before mid after ending.Write read un =
     (rw read.held at un.0, rose-before before.writes mid.writes after.writes read.writes un.1, rw read.written at un.2)
-unfiled_before prefix plan before mid after ended.Memory read un = (rw read.held at un.0, rw read.written at un.1)
+unfiled_before prefix plan before mid after ending.Memory read un = (rw read.held at un.0, rw read.written at un.1)
 
 -- the run of a layout that was read with its loads
-pub plain-ran : (layout prefix : List ℕ) (network : Layout) (loads : List (List Record)) (before mid after : Moment) (e : Ended) → IsRead before mid → IsJudged layout before.held (Ok network)
+pub plain-ran : (layout prefix : List ℕ) (network : Layout) (loads : List (List Record)) (before mid after : Moment) (e : Ending) → IsRead before mid → IsJudged layout before.held (Ok network)
     → IsLoaded before.held network.stations (Whole loads) → IsRunEnd network loads prefix mid after e → IsPlainEnd layout prefix before after e
 plain-ran layout prefix network loads before mid after e read judged loaded end =
     elim end [
@@ -71,13 +72,13 @@ plain-ran layout prefix network loads before mid after e read judged loaded end 
 said_before : (line : List ℕ) (before mid after : Moment) → IsRead before mid → IsSaid line mid.written after.written mid.refused after.refused → IsSaid line before.written after.written before.refused after.refused
 said_before line before mid after read said = rw (read.written, read.refused) at said
 
-unloaded_before : (network : Layout) (before mid after : Moment) (e : Ended) → IsRead before mid → IsUnloadedSaid network mid after e → IsUnloadedSaid network before after e
-unloaded_before network before mid after ended.Done read said = said
-unloaded_before network before mid after ended.Words read said = said
-unloaded_before network before mid after ended.Layout read said = said
-unloaded_before network before mid after ended.Load read said =
+unloaded_before : (network : Layout) (before mid after : Moment) (e : Ending) → IsRead before mid → IsUnloadedSaid network mid after e → IsUnloadedSaid network before after e
+unloaded_before network before mid after ending.Done read said = said
+unloaded_before network before mid after ending.Words read said = said
+unloaded_before network before mid after ending.Layout read said = said
+unloaded_before network before mid after ending.Load read said =
     record { station = said.station; fault = said.fault; loaded = rw read.held at said.loaded; name = said.name; named = said.named; said = said_before _ before mid after read said.said }
-unloaded_before network before mid after ended.Read read said =
+unloaded_before network before mid after ending.Read read said =
     record {
       station = said.station;
       name = said.name;
@@ -85,11 +86,11 @@ unloaded_before network before mid after ended.Read read said =
       unread = elim said.unread [ inl absent ↦ inl (rw read.held at absent) | inr rose ↦ inr (rose-before before.reads mid.reads after.reads read.reads rose) ];
       said = said_before _ before mid after read said.said;
     }
-unloaded_before network before mid after ended.Write read said = said
-unloaded_before network before mid after ended.Memory read said = rw read.written at said
+unloaded_before network before mid after ending.Write read said = said
+unloaded_before network before mid after ending.Memory read said = rw read.written at said
 
 -- the loads of a layout could not be read
-pub plain-unloaded : (layout prefix : List ℕ) (network : Layout) (before mid after : Moment) (e : Ended) → IsRead before mid → IsJudged layout before.held (Ok network) → after.held ≡ mid.held
+pub plain-unloaded : (layout prefix : List ℕ) (network : Layout) (before mid after : Moment) (e : Ending) → IsRead before mid → IsJudged layout before.held (Ok network) → after.held ≡ mid.held
     → IsUnloadedSaid network mid after e → IsPlainEnd layout prefix before after e
 plain-unloaded layout prefix network before mid after e read judged held said =
     inr (inl (record { network = network; judged = judged; said = unloaded_before network before mid after e read said }, rw read.held at held))

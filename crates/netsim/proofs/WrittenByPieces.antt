@@ -5,7 +5,7 @@ use Rattle.std.proofs.lemmas.Bool.{cases_Bool}
 use Rattle.std.proofs.lemmas.Slice.Eq.{bytes_eq-Decides}
 use Rattle.std.proofs.Math.Seq.{take-add}
 use Rattle.outside.specs.Files.{Files, file_of, with_file, appended, IsAbsent}
-use Rattle.netsim.specs.Reading.{put_file}
+use Rattle.netsim.specs.Writing.{put_file}
 
 pub same_name : (name : List ℕ) → bytes_eq name name ≡ true
 same_name name = (bytes_eq-Decides name name).1 refl

@@ -1,9 +1,14 @@
 pub mod FileLimits
+pub mod Moments
 pub mod Reading
+pub mod Writing
 pub mod Requests
 pub mod Texts
 pub mod Verdicts
+pub mod SlackTexts
 pub mod Runs
-pub mod Ended
+pub mod Endings
 pub mod Statuses
-pub mod Detected
+pub mod StatusLaws
+pub mod LoggedCollisions
+pub mod LogLaws

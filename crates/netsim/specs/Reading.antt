@@ -1,7 +1,6 @@
--- What is read of a file, and what is written of a text (profile).
-use Rattle.std.specs.Prelude.{◌≡◌, ◌⊎◌, ◌↔◌, ℕ, ◌+◌, ◌-◌, ◌≤◌, List, [], ◌∷◌, ◌++◌, take, drop, length, Option, None, Some, option_map}
-use Rattle.outside.specs.Files.{Files, file_of, with_file, Rose}
-use Rattle.outside.specs.declared.memory.File.{File}
+-- What is read of a file (profile).
+use Rattle.std.specs.Prelude.{◌≡◌, ℕ, ◌+◌, List, take, Option, None, Some, option_map}
+use Rattle.outside.specs.Files.{Files, file_of}
 
 -- the file's octets, up to one past a limit
 unfoldable pub front_of : ℕ → List ℕ → Files → Option (List ℕ)
@@ -11,60 +10,3 @@ front_of limit name files = option_map (take (limit + 1)) (file_of name files)
 abbrev pub IsFront : ℕ → List ℕ → Option Files → List ℕ → Type 0
 IsFront limit name None octets = Unit {0}
 IsFront limit name (Some files) octets = front_of limit name files ≡ Some octets
-
--- a front of a file that is there, or nothing
-abbrev pub IsFrontSoFar : Option (List ℕ) → List ℕ → Type 0
-IsFrontSoFar None octets = octets ≡ []
-IsFrontSoFar (Some whole) octets = (octets ≡ take (length octets) whole) × (length octets ≤ length whole)
-
--- where the store tells its files, a front of this one was read, or nothing
-abbrev pub IsBegun : List ℕ → Option Files → List ℕ → Type 0
-IsBegun name None octets = Unit {0}
-IsBegun name (Some files) octets = IsFrontSoFar (file_of name files) octets
-
--- n more octets of a file that is there; none exactly at the end
-abbrev pub IsMoreOf : Option (List ℕ) → List ℕ → ℕ → List ℕ → Type 0
-IsMoreOf None old n new = ⊥
-IsMoreOf (Some whole) old n new =
-    (new ≡ old ++ take n (drop (length old) whole)) × (n ≤ length whole - length old)
-    × ((n ≡ 0) ↔ (length whole ≤ length old))
-
--- where the store tells its files, n more octets of this one were read
-abbrev pub IsMore : List ℕ → Option Files → List ℕ → ℕ → List ℕ → Type 0
-IsMore name None old n new = Unit {0}
-IsMore name (Some files) old n new = IsMoreOf (file_of name files) old n new
-
--- the store's files, where this one has a text
-abbrev pub put_file : List ℕ → List ℕ → Option Files → Option Files
-put_file name text held = option_map (with_file name text) held
-
--- after a refusal: the file is as it was, or a front of its text
-abbrev pub IsBroken : List ℕ → List ℕ → Option Files → Option Files → Type 0
-IsBroken name text before now = (now ≡ before) ⊎ ((k : ℕ) × (now ≡ put_file name (take k text) before))
-
--- the store's files, where each of these, one after the other, has its text
-abbrev pub put_all : List File → Option Files → Option Files
-put_all [] held = held
-put_all (f ∷ fs) held = put_all fs (put_file f.name f.octets held)
-
--- after a refusal in the midst of these files: those before one of them are whole, that one is as it was or a front
--- of its text, and later ones are as before
-abbrev pub IsBrokenAmong : List File → Option Files → Option Files → Type 0
-IsBrokenAmong [] before now = now ≡ before
-IsBrokenAmong (f ∷ fs) before now =
-    IsBroken f.name f.octets before now ⊎ IsBrokenAmong fs (put_file f.name f.octets before) now
-
--- a front of a line was written, and less than all of it only where the sink refused; the last two numbers count its
--- refusals
-abbrev pub IsSaid : List ℕ → Option (List ℕ) → Option (List ℕ) → ℕ → ℕ → Type 0
-IsSaid line written now before after =
-    (k : ℕ) × (now ≡ option_map (λ w. w ++ take k line) written)
-    × (before ≤ after) × ((k ≡ length line) ⊎ Rose before after)
-
--- what was written, with a text after it
-abbrev pub added : List ℕ → Option (List ℕ) → Option (List ℕ)
-added text written = option_map (λ w. w ++ text) written
-
--- a front of a text was written
-abbrev pub IsCutShort : List ℕ → Option (List ℕ) → Option (List ℕ) → Type 0
-IsCutShort text written now = (k : ℕ) × (now ≡ added (take k text) written)

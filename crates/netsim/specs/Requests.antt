@@ -4,9 +4,11 @@ use Rattle.netsim.specs.FileLimits.{most_name}
 use Rattle.netsim.specs.declared.words.Request.{Request}
 use Rattle.netsim.specs.declared.words.Request.TheVariants as request
 
--- the path verdict of a layout, a run by half bits with the names of the layout and of what is written, or a fixed text
+-- the path verdict of a layout, its slacks, a run by half bits with the names of the layout and of what is written, or
+-- a fixed text
 pub data Asked : Type 0 where
   Check : (layout : List ℕ) → Asked
+  Slack : (layout : List ℕ) → Asked
   Plain : (layout prefix : List ℕ) → Asked
   Help : Asked
   Version : Asked
@@ -22,9 +24,12 @@ asked_text word =
     else if bytes_eq word (codes "--version") then Some Version
     else None
 
--- what two words ask for: check LAYOUT
-abbrev pub asked_check : List ℕ → List ℕ → Option Asked
-asked_check word layout = if bytes_eq word (codes "check") && is_file_name layout then Some (Check layout) else None
+-- what two words ask for: check LAYOUT or slack LAYOUT
+abbrev pub asked_layout : List ℕ → List ℕ → Option Asked
+asked_layout word layout =
+    if bytes_eq word (codes "check") && is_file_name layout then Some (Check layout)
+    else if bytes_eq word (codes "slack") && is_file_name layout then Some (Slack layout)
+    else None
 
 -- what three words ask for: plain LAYOUT PREFIX
 abbrev pub asked_plain : List ℕ → List ℕ → List ℕ → Option Asked
@@ -35,13 +40,14 @@ asked_plain word layout prefix =
 -- what the words of the command line ask for, without the program's own name
 abbrev pub asked : List (List ℕ) → Option Asked
 asked (word ∷ layout ∷ prefix ∷ []) = asked_plain word layout prefix
-asked (word ∷ layout ∷ []) = asked_check word layout
+asked (word ∷ layout ∷ []) = asked_layout word layout
 asked (word ∷ []) = asked_text word
 asked words = None
 
 -- what a request of the program asks for
 abbrev pub asked_of : Request → Asked
 asked_of (request.Check layout) = Check layout.now
+asked_of (request.Slack layout) = Slack layout.now
 asked_of (request.Plain layout prefix) = Plain layout.now prefix.now
 asked_of request.Help = Help
 asked_of request.Version = Version

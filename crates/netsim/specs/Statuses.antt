@@ -1,65 +1,61 @@
--- What each status of the program says (profile).
-use Rattle.std.specs.Prelude.{◌≡◌, ◌⊎◌, ℕ, List, Option, None, Some, option_map, slice_get, Ok}
+-- What a status says of the moments of entry and exit (profile).
+use Rattle.std.specs.Prelude.{◌≡◌, ◌⊎◌, ℕ, List, Option, None, Some, Ok}
+use Rattle.capture_file.specs.declared.entries.Record.{Record}
 use Rattle.capture_file.specs.declared.fault.CaptureFault.{CaptureFault}
-use Rattle.outside.specs.Files.{Files, IsAbsent, Rose}
+use Rattle.outside.specs.Files.{Files, Rose}
 use Rattle.layout.specs.declared.lines.Layout.{Layout}
-use Rattle.load_files.specs.Loaded.{IsLoaded, IsFirstAbsent, Faulty, load_of}
+use Rattle.load_files.specs.Loaded.{IsLoaded, IsFirstAbsent, Faulty, Whole}
 use Rattle.load_plan.specs.declared.plan.Plan.{Plan}
-use Rattle.netsim.specs.Ended.{IsJudged}
-use Rattle.netsim.specs.Reading.{put_all, added, IsBrokenAmong, IsCutShort}
-use Rattle.netsim.specs.Requests.{Asked, Check, Plain, Help, Version}
+use Rattle.netsim.specs.Endings.{IsJudged, IsLoadUnreadSaid, IsUnreadSaid}
+use Rattle.netsim.specs.Moments.{Moment}
+use Rattle.netsim.specs.Requests.{Asked, asked, Check, Slack, Plain, Help, Version}
 use Rattle.netsim.specs.Runs.{IsPlanOf, run_files, IsSummary}
-use Rattle.netsim.specs.Texts.{line_of_load_fault}
+use Rattle.netsim.specs.SlackTexts.{IsSlackText}
 use Rattle.netsim.specs.Verdicts.{IsVerdictLine}
+use Rattle.netsim.specs.Writing.{put_all, added, IsBrokenAmong, IsCutShort}
 use Rattle.netsim.specs.declared.texts.TheConstants.{HELP, VERSION}
+
+-- if the words are check LAYOUT, this holds of the name
+abbrev pub IfCheck : Option Asked → (List ℕ → Type 0) → Type 0
+IfCheck o P = (layout : List ℕ) → o ≡ Some (Check layout) → P layout
+
+-- if the words are slack LAYOUT, this holds of the name
+abbrev pub IfSlack : Option Asked → (List ℕ → Type 0) → Type 0
+IfSlack o P = (layout : List ℕ) → o ≡ Some (Slack layout) → P layout
+
+-- if the words are of a form that only tells of a layout, this holds of what its text tells and of the layout's name
+abbrev pub IfTelling : Option Asked → ((Layout → List ℕ → Type 0) → List ℕ → Type 0) → Type 0
+IfTelling o P = IfCheck o (P IsVerdictLine) × IfSlack o (P IsSlackText)
+
+-- if the words are plain LAYOUT PREFIX, this holds of the two names
+abbrev pub IfPlain : Option Asked → (List ℕ → List ℕ → Type 0) → Type 0
+IfPlain o P = (layout prefix : List ℕ) → o ≡ Some (Plain layout prefix) → P layout prefix
+
+-- if the words are of a form with a layout, this holds of its name
+abbrev pub IfLayout : Option Asked → (List ℕ → Type 0) → Type 0
+IfLayout o P = IfTelling o (λ Tells layout. P layout) × IfPlain o (λ layout prefix. P layout)
+
+-- if the words ask for a fixed text, this holds of it
+abbrev pub IfText : Option Asked → (List ℕ → Type 0) → Type 0
+IfText o P = (o ≡ Some Help → P HELP.now) × (o ≡ Some Version → P VERSION.now)
 
 -- the words name a layout, and this holds of its name
 abbrev pub IsLayoutWith : Option Asked → (List ℕ → Type 0) → Type 0
 IsLayoutWith (Some (Check layout)) P = P layout
+IsLayoutWith (Some (Slack layout)) P = P layout
 IsLayoutWith (Some (Plain layout prefix)) P = P layout
 IsLayoutWith (Some Help) P = ⊥
 IsLayoutWith (Some Version) P = ⊥
 IsLayoutWith None P = ⊥
 
--- if the words name a layout, this holds of its name
-abbrev pub IfLayout : Option Asked → (List ℕ → Type 0) → Type 0
-IfLayout (Some (Check layout)) P = P layout
-IfLayout (Some (Plain layout prefix)) P = P layout
-IfLayout (Some Help) P = Unit {0}
-IfLayout (Some Version) P = Unit {0}
-IfLayout None P = Unit {0}
-
 -- the words are plain LAYOUT PREFIX, and this holds of the two names
 abbrev pub IsPlainWith : Option Asked → (List ℕ → List ℕ → Type 0) → Type 0
 IsPlainWith (Some (Check layout)) P = ⊥
+IsPlainWith (Some (Slack layout)) P = ⊥
 IsPlainWith (Some (Plain layout prefix)) P = P layout prefix
 IsPlainWith (Some Help) P = ⊥
 IsPlainWith (Some Version) P = ⊥
 IsPlainWith None P = ⊥
-
--- if the words are check LAYOUT, this holds of the name
-abbrev pub IfCheck : Option Asked → (List ℕ → Type 0) → Type 0
-IfCheck (Some (Check layout)) P = P layout
-IfCheck (Some (Plain layout prefix)) P = Unit {0}
-IfCheck (Some Help) P = Unit {0}
-IfCheck (Some Version) P = Unit {0}
-IfCheck None P = Unit {0}
-
--- if the words are plain LAYOUT PREFIX, this holds of the two names
-abbrev pub IfPlain : Option Asked → (List ℕ → List ℕ → Type 0) → Type 0
-IfPlain (Some (Check layout)) P = Unit {0}
-IfPlain (Some (Plain layout prefix)) P = P layout prefix
-IfPlain (Some Help) P = Unit {0}
-IfPlain (Some Version) P = Unit {0}
-IfPlain None P = Unit {0}
-
--- if the words ask for a fixed text, this holds of it
-abbrev pub IfText : Option Asked → (List ℕ → Type 0) → Type 0
-IfText (Some (Check layout)) P = Unit {0}
-IfText (Some (Plain layout prefix)) P = Unit {0}
-IfText (Some Help) P = P HELP.now
-IfText (Some Version) P = P VERSION.now
-IfText None P = Unit {0}
 
 -- the statuses of a call that begins no file and writes its line alone
 abbrev pub IsRefusal : ℕ → Type 0
@@ -74,6 +70,10 @@ IsDoneOrMemory status = (status ≡ 0) ⊎ (status ≡ 6)
 abbrev pub IsFaultStatus : ℕ → ℕ → ℕ → ℕ → Type 0
 IsFaultStatus fault status reads risen = (status ≡ fault) ⊎ (status ≡ 6) ⊎ ((status ≡ 4) × Rose reads risen)
 
+-- the statuses where a file to be read isn't held; 6 is want of memory
+abbrev pub IsUnreadOrMemory : ℕ → Type 0
+IsUnreadOrMemory status = (status ≡ 4) ⊎ (status ≡ 6)
+
 -- the layout held at entry has no fault, and this holds of its network
 abbrev pub IsNetworkWith : List ℕ → Option Files → (Layout → Type 0) → Type 0
 IsNetworkWith layout held P = (network : Layout) × IsJudged layout held (Ok network) × P network
@@ -83,85 +83,107 @@ abbrev pub HasLoadFault : List ℕ → Option Files → ℕ → CaptureFault →
 HasLoadFault layout held station fault =
     IsNetworkWith layout held (λ network. IsLoaded held network.stations (Faulty station fault))
 
--- the load of a station, from 0, is the first of the layout's loads with a fault, and this holds of the line of that
--- fault
-pub record IsLoadFaultLine (layout : List ℕ) (held : Option Files) (P : List ℕ → Type 0) : Type 0 where
-  pub network : Layout
-  pub judged : IsJudged layout held (Ok network)
-  pub station : ℕ
-  pub fault : CaptureFault
-  pub loaded : IsLoaded held network.stations (Faulty station fault)
-  pub name : List ℕ
-  pub named : option_map (λ s. s.name) (slice_get network.stations station) ≡ Some name
-  pub holds : P (line_of_load_fault name fault)
-
 -- this is the name of the first load of the layout that isn't held, no load before it having a fault
 abbrev pub HasAbsentLoad : List ℕ → Option Files → List ℕ → Type 0
-HasAbsentLoad layout held name =
-    IsNetworkWith layout held (λ network. IsFirstAbsent held network.stations name)
+HasAbsentLoad layout held name = IsNetworkWith layout held (λ network. IsFirstAbsent held network.stations name)
 
--- this is the name of a load of the layout that is the first that isn't held, or a read failed
-pub record IsLoadUnread (layout : List ℕ) (held : Option Files) (reads risen : ℕ) (name : List ℕ) : Type 0 where
+-- a file to be read, which is the layout or, for a run, one of its loads, isn't held or a read failed, and its name
+-- was said
+abbrev pub IsReadFaultSaid : Option Asked → Moment → Moment → Type 0
+IsReadFaultSaid (Some (Check layout)) entry exit = IsUnreadSaid layout entry exit
+IsReadFaultSaid (Some (Slack layout)) entry exit = IsUnreadSaid layout entry exit
+IsReadFaultSaid (Some (Plain layout prefix)) entry exit =
+    IsUnreadSaid layout entry exit
+    ⊎ IsNetworkWith layout entry.held (λ network. IsLoadUnreadSaid network entry exit)
+IsReadFaultSaid (Some Help) entry exit = ⊥
+IsReadFaultSaid (Some Version) entry exit = ⊥
+IsReadFaultSaid None entry exit = ⊥
+
+-- a run is done: the layout and the loads held at entry have no fault, the files of their run are whole, every other
+-- file is as at entry, and the sink got the run's summary
+pub record IsRunDone (layout prefix : List ℕ) (entry exit : Moment) : Type 0 where
   pub network : Layout
-  pub judged : IsJudged layout held (Ok network)
-  pub station : ℕ
-  pub named : load_of network.stations station ≡ Some name
-  pub unread : IsFirstAbsent held network.stations name ⊎ Rose reads risen
-
--- a file to be read, which is the layout or, for a run, one of its loads, isn't held or a read failed; this holds of
--- its name
-abbrev pub IsReadFault : Option Asked → Option Files → ℕ → ℕ → (List ℕ → Type 0) → Type 0
-IsReadFault (Some (Check layout)) held reads risen P = (IsAbsent layout held ⊎ Rose reads risen) × P layout
-IsReadFault (Some (Plain layout prefix)) held reads risen P =
-    ((IsAbsent layout held ⊎ Rose reads risen) × P layout)
-    ⊎ ((name : List ℕ) × IsLoadUnread layout held reads risen name × P name)
-IsReadFault (Some Help) held reads risen P = ⊥
-IsReadFault (Some Version) held reads risen P = ⊥
-IsReadFault None held reads risen P = ⊥
-
--- the layout and its loads held at entry have no fault, and this holds of their plan
-pub record IsPlanWith (layout : List ℕ) (held : Option Files) (P : Plan → Type 0) : Type 0 where
-  pub network : Layout
-  pub judged : IsJudged layout held (Ok network)
+  pub judged : IsJudged layout entry.held (Ok network)
   pub plan : Plan
-  pub planned : IsPlanOf held network plan
-  pub holds : P plan
+  pub planned : IsPlanOf entry.held network plan
+  pub files : exit.held ≡ put_all (run_files prefix plan) entry.held
+  pub summary : List ℕ
+  pub summed : IsSummary plan summary
+  pub written : exit.written ≡ added summary entry.written
 
--- the files of the run are whole, every other file is as before, and the sink got the run's summary
-abbrev pub IsRunHeld :
-    List ℕ → List ℕ → Option Files → Option Files → Option (List ℕ) → Option (List ℕ) → Type 0
-IsRunHeld layout prefix held now written said =
-    IsPlanWith layout held (λ plan.
-    (now ≡ put_all (run_files prefix plan) held)
-    × ((text : List ℕ) × IsSummary plan text × (said ≡ added text written)))
+-- the files of a plan's run are whole, and the sink got a front of its summary
+pub record IsSummaryCut (prefix : List ℕ) (plan : Plan) (entry exit : Moment) : Type 0 where
+  pub files : exit.held ≡ put_all (run_files prefix plan) entry.held
+  pub summary : List ℕ
+  pub summed : IsSummary plan summary
+  pub cut : IsCutShort summary entry.written exit.written
 
--- the files of the run before one of them are whole, that one is as it was or a front of its text, every other file
--- is as before, and nothing was said; or all are whole, and the sink got a front of the summary
-abbrev pub IsRunBroken :
-    List ℕ → List ℕ → Option Files → Option Files → Option (List ℕ) → Option (List ℕ) → Type 0
-IsRunBroken layout prefix held now written said =
-    IsPlanWith layout held (λ plan.
-    (IsBrokenAmong (run_files prefix plan) held now × (said ≡ written))
-    ⊎ ((now ≡ put_all (run_files prefix plan) held)
-    × ((text : List ℕ) × IsSummary plan text × IsCutShort text written said)))
-
--- all files of the run are whole
-abbrev pub AreRunFilesHeld : List ℕ → List ℕ → Option Files → Option Files → Type 0
-AreRunFilesHeld layout prefix held now =
-    IsPlanWith layout held (λ plan. now ≡ put_all (run_files prefix plan) held)
-
--- the layout held at entry has no fault, and this holds of the line of its path verdict
-pub record IsVerdictWith (layout : List ℕ) (held : Option Files) (P : List ℕ → Type 0) : Type 0 where
+-- a run is broken off: the layout and the loads held at entry have no fault; the files of their run before one of them
+-- are whole, that one is as it was or a front of its text, every other file is as at entry, and nothing was said; or
+-- all are whole, and the sink got a front of the summary
+pub record IsRunBroken (layout prefix : List ℕ) (entry exit : Moment) : Type 0 where
   pub network : Layout
-  pub judged : IsJudged layout held (Ok network)
-  pub line : List ℕ
-  pub verdict : IsVerdictLine network line
-  pub holds : P line
+  pub judged : IsJudged layout entry.held (Ok network)
+  pub plan : Plan
+  pub planned : IsPlanOf entry.held network plan
+  pub left :
+      (IsBrokenAmong (run_files prefix plan) entry.held exit.held × (exit.written ≡ entry.written))
+      ⊎ IsSummaryCut prefix plan entry exit
 
--- the line of the layout's path verdict was written
-abbrev pub IsVerdictAdded : List ℕ → Option Files → Option (List ℕ) → Option (List ℕ) → Type 0
-IsVerdictAdded layout held written now = IsVerdictWith layout held (λ line. now ≡ added line written)
+-- the layout and the loads held at entry have no fault, and all files of their run are whole
+pub record AreRunFilesHeld (layout prefix : List ℕ) (entry exit : Moment) : Type 0 where
+  pub network : Layout
+  pub judged : IsJudged layout entry.held (Ok network)
+  pub plan : Plan
+  pub planned : IsPlanOf entry.held network plan
+  pub files : exit.held ≡ put_all (run_files prefix plan) entry.held
 
--- a front of the line of the layout's path verdict was written
-abbrev pub IsVerdictCut : List ℕ → Option Files → Option (List ℕ) → Option (List ℕ) → Type 0
-IsVerdictCut layout held written now = IsVerdictWith layout held (λ line. IsCutShort line written now)
+-- nothing was begun: every file and the sink are as at entry
+abbrev pub IsUnbegun : Moment → Moment → Type 0
+IsUnbegun entry exit = (exit.held ≡ entry.held) × (exit.written ≡ entry.written)
+
+-- a run that wanted memory: nothing was begun, or it is broken off
+abbrev pub IsRunRefused : List ℕ → List ℕ → Moment → Moment → Type 0
+IsRunRefused layout prefix entry exit = IsUnbegun entry exit ⊎ IsRunBroken layout prefix entry exit
+
+-- a form that only tells of a layout is done: the layout held at entry has no fault, the sink got a text that tells
+-- this of its network, and every file is as at entry
+pub record IsTellingDone (Tells : Layout → List ℕ → Type 0) (layout : List ℕ) (entry exit : Moment) : Type 0 where
+  pub network : Layout
+  pub judged : IsJudged layout entry.held (Ok network)
+  pub text : List ℕ
+  pub right : Tells network text
+  pub written : exit.written ≡ added text entry.written
+  pub held : exit.held ≡ entry.held
+
+-- the layout held at entry has no fault, and the sink got a front of a text that tells this of its network
+pub record IsTellingCut (Tells : Layout → List ℕ → Type 0) (layout : List ℕ) (entry exit : Moment) : Type 0 where
+  pub network : Layout
+  pub judged : IsJudged layout entry.held (Ok network)
+  pub text : List ℕ
+  pub right : Tells network text
+  pub cut : IsCutShort text entry.written exit.written
+
+-- a check is done: the sink got the line of the layout's path verdict
+abbrev pub IsCheckDone : List ℕ → Moment → Moment → Type 0
+IsCheckDone layout entry exit = IsTellingDone IsVerdictLine layout entry exit
+
+-- the slacks are told: the sink got the text of the layout's slacks
+abbrev pub AreSlacksDone : List ℕ → Moment → Moment → Type 0
+AreSlacksDone layout entry exit = IsTellingDone IsSlackText layout entry exit
+
+-- a run that nothing hinders: the words are plain LAYOUT PREFIX, the store tells its files, the layout and the loads
+-- are held without fault, and no count of faults has risen
+pub record IsUnhindered (words : List (List ℕ)) (entry exit : Moment) : Type 0 where
+  pub layout : List ℕ
+  pub prefix : List ℕ
+  pub asks : asked words ≡ Some (Plain layout prefix)
+  pub files : Files
+  pub told : entry.held ≡ Some files
+  pub network : Layout
+  pub judged : IsJudged layout (Some files) (Ok network)
+  pub loads : List (List Record)
+  pub loaded : IsLoaded (Some files) network.stations (Whole loads)
+  pub reads : ¬ Rose entry.reads exit.reads
+  pub writes : ¬ Rose entry.writes exit.writes
+  pub faults : ¬ Rose entry.faults exit.faults

@@ -1,9 +1,10 @@
 //! The form that says the path verdict of a layout.
-ghost use Rattle.netsim.specs.Ended.{IsCheckEnd};
+ghost use Rattle.netsim.specs.Endings.{IsCheckEnd};
+ghost use Rattle.netsim.specs.Moments.{moment};
 
-use crate::ended::Ended;
+use crate::endings::Ending;
 use crate::judge::read_network;
-use crate::said::write_line;
+use crate::sink_texts::write_line;
 use crate::verdict::verdict_line;
 use lists::OutOfMemory;
 use outside::{Sink, Store};
@@ -15,10 +16,10 @@ pub(crate) fn check<S: Store, K: Sink>(
     layout: &str,
     store: &mut S,
     out: &mut K,
-) -> Ended
+) -> Ending
     ensures { IsCheckEnd layout.now
-        (record { held = S.held store.old; reads = S.read_faults store.old; writes = S.write_faults store.old; written = K.written out.old; faults = K.faults out.old; refused = K.refused out.old })
-        (record { held = S.held store.new; reads = S.read_faults store.new; writes = S.write_faults store.new; written = K.written out.new; faults = K.faults out.new; refused = K.refused out.new })
+        (moment S.held S.read_faults S.write_faults K.written K.faults K.refused store.old out.old)
+        (moment S.held S.read_faults S.write_faults K.written K.faults K.refused store.new out.new)
         result }
 {
     let network = match read_network(alloc, layout, store, out) {
@@ -27,6 +28,6 @@ pub(crate) fn check<S: Store, K: Sink>(
     };
     match verdict_line(alloc, &network) {
         Ok(line) => write_line(out, line.as_slice()),
-        Err(OutOfMemory) => Ended::Memory,
+        Err(OutOfMemory) => Ending::Memory,
     }
 }

@@ -1,9 +1,11 @@
 //! Whole files through a store.
 ghost use Rattle.std.specs.Prelude.{◌≡◌, ◌<◌, ◌≤◌, ◌+◌, ◌^◌, length, IfOk, OnOk, OnErr, IsErrOf, IfErr, option_map};
 ghost use Rattle.outside.specs.Files.{Rose, RoseAtNothing, IsAbsent, appended};
-ghost use Rattle.netsim.specs.Reading.{IsFront, IsMore, put_file, IsBroken};
+ghost use Rattle.netsim.specs.Reading.{IsFront};
+ghost use Rattle.netsim.specs.Writing.{put_file, IsBroken};
 
-use lists::{List, OutOfMemory};
+use file_pieces::read_pieces;
+use lists::List;
 use outside::{Store, StoreFail};
 use std::alloc::Global;
 
@@ -19,62 +21,6 @@ fn room_of_piece(alloc: Global) -> Result<Vec<u8>, StoreFail>
         Ok(room) => Ok(room),
         Err(_) => Err(StoreFail::OutOfMemory),
     }
-}
-
-/// Reads one piece of a file, of at most so many octets and at most the room, to the end of what was read of it.
-fn read_piece<S: Store>(
-    store: &mut S,
-    name: &str,
-    most: usize,
-    room: &mut [u8],
-    octets: &mut List<u8>,
-) -> Result<usize, StoreFail>
-    requires most { 0 < most }
-    requires room { 0 < length room.old }
-    requires small { length octets.old < 2 ^ 33 }
-    ensures more { IfOk result (λ n. IsMore name.now (S.held store.old) octets.old n octets.new) }
-    ensures longer { IfOk result (λ n. (n ≤ most) × (length octets.new ≡ length octets.old + n)) }
-    ensures missing { IsErrOf result StoreFail.Missing → IsAbsent name.now (S.held store.old) }
-    ensures failed { IsErrOf result StoreFail.Failed → Rose (S.read_faults store.old) (S.read_faults store.new) }
-    ensures held { S.held store.new ≡ S.held store.old }
-    ensures reads { S.read_faults store.old ≤ S.read_faults store.new }
-    ensures writes { S.write_faults store.old ≤ S.write_faults store.new }
-{
-    let most = most.min(room.len());
-    let into = &mut room[..most];
-    let count = store.read(name, octets.len() as u64, into)?;
-    match octets.extend(&into[..count]) {
-        Ok(()) => Ok(count),
-        Err(OutOfMemory) => Err(StoreFail::OutOfMemory),
-    }
-}
-
-/// Reads a file to its end, or to one octet past a limit, by pieces that fit the room.
-fn read_by_pieces<S: Store>(
-    alloc: Global,
-    store: &mut S,
-    name: &str,
-    limit: usize,
-    room: &mut [u8],
-) -> Result<List<u8>, StoreFail>
-    requires limit { limit < 2 ^ 32 }
-    requires room { 0 < length room.old }
-    ensures octets { IfOk result (λ octets. IsFront limit name.now (S.held store.old) octets) }
-    ensures missing { IsErrOf result StoreFail.Missing → IsAbsent name.now (S.held store.old) }
-    ensures failed { IsErrOf result StoreFail.Failed → Rose (S.read_faults store.old) (S.read_faults store.new) }
-    ensures held { S.held store.new ≡ S.held store.old }
-    ensures reads { S.read_faults store.old ≤ S.read_faults store.new }
-    ensures writes { S.write_faults store.old ≤ S.write_faults store.new }
-{
-    let mut octets = List::new(alloc);
-    while octets.len() <= limit {
-        let most = limit + 1 - octets.len();
-        let count = read_piece(store, name, most, room, &mut octets)?;
-        if count == 0 {
-            return Ok(octets);
-        }
-    }
-    Ok(octets)
 }
 
 /// Reads a file to its end, or to one octet past a limit.
@@ -93,7 +39,9 @@ pub(crate) fn read_file<S: Store>(
     ensures writes { S.write_faults store.old ≤ S.write_faults store.new }
 {
     let mut room = room_of_piece(alloc)?;
-    read_by_pieces(alloc, store, name, limit, room.as_mut_slice())
+    let mut octets = List::new(alloc);
+    read_pieces(store, name, limit, room.as_mut_slice(), &mut octets)?;
+    Ok(octets)
 }
 
 /// Appends a piece of a text, or a front of that piece.

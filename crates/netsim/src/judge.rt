@@ -1,13 +1,14 @@
 //! A layout file, read and judged.
 ghost use Rattle.std.specs.Prelude.{◌≡◌, ◌≤◌, Ok, IfOk, IfErr, OnOk, OnErr};
 ghost use Rattle.layout.specs.Sound.{IsSound};
-ghost use Rattle.netsim.specs.Ended.{IsJudged, IsEarly};
-ghost use Rattle.netsim.specs.Reading.{IsSaid};
+ghost use Rattle.netsim.specs.Endings.{IsJudged, IsEarly};
+ghost use Rattle.netsim.specs.Moments.{moment};
+ghost use Rattle.netsim.specs.Writing.{IsSaid};
 ghost use Rattle.netsim.specs.Texts.{line_of_fault, line_of_read_fault};
 
-use crate::ended::Ended;
+use crate::endings::Ending;
 use crate::files::read_file;
-use crate::said::say;
+use crate::sink_texts::say;
 use crate::texts::{line_of_fault, line_of_read_fault};
 use layout::Layout;
 use layout_file::{LayoutCode, LayoutFault, read_layout};
@@ -48,13 +49,13 @@ pub(crate) fn read_network<S: Store, K: Sink>(
     name: &str,
     store: &mut S,
     out: &mut K,
-) -> Result<Layout, Ended>
+) -> Result<Layout, Ending>
     ensures judged { IfOk result (λ layout. IsJudged name.now (S.held store.old) (Ok layout)) }
     ensures sound { IfOk result (λ layout. IsSound layout) }
     ensures silent { OnOk result (K.written out.new ≡ K.written out.old) }
     ensures early { IfErr result (λ e. IsEarly name.now
-        (record { held = S.held store.old; reads = S.read_faults store.old; writes = S.write_faults store.old; written = K.written out.old; faults = K.faults out.old; refused = K.refused out.old })
-        (record { held = S.held store.new; reads = S.read_faults store.new; writes = S.write_faults store.new; written = K.written out.new; faults = K.faults out.new; refused = K.refused out.new })
+        (moment S.held S.read_faults S.write_faults K.written K.faults K.refused store.old out.old)
+        (moment S.held S.read_faults S.write_faults K.written K.faults K.refused store.new out.new)
         e) }
     ensures held { S.held store.new ≡ S.held store.old }
     ensures writes { S.write_faults store.old ≤ S.write_faults store.new }
@@ -64,18 +65,18 @@ pub(crate) fn read_network<S: Store, K: Sink>(
 {
     let octets = match read_file(alloc, store, name, MOST_LAYOUT) {
         Ok(octets) => octets,
-        Err(StoreFail::OutOfMemory) => return Err(Ended::Memory),
+        Err(StoreFail::OutOfMemory) => return Err(Ending::Memory),
         Err(_) => match say_read_fault(alloc, name, out) {
-            Ok(()) => return Err(Ended::Read),
-            Err(OutOfMemory) => return Err(Ended::Memory),
+            Ok(()) => return Err(Ending::Read),
+            Err(OutOfMemory) => return Err(Ending::Memory),
         },
     };
     match read_layout(alloc, octets.as_slice()) {
         Ok(layout) => Ok(layout),
-        Err(fault) if fault.code == LayoutCode::OutOfMemory => Err(Ended::Memory),
+        Err(fault) if fault.code == LayoutCode::OutOfMemory => Err(Ending::Memory),
         Err(fault) => match say_fault(alloc, &fault, out) {
-            Ok(()) => Err(Ended::Layout),
-            Err(OutOfMemory) => Err(Ended::Memory),
+            Ok(()) => Err(Ending::Layout),
+            Err(OutOfMemory) => Err(Ending::Memory),
         },
     }
 }

@@ -2,23 +2,26 @@
 #![tactic(auto)]
 
 mod check;
-mod ended;
+mod endings;
 mod files;
 mod judge;
+pub mod laws;
 mod loads;
 mod outputs;
 mod plain;
-mod run;
-mod said;
+mod sink_texts;
+mod slack;
+mod slack_texts;
 mod texts;
+mod top_call;
 mod verdict;
 mod words;
 
-pub use ended::Ended;
-pub use run::{netsim, run_words};
+pub use endings::Ending;
+pub use top_call::{netsim, run_words};
 pub use words::Words;
 
 #[cfg(test)]
-mod loaded;
+mod load_tests;
 #[cfg(test)]
 mod tests;

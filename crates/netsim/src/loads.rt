@@ -2,14 +2,15 @@
 ghost use Rattle.std.specs.Prelude.{◌≡◌, ◌≤◌, length, All, IfOk, IfErr, OnOk, OnErr, option_map};
 ghost use Rattle.layout.specs.Sound.{IsSound};
 ghost use Rattle.load_files.specs.Loaded.{IsLoaded, Whole, load_of};
-ghost use Rattle.netsim.specs.Ended.{IsFaultyEnd, IsUnloadedSaid, IsUnreadEnd};
+ghost use Rattle.netsim.specs.Endings.{IsFaultyEnd, IsUnloadedSaid, IsUnreadEnd};
+ghost use Rattle.netsim.specs.Moments.{moment};
 ghost use Rattle.netsim.specs.FileLimits.{most_load_records};
-ghost use Rattle.netsim.specs.Reading.{IsSaid};
+ghost use Rattle.netsim.specs.Writing.{IsSaid};
 ghost use Rattle.netsim.specs.Texts.{line_of_load_fault};
 
-use crate::ended::Ended;
+use crate::endings::Ending;
 use crate::judge::say_read_fault;
-use crate::said::say;
+use crate::sink_texts::say;
 use crate::texts::line_of_load_fault;
 use capture_file::CaptureFault;
 use layout::{Layout, StationLine};
@@ -41,15 +42,15 @@ fn say_faulty<K: Sink>(
     station: u32,
     fault: &CaptureFault,
     out: &mut K,
-) -> Ended
+) -> Ending
     ensures { IsFaultyEnd stations.now station fault.now (K.written out.old) (K.written out.new) (K.refused out.old) (K.refused out.new) result }
 {
     let Some(line) = stations.get(station as usize) else {
-        return Ended::Memory;
+        return Ending::Memory;
     };
     match say_load_fault(alloc, line.name.as_str(), fault, out) {
-        Ok(()) => Ended::Load,
-        Err(OutOfMemory) => Ended::Memory,
+        Ok(()) => Ending::Load,
+        Err(OutOfMemory) => Ending::Memory,
     }
 }
 
@@ -64,15 +65,15 @@ fn load_of(stations: &[StationLine], station: u32) -> Option<&str>
 }
 
 /// Says that the load of a station, numbered from 0, can't be read.
-fn say_unread<K: Sink>(alloc: Global, stations: &[StationLine], station: u32, out: &mut K) -> Ended
+fn say_unread<K: Sink>(alloc: Global, stations: &[StationLine], station: u32, out: &mut K) -> Ending
     ensures { IsUnreadEnd stations.now station (K.written out.old) (K.written out.new) (K.refused out.old) (K.refused out.new) result }
 {
     let Some(name) = load_of(stations, station) else {
-        return Ended::Memory;
+        return Ending::Memory;
     };
     match say_read_fault(alloc, name, out) {
-        Ok(()) => Ended::Read,
-        Err(OutOfMemory) => Ended::Memory,
+        Ok(()) => Ending::Read,
+        Err(OutOfMemory) => Ending::Memory,
     }
 }
 
@@ -82,7 +83,7 @@ pub(crate) fn read_network_loads<S: Store, K: Sink>(
     network: &Layout,
     store: &mut S,
     out: &mut K,
-) -> Result<RecordsList, Ended>
+) -> Result<RecordsList, Ending>
     requires { IsSound network.now }
     ensures loaded { IfOk result (λ loads. IsLoaded (S.held store.old) network.now.stations (Whole loads)) }
     ensures count { IfOk result (λ loads. length loads ≡ length network.now.stations) }
@@ -91,8 +92,8 @@ pub(crate) fn read_network_loads<S: Store, K: Sink>(
     ensures faults { OnOk result (K.faults out.new ≡ K.faults out.old) }
     ensures refused { OnOk result (K.refused out.new ≡ K.refused out.old) }
     ensures unloaded { IfErr result (λ e. IsUnloadedSaid network.now
-        (record { held = S.held store.old; reads = S.read_faults store.old; writes = S.write_faults store.old; written = K.written out.old; faults = K.faults out.old; refused = K.refused out.old })
-        (record { held = S.held store.new; reads = S.read_faults store.new; writes = S.write_faults store.new; written = K.written out.new; faults = K.faults out.new; refused = K.refused out.new })
+        (moment S.held S.read_faults S.write_faults K.written K.faults K.refused store.old out.old)
+        (moment S.held S.read_faults S.write_faults K.written K.faults K.refused store.new out.new)
         e) }
     ensures held { S.held store.new ≡ S.held store.old }
     ensures reads { S.read_faults store.old ≤ S.read_faults store.new }
@@ -105,6 +106,6 @@ pub(crate) fn read_network_loads<S: Store, K: Sink>(
             Err(say_faulty(alloc, stations, station, &fault, out))
         }
         Err(LoadStop::Unread { station }) => Err(say_unread(alloc, stations, station, out)),
-        Err(LoadStop::OutOfMemory) => Err(Ended::Memory),
+        Err(LoadStop::OutOfMemory) => Err(Ending::Memory),
     }
 }

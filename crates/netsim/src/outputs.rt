@@ -4,12 +4,12 @@ ghost use Rattle.layout.specs.Sound.{IsSound};
 ghost use Rattle.network.specs.Outputs.{captures, rows};
 ghost use Rattle.run_texts.specs.Captures.{AreShort, pcap_of_taken};
 ghost use Rattle.run_texts.specs.Counts.{AreLeft, counts_of};
-ghost use Rattle.netsim.specs.Ended.{IsFileEnd};
-ghost use Rattle.netsim.specs.Reading.{IsBroken, IsBrokenAmong, put_file, put_all};
+ghost use Rattle.netsim.specs.Endings.{IsFileEnd};
+ghost use Rattle.netsim.specs.Writing.{IsBroken, IsBrokenAmong, put_file, put_all};
 ghost use Rattle.netsim.specs.Runs.{capture_files, counters, run_files, log};
 ghost use Rattle.netsim.specs.Texts.{name_of_capture, name_of_counters, name_of_log};
 
-use crate::ended::Ended;
+use crate::endings::Ending;
 use crate::files::write_file;
 use crate::texts::{name_of_capture, name_of_counters, name_of_log};
 use layout::StationLine;
@@ -20,19 +20,19 @@ use outside::{Store, StoreFail};
 use run_texts::{counters_of_rows, log_of_rows, pcap_of};
 use std::alloc::Global;
 
-impl From<OutOfMemory> for Ended {
+impl From<OutOfMemory> for Ending {
     ghost use Rattle.std.specs.Prelude.{◌≡◌};
-    ghost use Rattle.netsim.specs.declared.ended.Ended.TheVariants as ended;
+    ghost use Rattle.netsim.specs.declared.endings.Ending.TheVariants as ending;
 
-    ghost from_gives = { λ _ e. e ≡ ended.Memory };
+    ghost from_gives = { λ _ e. e ≡ ending.Memory };
 
     fn from(_: OutOfMemory) -> Self {
-        Ended::Memory
+        Ending::Memory
     }
 }
 
 /// Makes a file of a text.
-fn file<S: Store>(store: &mut S, name: &str, text: &[u8]) -> Result<(), Ended>
+fn file<S: Store>(store: &mut S, name: &str, text: &[u8]) -> Result<(), Ending>
     ensures ok { OnOk result (S.held store.new ≡ put_file name.now text.now (S.held store.old)) }
     ensures err { OnErr result (IsBroken name.now text.now (S.held store.old) (S.held store.new)) }
     ensures ended { IfErr result (λ e. IsFileEnd (S.write_faults store.old) (S.write_faults store.new) e) }
@@ -40,8 +40,8 @@ fn file<S: Store>(store: &mut S, name: &str, text: &[u8]) -> Result<(), Ended>
 {
     match write_file(store, name, text) {
         Ok(()) => Ok(()),
-        Err(StoreFail::OutOfMemory) => Err(Ended::Memory),
-        Err(_) => Err(Ended::Write),
+        Err(StoreFail::OutOfMemory) => Err(Ending::Memory),
+        Err(_) => Err(Ending::Write),
     }
 }
 
@@ -52,7 +52,7 @@ fn file_log<S: Store>(
     outputs: &Outputs,
     prefix: &str,
     store: &mut S,
-) -> Result<(), Ended>
+) -> Result<(), Ending>
     requires sound { IsSound plan.now.layout }
     requires rows { outputs.now.rows ≡ rows plan.now }
     ensures ok { OnOk result (S.held store.new ≡ put_file (name_of_log prefix.now) (log plan.now) (S.held store.old)) }
@@ -72,7 +72,7 @@ fn file_counters<S: Store>(
     outputs: &Outputs,
     prefix: &str,
     store: &mut S,
-) -> Result<(), Ended>
+) -> Result<(), Ending>
     requires sound { IsSound plan.now.layout }
     requires rows { outputs.now.rows ≡ rows plan.now }
     requires left { AreLeft (counts_of plan.now (rows plan.now)) }
@@ -93,7 +93,7 @@ fn file_capture<S: Store>(
     taken: &TakenList,
     prefix: &str,
     store: &mut S,
-) -> Result<(), Ended>
+) -> Result<(), Ending>
     requires { AreShort taken.now }
     ensures ok { OnOk result (S.held store.new ≡ put_file (name_of_capture prefix.now station.now.name) (pcap_of_taken taken.now) (S.held store.old)) }
     ensures err { OnErr result (IsBroken (name_of_capture prefix.now station.now.name) (pcap_of_taken taken.now) (S.held store.old) (S.held store.new)) }
@@ -112,7 +112,7 @@ fn file_captures<S: Store>(
     captures: &[TakenList],
     prefix: &str,
     store: &mut S,
-) -> Result<(), Ended>
+) -> Result<(), Ending>
     requires { All AreShort captures.now }
     ensures ok { OnOk result (S.held store.new ≡ put_all (capture_files prefix.now stations.now captures.now) (S.held store.old)) }
     ensures err { OnErr result (IsBrokenAmong (capture_files prefix.now stations.now captures.now) (S.held store.old) (S.held store.new)) }
@@ -133,7 +133,7 @@ pub(crate) fn file_outputs<S: Store>(
     outputs: &Outputs,
     prefix: &str,
     store: &mut S,
-) -> Result<(), Ended>
+) -> Result<(), Ending>
     requires sound { IsSound plan.now.layout }
     requires rows { outputs.now.rows ≡ rows plan.now }
     requires captures { outputs.now.captures ≡ captures plan.now }

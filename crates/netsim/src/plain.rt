@@ -3,15 +3,16 @@ ghost use Rattle.std.specs.Prelude.{◌≡◌, ◌≤◌, length, All, IfOk};
 ghost use Rattle.layout.specs.Sound.{IsSound};
 ghost use Rattle.load_plan.specs.Loads.{planned_queues, planned_skips};
 ghost use Rattle.network.specs.Outputs.{captures, rows};
-ghost use Rattle.netsim.specs.Ended.{IsPlainEnd, IsRunEnd};
+ghost use Rattle.netsim.specs.Endings.{IsPlainEnd, IsRunEnd};
+ghost use Rattle.netsim.specs.Moments.{moment};
 ghost use Rattle.netsim.specs.FileLimits.{most_load_records};
 ghost use Rattle.netsim.specs.Runs.{IsMadeOf, IsSummary};
 
-use crate::ended::Ended;
+use crate::endings::Ending;
 use crate::judge::read_network;
 use crate::loads::read_network_loads;
 use crate::outputs::file_outputs;
-use crate::said::write_line;
+use crate::sink_texts::write_line;
 use crate::verdict::verdict_line;
 use layout::Layout;
 use lists::{List, OutOfMemory};
@@ -71,18 +72,18 @@ fn run_network<S: Store, K: Sink>(
     prefix: &str,
     store: &mut S,
     out: &mut K,
-) -> Ended
+) -> Ending
     requires sound { IsSound network }
     requires loads { length loads ≡ length network.stations }
     requires few { All (λ rs. length rs ≤ most_load_records) loads }
     ensures { IsRunEnd network loads prefix.now
-        (record { held = S.held store.old; reads = S.read_faults store.old; writes = S.write_faults store.old; written = K.written out.old; faults = K.faults out.old; refused = K.refused out.old })
-        (record { held = S.held store.new; reads = S.read_faults store.new; writes = S.write_faults store.new; written = K.written out.new; faults = K.faults out.new; refused = K.refused out.new })
+        (moment S.held S.read_faults S.write_faults K.written K.faults K.refused store.old out.old)
+        (moment S.held S.read_faults S.write_faults K.written K.faults K.refused store.new out.new)
         result }
 {
     let run = match run_of(alloc, network, loads) {
         Ok(run) => run,
-        Err(OutOfMemory) => return Ended::Memory,
+        Err(OutOfMemory) => return Ending::Memory,
     };
     frames_are_left(&run.plan);
     captures_are_short(&run.plan);
@@ -99,10 +100,10 @@ pub(crate) fn plain<S: Store, K: Sink>(
     prefix: &str,
     store: &mut S,
     out: &mut K,
-) -> Ended
+) -> Ending
     ensures { IsPlainEnd layout.now prefix.now
-        (record { held = S.held store.old; reads = S.read_faults store.old; writes = S.write_faults store.old; written = K.written out.old; faults = K.faults out.old; refused = K.refused out.old })
-        (record { held = S.held store.new; reads = S.read_faults store.new; writes = S.write_faults store.new; written = K.written out.new; faults = K.faults out.new; refused = K.refused out.new })
+        (moment S.held S.read_faults S.write_faults K.written K.faults K.refused store.old out.old)
+        (moment S.held S.read_faults S.write_faults K.written K.faults K.refused store.new out.new)
         result }
 {
     let network = match read_network(alloc, layout, store, out) {

@@ -1,7 +1,6 @@
 //! Calls over stores and sinks in memory, some of whose calls fail. Logs, summaries and octets are worked out by hand or by
 //! another program.
 use crate::files::{read_file, write_file};
-use crate::texts::HELP;
 use crate::{Words, netsim};
 use lists::{OutOfMemory, Text};
 use outside::{MemorySink, MemoryStore, OpenGate};
@@ -16,7 +15,15 @@ const TWO: &str =
 const HOP: &str =
     "format = 1\nseed = 1\n[[segment]]\nname = \"x\"\n[[segment]]\nname = \"y\"\n[[station]]\nname = \"a\"\nsegment = \"x\"\nat = 0\n[[station]]\nname = \"b\"\nsegment = \"y\"\nat = 30\n[[repeater]]\nname = \"r\"\ndelay = 16\n[[repeater.port]]\nsegment = \"x\"\nat = 20\n[[repeater.port]]\nsegment = \"y\"\nat = 0\n";
 
-/// The same of 1 and 1, with the least delay.
+/// The same without b.
+const ALONE: &str =
+    "format = 1\nseed = 1\n[[segment]]\nname = \"x\"\n[[segment]]\nname = \"y\"\n[[station]]\nname = \"a\"\nsegment = \"x\"\nat = 0\n[[repeater]]\nname = \"r\"\ndelay = 16\n[[repeater.port]]\nsegment = \"x\"\nat = 20\n[[repeater.port]]\nsegment = \"y\"\nat = 0\n";
+
+/// One segment with a station a at 0 and a station b at 416.
+const OVER: &str =
+    "format = 1\nseed = 1\n[[segment]]\nname = \"x\"\n[[station]]\nname = \"a\"\nsegment = \"x\"\nat = 0\n[[station]]\nname = \"b\"\nsegment = \"x\"\nat = 416\n";
+
+/// The layout of two segments of 1 and 1, with the least delay.
 const SHORT_HOP: &str =
     "format = 1\nseed = 1\n[[segment]]\nname = \"x\"\n[[segment]]\nname = \"y\"\n[[station]]\nname = \"a\"\nsegment = \"x\"\nat = 0\n[[station]]\nname = \"b\"\nsegment = \"y\"\nat = 1\n[[repeater]]\nname = \"r\"\ndelay = 1\n[[repeater.port]]\nsegment = \"x\"\nat = 1\n[[repeater.port]]\nsegment = \"y\"\nat = 0\n";
 
@@ -150,10 +157,11 @@ fn is_refusal<R: Threads + Wait + Sync + AllocGlobal>(
 
 #[test]
 fn words_alone(rt: HostRuntime) -> Result<(), OutOfMemory> {
-    let lines: [&[&'static str]; 6] = [
+    let lines: [&[&'static str]; 7] = [
         &["run", "l.toml", "out", "0"],
         &["check"],
         &["check", "l.toml", "out"],
+        &["slack"],
         &["plain", "l.toml", ""],
         &["--help", "--version"],
         &[],
@@ -174,7 +182,7 @@ fn words_alone(rt: HostRuntime) -> Result<(), OutOfMemory> {
 fn fixed_texts(rt: HostRuntime) -> Result<(), OutOfMemory> {
     let help = Case {
         words: &["--help"],
-        said: HELP,
+        said: "netsim check LAYOUT: writes whether the worst round trip of LAYOUT is within the slot time\nnetsim slack LAYOUT: writes that, and how far each gap between neighbouring taps and each repeater's delay can grow\nnetsim plain LAYOUT PREFIX: runs the network of LAYOUT by half bits and writes PREFIX.log, PREFIX.counters and a capture PREFIX.STATION.pcap for each station\nnetsim --help: writes this text\nnetsim --version: writes the name and the version\n",
         ..RUN
     };
     let version = Case {
@@ -214,6 +222,53 @@ fn verdicts(rt: HostRuntime) -> Result<(), OutOfMemory> {
         ..check
     };
     for case in [check, hop, unwritten] {
+        assert!(rt; is_refusal(&rt, &case)?);
+    }
+    Ok(())
+}
+
+/// What is said of how far layouts can grow, and where that fails.
+#[test]
+fn slacks(rt: HostRuntime) -> Result<(), OutOfMemory> {
+    let near = Case {
+        words: &["slack", "l.toml"],
+        said: "within 212 a b\nsegment x 0 10 slack 405 pair a b\n",
+        ..RUN
+    };
+    let hop = Case {
+        tables: [HOP, "", ""],
+        said: "within 324 a b\nsegment x 0 20 slack 349 pair a b\nsegment y 0 30 slack 349 pair a b\nrepeater r 16 slack 184 bound\n",
+        ..near
+    };
+    let over = Case {
+        tables: [OVER, "", ""],
+        said: "over 1024 a b\nsegment x 0 416 over\n",
+        ..near
+    };
+    let alone = Case {
+        tables: [ALONE, "", ""],
+        said: "no pair\nsegment x 0 20 slack 1980 bound\nrepeater r 16 slack 184 bound\n",
+        ..near
+    };
+    let faulty = Case {
+        until_bits: 0,
+        status: 2,
+        said: "layout fault 6 OutOfRange table file row 0 port 0 key until_bits\n",
+        ..near
+    };
+    let missing = Case {
+        words: &["slack", "m.toml"],
+        status: 4,
+        said: "read fault m.toml\n",
+        ..near
+    };
+    let unwritten = Case {
+        writes: &[1],
+        status: 5,
+        said: "",
+        ..near
+    };
+    for case in [near, hop, over, alone, faulty, missing, unwritten] {
         assert!(rt; is_refusal(&rt, &case)?);
     }
     Ok(())

@@ -12,7 +12,7 @@ pub const WORDS_FAULT: &str = "words fault\n";
 
 /// What the program is called with.
 pub const HELP: &str =
-    "netsim check LAYOUT: writes whether the worst round trip of LAYOUT is within the slot time\nnetsim plain LAYOUT PREFIX: runs the network of LAYOUT by half bits and writes PREFIX.log, PREFIX.counters and a capture PREFIX.STATION.pcap for each station\nnetsim --help: writes this text\nnetsim --version: writes the name and the version\n";
+    "netsim check LAYOUT: writes whether the worst round trip of LAYOUT is within the slot time\nnetsim slack LAYOUT: writes that, and how far each gap between neighbouring taps and each repeater's delay can grow\nnetsim plain LAYOUT PREFIX: runs the network of LAYOUT by half bits and writes PREFIX.log, PREFIX.counters and a capture PREFIX.STATION.pcap for each station\nnetsim --help: writes this text\nnetsim --version: writes the name and the version\n";
 
 /// The program's name and version.
 pub const VERSION: &str = "netsim 0.1.0\n";

@@ -10,7 +10,11 @@ use path_checker::{PathVerdict, check_paths};
 use std::alloc::Global;
 
 /// Puts the name of a station at the end of a line.
-fn add_station(line: &mut List<u8>, layout: &Layout, station: u32) -> Result<(), OutOfMemory>
+pub(crate) fn add_station(
+    line: &mut List<u8>,
+    layout: &Layout,
+    station: u32,
+) -> Result<(), OutOfMemory>
     ensures ok { OnOk result (line.new ≡ line.old ++ name_of_station layout.now station) }
 {
     match layout.stations.as_slice().get(station as usize) {

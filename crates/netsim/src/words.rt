@@ -1,6 +1,6 @@
 //! The words of the command line.
 ghost use Rattle.std.specs.Prelude.{◌≡◌, option_map};
-ghost use Rattle.netsim.specs.Requests.{asked, asked_of, is_file_name, asked_text, asked_check, asked_plain};
+ghost use Rattle.netsim.specs.Requests.{asked, asked_of, is_file_name, asked_text, asked_layout, asked_plain};
 
 use lists::{List, Text};
 
@@ -15,6 +15,8 @@ const MOST_NAME: usize = 200;
 pub(crate) enum Request<'a> {
     /// Says the path verdict of a layout.
     Check { layout: &'a str },
+    /// Says how far a layout can grow.
+    Slack { layout: &'a str },
     /// Runs the network of a layout by half bits and writes the files of a prefix.
     Plain { layout: &'a str, prefix: &'a str },
     /// What the program is called with.
@@ -35,7 +37,7 @@ pub(crate) fn read_words(words: &Words) -> Option<Request<'_>>
 {
     match words.as_slice() {
         [word] => read_text(word.as_str()),
-        [word, layout] => read_check(word.as_str(), layout.as_str()),
+        [word, layout] => read_layout_form(word.as_str(), layout.as_str()),
         [word, layout, prefix] => read_plain(word.as_str(), layout.as_str(), prefix.as_str()),
         _ => None,
     }
@@ -51,11 +53,13 @@ fn read_text(word: &str) -> Option<Request<'static>>
     }
 }
 
-fn read_check<'a>(word: &str, layout: &'a str) -> Option<Request<'a>>
-    ensures { option_map asked_of result ≡ asked_check word.now layout.now }
+fn read_layout_form<'a>(word: &str, layout: &'a str) -> Option<Request<'a>>
+    ensures { option_map asked_of result ≡ asked_layout word.now layout.now }
 {
     if word == "check" && is_file_name(layout) {
         Some(Request::Check { layout })
+    } else if word == "slack" && is_file_name(layout) {
+        Some(Request::Slack { layout })
     } else {
         None
     }

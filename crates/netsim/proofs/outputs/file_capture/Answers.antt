@@ -1,5 +1,5 @@
 use Rattle.std.proofs.Common.{◌≡◌, rules}
-use Rattle.netsim.specs.declared.ended.Ended.{Ended}
+use Rattle.netsim.specs.declared.endings.Ending.{Ending}
 use Rattle.netsim.specs.Texts.{name_of_capture}
 use Rattle.run_texts.specs.Captures.{pcap_of_taken}
 use Rattle.netsim.proofs.FilesInTurn.{broken-same}
@@ -9,4 +9,4 @@ pub returns-clause-err : goal.returns-clause-err
 returns-clause-err g c =
     let name : c.as_str-2.result.now ≡ name_of_capture c.args.prefix.now c.args.station.now.name = search rules in
     let text : c.bytes.result.now ≡ pcap_of_taken c.args.taken.now = search rules in
-    broken-same Ended c.file.result _ (name_of_capture c.args.prefix.now c.args.station.now.name) _ (pcap_of_taken c.args.taken.now) (g.S.Store.held c.args.store.now) (g.S.Store.held c.file.new.store) name text c.file.ensures.err
+    broken-same Ending c.file.result _ (name_of_capture c.args.prefix.now c.args.station.now.name) _ (pcap_of_taken c.args.taken.now) (g.S.Store.held c.args.store.now) (g.S.Store.held c.file.new.store) name text c.file.ensures.err

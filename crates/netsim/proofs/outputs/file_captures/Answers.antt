@@ -1,6 +1,6 @@
 use Rattle.std.proofs.Common.{◌<◌, length, rules}
 use Rattle.netsim.specs.Runs.{capture_files}
-use Rattle.netsim.specs.declared.ended.Ended.{Ended}
+use Rattle.netsim.specs.declared.endings.Ending.{Ending}
 use Rattle.netsim.proofs.FilesInTurn.{captures-next, captures-end, left-broken, left-none, on-err}
 use Rattle.netsim.proofs.outputs.file_captures.Goals as goal
 
@@ -9,7 +9,7 @@ returns-in_err-file_capture-clause-err g c =
     let one : c.loop-k.k < length c.args.stations.now = search rules in
     let two : c.loop-k.k < length c.args.captures.now = search rules in
     let next = captures-next c.args.prefix.now c.args.stations.now c.args.captures.now c.loop-k.k c.index-stations-k.result c.index-captures-k.result one two c.index-stations-k.is c.index-captures-k.is in
-    on-err Ended c.from_residual.result _
+    on-err Ending c.from_residual.result _
     (left-broken (capture_files c.args.prefix.now c.args.stations.now c.args.captures.now) _ _ _ (g.S.Store.held c.args.store.now) (g.S.Store.held c.loop-k.store) _ next c.loop-k.invariant.0 c.in_err-file_capture.ensures.err)
 
 pub returns-clause-ok : goal.returns-clause-ok

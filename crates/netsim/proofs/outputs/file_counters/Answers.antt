@@ -1,5 +1,5 @@
 use Rattle.std.proofs.Common.{◌≡◌, rules}
-use Rattle.netsim.specs.declared.ended.Ended.{Ended}
+use Rattle.netsim.specs.declared.endings.Ending.{Ending}
 use Rattle.netsim.specs.Runs.{counters}
 use Rattle.netsim.specs.Texts.{name_of_counters}
 use Rattle.netsim.proofs.FilesInTurn.{broken-same}
@@ -9,4 +9,4 @@ pub returns-clause-err : goal.returns-clause-err
 returns-clause-err g c =
     let name : c.as_str.result.now ≡ name_of_counters c.args.prefix.now = search rules in
     let text : c.as_slice-2.result.now ≡ counters c.args.plan.now = search rules in
-    broken-same Ended c.file.result _ (name_of_counters c.args.prefix.now) _ (counters c.args.plan.now) (g.S.Store.held c.args.store.now) (g.S.Store.held c.file.new.store) name text c.file.ensures.err
+    broken-same Ending c.file.result _ (name_of_counters c.args.prefix.now) _ (counters c.args.plan.now) (g.S.Store.held c.args.store.now) (g.S.Store.held c.file.new.store) name text c.file.ensures.err

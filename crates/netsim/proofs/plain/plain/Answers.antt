@@ -1,5 +1,5 @@
 use Rattle.std.proofs.Common.{◌∙◌, arith}
-use Rattle.netsim.specs.Ended.{Moment}
+use Rattle.netsim.specs.Moments.{Moment}
 use Rattle.netsim.proofs.RunEnds.{IsRead, plain-ran, plain-unloaded, loaded-before}
 use Rattle.netsim.proofs.plain.plain.Goals as goal
 

@@ -1,5 +1,5 @@
 use Rattle.std.proofs.Common.{refl}
-use Rattle.netsim.specs.Ended.{Moment}
+use Rattle.netsim.specs.Moments.{Moment}
 use Rattle.netsim.proofs.RunEnds.{run-filed, run-unfiled}
 use Rattle.netsim.proofs.plain.run_network.Goals as goal
 

@@ -1,0 +1,98 @@
+-- What holds of every answer, whatever the form of words.
+use Rattle.std.proofs.Common.{◌≡◌, ◌⊎◌, ◌↔◌, ℕ, Option, None, Some, List, refl, ap, subst, ◌∙◌, inl, inr, arith}
+use Rattle.outside.specs.Files.{Rose}
+use Rattle.load_plan.specs.declared.plan.Plan.{Plan}
+use Rattle.netsim.specs.declared.endings.Ending.{Ending}
+use Rattle.netsim.specs.declared.endings.Ending.TheVariants as ending
+use Rattle.netsim.specs.Endings.{IsAnswer, IsEndOf, IsFiledEnd, IsPlainEnd, status_of}
+use Rattle.netsim.specs.Moments.{Moment}
+use Rattle.netsim.specs.Requests.{Asked, asked, Check, Slack, Plain, Help, Version}
+use Rattle.netsim.specs.Statuses.{IsRefusal}
+use Rattle.netsim.proofs.EndingsByStatus.{end_at}
+
+words_done : ending.Write ≡ ending.Words → ⊥
+words_done e = cc
+
+-- words of no form
+none_of : (o : Option Asked) (entry exit : Moment) → IsEndOf o entry exit ending.Words → o ≡ None
+none_of None entry exit h = refl
+none_of (Some Help) entry exit h = absurd h.0
+none_of (Some Version) entry exit h = absurd h.0
+none_of (Some (Check layout)) entry exit h = elim h.1 [ inl early ↦ absurd early | inr checked ↦ absurd checked.written ]
+none_of (Some (Slack layout)) entry exit h = elim h.1 [ inl early ↦ absurd early | inr checked ↦ absurd checked.written ]
+none_of (Some (Plain layout prefix)) entry exit h =
+    elim h [
+      | inl early ↦ absurd early.0
+      | inr later ↦ elim later [
+        | inl unloaded ↦ absurd unloaded.0.said
+        | inr on ↦ elim on [ inl unrun ↦ absurd (words_unrun unrun.0) | inr run ↦ elim run.filed [ inl all ↦ absurd all.1.2 | inr some ↦ absurd some ] ]
+      ]
+    ]
+  where
+    words_unrun : ending.Words ≡ ending.Memory → ⊥
+    words_unrun e = cc
+
+one_of : (o : Option Asked) (entry exit : Moment) (e : Ending) → o ≡ None → IsEndOf o entry exit e → status_of e ≡ 1
+one_of o entry exit e none end = let h : IsEndOf None entry exit e = subst (λ a. IsEndOf a entry exit e) none end in ap status_of h.0
+
+-- status 1 exactly where the words are none of the forms
+pub words_of_none : (words : List (List ℕ)) (entry exit : Moment) (status : ℕ) → IsAnswer words entry exit status → (status ≡ 1) ↔ (asked words ≡ None)
+words_of_none words entry exit status answer =
+    (λ one. none_of (asked words) entry exit (end_at words entry exit status 1 answer one), λ none. answer.is ∙ one_of (asked words) entry exit answer.by none answer.allowed)
+
+not_refusal : (k : ℕ) → (k ≡ 1 → ⊥) → (k ≡ 2 → ⊥) → (k ≡ 3 → ⊥) → (k ≡ 4 → ⊥) → IsRefusal k → ⊥
+not_refusal k a b c d r = elim r [ inl e ↦ a e | inr s ↦ elim s [ inl e ↦ b e | inr u ↦ elim u [ inl e ↦ c e | inr e ↦ d e ] ] ]
+
+-- a run that began its files is no refusal
+filed_no_refusal : (prefix : List ℕ) (plan : Plan) (entry exit : Moment) (e : Ending) → IsFiledEnd prefix plan entry exit e → IsRefusal (status_of e) → ⊥
+filed_no_refusal prefix plan entry exit ending.Done filed r = not_refusal 0 (λ e. omega (arith, e)) (λ e. omega (arith, e)) (λ e. omega (arith, e)) (λ e. omega (arith, e)) r
+filed_no_refusal prefix plan entry exit ending.Words filed r = elim filed [ inl all ↦ all.1.2 | inr some ↦ some ]
+filed_no_refusal prefix plan entry exit ending.Layout filed r = elim filed [ inl all ↦ all.1.2 | inr some ↦ some ]
+filed_no_refusal prefix plan entry exit ending.Load filed r = elim filed [ inl all ↦ all.1.2 | inr some ↦ some ]
+filed_no_refusal prefix plan entry exit ending.Read filed r = elim filed [ inl all ↦ all.1.2 | inr some ↦ some ]
+filed_no_refusal prefix plan entry exit ending.Write filed r = not_refusal 5 (λ e. omega (arith, e)) (λ e. omega (arith, e)) (λ e. omega (arith, e)) (λ e. omega (arith, e)) r
+filed_no_refusal prefix plan entry exit ending.Memory filed r = not_refusal 6 (λ e. omega (arith, e)) (λ e. omega (arith, e)) (λ e. omega (arith, e)) (λ e. omega (arith, e)) r
+
+plain_kept : (layout prefix : List ℕ) (entry exit : Moment) (e : Ending) → IsPlainEnd layout prefix entry exit e → IsRefusal (status_of e) → exit.held ≡ entry.held
+plain_kept layout prefix entry exit e h r =
+    elim h [
+      | inl early ↦ early.1
+      | inr later ↦ elim later [
+        | inl unloaded ↦ unloaded.1
+        | inr on ↦ elim on [ inl unrun ↦ unrun.1 | inr run ↦ absurd (filed_no_refusal prefix run.plan entry exit e run.filed r) ]
+      ]
+    ]
+
+kept_of : (o : Option Asked) (entry exit : Moment) (e : Ending) → IsEndOf o entry exit e → IsRefusal (status_of e) → exit.held ≡ entry.held
+kept_of None entry exit e h r = h.1
+kept_of (Some Help) entry exit e h r = h.1
+kept_of (Some Version) entry exit e h r = h.1
+kept_of (Some (Check layout)) entry exit e h r = h.0
+kept_of (Some (Slack layout)) entry exit e h r = h.0
+kept_of (Some (Plain layout prefix)) entry exit e h r = plain_kept layout prefix entry exit e h r
+
+-- the statuses 1 to 4 leave every file as at entry
+pub refused : (words : List (List ℕ)) (entry exit : Moment) (status : ℕ) → IsAnswer words entry exit status → IsRefusal status → exit.held ≡ entry.held
+refused words entry exit status answer r = kept_of (asked words) entry exit answer.by answer.allowed (subst (λ n. IsRefusal n) answer.is r)
+
+failed_of : (o : Option Asked) (entry exit : Moment) → IsEndOf o entry exit ending.Write → Rose entry.writes exit.writes ⊎ Rose entry.faults exit.faults
+failed_of None entry exit h = absurd (words_done h.0)
+failed_of (Some Help) entry exit h = inr h.0.1
+failed_of (Some Version) entry exit h = inr h.0.1
+failed_of (Some (Check layout)) entry exit h = elim h.1 [ inl early ↦ absurd early | inr checked ↦ inr checked.written.1 ]
+failed_of (Some (Slack layout)) entry exit h = elim h.1 [ inl early ↦ absurd early | inr checked ↦ inr checked.written.1 ]
+failed_of (Some (Plain layout prefix)) entry exit h =
+    elim h [
+      | inl early ↦ absurd early.0
+      | inr later ↦ elim later [
+        | inl unloaded ↦ absurd unloaded.0.said
+        | inr on ↦ elim on [ inl unrun ↦ absurd (write_unrun unrun.0) | inr run ↦ elim run.filed [ inl all ↦ inr all.1.2.1 | inr some ↦ inl some.1 ] ]
+      ]
+    ]
+  where
+    write_unrun : ending.Write ≡ ending.Memory → ⊥
+    write_unrun e = cc
+
+-- status 5 comes of a failed write
+pub failed : (words : List (List ℕ)) (entry exit : Moment) (status : ℕ) → IsAnswer words entry exit status → status ≡ 5 → Rose entry.writes exit.writes ⊎ Rose entry.faults exit.faults
+failed words entry exit status answer five = failed_of (asked words) entry exit (end_at words entry exit status 5 answer five)

@@ -1,0 +1,18 @@
+use Rattle.netsim.proofs.FilesAfterRuns.{texts_are_written, texts_are_failed, texts_are_cut_short, texts_keep_files}
+use Rattle.netsim.proofs.LoadsDecideStatus.{texts_are_complete}
+use Rattle.netsim.proofs.laws.texts_are_told.Goals as goal
+
+pub returns-clause-done : goal.returns-clause-done
+returns-clause-done c = texts_are_written
+
+pub returns-clause-failed : goal.returns-clause-failed
+returns-clause-failed c = texts_are_failed
+
+pub returns-clause-cut : goal.returns-clause-cut
+returns-clause-cut c = texts_are_cut_short
+
+pub returns-clause-held : goal.returns-clause-held
+returns-clause-held c = texts_keep_files
+
+pub returns-clause-complete : goal.returns-clause-complete
+returns-clause-complete c = texts_are_complete

@@ -1,0 +1,229 @@
+-- How a call ends (profile).
+use Rattle.std.specs.Prelude.{◌≡◌, ◌⊎◌, ℕ, List, Option, None, Some, option_map, slice_get, Result, Ok, Err}
+use Rattle.capture_file.specs.declared.entries.Record.{Record}
+use Rattle.capture_file.specs.declared.fault.CaptureFault.{CaptureFault}
+use Rattle.outside.specs.Files.{Files, IsAbsent, Rose}
+use Rattle.layout_file.specs.Faults.{judged}
+use Rattle.layout.specs.declared.lines.Layout.{Layout}
+use Rattle.layout.specs.declared.lines.StationLine.{StationLine}
+use Rattle.layout_file.specs.declared.fault.LayoutFault.{LayoutFault}
+use Rattle.load_files.specs.Loaded.{IsLoaded, IsFirstAbsent, Faulty, load_of}
+use Rattle.load_plan.specs.declared.plan.Plan.{Plan}
+use Rattle.netsim.specs.FileLimits.{most_layout}
+use Rattle.netsim.specs.Reading.{front_of}
+use Rattle.netsim.specs.Writing.{put_all, added, IsBrokenAmong, IsSaid, IsCutShort}
+use Rattle.netsim.specs.Moments.{Moment}
+use Rattle.netsim.specs.Requests.{Asked, asked, Check, Slack, Plain, Help, Version}
+use Rattle.netsim.specs.Runs.{IsMadeOf, IsPlanOf, run_files, IsSummary}
+use Rattle.netsim.specs.SlackTexts.{IsSlackText}
+use Rattle.netsim.specs.Texts.{line_of_words_fault, line_of_fault, line_of_load_fault, line_of_read_fault}
+use Rattle.netsim.specs.Verdicts.{IsVerdictLine}
+use Rattle.netsim.specs.declared.endings.Ending.{Ending}
+use Rattle.netsim.specs.declared.endings.Ending.TheVariants as ending
+use Rattle.netsim.specs.declared.texts.TheConstants.{HELP, VERSION}
+
+-- where the store tells its files, the layout was there and was judged so, whole or at one octet past the most that
+-- it may have
+abbrev pub IsJudged : List ℕ → Option Files → Result Layout LayoutFault → Type 0
+IsJudged name None verdict = Unit {0}
+IsJudged name (Some files) verdict = option_map judged (front_of most_layout name files) ≡ Some verdict
+
+-- the layout has a fault
+abbrev pub HasFault : List ℕ → Option Files → Type 0
+HasFault name held = (fault : LayoutFault) × IsJudged name held (Err fault)
+
+-- this line was said, or a front of it where the sink refused
+abbrev pub Says : List ℕ → Moment → Moment → Type 0
+Says line before after = IsSaid line before.written after.written before.refused after.refused
+
+-- the layout has a fault, and its line was said
+abbrev pub IsFaultSaid : List ℕ → Moment → Moment → Type 0
+IsFaultSaid name before after =
+    (fault : LayoutFault) × IsJudged name before.held (Err fault) × Says (line_of_fault fault) before after
+
+-- of a network's loads that of a station, from 0, is the first with a fault, and its line was said
+pub record IsLoadFaultSaid (network : Layout) (before after : Moment) : Type 0 where
+  pub station : ℕ
+  pub fault : CaptureFault
+  pub loaded : IsLoaded before.held network.stations (Faulty station fault)
+  pub name : List ℕ
+  pub named : option_map (λ s. s.name) (slice_get network.stations station) ≡ Some name
+  pub said : Says (line_of_load_fault name fault) before after
+
+-- a load of the network is the first that isn't held, no load before it having a fault, or a read of it failed; that
+-- was said
+pub record IsLoadUnreadSaid (network : Layout) (before after : Moment) : Type 0 where
+  pub station : ℕ
+  pub name : List ℕ
+  pub named : load_of network.stations station ≡ Some name
+  pub unread : IsFirstAbsent before.held network.stations name ⊎ Rose before.reads after.reads
+  pub said : Says (line_of_read_fault name) before after
+
+-- the layout isn't held or a read failed, and that was said
+abbrev pub IsUnreadSaid : List ℕ → Moment → Moment → Type 0
+IsUnreadSaid name before after =
+    (IsAbsent name before.held ⊎ Rose before.reads after.reads) × Says (line_of_read_fault name) before after
+
+-- the call ended before a layout without fault was read
+abbrev pub IsEarly : List ℕ → Moment → Moment → Ending → Type 0
+IsEarly name before after ending.Done = ⊥
+IsEarly name before after ending.Words = ⊥
+IsEarly name before after ending.Layout = IsFaultSaid name before after
+IsEarly name before after ending.Load = ⊥
+IsEarly name before after ending.Read = IsUnreadSaid name before after
+IsEarly name before after ending.Write = ⊥
+IsEarly name before after ending.Memory = after.written ≡ before.written
+
+-- what is said of the load of a station, from 0, with a fault: its line, and nothing without memory; the last two
+-- numbers count what the sink refused
+abbrev pub IsFaultyEnd :
+    List StationLine → ℕ → CaptureFault → Option (List ℕ) → Option (List ℕ) → ℕ → ℕ → Ending → Type 0
+IsFaultyEnd stations station fault written now refused risen ending.Load =
+    (name : List ℕ) × (option_map (λ s. s.name) (slice_get stations station) ≡ Some name)
+    × IsSaid (line_of_load_fault name fault) written now refused risen
+IsFaultyEnd stations station fault written now refused risen ending.Memory = now ≡ written
+IsFaultyEnd stations station fault written now refused risen _ = ⊥
+
+-- what is said of the load of a station, from 0, that can't be read: its line, and nothing without memory
+abbrev pub IsUnreadEnd : List StationLine → ℕ → Option (List ℕ) → Option (List ℕ) → ℕ → ℕ → Ending → Type 0
+IsUnreadEnd stations station written now refused risen ending.Read =
+    (name : List ℕ) × (load_of stations station ≡ Some name)
+    × IsSaid (line_of_read_fault name) written now refused risen
+IsUnreadEnd stations station written now refused risen ending.Memory = now ≡ written
+IsUnreadEnd stations station written now refused risen _ = ⊥
+
+-- the call ended before the network's loads, without fault, were read
+abbrev pub IsUnloadedSaid : Layout → Moment → Moment → Ending → Type 0
+IsUnloadedSaid network before after ending.Done = ⊥
+IsUnloadedSaid network before after ending.Words = ⊥
+IsUnloadedSaid network before after ending.Layout = ⊥
+IsUnloadedSaid network before after ending.Load = IsLoadFaultSaid network before after
+IsUnloadedSaid network before after ending.Read = IsLoadUnreadSaid network before after
+IsUnloadedSaid network before after ending.Write = ⊥
+IsUnloadedSaid network before after ending.Memory = after.written ≡ before.written
+
+-- the call ended before the loads of a layout without fault were read
+pub record IsLoadEnd (layout : List ℕ) (before after : Moment) (e : Ending) : Type 0 where
+  pub network : Layout
+  pub judged : IsJudged layout before.held (Ok network)
+  pub said : IsUnloadedSaid network before after e
+
+-- a fixed text was written to the sink, or a front of it was; the last two numbers count the failed writes
+abbrev pub IsText : List ℕ → Option (List ℕ) → Option (List ℕ) → ℕ → ℕ → Ending → Type 0
+IsText text written now faults risen ending.Done = now ≡ added text written
+IsText text written now faults risen ending.Words = ⊥
+IsText text written now faults risen ending.Layout = ⊥
+IsText text written now faults risen ending.Load = ⊥
+IsText text written now faults risen ending.Read = ⊥
+IsText text written now faults risen ending.Write = IsCutShort text written now × Rose faults risen
+IsText text written now faults risen ending.Memory = IsCutShort text written now
+
+-- all files of a plan's run are whole; the summary was written, or a front of it
+abbrev pub AreFiled : List ℕ → Plan → Moment → Moment → Ending → Type 0
+AreFiled prefix plan before after e =
+    (after.held ≡ put_all (run_files prefix plan) before.held)
+    × ((text : List ℕ) × IsSummary plan text × IsText text before.written after.written before.faults after.faults e)
+
+-- a file could not be written, or there was no memory for it; nothing was said
+abbrev pub IsUnfiled : List ℕ → Plan → Moment → Moment → Ending → Type 0
+IsUnfiled prefix plan before after ending.Done = ⊥
+IsUnfiled prefix plan before after ending.Words = ⊥
+IsUnfiled prefix plan before after ending.Layout = ⊥
+IsUnfiled prefix plan before after ending.Load = ⊥
+IsUnfiled prefix plan before after ending.Read = ⊥
+IsUnfiled prefix plan before after ending.Write =
+    IsBrokenAmong (run_files prefix plan) before.held after.held × Rose before.writes after.writes
+    × (after.written ≡ before.written)
+IsUnfiled prefix plan before after ending.Memory =
+    IsBrokenAmong (run_files prefix plan) before.held after.held × (after.written ≡ before.written)
+
+-- a file could not be written: a write to the store failed, or there was no memory
+abbrev pub IsFileEnd : ℕ → ℕ → Ending → Type 0
+IsFileEnd writes risen ending.Write = Rose writes risen
+IsFileEnd writes risen ending.Memory = Unit {0}
+IsFileEnd writes risen _ = ⊥
+
+-- there was no memory for the run, before a file was begun
+abbrev pub IsUnrun : Moment → Moment → Ending → Type 0
+IsUnrun before after e = (e ≡ ending.Memory) × (after.held ≡ before.held) × (after.written ≡ before.written)
+
+-- the files of a plan's run were written, or some of them were
+abbrev pub IsFiledEnd : List ℕ → Plan → Moment → Moment → Ending → Type 0
+IsFiledEnd prefix plan before after e = AreFiled prefix plan before after e ⊎ IsUnfiled prefix plan before after e
+
+-- the end of the run of a network with these loads
+abbrev pub IsRunEnd : Layout → List (List Record) → List ℕ → Moment → Moment → Ending → Type 0
+IsRunEnd network loads prefix before after e =
+    IsUnrun before after e ⊎ ((plan : Plan) × IsMadeOf network loads plan × IsFiledEnd prefix plan before after e)
+
+-- the layout and its loads have no fault, and its network was run
+pub record IsRun (layout prefix : List ℕ) (before after : Moment) (e : Ending) : Type 0 where
+  pub network : Layout
+  pub judged : IsJudged layout before.held (Ok network)
+  pub plan : Plan
+  pub planned : IsPlanOf before.held network plan
+  pub filed : IsFiledEnd prefix plan before after e
+
+-- the end of the form plain LAYOUT PREFIX
+abbrev pub IsPlainEnd : List ℕ → List ℕ → Moment → Moment → Ending → Type 0
+IsPlainEnd layout prefix before after e =
+    (IsEarly layout before after e × (after.held ≡ before.held))
+    ⊎ (IsLoadEnd layout before after e × (after.held ≡ before.held))
+    ⊎ IsUnrun before after e
+    ⊎ IsRun layout prefix before after e
+
+-- the layout has no fault, and a text that tells this of its network was written, or a front of it
+pub record IsTold (Tells : Layout → List ℕ → Type 0) (layout : List ℕ) (before after : Moment)
+    (e : Ending) : Type 0 where
+  pub network : Layout
+  pub judged : IsJudged layout before.held (Ok network)
+  pub text : List ℕ
+  pub right : Tells network text
+  pub written : IsText text before.written after.written before.faults after.faults e
+
+-- the end of a form whose text tells this of a layout's network; it reads no loads
+abbrev pub IsTellingEnd : (Layout → List ℕ → Type 0) → List ℕ → Moment → Moment → Ending → Type 0
+IsTellingEnd Tells layout before after e =
+    (after.held ≡ before.held) × (IsEarly layout before after e ⊎ IsTold Tells layout before after e)
+
+-- the end of the form check LAYOUT: the line of the path verdict
+abbrev pub IsCheckEnd : List ℕ → Moment → Moment → Ending → Type 0
+IsCheckEnd layout before after e = IsTellingEnd IsVerdictLine layout before after e
+
+-- the end of the form slack LAYOUT: the text of the slacks
+abbrev pub IsSlackEnd : List ℕ → Moment → Moment → Ending → Type 0
+IsSlackEnd layout before after e = IsTellingEnd IsSlackText layout before after e
+
+-- the end of a form that writes a fixed text
+abbrev pub IsTextEnd : List ℕ → Moment → Moment → Ending → Type 0
+IsTextEnd text before after e =
+    IsText text before.written after.written before.faults after.faults e × (after.held ≡ before.held)
+
+-- the end of words that ask for this; the words are none of the forms where they ask for nothing
+abbrev pub IsEndOf : Option Asked → Moment → Moment → Ending → Type 0
+IsEndOf None before after e = (e ≡ ending.Words) × (after.held ≡ before.held) × Says line_of_words_fault before after
+IsEndOf (Some (Check layout)) before after e = IsCheckEnd layout before after e
+IsEndOf (Some (Slack layout)) before after e = IsSlackEnd layout before after e
+IsEndOf (Some (Plain layout prefix)) before after e = IsPlainEnd layout prefix before after e
+IsEndOf (Some Help) before after e = IsTextEnd HELP.now before after e
+IsEndOf (Some Version) before after e = IsTextEnd VERSION.now before after e
+
+-- the end of a call with these words
+abbrev pub IsEnd : List (List ℕ) → Moment → Moment → Ending → Type 0
+IsEnd words before after e = IsEndOf (asked words) before after e
+
+-- the program's status
+abbrev pub status_of : Ending → ℕ
+status_of ending.Done = 0
+status_of ending.Words = 1
+status_of ending.Layout = 2
+status_of ending.Load = 3
+status_of ending.Read = 4
+status_of ending.Write = 5
+status_of ending.Memory = 6
+
+-- the status is that of an ending which these words allow between entry and exit
+pub record IsAnswer (words : List (List ℕ)) (entry exit : Moment) (status : ℕ) : Type 0 where
+  pub by : Ending
+  pub is : status ≡ status_of by
+  pub allowed : IsEnd words entry exit by

@@ -1,0 +1,40 @@
+//! How a call ends.
+ghost use Rattle.std.specs.Prelude.{◌≡◌};
+
+/// How a call ends.
+#[derive(Clone, Copy, Debug, PartialEq, Eq)]
+pub enum Ending {
+    /// All is done.
+    Done,
+    /// The words are none of the forms.
+    Words,
+    /// The layout has a fault.
+    Layout,
+    /// A load has a fault.
+    Load,
+    /// The layout or a load isn't held, or a read failed.
+    Read,
+    /// A write failed.
+    Write,
+    /// An allocation was refused.
+    Memory,
+}
+
+impl Ending {
+    ghost use Rattle.netsim.specs.Endings.{status_of};
+
+    /// The program's status.
+    pub fn status(self) -> u8
+        ensures { result ≡ status_of self }
+    {
+        match self {
+            Ending::Done => 0,
+            Ending::Words => 1,
+            Ending::Layout => 2,
+            Ending::Load => 3,
+            Ending::Read => 4,
+            Ending::Write => 5,
+            Ending::Memory => 6,
+        }
+    }
+}

@@ -1,0 +1,70 @@
+//! What each status says beyond the clauses of the top call: laws of every answer, each a call without a body.
+ghost use Rattle.netsim.specs.LogLaws.{AreRunCollisionsDetected, IsEmptyLogRefused, IsInfixRefused, IsLateHitRefused};
+ghost use Rattle.netsim.specs.StatusLaws.{AreFailuresSilent, AreFilesWhole, AreLayoutFaultsSaid, AreLoadFaultsSaid, AreReadFaultsSaid, AreTellingsComplete, AreTellingsCutShort, AreTellingsRefused, AreTextsComplete, AreTextsCutShort, AreTextsFailed, AreTextsWritten, AreWordsSaid, DoAbsentLayoutsDecide, DoAbsentLoadsDecide, DoLayoutFaultsDecide, DoLoadFaultsDecide, DoTellingsKeepFiles, DoTextsKeepFiles};
+
+/// Words of no form have their line on the sink, or a front of it where the sink refuses.
+pub fn words_are_said()
+    ensures { AreWordsSaid }
+{}
+
+/// Status 2 comes exactly of a layout with a fault, but for a failed read and want of memory, and its line is on the
+/// sink.
+pub fn layout_faults_decide()
+    ensures said { AreLayoutFaultsSaid }
+    ensures only { DoLayoutFaultsDecide }
+{}
+
+/// Status 3 comes exactly of a load that is the first with a fault, but for a failed read and want of memory, and its
+/// line is on the sink.
+pub fn load_faults_decide()
+    ensures said { AreLoadFaultsSaid }
+    ensures only { DoLoadFaultsDecide }
+{}
+
+/// Status 4 comes of a file to be read that isn't held, but for want of memory, and else only of a failed read; its
+/// name is on the sink.
+pub fn absent_files_decide()
+    ensures said { AreReadFaultsSaid }
+    ensures layout { DoAbsentLayoutsDecide }
+    ensures load { DoAbsentLoadsDecide }
+{}
+
+/// With status 5 of a run all its files are whole where no write to the store failed, and the sink is as at entry where
+/// no write to it did.
+pub fn failed_runs_are_told()
+    ensures whole { AreFilesWhole }
+    ensures silent { AreFailuresSilent }
+{}
+
+/// A form that only tells of a layout, `check` or `slack`, leaves a front of its text on the sink where it isn't done, and
+/// every file as at entry; with 5 a write to the sink failed. One that nothing hinders has the status 0 or 6.
+pub fn layouts_are_told()
+    ensures failed { AreTellingsCutShort }
+    ensures refused { AreTellingsRefused }
+    ensures held { DoTellingsKeepFiles }
+    ensures complete { AreTellingsComplete }
+{}
+
+/// A form with a fixed text writes it, or a front of it, and leaves every file as at entry; with 5 a write to the sink
+/// failed. One that nothing hinders has the status 0 or 6.
+pub fn texts_are_told()
+    ensures done { AreTextsWritten }
+    ensures failed { AreTextsFailed }
+    ensures cut { AreTextsCutShort }
+    ensures held { DoTextsKeepFiles }
+    ensures complete { AreTextsComplete }
+{}
+
+/// Where a layout is within, of two attempts of different stations that overlap over an open path each that ends within
+/// the run has a row, with a hit before the 512th bit, and its line is a whole line of the run's log.
+pub fn run_collisions_are_detected()
+    ensures { AreRunCollisionsDetected }
+{}
+
+/// Where there are such attempts, no log meets the clause `detected` that is empty, or has a late hit alone, or has a
+/// row's line that is no whole line.
+pub fn logs_that_tell_nothing()
+    ensures empty { IsEmptyLogRefused }
+    ensures late { IsLateHitRefused }
+    ensures inner { IsInfixRefused }
+{}

@@ -1,0 +1,123 @@
+//! The top call.
+ghost use Rattle.std.specs.Prelude.{◌≡◌, ◌⊎◌, ◌↔◌, ℕ, List, Option, None};
+ghost use Rattle.outside.specs.Files.{Rose};
+ghost use Rattle.netsim.specs.LoggedCollisions.{AreCollisionsLogged};
+ghost use Rattle.netsim.specs.Endings.{IsAnswer, IsEnd};
+ghost use Rattle.netsim.specs.Moments.{moment};
+ghost use Rattle.netsim.specs.Requests.{asked};
+ghost use Rattle.netsim.specs.Statuses.{AreSlacksDone, IfCheck, IfPlain, IfSlack, IsCheckDone, IsDoneOrMemory, IsRefusal, IsRunBroken, IsRunDone, IsRunRefused, IsUnhindered};
+
+use crate::check::check;
+use crate::endings::Ending;
+use crate::plain::plain;
+use crate::sink_texts::{say, write_line};
+use crate::slack::slack;
+use crate::texts::{HELP, VERSION, WORDS_FAULT};
+use crate::words::{Request, Words, read_words};
+use outside::{Gate, Sink, Store};
+use std::alloc::Global;
+use std::sync::Wait;
+use std::thread::Threads;
+
+/// What the words ask for, without a thread: this always returns.
+pub fn run_words<S: Store, K: Sink>(
+    alloc: Global,
+    words: &Words,
+    store: &mut S,
+    out: &mut K,
+) -> Ending
+    ensures { IsEnd words.now
+        (moment S.held S.read_faults S.write_faults K.written K.faults K.refused store.old out.old)
+        (moment S.held S.read_faults S.write_faults K.written K.faults K.refused store.new out.new)
+        result }
+{
+    match read_words(words) {
+        Some(Request::Check { layout }) => check(alloc, layout, store, out),
+        Some(Request::Slack { layout }) => slack(alloc, layout, store, out),
+        Some(Request::Plain { layout, prefix }) => plain(alloc, layout, prefix, store, out),
+        Some(Request::Help) => write_line(out, HELP.as_bytes()),
+        Some(Request::Version) => write_line(out, VERSION.as_bytes()),
+        None => {
+            say(out, WORDS_FAULT.as_bytes());
+            Ending::Words
+        }
+    }
+}
+
+/// The top call: does what the words ask for, and answers the program's status.
+///
+/// `check LAYOUT` writes the path verdict of the layout to the sink, and `slack LAYOUT` that and how far each gap between
+/// neighbouring taps and each repeater's delay can grow. `plain LAYOUT PREFIX` runs the network of the layout with its
+/// loads by half bits, writes PREFIX.log, PREFIX.counters and a capture PREFIX.STATION.pcap for each station, and then
+/// the summary to the sink. `--help` and `--version` write a fixed text to the sink.
+/// LAYOUT and PREFIX have 1 to 200 octets. The statuses are 0 for done, 1 for words of no form, 2 for a layout with
+/// a fault, 3 for a load with a fault, 4 for a layout or a load that can't be read, 5 for a failed write and 6 for
+/// want of memory, which alone is free.
+pub fn netsim<R: Threads + Wait + Sync, S: Store, K: Sink, G: Gate>(
+    _rt: &R,
+    alloc: Global,
+    words: &Words,
+    store: &mut S,
+    out: &mut K,
+    _gate: &G,
+) -> u8
+    // The status is that of an ending which the words allow between entry and exit. Module `laws` says what else each
+    // tells.
+    ensures ended { IsAnswer words.now
+        (moment S.held S.read_faults S.write_faults K.written K.faults K.refused store.old out.old)
+        (moment S.held S.read_faults S.write_faults K.written K.faults K.refused store.new out.new)
+        result }
+
+    // Status 1 exactly where the words are none of the forms.
+    ensures words { (result ≡ 1) ↔ (asked words.now ≡ None) }
+
+    // A run is done: the store holds the files of the run of the layout and the loads held at entry, nothing else is
+    // changed, and the sink got the summary.
+    ensures done { result ≡ 0 → IfPlain (asked words.now) (λ layout prefix. IsRunDone layout prefix
+        (moment S.held S.read_faults S.write_faults K.written K.faults K.refused store.old out.old)
+        (moment S.held S.read_faults S.write_faults K.written K.faults K.refused store.new out.new)) }
+
+    // Where the sink got the verdict within: of two attempts of different stations that overlap over an open path each
+    // that ends within the run has a whole line in PREFIX.log as the store holds it, with a hit before the 512th bit.
+    ensures detected { result ≡ 0 → IfPlain (asked words.now) (λ layout prefix. AreCollisionsLogged layout prefix
+        (moment S.held S.read_faults S.write_faults K.written K.faults K.refused store.old out.old)
+        (moment S.held S.read_faults S.write_faults K.written K.faults K.refused store.new out.new)) }
+
+    // A check is done: the sink got the line of the layout's path verdict, and nothing else is changed.
+    ensures checked { result ≡ 0 → IfCheck (asked words.now) (λ layout. IsCheckDone layout
+        (moment S.held S.read_faults S.write_faults K.written K.faults K.refused store.old out.old)
+        (moment S.held S.read_faults S.write_faults K.written K.faults K.refused store.new out.new)) }
+
+    // The slacks are told: the sink got that line and a line for each gap and each delay, with how far it can grow and
+    // what stops it, and nothing else is changed.
+    ensures slacks { result ≡ 0 → IfSlack (asked words.now) (λ layout. AreSlacksDone layout
+        (moment S.held S.read_faults S.write_faults K.written K.faults K.refused store.old out.old)
+        (moment S.held S.read_faults S.write_faults K.written K.faults K.refused store.new out.new)) }
+
+    // With the statuses 1 to 4 every file is as at entry.
+    ensures refused { IsRefusal result → S.held store.new ≡ S.held store.old }
+
+    // Status 5 only where a write to the store or to the sink failed.
+    ensures failed { result ≡ 5
+        → Rose (S.write_faults store.old) (S.write_faults store.new) ⊎ Rose (K.faults out.old) (K.faults out.new) }
+
+    // After a failed write the files of a run before one of them are whole, that one is as it was or a front of its
+    // text, later ones are as at entry, and the sink got nothing; or all are whole, and the sink got a front of the
+    // summary.
+    ensures broken { result ≡ 5 → IfPlain (asked words.now) (λ layout prefix. IsRunBroken layout prefix
+        (moment S.held S.read_faults S.write_faults K.written K.faults K.refused store.old out.old)
+        (moment S.held S.read_faults S.write_faults K.written K.faults K.refused store.new out.new)) }
+
+    // So too where memory was wanting, or nothing was begun.
+    ensures memory { result ≡ 6 → IfPlain (asked words.now) (λ layout prefix. IsRunRefused layout prefix
+        (moment S.held S.read_faults S.write_faults K.written K.faults K.refused store.old out.old)
+        (moment S.held S.read_faults S.write_faults K.written K.faults K.refused store.new out.new)) }
+
+    // Complete: a layout and loads that are held without fault, and no count that rose, give status 0 or 6.
+    ensures complete { IsUnhindered words.now
+        (moment S.held S.read_faults S.write_faults K.written K.faults K.refused store.old out.old)
+        (moment S.held S.read_faults S.write_faults K.written K.faults K.refused store.new out.new)
+        → IsDoneOrMemory result }
+{
+    run_words(alloc, words, store, out).status()
+}
