@@ -1,5 +1,5 @@
 -- What a reader keeps of a capture that comes in pieces (profile).
-use Rattle.std.specs.Prelude.{◌≡◌, ℕ, ◌+◌, nat_lt, if◌then◌else◌, List, [], ◌∷◌, ◌++◌, length, drop, Result, Ok, Err}
+use Rattle.std.specs.Prelude.{◌≡◌, ℕ, ◌+◌, ◌-◌, ◌*◌, ◌<◌, ◌≤◌, nat_lt, if◌then◌else◌, List, [], ◌∷◌, ◌++◌, length, take, drop, Result, Ok, Err}
 use Rattle.capture_file.specs.declared.entries.Record.{Record}
 use Rattle.capture_file.specs.declared.fault.CaptureFault.{CaptureFault}
 use Rattle.capture_file.specs.declared.fault.CaptureFault.TheVariants.{Length, TooLarge, Short, CutRecord}
@@ -39,6 +39,18 @@ read_on Header records octets =
     if nat_lt (length octets) 24 then record { stage = Header; records = records; rest = octets }
     else opened (header octets) records (drop 24 octets)
 read_on (Entries form) records octets = walked form records octets
+
+-- After these octets, which came behind the records so far, a capture has come to a reading: to its stage, with its
+-- records, and so many octets left, which are the last ones. A record weighs 16 octets, and all weigh no more than
+-- before; what is left is less than a record of the most octets, and where something is left the records so far stand
+-- in front.
+abbrev pub IsReadTo : Reading → List Record → List ℕ → List Record → Stage → ℕ → Type 0
+IsReadTo to before octets records stage left =
+    (stage ≡ to.stage) × (records ≡ to.records) × (left ≤ length octets)
+    × (drop (length octets - left) octets ≡ to.rest)
+    × (16 * length records + left ≤ 16 * length before + length octets)
+    × (left ≤ 262159)
+    × (0 < left → take (length before) records ≡ before)
 
 -- a reader: how many octets came, and 67,108,865 where there were more than a capture may have; and what is
 -- kept of them

@@ -1,7 +1,7 @@
 //! What a reader keeps of a capture that comes in pieces.
 ghost use Rattle.std.specs.Prelude.{◌≡◌, ◌+◌, ◌-◌, ◌*◌, ◌<◌, ◌≤◌, ◌++◌, false, List, IfOk, OnOk, OnErr, IsOk, length, take, drop};
 ghost use Rattle.capture_file.specs.Captures.{is_whole, records_in, rest_in};
-ghost use Rattle.capture_file.specs.Reading.{failed, new_reading, read_on, walked};
+ghost use Rattle.capture_file.specs.Reading.{IsReadTo, failed, new_reading, read_on, walked};
 
 use crate::entries::{Records, shorten};
 use crate::form::{
@@ -63,13 +63,7 @@ fn read_entries(
     octets: &[u8],
 ) -> Result<(Stage, usize), OutOfMemory>
     requires { 16 * length records.old + length octets.now ≤ 67108864 }
-    ensures stage { IfOk result (λ r. r.0 ≡ (walked form records.old octets.now).stage) }
-    ensures records { OnOk result (records.new ≡ (walked form records.old octets.now).records) }
-    ensures within { IfOk result (λ r. r.1 ≤ length octets.now) }
-    ensures rest { IfOk result (λ r. drop (length octets.now - r.1) octets.now ≡ (walked form records.old octets.now).rest) }
-    ensures room { IfOk result (λ r. 16 * length records.new + r.1 ≤ 16 * length records.old + length octets.now) }
-    ensures few { IfOk result (λ r. r.1 ≤ 262159) }
-    ensures kept { IfOk result (λ r. 0 < r.1 → take (length records.old) records.new ≡ records.old) }
+    ensures to { IfOk result (λ r. IsReadTo (walked form records.old octets.now) records.old octets.now records.new r.0 r.1) }
     ensures err { OnErr result (take (length records.old) records.new ≡ records.old) }
 {
     let rest = take_records(alloc, form, records, octets)?;
@@ -91,13 +85,7 @@ fn read_on(
     octets: &[u8],
 ) -> Result<(Stage, usize), OutOfMemory>
     requires { 16 * length records.old + length octets.now ≤ 67108864 }
-    ensures stage { IfOk result (λ r. r.0 ≡ (read_on stage records.old octets.now).stage) }
-    ensures records { OnOk result (records.new ≡ (read_on stage records.old octets.now).records) }
-    ensures within { IfOk result (λ r. r.1 ≤ length octets.now) }
-    ensures rest { IfOk result (λ r. drop (length octets.now - r.1) octets.now ≡ (read_on stage records.old octets.now).rest) }
-    ensures room { IfOk result (λ r. 16 * length records.new + r.1 ≤ 16 * length records.old + length octets.now) }
-    ensures few { IfOk result (λ r. r.1 ≤ 262159) }
-    ensures kept { IfOk result (λ r. 0 < r.1 → take (length records.old) records.new ≡ records.old) }
+    ensures to { IfOk result (λ r. IsReadTo (read_on stage records.old octets.now) records.old octets.now records.new r.0 r.1) }
     ensures err { OnErr result (take (length records.old) records.new ≡ records.old) }
 {
     match stage {

@@ -1,5 +1,5 @@
 -- What a share does with a part and its parcels are the events of a board.
-use Rattle.std.proofs.Common.{◌≡◌, ◌≢◌, ℕ, zero, suc, ◌+◌, ◌<◌, Bool, true, false, not, cond, eqb, inl, inr, List, [], ◌∷◌, length, map, set, get_or, refl, sym, ap, ap₂, ◌∙◌, arith, subst, true≢false}
+use Rattle.std.proofs.Common.{◌≡◌, ◌≢◌, ℕ, suc, ◌+◌, ◌<◌, Bool, true, false, not, cond, inl, inr, List, [], ◌∷◌, length, map, set, get_or, refl, sym, ap, ap₂, ◌∙◌, arith, subst, true≢false}
 use Rattle.std.specs.Prelude.{if◌then◌else◌}
 use Rattle.std.specs.List.{AllByRecursion}
 use Rattle.std.proofs.lemmas.Bool.{cases_eq, eq-eqb, ne_eqb}
@@ -10,10 +10,10 @@ use Rattle.net_parts.specs.declared.parcel.Parcel.{Parcel}
 use Rattle.net_parts.specs.Windows.{windows}
 use Rattle.net_parts.specs.Parts.{part_at, is_segment_part, edges_of_part, run_part, Made}
 use Rattle.net_parts.specs.Parcels.{true_symbols, true_parcel, next_stamp, brings, takes}
-use Rattle.net_parts.specs.Boards.{Board, PartOnBoard, ParcelOnBoard, Whereabouts, Mail, Run, Spoil, Post, Take, whereabouts_at, place_in, has_edge, IsHere, IsReady, IsEnabled, refilled_on_board, emptied_on_board, put_at, happens}
+use Rattle.net_parts.specs.Boards.{Board, PartOnBoard, ParcelOnBoard, Whereabouts, Mail, Run, Spoil, whereabouts_at, place_in, has_edge, IsHere, IsReady, IsEnabled, refilled_on_board, emptied_on_board, put_at, happens}
 use Rattle.net_parts.proofs.PartWindows.{parts_go_on}
 use Rattle.net_parts.proofs.BoardEvents.{at_place}
-use Rattle.exchange_core.specs.Holdings.{Holding, IsSoundHolding, IsHoldingReady, IsHoldingClean, edges_of_parcels, place_of_edge, parcel_of_edge, absent_parcel, emptied_parcel, is_here, run_holding, spoil_holding, vacate_holding, take_holding}
+use Rattle.exchange_core.specs.Holdings.{Holding, IsSoundHolding, IsHoldingReady, IsHoldingClean, edges_of_parcels, place_of_edge, parcel_of_edge, absent_parcel, emptied_parcel, is_here, run_holding, spoil_holding, vacate_holding}
 use Rattle.exchange_core.specs.Ties.{Agrees, parcel_on_board, RunIsRun, SpoilIsSpoil, PostIsPost, TakeIsTake}
 use Rattle.exchange_core.proofs.EdgesOfParts.{AreApart, has_each, place_of_each, edges_apart}
 use Rattle.exchange_core.proofs.SoundHoldings.{get_map, edge_at, place_here, edge_in_place}

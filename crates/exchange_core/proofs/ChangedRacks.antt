@@ -1,10 +1,10 @@
 -- What a change of one part leaves of a rack.
-use Rattle.std.proofs.Common.{◌≡◌, ◌≢◌, ℕ, zero, suc, ◌+◌, ◌<◌, ◌≤◌, Bool, true, false, cond, inl, inr, List, [], ◌∷◌, length, set, get_or, refl, sym, ap, ap₂, ◌∙◌, arith, subst, true≢false}
+use Rattle.std.proofs.Common.{◌≡◌, ◌≢◌, ℕ, zero, suc, ◌<◌, true, false, cond, inl, inr, List, [], ◌∷◌, length, set, get_or, refl, sym, ap, ◌∙◌, arith, subst, true≢false}
 use Rattle.std.specs.Prelude.{Option, Some, None, ◌&&◌, if◌then◌else◌}
 use Rattle.std.proofs.lemmas.Bool.{cases_eq}
 use Rattle.std.proofs.lemmas.List.{set-get_or, get_or-set_same, get_or-set_other}
 use Rattle.net_parts.specs.Boards.{has_edge}
-use Rattle.exchange_core.specs.Holdings.{Holding, IsSoundHolding, edges_of_parcels}
+use Rattle.exchange_core.specs.Holdings.{Holding, edges_of_parcels}
 use Rattle.exchange_core.specs.Shares.{Rack, part_on, is_owned, changed, change_on, has_place, first_with_edge, change_first, change_edge, may_post, AreOwners, IsAddedInOrder}
 
 holding_or : Holding → Option Holding → Holding

@@ -1,18 +1,18 @@
 -- A share that gets one more part stays sound.
-use Rattle.std.proofs.Common.{◌≡◌, ◌≢◌, ℕ, zero, suc, ◌+◌, ◌-◌, ◌<◌, ◌≤◌, Bool, true, false, not, cond, inl, inr, List, [], ◌∷◌, ◌++◌, length, map, set, replicate, get_or, refl, sym, ap, ap₂, ◌∙◌, arith, subst, true≢false}
+use Rattle.std.proofs.Common.{◌≡◌, ◌≢◌, ℕ, zero, suc, ◌+◌, ◌-◌, ◌<◌, ◌≤◌, Bool, true, false, not, cond, inl, inr, List, [], ◌∷◌, ◌++◌, length, replicate, get_or, refl, sym, ap, ◌∙◌, arith, subst, true≢false}
 use Rattle.std.specs.Prelude.{Option, Some, None, if◌then◌else◌}
 use Rattle.std.proofs.lemmas.Bool.{cases_eq, cases_lt}
-use Rattle.std.proofs.lemmas.List.{length-append, length-replicate, get_or_append_left, get_or-set_same, get_or-set_other, get_or-replicate}
+use Rattle.std.proofs.lemmas.List.{length-append, length-replicate, get_or_append_left, get_or-set_same, get_or-set_other}
 use Rattle.std.proofs.Math.Seq.{get_or-append_seam}
 use Rattle.load_plan.specs.declared.plan.Plan.{Plan}
-use Rattle.net_parts.specs.declared.parcel.Parcel.{Parcel}
 use Rattle.net_parts.specs.Parts.{is_segment_part, edges_of_part}
 use Rattle.net_parts.specs.Boards.{has_edge, place_in}
 use Rattle.exchange_core.specs.Holdings.{Holding, IsSoundHolding, edges_of_parcels, place_of_edge, is_here, added_repeater}
-use Rattle.exchange_core.specs.Shares.{Rack, Held, share_of, nothing_held, part_on, part_of, owns, is_owned, has_place, part_of_kind_on, widened, add_on, IsOfPlan, HasNoneOf, IsInPlace, IsSoundShare, IsWholeShare, AreOwners, IsAddedInOrder}
+use Rattle.exchange_core.specs.Shares.{Rack, Held, share_of, nothing_held, part_on, owns, is_owned, has_place, part_of_kind_on, widened, add_on, IsOfPlan, HasNoneOf, IsInPlace, IsWholeShare, AreOwners, IsAddedInOrder}
 use Rattle.exchange_core.proofs.EdgesOfParts.{at_its_place, place_within, has_each, one_part}
-use Rattle.exchange_core.proofs.ChangedRacks.{some_same, none_not_some, some_part, without_place, owned_within}
-use Rattle.exchange_core.proofs.SoundShares.{sound_on, not_here}
+use Rattle.exchange_core.proofs.ChangedRacks.{some_same, none_not_some, some_part, without_place}
+use Rattle.exchange_core.proofs.SoundShares.{not_here}
+use Rattle.exchange_core.proofs.SidedShares.{IsSided, sided, whole}
 
 pub nothing_whole : IsWholeShare [] [] nothing_held
 nothing_whole = record {
@@ -93,16 +93,17 @@ not_owned (Some x) q h = absurd (true≢false h)
 pub not_owned_on : (u : ℕ) (a b : Rack) → owns u (share_of a b) ≡ false → (is_owned (part_on u a) ≡ false) × (is_owned (part_on u b) ≡ false)
 not_owned_on u a b h = not_owned (part_on u a) (part_on u b) h
 
--- no part of a share has an edge of a part of the same kind that it hasn't
-fresh_edges : (plan : Plan) (kind : Bool) (u : ℕ) (s : Held) → IsSoundShare s → IsOfPlan plan s → is_segment_part plan u ≡ kind → is_owned (part_of_kind_on kind u s) ≡ false
-    → (e v : ℕ) (g : Holding) → part_of_kind_on kind v s ≡ Some g → has_edge (edges_of_part plan u) e ≡ true → has_edge (edges_of_parcels g.parcels) e ≡ true → ⊥
-fresh_edges plan kind u s sound of is none e v g at mine other =
-    let i = sound.each kind v g at in
-    let same : g.plan ≡ plan = of kind v g at in
+-- no part of a rack has an edge of a part of the same kind that isn't there
+fresh_edges : (plan : Plan) (kind : Bool) (u : ℕ) (r : Rack) → ((v : ℕ) (g : Holding) → part_on v r ≡ Some g → IsInPlace kind v g) → ((v : ℕ) (g : Holding) → part_on v r ≡ Some g → g.plan ≡ plan)
+    → is_segment_part plan u ≡ kind → is_owned (part_on u r) ≡ false
+    → (e v : ℕ) (g : Holding) → part_on v r ≡ Some g → has_edge (edges_of_part plan u) e ≡ true → has_edge (edges_of_parcels g.parcels) e ≡ true → ⊥
+fresh_edges plan kind u r each of is none e v g at mine other =
+    let i = each v g at in
+    let same : g.plan ≡ plan = of v g at in
     let kinds : is_segment_part plan v ≡ is_segment_part plan u = sym (λ j. is_segment_part (same j) (i.number j)) ∙ i.kind_is ∙ sym is in
     let edges : edges_of_parcels g.parcels ≡ edges_of_part plan v = i.sound.edges ∙ (λ j. edges_of_part (same j) (i.number j)) in
     let one : v ≡ u = one_part plan v u e kinds (sym (ap (λ es. has_edge es e) edges) ∙ other) mine in
-    true≢false (sym (ap is_owned at) ∙ ap (λ w. is_owned (part_of_kind_on kind w s)) one ∙ none)
+    true≢false (sym (ap is_owned at) ∙ ap (λ w. is_owned (part_on w r)) one ∙ none)
 
 -- the owners of edges are learnt
 module _ (plan : Plan) (u : ℕ) (es old new : List ℕ) (edges : es ≡ edges_of_part plan u)
@@ -139,70 +140,92 @@ none_at_new plan u w e = ap not (all_true (length (edges_of_part plan u)) (place
     all_true (suc n) zero = refl
     all_true (suc n) (suc k) = all_true n k
 
-module _ (segment_of repeater_of : List ℕ) (a b : Rack) (w : IsWholeShare segment_of repeater_of (share_of a b)) (h : Holding) (sound : IsSoundHolding h)
-    (of : IsOfPlan h.plan (share_of a b)) (unowned : owns h.number (share_of a b) ≡ false) (es new : List ℕ) (edges : es ≡ edges_of_part h.plan h.number) where
-  module _ (kind : is_segment_part h.plan h.number ≡ true)
-      (others : (e : ℕ) → ((k : ℕ) → k < length es → get_or es k 0 ≢ e) → get_or new e 0 ≡ get_or segment_of e 0) where
-    fresh_segment : (e v : ℕ) (g : Holding) → part_on v a ≡ Some g → has_edge (edges_of_part h.plan h.number) e ≡ true → has_edge (edges_of_parcels g.parcels) e ≡ true → ⊥
-    fresh_segment = fresh_edges h.plan true h.number (share_of a b) w.sound of kind (not_owned_on h.number a b unowned).0
+-- A part of this kind that may be added to a share.
+pub record MayAdd (kind : Bool) (s : Held) (h : Holding) : Type 0 where
+  pub sound : IsSoundHolding h
+  pub kind_is : is_segment_part h.plan h.number ≡ kind
+  pub plan : IsOfPlan h.plan s
+  pub fresh : owns h.number s ≡ false
 
-    pub segment_learnt : IsWholeShare new repeater_of (share_of a b)
-    segment_learnt = record { sound = w.sound; segments_known = learnt h.plan h.number es segment_of new edges others a fresh_segment w.segments_known; repeaters_known = w.repeaters_known }
+-- where no repeater has a parcel of a segment's edges, none has one that is here
+pub none_elsewhere : (h : Holding) (s : Held) → IsSoundHolding h → HasNoneOf (edges_of_part h.plan h.number) s
+    → (e v : ℕ) (g : Holding) → is_here e h ≡ true → part_on v s.repeaters ≡ Some g → is_here e g ≡ true → ⊥
+none_elsewhere h s sound none e v g here at there =
+    true≢false (sym there ∙ none e v g (sym (ap (λ xs. has_edge xs e) sound.edges) ∙ has_it) at)
+  where
+    has_it : has_edge (edges_of_parcels h.parcels) e ≡ true
+    has_it = elim (has_edge (edges_of_parcels h.parcels) e) as (λ x. has_edge (edges_of_parcels h.parcels) e ≡ x → x ≡ true) [
+      | true ↦ λ _. refl
+      | false ↦ λ no_place. absurd (true≢false (sym here ∙ not_here e h sound no_place))
+    ] refl
 
-    pub segment_added : ((k : ℕ) → k < length es → get_or new (get_or es k 0) 0 ≡ h.number) → HasNoneOf (edges_of_part h.plan h.number) (share_of a b) → (r : Rack) → r ≡ add_on h a → IsWholeShare new repeater_of (share_of r b)
-    segment_added mine none r is = subst (λ x. IsWholeShare new repeater_of (share_of x b)) (sym is) (record {
-      sound = record {
-        each = λ k v after at. elim k as (λ k'. part_of_kind_on k' v (share_of (add_on h a) b) ≡ Some after → IsInPlace k' v after) [
-          | true ↦ λ at'. added_on h a v after at' (IsInPlace true v after) (λ same it. subst (IsInPlace true v) (sym it) (record { number = sym same; kind_is = kind; sound = sound })) (λ was. w.sound.each true v after was)
-          | false ↦ λ at'. w.sound.each false v after at'
-        ] at;
-        plans = λ k j u v g g' gis gis'. of_new k u g gis ∙ sym (of_new j v g' gis');
-        once = λ e u v g g' gis gis' here here'. added_on h a u g gis ⊥
-            (λ same it. true≢false (sym here' ∙ none e v g' (sym (ap (λ xs. has_edge xs e) sound.edges) ∙ has_it e (ap (is_here e) (sym it) ∙ here)) gis'))
-            (λ was. w.sound.once e u v g g' was gis' here here');
-        segment_order = order_added h a (not_owned_on h.number a b unowned).0 w.sound.segment_order;
-        repeater_order = w.sound.repeater_order;
-      };
-      segments_known = owners_added h.plan h.number es segment_of new edges others h a refl sound.edges mine fresh_segment w.segments_known;
-      repeaters_known = w.repeaters_known;
-    })
-      where
-        of_new : (k : Bool) (v : ℕ) (g : Holding) → part_of_kind_on k v (share_of (add_on h a) b) ≡ Some g → g.plan ≡ h.plan
-        of_new true v g at = added_on h a v g at (g.plan ≡ h.plan) (λ _ it. ap (λ (x : Holding). x.plan) it) (λ was. of true v g was)
-        of_new false v g at = of false v g at
+module _ (kind : Bool) (so ro : List ℕ) (a b : Rack) (w : IsWholeShare so ro (share_of a b)) (h : Holding) (may : MayAdd kind (share_of a b) h)
+    (es new : List ℕ) (edges : es ≡ edges_of_part h.plan h.number)
+    (others : (e : ℕ) → ((k : ℕ) → k < length es → get_or es k 0 ≢ e) → get_or new e 0 ≡ get_or (cond kind so ro) e 0) where
+  was : IsSided kind (not kind) (cond kind so ro) (cond kind ro so) (cond kind a b) (cond kind b a)
+  was = sided kind so ro a b w
 
-        has_it : (e : ℕ) → is_here e h ≡ true → has_edge (edges_of_parcels h.parcels) e ≡ true
-        has_it e here = elim (has_edge (edges_of_parcels h.parcels) e) as (λ x. has_edge (edges_of_parcels h.parcels) e ≡ x → x ≡ true) [
-          | true ↦ λ _. refl
-          | false ↦ λ no_place. absurd (true≢false (sym here ∙ not_here e h sound no_place))
-        ] refl
+  none_owned : (k : Bool) → is_owned (part_on h.number (cond k a b)) ≡ false
+  none_owned true = (not_owned_on h.number a b may.fresh).0
+  none_owned false = (not_owned_on h.number a b may.fresh).1
 
-  module _ (kind : is_segment_part h.plan h.number ≡ false)
-      (others : (e : ℕ) → ((k : ℕ) → k < length es → get_or es k 0 ≢ e) → get_or new e 0 ≡ get_or repeater_of e 0) where
-    fresh_repeater : (e v : ℕ) (g : Holding) → part_on v b ≡ Some g → has_edge (edges_of_part h.plan h.number) e ≡ true → has_edge (edges_of_parcels g.parcels) e ≡ true → ⊥
-    fresh_repeater = fresh_edges h.plan false h.number (share_of a b) w.sound of kind (not_owned_on h.number a b unowned).1
+  of_rack : (k : Bool) (v : ℕ) (g : Holding) → part_on v (cond k a b) ≡ Some g → g.plan ≡ h.plan
+  of_rack true v g at = may.plan true v g at
+  of_rack false v g at = may.plan false v g at
 
-    pub repeater_learnt : IsWholeShare segment_of new (share_of a b)
-    repeater_learnt = record { sound = w.sound; segments_known = w.segments_known; repeaters_known = learnt h.plan h.number es repeater_of new edges others b fresh_repeater w.repeaters_known }
+  of_other : (k : Bool) (v : ℕ) (g : Holding) → part_on v (cond k b a) ≡ Some g → g.plan ≡ h.plan
+  of_other true v g at = may.plan false v g at
+  of_other false v g at = may.plan true v g at
 
-    pub repeater_added : ((k : ℕ) → k < length es → get_or new (get_or es k 0) 0 ≡ h.number) → ((e : ℕ) → is_here e h ≡ false) → (r : Rack) → r ≡ add_on h b → IsWholeShare segment_of new (share_of a r)
-    repeater_added mine none r is = subst (λ x. IsWholeShare segment_of new (share_of a x)) (sym is) (record {
-      sound = record {
-        each = λ k v after at. elim k as (λ k'. part_of_kind_on k' v (share_of a (add_on h b)) ≡ Some after → IsInPlace k' v after) [
-          | false ↦ λ at'. added_on h b v after at' (IsInPlace false v after) (λ same it. subst (IsInPlace false v) (sym it) (record { number = sym same; kind_is = kind; sound = sound })) (λ was. w.sound.each false v after was)
-          | true ↦ λ at'. w.sound.each true v after at'
-        ] at;
-        plans = λ k j u v g g' gis gis'. of_new k u g gis ∙ sym (of_new j v g' gis');
-        once = λ e u v g g' gis gis' here here'. added_on h b v g' gis' ⊥
-            (λ same it. true≢false (sym here' ∙ ap (is_here e) it ∙ none e))
-            (λ was. w.sound.once e u v g g' gis was here here');
-        segment_order = w.sound.segment_order;
-        repeater_order = order_added h b (not_owned_on h.number a b unowned).1 w.sound.repeater_order;
-      };
-      segments_known = w.segments_known;
-      repeaters_known = owners_added h.plan h.number es repeater_of new edges others h b refl sound.edges mine fresh_repeater w.repeaters_known;
-    })
-      where
-        of_new : (k : Bool) (v : ℕ) (g : Holding) → part_of_kind_on k v (share_of a (add_on h b)) ≡ Some g → g.plan ≡ h.plan
-        of_new true v g at = of true v g at
-        of_new false v g at = added_on h b v g at (g.plan ≡ h.plan) (λ _ it. ap (λ (x : Holding). x.plan) it) (λ was. of false v g was)
+  fresh_here : (e v : ℕ) (g : Holding) → part_on v (cond kind a b) ≡ Some g → has_edge (edges_of_part h.plan h.number) e ≡ true → has_edge (edges_of_parcels g.parcels) e ≡ true → ⊥
+  fresh_here = fresh_edges h.plan kind h.number (cond kind a b) was.each (of_rack kind) may.kind_is (none_owned kind)
+
+  finish : (k : Bool) (m o : Rack) → IsSided k (not k) new (cond k ro so) m o → IsWholeShare (cond k new so) (cond k ro new) (share_of (cond k m o) (cond k o m))
+  finish true m o s = whole true new ro m o s
+  finish false m o s = whole false so new m o s
+
+  back : (k : Bool) (r : Rack) (so' ro' : List ℕ) → IsWholeShare so' ro' (share_of (cond k r (cond k b a)) (cond k (cond k b a) r)) → IsWholeShare so' ro' (share_of (cond k r a) (cond k b r))
+  back true r so' ro' x = x
+  back false r so' ro' x = x
+
+  same_racks : (k : Bool) → share_of (cond k (cond k a b) a) (cond k b (cond k a b)) ≡ share_of a b
+  same_racks true = refl
+  same_racks false = refl
+
+  -- the owners are learnt before there is room for the part
+  pub learnt_whole : IsWholeShare (cond kind new so) (cond kind ro new) (share_of a b)
+  learnt_whole = subst (IsWholeShare (cond kind new so) (cond kind ro new)) (same_racks kind)
+      (back kind (cond kind a b) (cond kind new so) (cond kind ro new) (finish kind (cond kind a b) (cond kind b a) (record {
+        each = was.each;
+        each_other = was.each_other;
+        plans = was.plans;
+        plans_between = was.plans_between;
+        plans_other = was.plans_other;
+        once = was.once;
+        order = was.order;
+        order_other = was.order_other;
+        known = learnt h.plan h.number es (cond kind so ro) new edges others (cond kind a b) fresh_here was.known;
+        known_other = was.known_other;
+      })))
+
+  of_new : (v : ℕ) (g : Holding) → part_on v (add_on h (cond kind a b)) ≡ Some g → g.plan ≡ h.plan
+  of_new v g at = added_on h (cond kind a b) v g at (g.plan ≡ h.plan) (λ _ it. ap (λ (x : Holding). x.plan) it) (λ before. of_rack kind v g before)
+
+  pub added_whole : ((k : ℕ) → k < length es → get_or new (get_or es k 0) 0 ≡ h.number)
+      → ((e v : ℕ) (g : Holding) → is_here e h ≡ true → part_on v (cond kind b a) ≡ Some g → is_here e g ≡ true → ⊥)
+      → (r : Rack) → r ≡ add_on h (cond kind a b) → IsWholeShare (cond kind new so) (cond kind ro new) (share_of (cond kind r a) (cond kind b r))
+  added_whole mine none r is = back kind r (cond kind new so) (cond kind ro new) (finish kind r (cond kind b a) (subst (λ x. IsSided kind (not kind) new (cond kind ro so) x (cond kind b a)) (sym is) (record {
+    each = λ v g at. added_on h (cond kind a b) v g at (IsInPlace kind v g)
+        (λ same it. subst (IsInPlace kind v) (sym it) (record { number = sym same; kind_is = may.kind_is; sound = may.sound })) (λ before. was.each v g before);
+    each_other = was.each_other;
+    plans = λ u v g g' gis gis'. of_new u g gis ∙ sym (of_new v g' gis');
+    plans_between = λ u v g g' gis gis'. of_new u g gis ∙ sym (of_other kind v g' gis');
+    plans_other = was.plans_other;
+    once = λ e u v g g' gis gis' here there. added_on h (cond kind a b) u g gis ⊥
+        (λ same it. none e v g' (ap (is_here e) (sym it) ∙ here) gis' there)
+        (λ before. was.once e u v g g' before gis' here there);
+    order = order_added h (cond kind a b) (none_owned kind) was.order;
+    order_other = was.order_other;
+    known = owners_added h.plan h.number es (cond kind so ro) new edges others h (cond kind a b) refl may.sound.edges mine fresh_here was.known;
+    known_other = was.known_other;
+  })))

@@ -1,9 +1,9 @@
 -- Racks that are widened, and parts that are handed out of them in order.
-use Rattle.std.proofs.Common.{◌≡◌, ◌≢◌, ℕ, zero, suc, ◌+◌, ◌-◌, ◌<◌, ◌≤◌, Bool, true, false, List, [], ◌∷◌, ◌++◌, length, map, take, set, replicate, get_or, refl, sym, ap, ap₂, ◌∙◌, arith, subst}
-use Rattle.std.specs.Prelude.{Option, Some, None, Result, Ok, Err, OnErr, is_ok}
+use Rattle.std.proofs.Common.{◌≡◌, ℕ, ◌+◌, ◌-◌, ◌<◌, ◌≤◌, true, List, [], ◌∷◌, ◌++◌, length, map, take, set, replicate, get_or, refl, sym, ap, ap₂, ◌∙◌, arith}
+use Rattle.std.specs.Prelude.{Option, None, Result, Ok, Err, OnErr, is_ok}
 use Rattle.std.proofs.lemmas.List.{append_assoc, replicate_more, take_more, map-append, get_or_default, get_or-set_other}
 use Rattle.exchange_core.specs.Holdings.{Holding}
-use Rattle.exchange_core.specs.Shares.{Rack, rack, part_on, is_owned, widened, IsAddedInOrder, Handed, handed}
+use Rattle.exchange_core.specs.Shares.{rack, is_owned, widened, IsAddedInOrder, Handed, handed}
 
 pub answered : {X Y : Type 0} (r : Result X Y) (P : Type 0) → OnErr r P → (P → ⊥) → is_ok r ≡ true
 answered (Ok x) P h n = refl

@@ -1,13 +1,13 @@
 -- Each event leaves the fields of a part with its parcels as they belong together.
-use Rattle.std.proofs.Common.{◌≡◌, ℕ, Bool, true, false, not, ◌+◌, ◌<◌, List, length, map, set, refl, ap, ap₂, ◌∙◌, sym, subst, true≢false, IsTrue, ◌↔◌}
+use Rattle.std.proofs.Common.{◌≡◌, ℕ, Bool, true, false, not, ◌+◌, ◌<◌, List, map, set, ap, ap₂, ◌∙◌, sym, subst, true≢false, IsTrue, ◌↔◌}
 use Rattle.std.specs.Prelude.{All}
 use Rattle.load_plan.specs.declared.plan.Plan.{Plan}
 use Rattle.net_parts.specs.declared.parcel.Parcel.{Parcel}
 use Rattle.net_parts.specs.Windows.{windows}
-use Rattle.net_parts.specs.Parts.{is_segment_part, edges_of_part, parts}
+use Rattle.net_parts.specs.Parts.{is_segment_part}
 use Rattle.net_parts.specs.Parcels.{IsTrueParcel, next_stamp, refilled}
 use Rattle.net_parts.specs.Boards.{has_edge}
-use Rattle.exchange_core.specs.Holdings.{Holding, IsSoundHolding, IsHoldingReady, IsOnWay, edges_of_parcels, place_of_edge, absent_parcel, emptied_parcel, run_holding, spoil_holding, vacate_holding, take_holding}
+use Rattle.exchange_core.specs.Holdings.{Holding, IsHoldingReady, IsOnWay, edges_of_parcels, place_of_edge, absent_parcel, emptied_parcel, run_holding, spoil_holding, vacate_holding, take_holding}
 use Rattle.exchange_core.specs.Holders.{IsHolder, held_as}
 use Rattle.exchange_core.proofs.SoundHoldings.{run_sound, spoil_sound, vacate_sound, take_sound}
 

@@ -1,14 +1,11 @@
 -- What an event leaves of a part that it doesn't change, and how parts stand on the opening board.
-use Rattle.std.proofs.Common.{◌≡◌, ◌≢◌, ℕ, zero, suc, ◌+◌, ◌<◌, Bool, true, false, not, cond, List, [], ◌∷◌, length, map, replicate, get_or, refl, sym, ap, ◌∙◌, arith, subst, true≢false}
-use Rattle.std.specs.Prelude.{if◌then◌else◌}
+use Rattle.std.proofs.Common.{◌≡◌, ◌≢◌, ℕ, zero, suc, ◌+◌, ◌<◌, Bool, true, false, not, cond, [], length, map, replicate, get_or, refl, sym, ap, ◌∙◌, arith, subst, true≢false}
 use Rattle.std.proofs.lemmas.List.{length-map}
-use Rattle.manchester_line.specs.declared.Sym.TheVariants.{Idle}
 use Rattle.load_plan.specs.declared.plan.Plan.{Plan}
 use Rattle.net_parts.specs.declared.parcel.Parcel.{Parcel}
-use Rattle.net_parts.specs.Windows.{lookahead}
 use Rattle.net_parts.specs.Parts.{is_segment_part, edges_of_part, run_part, Made}
 use Rattle.net_parts.specs.Parcels.{true_parcel, arrived}
-use Rattle.net_parts.specs.Boards.{Board, PartOnBoard, ParcelOnBoard, Whereabouts, Segment, Repeater, Mail, Run, Spoil, Post, Take, opening_board, whereabouts_at, place_in, has_edge, refilled_on_board, emptied_on_board, put_at, happens}
+use Rattle.net_parts.specs.Boards.{Board, ParcelOnBoard, Whereabouts, Segment, Repeater, Mail, Run, Spoil, Post, Take, opening_board, whereabouts_at, place_in, has_edge, refilled_on_board, emptied_on_board, happens}
 use Rattle.net_parts.proofs.BoardEvents.{opening_symbols}
 use Rattle.exchange_core.specs.Holdings.{Holding, IsSoundHolding, IsHoldingReady, edges_of_parcels, place_of_edge, absent_parcel, is_here, added_segment, added_repeater}
 use Rattle.exchange_core.specs.Ties.{Agrees, parcel_on_board}

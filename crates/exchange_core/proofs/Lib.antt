@@ -4,6 +4,7 @@ pub mod EdgePlaces
 pub mod HolderFields
 pub mod ChangedRacks
 pub mod SoundShares
+pub mod SidedShares
 pub mod EitherAnswer
 pub mod TakenParcels
 pub mod HandedParts

@@ -1,5 +1,5 @@
 -- What those who call a share need to know of it.
-use Rattle.std.proofs.Common.{◌≡◌, ◌≢◌, ℕ, ◌<◌, Bool, true, false, not, cond, List, length, map, get_or, refl, sym, ap, ◌∙◌, arith, subst, true≢false}
+use Rattle.std.proofs.Common.{◌≡◌, ◌≢◌, ℕ, ◌<◌, true, false, not, length, map, refl, sym, ap, ◌∙◌, arith, subst, true≢false}
 use Rattle.std.specs.Prelude.{Option, Some, None, IfSome, if◌then◌else◌}
 use Rattle.std.proofs.lemmas.List.{length-map}
 use Rattle.load_plan.specs.declared.plan.Plan.{Plan}
@@ -7,7 +7,7 @@ use Rattle.net_parts.specs.declared.parcel.Parcel.{Parcel}
 use Rattle.net_parts.specs.Parts.{is_segment_part, edges_of_part}
 use Rattle.net_parts.specs.Parcels.{IsTrueParcel, true_parcel}
 use Rattle.exchange_core.specs.Holdings.{Holding, MayBeSpoiled, reserved_holding, refused_holding}
-use Rattle.exchange_core.specs.Shares.{Rack, Held, nothing_held, part_on, part_of_kind_on, with_segment, with_repeater, IsOfPlan, part_of, owns, is_owned, changed, change, change_on}
+use Rattle.exchange_core.specs.Shares.{Held, nothing_held, part_on, part_of_kind_on, with_segment, with_repeater, IsOfPlan, part_of, owns, is_owned, changed, change, change_on}
 use Rattle.exchange_core.specs.Ties.{ParcelsServe, PartsChange}
 use Rattle.exchange_core.proofs.SoundHoldings.{get_map, edges_made, all_made}
 use Rattle.exchange_core.proofs.ChangedRacks.{comes_of, found_changed, owned_same, none_not_some}

@@ -1,18 +1,18 @@
 -- What a share does is what happens to a board that has the whole share.
-use Rattle.std.proofs.Common.{◌≡◌, ◌≢◌, ℕ, zero, suc, ◌+◌, ◌<◌, Bool, true, false, not, cond, inl, inr, List, [], ◌∷◌, map, set, get_or, refl, sym, ap, ◌∙◌, arith, subst, true≢false}
+use Rattle.std.proofs.Common.{◌≡◌, ◌≢◌, ℕ, zero, suc, Bool, true, false, not, cond, List, [], ◌∷◌, get_or, refl, sym, ap, ◌∙◌, arith, subst, true≢false}
 use Rattle.std.specs.Prelude.{Option, Some, None, IfSome, ◌&&◌, ◌||◌, if◌then◌else◌}
 use Rattle.load_plan.specs.declared.plan.Plan.{Plan}
 use Rattle.net_parts.specs.declared.parcel.Parcel.{Parcel}
 use Rattle.net_parts.specs.Parts.{is_segment_part, edges_of_part}
 use Rattle.net_parts.specs.Parcels.{arrived}
-use Rattle.net_parts.specs.Boards.{Board, ParcelOnBoard, Whereabouts, Mail, Run, Spoil, Post, Take, opening_board, whereabouts_at, has_edge, IsEnabled, put_at, happens}
-use Rattle.exchange_core.specs.Holdings.{Holding, IsSoundHolding, IsHoldingReady, IsHoldingClean, edges_of_parcels, parcel_of_edge, is_here, added_segment, added_repeater, reserved_holding, refused_holding, run_holding, spoil_holding, vacate_holding, take_holding}
-use Rattle.exchange_core.specs.Shares.{Rack, Held, nothing_held, part_on, part_of, is_owned, owns, changed, change_on, change, has_place, first_with_edge, change_first, change_edge, is_same_way, may_post, parcel_in, is_refilled, posted_parcel, post_held, rack_of_way, take_of_way, take_held, with_segment, with_repeater, part_of_kind_on, IsOfPlan, IsSoundShare, has_place_for}
+use Rattle.net_parts.specs.Boards.{Board, ParcelOnBoard, Mail, Run, Spoil, Post, Take, opening_board, whereabouts_at, has_edge, IsEnabled, happens}
+use Rattle.exchange_core.specs.Holdings.{Holding, IsSoundHolding, IsHoldingReady, IsHoldingClean, parcel_of_edge, is_here, added_segment, added_repeater, reserved_holding, refused_holding, run_holding, spoil_holding, vacate_holding, take_holding}
+use Rattle.exchange_core.specs.Shares.{Rack, Held, nothing_held, part_on, part_of, is_owned, owns, changed, change_on, change, has_place, first_with_edge, change_first, change_edge, is_same_way, may_post, parcel_in, posted_parcel, post_held, take_of_way, with_segment, with_repeater, part_of_kind_on, IsOfPlan, IsSoundShare}
 use Rattle.exchange_core.specs.Ties.{Agrees, parcel_on_board}
 use Rattle.exchange_core.specs.SharesOnBoards.{IsOnBoard, SharesBegin, SharesReserve, SharesRun, SharesSpoil, SharesPost, SharesTake, HaveNoPartInCommon, OthersStay}
 use Rattle.exchange_core.proofs.EdgesOfParts.{one_part}
 use Rattle.exchange_core.proofs.ChangedRacks.{comes_of, some_same, none_not_some, some_part, without_place}
-use Rattle.exchange_core.proofs.SoundShares.{sound_on, not_here}
+use Rattle.exchange_core.proofs.SoundShares.{not_here}
 use Rattle.exchange_core.proofs.GrownShares.{added_on}
 use Rattle.exchange_core.proofs.BoardTies.{vacate_agrees, run_is_run, spoil_is_spoil, post_is_post, take_is_take}
 use Rattle.exchange_core.proofs.HoldingsOnBoards.{not_both_here, run_stays, spoil_stays, post_stays, take_stays, segment_opens, repeater_opens}

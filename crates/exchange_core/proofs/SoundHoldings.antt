@@ -1,5 +1,5 @@
 -- Each event leaves a part with its parcels sound.
-use Rattle.std.proofs.Common.{◌≡◌, ◌≢◌, ℕ, zero, suc, ◌+◌, ◌<◌, ◌≤◌, Bool, true, false, not, inl, inr, List, [], ◌∷◌, length, map, replicate, set, get_or, refl, sym, ap, ap₂, ◌∙◌, arith, subst, true≢false}
+use Rattle.std.proofs.Common.{◌≡◌, ℕ, zero, suc, ◌+◌, ◌<◌, ◌≤◌, Bool, true, false, not, inl, inr, List, [], ◌∷◌, length, map, replicate, set, get_or, refl, sym, ap, ap₂, ◌∙◌, arith, true≢false}
 use Rattle.std.specs.Prelude.{All}
 use Rattle.std.proofs.lemmas.Bool.{cases_eq, cases_lt}
 use Rattle.std.proofs.lemmas.List.{length-map, length-replicate, get_or-replicate, get_or-set_same, get_or-set_other}
@@ -9,9 +9,9 @@ use Rattle.std.proofs.Math.Seq.{map-set_same}
 use Rattle.load_plan.specs.declared.plan.Plan.{Plan}
 use Rattle.net_parts.specs.declared.parcel.Parcel.{Parcel}
 use Rattle.net_parts.specs.Parts.{is_segment_part, edges_of_part, parts}
-use Rattle.net_parts.specs.Parcels.{IsTrueParcel, true_symbols, true_parcel, next_stamp, arrived, refilled}
+use Rattle.net_parts.specs.Parcels.{IsTrueParcel, true_symbols, true_parcel, next_stamp, arrived}
 use Rattle.net_parts.specs.Boards.{has_edge, place_in}
-use Rattle.exchange_core.specs.Holdings.{Holding, IsSoundHolding, IsHoldingReady, IsHoldingClean, edges_of_parcels, place_of_edge, absent_parcel, emptied_parcel, is_here, added_segment, added_repeater, reserved_holding, refused_holding, run_holding, spoil_holding, vacate_holding, take_holding}
+use Rattle.exchange_core.specs.Holdings.{Holding, IsSoundHolding, IsHoldingReady, IsHoldingClean, edges_of_parcels, place_of_edge, absent_parcel, emptied_parcel, added_segment, added_repeater, reserved_holding, refused_holding, run_holding, spoil_holding, vacate_holding, take_holding}
 use Rattle.exchange_core.specs.Shares.{AreParcelsFor}
 use Rattle.exchange_core.proofs.EdgesOfParts.{place_within, at_its_place}
 

@@ -1,12 +1,12 @@
 -- A part with the parcels at it, as contracts see it, and what each event makes of it (profile). Parts, edges, windows
 -- and places of parcels count from 0.
-use Rattle.std.specs.Prelude.{◌≡◌, ◌<◌, ◌+◌, ℕ, Bool, true, false, not, ◌&&◌, if◌then◌else◌, List, [], map, replicate, length, All, slice_set, slice_index_or}
+use Rattle.std.specs.Prelude.{◌≡◌, ◌<◌, ◌+◌, ℕ, Bool, true, false, not, List, [], map, replicate, length, All, slice_set, slice_index_or}
 use Rattle.load_plan.specs.declared.plan.Plan.{Plan}
 use Rattle.net_parts.specs.declared.parcel.Parcel.{Parcel}
 use Rattle.net_parts.specs.Windows.{windows}
 use Rattle.net_parts.specs.Parts.{is_segment_part, edges_of_part, parts}
 use Rattle.net_parts.specs.Parcels.{IsTrueParcel, next_stamp, refilled}
-use Rattle.net_parts.specs.Boards.{place_in, has_edge}
+use Rattle.net_parts.specs.Boards.{place_in}
 
 -- A part and the places of its parcels: its plan and number; its window, which goes on when it is lost, and the window
 -- at which the part itself stands; whether it is lost, whether room was refused in this window, whether there is room;

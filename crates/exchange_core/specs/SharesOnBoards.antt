@@ -1,5 +1,5 @@
 -- Whole shares and the events of a board (profile). Parts, edges and windows count from 0.
-use Rattle.std.specs.Prelude.{◌≡◌, ℕ, Bool, true, false, Option, Some, IfSome}
+use Rattle.std.specs.Prelude.{◌≡◌, ℕ, Bool, true, false, Some, IfSome}
 use Rattle.load_plan.specs.declared.plan.Plan.{Plan}
 use Rattle.net_parts.specs.declared.parcel.Parcel.{Parcel}
 use Rattle.net_parts.specs.Parts.{is_segment_part}

@@ -1,12 +1,12 @@
 -- What the share's calls have to do with the events of a board (profile). Parts, edges and windows count from 0.
-use Rattle.std.specs.Prelude.{◌≡◌, ◌≢◌, ◌<◌, ℕ, Bool, true, false, not, List, length, Option, Some, None, slice_index_or}
+use Rattle.std.specs.Prelude.{◌≡◌, ◌<◌, ℕ, true, false, not, length, slice_index_or}
 use Rattle.load_plan.specs.declared.plan.Plan.{Plan}
 use Rattle.net_parts.specs.declared.parcel.Parcel.{Parcel}
 use Rattle.net_parts.specs.Parts.{part_at, is_segment_part}
-use Rattle.net_parts.specs.Parcels.{IsTrueParcel, arrived}
+use Rattle.net_parts.specs.Parcels.{arrived}
 use Rattle.net_parts.specs.Boards.{Board, ParcelOnBoard, Whereabouts, Mail, Run, Spoil, Post, Take, whereabouts_at, has_edge, IsEnabled, happens}
 use Rattle.exchange_core.specs.Holdings.{Holding, IsSoundHolding, IsHoldingReady, IsHoldingClean, edges_of_parcels, parcel_of_edge, is_here, run_holding, spoil_holding, vacate_holding, take_holding}
-use Rattle.exchange_core.specs.Shares.{Held, IsSoundShare, AreParcelsFor, part_on, part_of, changed, change, has_place, first_with_edge, is_refilled, posted_parcel, post_held, rack_of_way, take_held}
+use Rattle.exchange_core.specs.Shares.{Held, AreParcelsFor, part_of, changed, change}
 
 -- A parcel that is at this spot (profile).
 abbrev pub parcel_on_board : Whereabouts → Parcel → ParcelOnBoard

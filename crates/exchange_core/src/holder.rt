@@ -5,7 +5,7 @@ ghost use Rattle.net_parts.specs.Windows.{windows};
 ghost use Rattle.net_parts.specs.Parts.{is_segment_part, edges_of_part};
 ghost use Rattle.net_parts.specs.Parcels.{IsTrueParcel};
 ghost use Rattle.net_parts.specs.Boards.{place_in, has_edge};
-ghost use Rattle.exchange_core.specs.Holdings.{Holding, IsHoldingReady, IsHoldingClean, IsSoundHolding, IsOnWay, edges_of_parcels, absent_parcel, emptied_parcel, parcel_of_edge, is_here, added_segment, added_repeater, reserved_holding, refused_holding, run_holding, spoil_holding, vacate_holding, take_holding};
+ghost use Rattle.exchange_core.specs.Holdings.{Holding, IsHoldingReady, IsHoldingClean, IsSoundHolding, IsOnWay, edges_of_parcels, new_holding, absent_parcel, emptied_parcel, parcel_of_edge, is_here, added_segment, added_repeater, reserved_holding, refused_holding, run_holding, spoil_holding, vacate_holding, take_holding};
 ghost use Rattle.exchange_core.specs.Shares.{AreParcelsFor, may_post, has_place};
 
 use lists::OutOfMemory;
@@ -43,6 +43,36 @@ impl<P: Part> Model for Holder<P> {
 }
 
 impl<P: Part> Holder<P> {
+    /// A segment or else a repeater that is new in a share, with these parcels, of which these are away.
+    fn new(
+        alloc: Global,
+        part: P,
+        segment: bool,
+        parcels: Vec<Parcel>,
+        away: Vec<bool>,
+    ) -> Holder<P>
+        requires kind { segment ≡ is_segment_part (P.plan part) (P.number part) }
+        requires sound { IsSoundHolding (new_holding (P.plan part) (P.number part) (P.at part) parcels.items away.items) }
+        ensures { result ≡ new_holding (P.plan part) (P.number part) (P.at part) parcels.items away.items }
+    {
+        let number = part.part();
+        let window = part.window();
+        let windows = part.windows();
+        Holder {
+            alloc,
+            part,
+            number,
+            window,
+            windows,
+            segment,
+            lost: false,
+            refused: false,
+            reserved: false,
+            parcels,
+            away,
+        }
+    }
+
     /// A segment with its parcels.
     pub fn segment(alloc: Global, part: P, parcels: ParcelList) -> Result<Holder<P>, OutOfMemory>
         requires kind { is_segment_part (P.plan part) (P.number part) ≡ true }
@@ -51,22 +81,7 @@ impl<P: Part> Holder<P> {
     {
         let parcels = in_order(alloc, parcels)?;
         let away = vec![in alloc; false; parcels.len()]?;
-        let number = part.part();
-        let window = part.window();
-        let windows = part.windows();
-        Ok(Holder {
-            alloc,
-            part,
-            number,
-            window,
-            windows,
-            segment: true,
-            lost: false,
-            refused: false,
-            reserved: false,
-            parcels,
-            away,
-        })
+        Ok(Holder::new(alloc, part, true, parcels, away))
     }
 
     /// A repeater, whose parcels are all away.
@@ -76,22 +91,7 @@ impl<P: Part> Holder<P> {
     {
         let parcels = absent_parcels(alloc, part.edges())?;
         let away = vec![in alloc; true; parcels.len()]?;
-        let number = part.part();
-        let window = part.window();
-        let windows = part.windows();
-        Ok(Holder {
-            alloc,
-            part,
-            number,
-            window,
-            windows,
-            segment: false,
-            lost: false,
-            refused: false,
-            reserved: false,
-            parcels,
-            away,
-        })
+        Ok(Holder::new(alloc, part, false, parcels, away))
     }
 
     /// What is so of every holder.

@@ -1,3 +1,4 @@
+pub mod ItemsOfLists
 pub mod Cuts
 pub mod Joins
 pub mod Separations

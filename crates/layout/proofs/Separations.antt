@@ -9,7 +9,9 @@ use Rattle.layout.specs.declared.ways.Tap.{Tap}
 use Rattle.layout.specs.declared.ways.Tap.TheVariants.{Port}
 use Rattle.layout.specs.Joined.{colours, is_joined}
 use Rattle.layout.specs.Networks.{edge_at, edges_from, CloseNoLoop}
+use Rattle.layout.specs.Among.{IsAmong}
 use Rattle.layout.specs.EdgePaths.{AreNeighbours, HaveEndsBelow}
+use Rattle.layout.proofs.ItemsOfLists.{among_left, among_right, among_last}
 use Rattle.layout.proofs.Joins.{Tell, told}
 
 -- a port and its edge
@@ -38,25 +40,8 @@ edges_named-from part r (row ∷ rows) =
     map-append (λ (x : PortEdge). x.edge) (named_ports part r 0 row.ports) (named_from (suc part) (suc r) rows)
     ∙ rw (edges_named-ports part r 0 row.ports, edges_named-from (suc part) (suc r) rows) refl
 
-abbrev pub Among : PortEdge → List PortEdge → Type 0
-Among x [] = ⊥
-Among x (y ∷ ys) = (y ≡ x) ⊎ Among x ys
-
-among_left : (x : PortEdge) (xs ys : List PortEdge) → Among x xs → Among x (xs ++ ys)
-among_left x [] ys h = absurd h
-among_left x (z ∷ zs) ys h = elim h [ inl e ↦ inl e | inr k ↦ inr (among_left x zs ys k) ]
-
-among_right : (x : PortEdge) (xs ys : List PortEdge) → Among x ys → Among x (xs ++ ys)
-among_right x [] ys h = h
-among_right x (z ∷ zs) ys h = inr (among_right x zs ys h)
-
-among_cases : (x y : PortEdge) (xs : List PortEdge) → Among x (xs ++ y ∷ []) → Among x xs ⊎ (y ≡ x)
-among_cases x y [] h = elim h [ inl e ↦ inr e | inr none ↦ absurd none ]
-among_cases x y (z ∷ zs) h =
-    elim h [ inl e ↦ inl (inl e) | inr k ↦ elim (among_cases x y zs k) [ inl j ↦ inl (inr j) | inr e ↦ inr e ] ]
-
 -- each port's edge is one of the network's
-port_among : (part r p n j : ℕ) (lines : List PortLine) (line : PortLine) → slice_get lines j ≡ Some line → n ≡ p + j → Among (record { tap = Port r n; edge = edge_at part line }) (named_ports part r p lines)
+port_among : (part r p n j : ℕ) (lines : List PortLine) (line : PortLine) → slice_get lines j ≡ Some line → n ≡ p + j → IsAmong (record { tap = Port r n; edge = edge_at part line }) (named_ports part r p lines)
 port_among part r p n j [] line h at = absurd (cc)
 port_among part r p n zero (x ∷ xs) line h at =
     let same : x ≡ line = cc in
@@ -65,7 +50,7 @@ port_among part r p n zero (x ∷ xs) line h at =
 port_among part r p n (suc j) (x ∷ xs) line h at = inr (port_among part r (suc p) n j xs line h (omega arith))
 
 pub edge_among : (part r q n i j : ℕ) (rows : List RepeaterLine) (row : RepeaterLine) (line : PortLine) → slice_get rows i ≡ Some row → slice_get row.ports j ≡ Some line → n ≡ r + i → q ≡ part + i
-    → Among (record { tap = Port n j; edge = edge_at q line }) (named_from part r rows)
+    → IsAmong (record { tap = Port n j; edge = edge_at q line }) (named_from part r rows)
 edge_among part r q n i j [] row line h k at to = absurd (cc)
 edge_among part r q n zero j (x ∷ xs) row line h k at to =
     let same : row ≡ x = cc in
@@ -79,12 +64,12 @@ edge_among part r q n (suc i) j (x ∷ xs) row line h k at to =
 -- two colours for the parts, which the edge of port f alone separates
 pub record Separates (xs : List PortEdge) (f : PortEdge) (d : ℕ → Bool) : Type 0 where
   pub crosses : d f.edge.from ≢ d f.edge.to
-  pub others : (g : PortEdge) → Among g xs → g.tap ≢ f.tap → d g.edge.from ≡ d g.edge.to
+  pub others : (g : PortEdge) → IsAmong g xs → g.tap ≢ f.tap → d g.edge.from ≡ d g.edge.to
 
 abbrev pub AllSeparate : List PortEdge → Type 0
-AllSeparate xs = (f : PortEdge) → Among f xs → (d : ℕ → Bool) × Separates xs f d
+AllSeparate xs = (f : PortEdge) → IsAmong f xs → (d : ℕ → Bool) × Separates xs f d
 
-pub neighbours_among : (g : PortEdge) (xs : List PortEdge) → Among g xs → AreNeighbours (edges_named xs) g.edge.from g.edge.to
+pub neighbours_among : (g : PortEdge) (xs : List PortEdge) → IsAmong g xs → AreNeighbours (edges_named xs) g.edge.from g.edge.to
 neighbours_among g [] h = absurd h
 neighbours_among g (x ∷ xs) h =
     elim h [
@@ -92,7 +77,7 @@ neighbours_among g (x ∷ xs) h =
       | inr k ↦ inr (neighbours_among g xs k)
     ]
 
-same_colour : (cs : List ℕ) (xs : List PortEdge) → Tell (edges_named xs) cs → (g : PortEdge) → Among g xs → get_or cs g.edge.from 0 ≡ get_or cs g.edge.to 0
+same_colour : (cs : List ℕ) (xs : List PortEdge) → Tell (edges_named xs) cs → (g : PortEdge) → IsAmong g xs → get_or cs g.edge.from 0 ≡ get_or cs g.edge.to 0
 same_colour cs xs tells g h = (tells.kept g.edge.from g.edge.to (neighbours_among g xs h)).2
 
 flip : Bool → Bool → Bool
@@ -126,7 +111,7 @@ module _ (cs : List ℕ) (xs : List PortEdge) (e : PortEdge) (tells : Tell (edge
   abbrev beyond : ℕ → Bool
   beyond x = get_or cs x 0 == get_or cs e.edge.to 0
 
-  beyond_same : (g : PortEdge) → Among g xs → beyond g.edge.from ≡ beyond g.edge.to
+  beyond_same : (g : PortEdge) → IsAmong g xs → beyond g.edge.from ≡ beyond g.edge.to
   beyond_same g h = ap (λ c. c == get_or cs e.edge.to 0) (same_colour cs xs tells g h)
 
   -- the new edge by the colours so far
@@ -137,7 +122,7 @@ module _ (cs : List ℕ) (xs : List PortEdge) (e : PortEdge) (tells : Tell (edge
         let no : false ≡ true = sym apart ∙ at ∙ eqb_self (get_or cs e.edge.to 0) in
         cc;
     others = λ g h ne.
-        elim (among_cases g e xs h) [
+        elim (among_last g e xs h) [
           | inl old ↦ beyond_same g old
           | inr new ↦ absurd (ne (ap (λ (y : PortEdge). y.tap) (sym new ∙ is)))
         ];
@@ -148,7 +133,7 @@ module _ (cs : List ℕ) (xs : List PortEdge) (e : PortEdge) (tells : Tell (edge
   whole f d parts same = record {
     crosses = parts.crosses;
     others = λ g h ne.
-        elim (among_cases g e xs h) [
+        elim (among_last g e xs h) [
           | inl old ↦ parts.others g old ne
           | inr new ↦ subst (λ (x : PortEdge). d x.edge.from ≡ d x.edge.to) new same
         ];
@@ -158,11 +143,11 @@ module _ (cs : List ℕ) (xs : List PortEdge) (e : PortEdge) (tells : Tell (edge
   turned d x = flip (beyond x) (d x)
 
   -- and one whose colours do not: those beyond the new edge are turned
-  turned_whole : (f : PortEdge) (d : ℕ → Bool) → Among f xs → Separates xs f d → d e.edge.from ≢ d e.edge.to → Separates (xs ++ e ∷ []) f (turned d)
+  turned_whole : (f : PortEdge) (d : ℕ → Bool) → IsAmong f xs → Separates xs f d → d e.edge.from ≢ d e.edge.to → Separates (xs ++ e ∷ []) f (turned d)
   turned_whole f d old parts differ = record {
     crosses = rw (beyond_same f old) (flip_ne (beyond f.edge.to) (d f.edge.from) (d f.edge.to) parts.crosses);
     others = λ g h ne.
-        elim (among_cases g e xs h) [
+        elim (among_last g e xs h) [
           | inl before ↦ rw (beyond_same g before, parts.others g before ne) refl
           | inr new ↦ subst (λ (x : PortEdge). turned d x.edge.from ≡ turned d x.edge.to) new (rw (apart, eqb_self (get_or cs e.edge.to 0)) (flip_one (d e.edge.from) (d e.edge.to) differ))
         ];
@@ -170,7 +155,7 @@ module _ (cs : List ℕ) (xs : List PortEdge) (e : PortEdge) (tells : Tell (edge
 
   one_more : AllSeparate xs → AllSeparate (xs ++ e ∷ [])
   one_more all f h =
-      elim (among_cases f e xs h) [
+      elim (among_last f e xs h) [
         | inr new ↦ (beyond, newest f new)
         | inl old ↦
             let d : ℕ → Bool = (all f old).0 in

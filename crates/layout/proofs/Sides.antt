@@ -15,7 +15,8 @@ use Rattle.layout.specs.Networks.{edge_at, edges_from, network_edges, parts_of, 
 use Rattle.layout.specs.Paths.{place, IsTap, part_by, StandsOnSegments}
 use Rattle.layout.proofs.Cuts.{IsCut, HasCuts}
 use Rattle.layout.specs.EdgePaths.{HaveEndsBelow}
-use Rattle.layout.proofs.Separations.{PortEdge, Among, Separates, AllSeparate, edges_separate, named_from, edges_named, edges_named-from, edge_among}
+use Rattle.layout.specs.Among.{IsAmong}
+use Rattle.layout.proofs.Separations.{PortEdge, Separates, AllSeparate, edges_separate, named_from, edges_named, edges_named-from, edge_among}
 
 -- a port and its row
 pub record IsPortOf (rows : List RepeaterLine) (r p : ℕ) (line : PortLine) : Type 0 where
@@ -107,7 +108,7 @@ network_separates l stands tree =
 abbrev pub port_edge : Layout → ℕ → ℕ → PortLine → PortEdge
 port_edge l r p line = record { tap = Port r p; edge = edge_at (length l.segments + r) line }
 
-pub port_edge_among : (l : Layout) (r p : ℕ) (line : PortLine) → place l (Port r p) ≡ Some line → Among (port_edge l r p line) (port_edges l)
+pub port_edge_among : (l : Layout) (r p : ℕ) (line : PortLine) → place l (Port r p) ≡ Some line → IsAmong (port_edge l r p line) (port_edges l)
 port_edge_among l r p line h =
     let is : IsPortOf l.repeaters r p line = port_of l r p line h in
     edge_among (length l.segments) 0 (length l.segments + r) r r p l.repeaters is.row line is.of_row is.of_port (omega arith) refl

@@ -5,12 +5,12 @@ use Rattle.layout.specs.declared.ways.Tap.{Tap}
 use Rattle.layout.specs.declared.ways.Tap.TheVariants.{Station, Port}
 use Rattle.layout.specs.declared.ways.Way.{Way}
 use Rattle.layout.specs.declared.ways.Way.TheVariants as way
-use Rattle.layout.specs.Paths.{part_by, IsStep, other_way, IsWalk, at_of, delay_of, step_length, walk_length, Path, IsPath, length_of, IsDistance}
+use Rattle.layout.specs.Paths.{part_by, IsStep, other_way, IsWalk, at_of, delay_of, step_length, walk_length, IsDistance}
 use Rattle.mac_parameters.specs.Distances.{distance}
 use Rattle.layout.proofs.PathsOverEdges.{other-other}
 use Rattle.layout.proofs.Sides.{repeater_number}
 
-step_back : (l : Layout) (w : Way) (a b : Tap) → IsStep l w a b → IsStep l w b a
+pub step_back : (l : Layout) (w : Way) (a b : Tap) → IsStep l w a b → IsStep l w b a
 step_back l w a b s = record { different = λ e. s.different (sym e); part = s.part; from = s.to; to = s.from }
 
 same_delay : (l : Layout) (a b : Tap) (part : ℕ) → part_by l way.Repeater a ≡ Some part → part_by l way.Repeater b ≡ Some part → delay_of l a ≡ delay_of l b
@@ -23,18 +23,12 @@ same_delay l (Port r p) (Port s q) part h k' =
 distance_comm : (x y : ℕ) → distance x y ≡ distance y x
 distance_comm x y = omega arith
 
-step_length-back : (l : Layout) (w : Way) (a b : Tap) → IsStep l w a b → step_length l w a b ≡ step_length l w b a
+pub step_length-back : (l : Layout) (w : Way) (a b : Tap) → IsStep l w a b → step_length l w a b ≡ step_length l w b a
 step_length-back l way.Cable a b s = distance_comm (at_of l a) (at_of l b)
 step_length-back l way.Repeater a b s = same_delay l a b s.part s.from s.to
 
--- a path that leads back from b to a, over n half bits
-record IsBack (l : Layout) (a b : Tap) (n : ℕ) : Type 0 where
-  path : Path
-  leads : IsPath l b path a
-  long : length_of l b path ≡ n
-
 -- back from b over the taps that are left, and then over those that were before
-back : (l : Layout) (w : Way) (a c : Tap) (rs ts : List Tap) (b : Tap) (m n : ℕ) → IsWalk l (other_way w) c rs a → walk_length l (other_way w) c rs ≡ m → IsWalk l w c ts b → walk_length l w c ts ≡ n → IsBack l a b (m + n)
+pub back : (l : Layout) (w : Way) (a c : Tap) (rs ts : List Tap) (b : Tap) (m n : ℕ) → IsWalk l (other_way w) c rs a → walk_length l (other_way w) c rs ≡ m → IsWalk l w c ts b → walk_length l w c ts ≡ n → IsDistance l b a (m + n)
 back l w a c rs [] b m n before so_far walk long =
     let none : n ≡ 0 = sym long in
     let all : m ≡ m + n = omega arith in
@@ -50,10 +44,9 @@ back l w a c rs (t ∷ ts) b m n before so_far walk long =
     let over : walk_length l (other_way (other_way w)) t (c ∷ rs) ≡ step_length l w t c + m = subst (λ (u : Way). walk_length l u t (c ∷ rs) ≡ step_length l w t c + m) (sym (other-other w)) more in
     let rest : step_length l w c t + walk_length l (other_way w) t ts ≡ n = long in
     let sum : step_length l w t c + m + walk_length l (other_way w) t ts ≡ m + n = omega arith in
-    subst (λ (x : ℕ). IsBack l a b x) sum (back l (other_way w) a t (c ∷ rs) ts b (step_length l w t c + m) (walk_length l (other_way w) t ts) again over walk.1 refl)
+    subst (λ (x : ℕ). IsDistance l b a x) sum (back l (other_way w) a t (c ∷ rs) ts b (step_length l w t c + m) (walk_length l (other_way w) t ts) again over walk.1 refl)
 
 pub distance_back : (l : Layout) (a b : Tap) (n : ℕ) → IsDistance l a b n → IsDistance l b a n
 distance_back l a b n d =
     let none : 0 + n ≡ n = omega arith in
-    let found : IsBack l a b (0 + n) = back l d.path.begins a a [] d.path.taps b 0 n refl refl d.leads d.long in
-    record { path = found.path; leads = found.leads; long = found.long ∙ none }
+    subst (λ (x : ℕ). IsDistance l b a x) none (back l d.path.begins a a [] d.path.taps b 0 n refl refl d.leads d.long)

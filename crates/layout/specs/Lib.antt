@@ -1,3 +1,4 @@
+pub mod Among
 pub mod Limits
 pub mod NameOctets
 pub mod Taps

@@ -1,12 +1,12 @@
 -- What holds of a sender before each half bit of a run that has no end, given what it emitted and heard before.
-use Rattle.std.proofs.Common.{◌≡◌, ◌≢◌, ℕ, zero, suc, ◌+◌, ◌-◌, ◌*◌, ◌<◌, ◌≤◌, Bool, true, false, ltb, leb, eqb, ◌&&◌, not, Option, Some, None, List, length, refl, sym, ap, subst, ◌∙◌, inl, inr, arith}
+use Rattle.std.proofs.Common.{◌≡◌, ◌≢◌, ℕ, zero, suc, ◌+◌, ◌-◌, ◌<◌, ◌≤◌, Bool, true, false, ltb, leb, eqb, ◌&&◌, not, Option, Some, None, List, length, refl, sym, ap, subst, ◌∙◌, inl, inr, arith}
 use Rattle.std.specs.Prelude.{◌⊎◌, if◌then◌else◌}
 use Rattle.std.proofs.lemmas.Bool.{cases_lt, ltb-true, leb-true, leb-false, and_parts, eqb-true}
-use Rattle.mac_parameters.specs.Parameters.{attempt_limit, interframe_gap, interframe_gap_part_1, least_frame, shortest_sending, slot_time}
+use Rattle.mac_parameters.specs.Parameters.{interframe_gap, interframe_gap_part_1, least_frame, shortest_sending}
 use Rattle.manchester_line.specs.declared.Sym.{Sym}
 use Rattle.manchester_line.specs.declared.Sym.TheVariants.{Idle, Hi, Lo, Clash}
 use Rattle.frame_layout.specs.declared.queue.Ready.{Ready}
-use Rattle.backoff_draw.specs.Draws.{Drawing, draw_of, drawn}
+use Rattle.backoff_draw.specs.Draws.{Drawing}
 use Rattle.mac_transmit.specs.declared.deference.Defer.{Defer}
 use Rattle.mac_transmit.specs.declared.deference.Defer.TheVariants.{Watch, Busy, Gap}
 use Rattle.mac_transmit.specs.declared.phase.Phase.{Phase}
@@ -18,6 +18,7 @@ use Rattle.manchester_line.specs.Line.{is_signal}
 use Rattle.mac_transmit.specs.Attempts.{Attempt, AreFrames, IsHitBy, IsLawful, Finishes, run, emits, AttemptsAreLawful}
 use Rattle.mac_transmit.proofs.SenderInvariant.{choose, busy_stays}
 use Rattle.mac_transmit.proofs.StartGaps.{sender}
+use Rattle.mac_transmit.proofs.EndedSendings.{ended_either}
 use Rattle.mac_transmit.proofs.SignalSendings.{IsHitIn, jam_later, symbol_busy, length_least, length_enough}
 
 -- A station that starts hears Idle then, or heard Idle 192 half bits before.
@@ -258,18 +259,8 @@ stands told heard t s h =
     (turn_of told heard s.queue s.draws s.t s.place s.phase s.defer s.attempt s.last_end s.carrier_from (is_signal (heard s.t)) refl h.frames h.phase (subst (λ u. DeferHolds heard u s.defer) (sym h.time) h.defer))
 
 ended_stands : (heard : ℕ → Sym) (t : ℕ) (s : Sender) (hit : Option ℕ) → s.t ≡ t → AreFrames s.queue → least_frame ≤ length (frame_at s.queue s.place) → DeferHolds heard t s.defer → IsStandingBy heard t (sending_ended s hit)
-ended_stands heard t s None e frames text d = record { time = e; frames = frames; phase = tt; defer = d }
-ended_stands heard t s (Some hit) e frames text d =
-    choose (IsStandingBy heard t) (eqb s.attempt attempt_limit)
-    (record s { place = s.place + 1; phase = Rest; last_end = Some s.t })
-    (record s {
-      phase = Backoff (s.t + slot_time * draw_of s.draws.seed s.draws.station s.draws.made s.attempt);
-      attempt = s.attempt + 1;
-      draws = drawn s.draws;
-      last_end = Some s.t;
-    })
-    (λ _. record { time = e; frames = frames; phase = tt; defer = d })
-    (λ _. record { time = e; frames = frames; phase = text; defer = d })
+ended_stands heard t s hit e frames text d =
+    ended_either (IsStandingBy heard t) s hit (record { time = e; frames = frames; phase = tt; defer = d }) (record { time = e; frames = frames; phase = text; defer = d })
 
 -- what follows the finish
 abbrev Follows : (ℕ → Sym) → (ℕ → Sym) → ℕ → Sender → Type 0

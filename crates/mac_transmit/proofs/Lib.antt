@@ -7,3 +7,4 @@ pub mod SignalSendings
 pub mod LawfulAttempts
 pub mod CalmEmissions
 pub mod SendingPieces
+pub mod EndedSendings

@@ -1,12 +1,11 @@
 -- What a sending emits is never Idle, and how long it is.
-use Rattle.std.proofs.Common.{◌≡◌, ◌≢◌, ℕ, ◌+◌, ◌*◌, ◌-◌, ◌%◌, ◌<◌, ◌≤◌, Bool, true, false, ltb, eqb, Option, Some, None, List, length, inl, inr, arith}
-use Rattle.std.specs.Prelude.{◌||◌}
+use Rattle.std.proofs.Common.{◌≡◌, ◌≢◌, ℕ, ◌+◌, ◌*◌, ◌-◌, ◌<◌, ◌≤◌, ltb, Option, Some, None, List, length, inl, inr, arith}
 use Rattle.std.proofs.lemmas.Bool.{cond_both, cases_lt, ltb-true}
 use Rattle.std.proofs.lemmas.Bool.Decides.{nat_tests}
 use Rattle.mac_parameters.specs.Parameters.{half_bits_an_octet, least_frame, preamble_length, shortest_sending}
-use Rattle.manchester_line.specs.declared.Sym.{Sym}
-use Rattle.manchester_line.specs.declared.Sym.TheVariants.{Idle, Hi, Lo}
-use Rattle.manchester_line.specs.Line.{half_at, jam_at}
+use Rattle.manchester_line.specs.declared.Sym.TheVariants.{Idle}
+use Rattle.manchester_line.specs.Line.{jam_at}
+use Rattle.manchester_line.proofs.Levels.{jam_level, level_at}
 use Rattle.manchester_line.proofs.Places.{length_line, line_at_preamble, line_at_octet}
 use Rattle.mac_transmit.specs.Sender.{line_length, line_at, jam_start, sending_length, symbol_of}
 use Rattle.mac_transmit.specs.Attempts.{GoesOn}
@@ -30,25 +29,13 @@ jam_later hit = grind (arith, nat_tests)
 jam_within : (hit n m : ℕ) → hit < n → n ≡ preamble_length + half_bits_an_octet * m → jam_start hit ≤ n
 jam_within hit n m l e = grind (arith, nat_tests)
 
-half_busy : (bit second : Bool) → half_at bit second ≢ Idle
-half_busy true true = λ e. cc
-half_busy true false = λ e. cc
-half_busy false true = λ e. cc
-half_busy false false = λ e. cc
-
-busy_at : (s r : Sym) → s ≡ r → r ≢ Idle → s ≢ Idle
-busy_at s r e h = λ m. h (cc)
-
-jam_busy : (i : ℕ) → jam_at i ≢ Idle
-jam_busy i = cond_both (eqb (i % 4) 0 || eqb (i % 4) 3) Lo Hi (λ s. s ≢ Idle) (λ _ e. cc) (λ _ e. cc)
-
 line_busy : (octets : List ℕ) (p : ℕ) → p < line_length octets → line_at octets p ≢ Idle
 unfolding line_at
 line_busy octets p l =
     let n : line_length octets ≡ preamble_length + half_bits_an_octet * length octets = text_length octets in
     elim (cases_lt p preamble_length) [
-      | inl low ↦ busy_at _ _ (line_at_preamble octets p low) (half_busy _ _)
-      | inr high ↦ busy_at _ _ (line_at_octet octets p (p - preamble_length) high (omega arith) (omega arith)) (half_busy _ _)
+      | inl low ↦ (level_at _ _ _ (line_at_preamble octets p low)).0
+      | inr high ↦ (level_at _ _ _ (line_at_octet octets p (p - preamble_length) high (omega arith) (omega arith))).0
     ]
 
 pub symbol_busy : (octets : List ℕ) (hit : Option ℕ) (p : ℕ) → IsHitIn hit (line_length octets) → p < sending_length octets hit → symbol_of octets hit p ≢ Idle
@@ -56,7 +43,7 @@ symbol_busy octets None p h l = line_busy octets p l
 symbol_busy octets (Some hit) p h l =
     cond_both (ltb p (jam_start hit)) (line_at octets p) (jam_at (p - jam_start hit)) (λ s. s ≢ Idle)
     (λ e. line_busy octets p (let w : jam_start hit ≤ line_length octets = jam_within hit (line_length octets) (length octets) h (text_length octets) in (let b : p < jam_start hit = ltb-true p (jam_start hit) e in omega arith)))
-    (λ _. jam_busy (p - jam_start hit))
+    (λ _. (jam_level (p - jam_start hit)).0)
 
 pub length_least : (octets : List ℕ) (hit : Option ℕ) → least_frame ≤ length octets → shortest_sending ≤ sending_length octets hit
 length_least octets None text = omega (arith, text_length octets)

@@ -1,5 +1,6 @@
 pub mod DecoderAnswers
 mod KeptOctets
+pub mod Levels
 mod Packed
 mod Pieces
 pub mod Places

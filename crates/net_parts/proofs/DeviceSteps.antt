@@ -17,6 +17,7 @@ use Rattle.mac_parameters.specs.Parameters.{most_octets}
 use Rattle.network.specs.Captures.{captured, taken_by}
 use Rattle.network.specs.Times.{heard, emitted}
 use Rattle.net_parts.specs.Standing.{receiver_at, captures_at}
+use Rattle.network.proofs.LoggedAttempts.{length-receptions}
 use Rattle.network.proofs.StationAttempts.{no_sender}
 use Rattle.net_parts.proofs.NetworkFacts.{StationFacts}
 
@@ -38,14 +39,6 @@ receptions_of f e g (k ∷ ks) = ap (λ os. receiver_step (g k) (f k) (is_signal
 pub captured_of : (t : ℕ) (e : ℕ → Option Body) (o : ℕ → List ℕ) (c : ℕ → List Taken) (ks : List ℕ) → captured t (map e ks) (map o ks) (map c ks) ≡ map (λ k. c k ++ taken_by t (e k) (o k)) ks
 captured_of t e o c [] = refl
 captured_of t e o c (k ∷ ks) = ap (λ cs. (c k ++ taken_by t (e k) (o k)) ∷ cs) (captured_of t e o c ks)
-
-length-receptions : (hs es : List Sym) (rs : List Receiving) → length rs ≤ length hs → length rs ≤ length es → length (receptions hs es rs) ≡ length rs
-length-receptions [] es [] lh le = refl
-length-receptions (h ∷ hs) [] [] lh le = refl
-length-receptions (h ∷ hs) (e ∷ es) [] lh le = refl
-length-receptions [] es (r ∷ rs) lh le = absurd (omega arith)
-length-receptions (h ∷ hs) [] (r ∷ rs) lh le = absurd (omega arith)
-length-receptions (h ∷ hs) (e ∷ es) (r ∷ rs) lh le = ap suc (length-receptions hs es rs (omega arith) (omega arith))
 
 reception_at : (hs es : List Sym) (rs : List Receiving) (k : ℕ) (o : Reception) (d : Receiving) → k < length rs → length rs ≤ length hs → length rs ≤ length es → get_or (receptions hs es rs) k o ≡ receiver_step (get_or rs k d) (get_or hs k Idle) (is_signal (get_or es k Idle))
 reception_at hs es [] k o d h lh le = absurd (omega arith)

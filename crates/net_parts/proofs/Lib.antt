@@ -9,6 +9,7 @@ pub mod StationRows
 pub mod SegmentSteps
 pub mod RepeaterSteps
 pub mod WindowCuts
+pub mod WindowTimes
 pub mod PartWindows
 pub mod BoardEvents
 pub mod CalmPieces

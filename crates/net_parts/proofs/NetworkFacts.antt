@@ -1,6 +1,6 @@
 -- What the network has for the proofs on parts: each station is a sender that hears what its tap hears, and each repeater has its
 -- ports.
-use Rattle.std.proofs.Common.{◌≡◌, ℕ, zero, suc, ◌+◌, ◌-◌, ◌<◌, ◌≤◌, All, List, [], ◌∷◌, ◌++◌, map, drop, replicate, length, length-append, length-take-le, get_or, inl, inr, refl, sym, ap, ◌∙◌, arith}
+use Rattle.std.proofs.Common.{◌≡◌, ℕ, zero, suc, ◌+◌, ◌-◌, ◌<◌, ◌≤◌, All, List, [], ◌∷◌, ◌++◌, map, drop, replicate, length, length-append, length-take-le, get_or, inl, inr, refl, sym, subst, ap, ◌∙◌, arith}
 use Rattle.std.specs.List.{flat_map}
 use Rattle.std.proofs.lemmas.List.{length-replicate, get_or_append_left, get_or-append_right, get_or-replicate}
 use Rattle.std.proofs.lemmas.Bool.{cases_lt}
@@ -33,23 +33,23 @@ many_delays (r ∷ rs) =
     let size = length-replicate (length r.ports) r.delay in
     omega (arith, rest, one, two, size)
 
-some_delays : (rs : List RepeaterLine) → All (λ r. 1 ≤ r.delay) rs → (e : ℕ) → e < length (flat_map (λ (r : RepeaterLine). replicate (length r.ports) r.delay) rs) → 1 ≤ get_or (flat_map (λ (r : RepeaterLine). replicate (length r.ports) r.delay) rs) e 0
-some_delays [] all e h = absurd (omega arith)
-some_delays (r ∷ rs) all e h =
+-- what holds of the delay of each repeater holds of that of each port
+pub delays_hold : (P : ℕ → Type 0) (rs : List RepeaterLine) → All (λ r. P r.delay) rs → (e : ℕ) → e < length (flat_map (λ (r : RepeaterLine). replicate (length r.ports) r.delay) rs)
+    → P (get_or (flat_map (λ (r : RepeaterLine). replicate (length r.ports) r.delay) rs) e 0)
+delays_hold P [] all e h = absurd (omega arith)
+delays_hold P (r ∷ rs) all e h =
     let n = length r.ports in
     let here = replicate n r.delay in
     let rest = flat_map (λ (x : RepeaterLine). replicate (length x.ports) x.delay) rs in
     let size : length here ≡ n = length-replicate n r.delay in
     let both = length-append here rest in
-    let first : 1 ≤ r.delay = all 0 r (omega arith) in
     elim (cases_lt e n) [
       | inl own ↦
           let is : get_or (here ++ rest) e 0 ≡ r.delay = get_or_append_left here rest 0 e (omega (arith, own, size)) ∙ get_or-replicate n e r.delay 0 own in
-          omega (arith, is, first)
+          subst P (sym is) (all 0 r (omega arith))
       | inr other ↦
           let is : get_or (here ++ rest) e 0 ≡ get_or rest (e - n) 0 = get_or-append_right here rest n e 0 size other in
-          let there = some_delays rs (λ i d l. all (suc i) d (omega arith)) (e - n) (omega (arith, h, both, size, other)) in
-          omega (arith, is, there)
+          subst P (sym is) (delays_hold P rs (λ i d l. all (suc i) d (omega arith)) (e - n) (omega (arith, h, both, size, other)))
     ]
 
 lines_many : (ls : List RepeaterLine) (rs : List State) (h : List (List Sym)) → LinesUp ls rs h → length rs ≡ length ls
@@ -107,5 +107,5 @@ repeater_facts plan = record {
   guards = λ i t h. (lines_at plan.layout.repeaters (net plan t).repeaters (net plan t).decided i _ (shape_of plan t).lines h).0;
   counts = λ i t h. (lines_at plan.layout.repeaters (net plan t).repeaters (net plan t).decided i _ (shape_of plan t).lines h).1;
   hear_all = λ t. (heard_sizes plan t (shape_of plan t)).1;
-  late = some_delays plan.layout.repeaters (runnable_plan plan).some_delay;
+  late = delays_hold (λ d. 1 ≤ d) plan.layout.repeaters (runnable_plan plan).some_delay;
 }

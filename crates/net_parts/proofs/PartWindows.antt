@@ -16,12 +16,12 @@ use Rattle.net_parts.specs.Parts.{OfSegment, OfRepeater, Made, is_segment_part, 
 use Rattle.net_parts.specs.Parcels.{true_symbols, next_stamp}
 use Rattle.net_parts.proofs.NetworkFacts.{StationFacts, station_facts}
 use Rattle.net_parts.proofs.NetworkFacts.{RepeaterFacts, repeater_facts}
-use Rattle.network.proofs.RunnablePlans.{runnable_plan}
 use Rattle.net_parts.specs.PartLaws.{PartsGoOn}
-use Rattle.net_parts.proofs.LookaheadLeads.{leads, some_lookahead}
+use Rattle.net_parts.proofs.LookaheadLeads.{leads}
 use Rattle.net_parts.proofs.SegmentSteps.{segment_truth}
 use Rattle.net_parts.proofs.RepeaterSteps.{repeater_steps, repeater_gives}
-use Rattle.net_parts.proofs.WindowCuts.{span_alike, columns_of, parcels_are, runs, begins_before}
+use Rattle.net_parts.proofs.WindowCuts.{span_alike, columns_of, parcels_are, runs}
+use Rattle.net_parts.proofs.WindowTimes.{begins_in_run}
 
 abbrev symbols_of_kind : Plan → Bool → ℕ → ℕ → List Sym
 symbols_of_kind plan true e w = span (port_hears plan e) (w * lookahead plan.layout) (size plan w)
@@ -34,17 +34,11 @@ module _ (plan : Plan) (facts : StationFacts plan) (ports : RepeaterFacts plan) 
   abbrev H : ℕ
   H = half_bits plan
 
-  lead_some : 1 ≤ L
-  lead_some = some_lookahead plan.layout (runnable_plan plan).some_delay
-
-  begins : w * L < H
-  begins = begins_before H L w (let s = lead_some in omega (arith, s)) some
-
   starts : time plan w ≡ w * L
-  starts = let b = begins in omega (arith, b)
+  starts = let b = begins_in_run plan w some in omega (arith, b)
 
   next_time : w * L + size plan w ≡ time plan (w + 1)
-  next_time = let b = begins in omega (arith, b)
+  next_time = let b = begins_in_run plan w some in omega (arith, b)
 
   at_segment : run_part plan u w (part_of_kind plan true u (time plan w)) (map (λ e. symbols_of_kind plan false e w) (edges_of_kind plan true u)) ≡ record { state = part_of_kind plan true u (time plan (w + 1)); symbols = map (λ e. symbols_of_kind plan true e w) (edges_of_kind plan true u) }
   unfolding run_part
@@ -56,7 +50,7 @@ module _ (plan : Plan) (facts : StationFacts plan) (ports : RepeaterFacts plan) 
       let lead = leads plan.layout in
       let comes = λ (v : ℕ). map (λ e. arrives plan L e v) es in
       let goes = λ (v : ℕ). map (λ e. port_hears plan e v) es in
-      let b = begins in
+      let b = begins_in_run plan w some in
       let cols : columns (map (λ e. symbols_of_kind plan false e w) es) n ≡ span comes (w * L) n = columns_of (arrives plan L) (w * L) n (min L (H + L - w * L)) es (omega arith) in
       let all : run_rows m (span comes (w * L) n) (at (w * L)) ≡ record { state = at (w * L + n); rows = span goes (w * L) n } =
       runs m at comes goes (λ t. (segment_truth plan facts L u t lead).0) (λ t. (segment_truth plan facts L u t lead).1) (w * L) n in
@@ -73,7 +67,7 @@ module _ (plan : Plan) (facts : StationFacts plan) (ports : RepeaterFacts plan) 
 
   later : (e : ℕ) → span (decided plan e) (w * L) (size plan w) ≡ symbols_of_kind plan false e (w + 1)
   later e =
-      let b = begins in
+      let b = begins_in_run plan w some in
       let first : (w + 1) * L ≡ w * L + L = omega arith in
       let many : size plan w ≡ min L (H + L - (w + 1) * L) = omega (arith, first) in
       span_alike (decided plan e) (arrives plan L e) (w * L) ((w + 1) * L) (size plan w) (λ k h.

@@ -11,9 +11,9 @@ use Rattle.layout.specs.declared.lines.RepeaterLine.{RepeaterLine}
 use Rattle.load_plan.specs.declared.plan.Plan.{Plan}
 use Rattle.mac_transmit.specs.Sender.{SendOutcome}
 use Rattle.mac_receive.specs.Receiver.{Reception}
-use Rattle.repeater_core.specs.declared.modes.Mode.{Mode}
-use Rattle.repeater_core.specs.Counts.{Count, Choice, choices_from}
-use Rattle.repeater_core.specs.Step.{State, new_state, after, chosen, decided_by, mode_next}
+use Rattle.repeater_core.specs.Counts.{Choice}
+use Rattle.repeater_core.specs.Step.{State, new_state, after, chosen, decided_by}
+use Rattle.repeater_core.proofs.Lawful.{length_chosen}
 use Rattle.network.specs.Net.{net, each_repeater, heard_in, ports_hear, sendings_in, receptions_in}
 use Rattle.network.specs.Rows.{repeater_bodies, row_of, rows_of, rows_of_bodies, repeater_rows}
 use Rattle.network.specs.Times.{decided}
@@ -45,13 +45,9 @@ edges_within [] i h = absurd (omega arith)
 edges_within (l ∷ ls) zero h = let sum = length-append l.ports (flat_map (λ (r : RepeaterLine). r.ports) ls) in omega (arith, sum)
 edges_within (l ∷ ls) (suc i) h = let sum = length-append l.ports (flat_map (λ (r : RepeaterLine). r.ports) ls) in let rest = edges_within ls i (omega arith) in omega (arith, sum, rest)
 
-length-choices : (mode : Mode) (hs : List Sym) (q : ℕ) (cs : List Count) → length (choices_from mode hs q cs) ≡ length cs
-length-choices mode hs q [] = refl
-length-choices mode hs q (c ∷ cs) = ap suc (length-choices mode hs (q + 1) cs)
-
 length-decided : (hs : List Sym) (r : State) → length (decided_by hs r) ≡ length r.counts
 unfolding chosen
-length-decided hs r = length-map (chosen hs r) (λ (c : Choice). c.symbol) ∙ length-choices (mode_next hs r) hs 0 r.counts
+length-decided hs r = length-map (chosen hs r) (λ (c : Choice). c.symbol) ∙ length_chosen hs r
 
 -- port p of repeater i among all
 decided_at : (hs : List Sym) (rs : List State) (ls : List RepeaterLine) (i p : ℕ) (r0 : State) → i < length rs → length rs ≡ length ls → p < edges_in ls i →

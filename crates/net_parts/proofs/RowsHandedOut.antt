@@ -13,7 +13,6 @@ use Rattle.network.specs.Net.{net}
 use Rattle.network.specs.Outputs.{rows, captures, half_bits, cut_rows}
 use Rattle.network.specs.Rows.{row_of}
 use Rattle.network.specs.TapsOnSegments.{numbers_on}
-use Rattle.network.proofs.RunnablePlans.{runnable_plan}
 use Rattle.network.proofs.StationAttempts.{no_sender}
 use Rattle.network.proofs.TapsOnSegments.{numbers-here, numbers-there}
 use Rattle.net_parts.specs.Windows.{lookahead, windows, time}
@@ -22,7 +21,7 @@ use Rattle.net_parts.specs.Parts.{is_segment_part, part_of_kind, part_at, device
 use Rattle.net_parts.specs.OutputsOfParts.{devices_of_kind, stations_of_kind, cut_rows_on, rows_handed_out, captures_handed_out}
 use Rattle.net_parts.specs.PartLaws.{PartsHandOut}
 use Rattle.net_parts.proofs.NetworkFacts.{station_facts}
-use Rattle.net_parts.proofs.LookaheadLeads.{some_lookahead}
+use Rattle.net_parts.proofs.WindowTimes.{some_lead}
 use Rattle.net_parts.proofs.StationRows.{of_devices, filter-two, kept, dropped, beyond, append_none}
 
 -- of the stations from k on, the Cut rows of those of the segment
@@ -73,7 +72,7 @@ module _ (plan : Plan) where
   -- all windows together are the run
   all_windows : time plan (windows plan) ≡ H
   all_windows =
-      let some : 1 ≤ L = some_lookahead plan.layout (runnable_plan plan).some_delay in
+      let some : 1 ≤ L = some_lead plan in
       let n = H + L - 1 in
       let whole = div-add-mod' n L in
       let left : n % L < L = mod_below n L some in

@@ -19,6 +19,12 @@ All-drop-first P xs k d h later =
     let first = later 0 d (omega (arith, length-drop k xs)) in
     subst P (get_or-drop k xs 0 d ∙ (let e : k + 0 ≡ k = omega arith in ap (λ i. get_or xs i d) e)) first
 
+-- one element more that was changed, by what held of it before
+pub changed_one : {X : Type 0} (Before After : X → Type 0) (xs : List X) (k : ℕ) (y d : X) → k < length xs → All After (take k xs) → All Before (drop k xs) → (Before (get_or xs k d) → After y)
+    → All After (take (k + 1) (set xs k y)) × All Before (drop (k + 1) (set xs k y))
+changed_one Before After xs k y d h done later now =
+    (All-take-set After xs k y h done (now (All-drop-first Before xs k d h later)), All-drop-set Before xs k y later)
+
 -- what stands at the front of two rests that are the same
 pub get_or-rest : {X : Type 0} (xs ys : List X) (k : ℕ) (d : X) → drop k xs ≡ drop k ys → get_or xs k d ≡ get_or ys k d
 get_or-rest xs ys k d same =

@@ -1,13 +1,11 @@
 -- What is kept goes on standing for the network.
-use Rattle.std.proofs.Common.{◌≡◌, ℕ, zero, suc, ◌+◌, ◌-◌, ◌*◌, ◌<◌, ◌≤◌, Bool, true, false, not, ◌&&◌, inl, inr, All, List, [], ◌∷◌, ◌++◌, map, take, drop, cond, eqb, length, get_or, replicate, Option, refl, sym, subst, ap, ap₂, ◌∙◌, arith, mul-le-mul_right, mul-suc, append_assoc, length-append}
+use Rattle.std.proofs.Common.{◌≡◌, ℕ, zero, suc, ◌+◌, ◌-◌, ◌*◌, ◌<◌, ◌≤◌, All, List, [], ◌∷◌, ◌++◌, map, take, drop, eqb, length, get_or, replicate, Option, refl, sym, subst, ap, ap₂, ◌∙◌, arith, mul-le-mul_right, mul-suc, append_assoc, length-append}
 use Rattle.std.specs.List.{flat_map, range_with_len}
 use Rattle.std.proofs.lemmas.List.{length-map, length-replicate, get_or-map}
 use Rattle.std.proofs.lemmas.List.FromFn.{get_or-map-range_with_len, length-map-range_with_len}
 use Rattle.std.proofs.lemmas.List.Elements.{All-append, All-map}
-use Rattle.std.proofs.lemmas.Bool.{cases_eq, eq-eqb, ne_eqb, false≢true}
 use Rattle.manchester_line.specs.declared.Sym.{Sym}
 use Rattle.manchester_line.specs.declared.Sym.TheVariants.{Idle}
-use Rattle.manchester_line.specs.Line.{mix_of}
 use Rattle.cable_segment.specs.Bus.{heard_among, heard_at}
 use Rattle.mac_parameters.specs.Distances.{distance}
 use Rattle.cable_segment.specs.Cable.{Told, told_at, advanced}
@@ -34,39 +32,10 @@ use Rattle.net_step.specs.Wires.{Wire, no_wire, wire_at, symbols_of, told_from, 
 use Rattle.network.specs.TapsOnSegments.{positions_on, count_on}
 use Rattle.net_step.specs.KeptNet.{KeptNet, heard_kept, stations_hear_kept, ports_hear_kept, sendings_kept, stations_emit_kept, emitted_kept, receptions_kept, AllHear, AllGive, IsNextKept, IsWire, Stands}
 use Rattle.net_step.proofs.KeptReceivers.{AllHear-given, events-given, captured-given}
-use Rattle.network.proofs.TapsOnSegments.{count-here, count-there, positions-here, positions-there, position_at, number_at, count_below, length-numbers, same_number}
+use Rattle.network.proofs.HearingOnSegments.{hears_alike}
+use Rattle.network.proofs.TapsOnSegments.{position_at, number_at, count_below, length-numbers, same_number}
 use Rattle.net_step.proofs.CablePlaces.{places_some}
 use Rattle.net_step.proofs.CableHistory.{told_at-told_from, told_at-told_from_earlier, told_at-advanced, told_at-advanced_now, positions-told_from, ahead-told_from, length-rows-told_from, length-rows-advanced}
-
--- a tap of the segment is left out in both ways, or told alike
-pick : (t t' b : Bool) (a a' : Sym) → t ≡ t' → b ≡ true → a ≡ a' → cond t Idle a ≡ cond (b && not t') a' Idle
-pick t true true a a' e eb ea = ap (λ z. cond z Idle a) e
-pick t false true a a' e eb ea = ap (λ z. cond z Idle a) e ∙ ea
-pick t t' false a a' e eb ea = absurd (false≢true eb)
-
--- what a tap hears of its segment is what it hears among all taps
-module _ (u v : ℕ → ℕ → Sym) (s q : ℕ) (here d : PortLine) (local : ℕ) (on : here.segment ≡ s) where
-  hears_alike : (xs : List PortLine) (r p : ℕ) →
-      ((i c m : ℕ) → i < length xs → c ≡ r + count_on s (take i xs) → m ≡ p + i → (get_or xs i d).segment ≡ s → eqb c local ≡ eqb m q) →
-      ((i c m : ℕ) → i < length xs → c ≡ r + count_on s (take i xs) → m ≡ p + i → (get_or xs i d).segment ≡ s → u (distance here.at (get_or xs i d).at) c ≡ v (distance here.at (get_or xs i d).at) m) →
-      heard_among u local here.at r (positions_on s xs) ≡ heard_of v q here p xs
-  hears_alike [] r p tests same = refl
-  hears_alike (x ∷ xs) r p tests same = elim (cases_eq x.segment s) [
-    | inl e ↦
-        ap (heard_among u local here.at r) (positions-here s x xs e)
-        ∙ ap₂ mix_of
-        (pick (eqb r local) (eqb p q) (eqb x.segment here.segment) (u (distance here.at x.at) r) (v (distance here.at x.at) p)
-        (tests 0 r p (omega arith) (omega arith) (omega arith) e) (eq-eqb x.segment here.segment (e ∙ sym on)) (same 0 r p (omega arith) (omega arith) (omega arith) e))
-        (hears_alike xs (r + 1) (p + 1)
-        (λ i c m l ec em es. let one = count-here s x (take i xs) e in tests (suc i) c m (omega arith) (omega (arith, ec, one)) (omega arith) es)
-        (λ i c m l ec em es. let one = count-here s x (take i xs) e in same (suc i) c m (omega arith) (omega (arith, ec, one)) (omega arith) es))
-    | inr ne ↦
-        ap (heard_among u local here.at r) (positions-there s x xs ne)
-        ∙ hears_alike xs r (p + 1)
-        (λ i c m l ec em es. let one = count-there s x (take i xs) ne in tests (suc i) c m (omega arith) (omega (arith, ec, one)) (omega arith) es)
-        (λ i c m l ec em es. let one = count-there s x (take i xs) ne in same (suc i) c m (omega arith) (omega (arith, ec, one)) (omega arith) es)
-        ∙ sym (ap (λ (b : Bool). mix_of (cond (b && not (eqb p q)) (v (distance here.at x.at) p) Idle) (heard_of v q here (p + 1) xs)) (ne_eqb x.segment here.segment (λ same_segment. ne (same_segment ∙ on))))
-  ]
 
 -- the place of a tap
 abbrev pub place_of : List PortLine → ℕ → PortLine → Place
@@ -91,7 +60,7 @@ hears_there n k st q d h =
     let number : a ≡ count_on s (take i n.taps) = omega (arith, ea) in
     let same : i ≡ m = omega (arith, em) in
     ap (λ z. eqb z local) number ∙ same_number s n.taps i q d l h es refl ∙ ap (λ z. eqb z q) same)
-    (λ i a m l ea em es.
+    (λ i a m l ea em es away.
     let other = get_or n.taps i d in
     let other_near : other.at ≤ greatest_place = st.near i d l in
     let back = distance x.at other.at in

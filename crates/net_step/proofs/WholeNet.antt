@@ -57,6 +57,10 @@ known_after row wires n h = λ i d l.
     let m : i < length wires = omega (arith, length-map wires (carried row)) in
     subst (λ (w : Wire). All (λ q. q < n) w.taps) (sym (get_or-map (carried row) wires i d d m)) (h i d m)
 
+-- what stays of a list that is written to, from what the pass over it keeps
+pub kept_of : {X Y : Type 0} (f : List X → Y) {whole new old items : List X} → whole ≡ new → f new ≡ f old → old ≡ items → f whole ≡ f items
+kept_of f whole kept items = ap f whole ∙ kept ∙ ap f items
+
 -- a half bit later
 pub whole_next : (k kn : KeptNet) (row : List Sym) (h e p r s v n h' e' p' r' s' v' n' : ℕ) → IsWhole k h e p r s v n →
     kn.places ≡ k.places → kn.wires ≡ map (carried row) k.wires → length kn.senders ≡ length k.senders → length kn.receivers ≡ length k.receivers → length kn.captures ≡ length k.captures →
@@ -181,10 +185,23 @@ tap_within k device port h = elim (cases_lt device (length k.senders)) [
   ]
 ]
 
+-- tap `tap` of all is that of a device's port
+pub record IsTapNumber (k : KeptNet) (device port tap : ℕ) : Type 0 where
+  pub is_tap : IsKeptTap k device port
+  pub number : tap ≡ kept_tap_number (length k.senders) k.repeaters device port
+
+-- told of the same net s as the contract names it
+pub tap_is_numbered : (k s : KeptNet) (device port tap stations : ℕ) (rs : List State) → k ≡ s → IsKeptTap s device port → stations ≡ length k.senders → rs ≡ k.repeaters
+    → tap ≡ kept_tap_number stations rs device port → IsTapNumber k device port tap
+tap_is_numbered k s device port tap stations rs same asked many them told = record {
+  is_tap = subst (λ x. IsKeptTap x device port) (sym same) asked;
+  number = told ∙ ap₂ (λ m (rs : List State). kept_tap_number m rs device port) many them;
+}
+
 -- and so it stands at a place
-module _ (k : KeptNet) (h e p r s v n : ℕ) (w : IsWhole k h e p r s v n) (device port tap : ℕ) (is_tap : IsKeptTap k device port) (number : tap ≡ kept_tap_number (length k.senders) k.repeaters device port) where
+module _ (k : KeptNet) (h e p r s v n : ℕ) (w : IsWhole k h e p r s v n) (device port tap : ℕ) (named : IsTapNumber k device port tap) where
   pub tap_in_places : tap < length k.places
-  tap_in_places = let inside = tap_within k device port is_tap in omega (arith, number, inside, w.taps)
+  tap_in_places = let inside = tap_within k device port named.is_tap in omega (arith, named.number, inside, w.taps)
 
   pub place_in_wires : (at : Place) → at ≡ get_or k.places tap at → at.segment < length k.wires
   place_in_wires at is = let here = w.placed tap at tap_in_places in subst (λ (x : Place). x.segment < length k.wires) (sym is) here.0

@@ -9,4 +9,6 @@ mod relay;
 mod rows;
 mod segment;
 
+pub use places::taps_of;
 pub use plain::{PlainNet, run_plain};
+pub use rows::push_row;

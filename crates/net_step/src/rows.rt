@@ -1,5 +1,5 @@
 //! The rows of a half bit.
-ghost use Rattle.std.specs.Prelude.{◌≡◌, ◌<◌, ◌≤◌, ◌+◌, ◌^◌, ◌++◌, ◌/◌, ◌%◌, ◌==◌, length, map, OnOk};
+ghost use Rattle.std.specs.Prelude.{◌≡◌, ◌<◌, ◌≤◌, ◌+◌, ◌^◌, ◌++◌, length, map, OnOk};
 ghost use Rattle.network.specs.Rows.{repeater_rows, rows_of_bodies, happened, rows_of, row_of, told_bodies, bits_bodies};
 ghost use Rattle.network.specs.Outputs.{cut_rows};
 ghost use Rattle.net_step.specs.KeptNet.{all_told};
@@ -8,10 +8,15 @@ use crate::relay::Relay;
 use collision_log::{Body, Row, Rows};
 use lists::OutOfMemory;
 use mac_transmit::Transmitter;
-use repeater_core::RepeaterEvents;
+use repeater_core::{RepeaterEvents, behind_first, has_first};
 
-/// Writes the row of an event, if there is one.
-fn push_row(rows: &mut Rows, t: u64, device: u32, event: Option<Body>) -> Result<(), OutOfMemory>
+/// Writes the row of an event of half bit `t`, if there is one. Devices count from 0.
+pub fn push_row(
+    rows: &mut Rows,
+    t: u64,
+    device: u32,
+    event: Option<Body>,
+) -> Result<(), OutOfMemory>
     ensures { OnOk result (rows.new ≡ rows.old ++ row_of t device event) }
 {
     match event {
@@ -49,13 +54,6 @@ fn push_if(rows: &mut Rows, t: u64, device: u32, yes: bool, body: Body) -> Resul
     }
 }
 
-/// Whether the least bit is 1.
-fn has_bit(mask: u32) -> bool
-    ensures { result ≡ (mask % 2 == 1) }
-{
-    mask % 2 == 1
-}
-
 /// Writes what happens at one port, counted from 1, whose flags are the least bits.
 fn log_port(
     rows: &mut Rows,
@@ -66,26 +64,12 @@ fn log_port(
 ) -> Result<(), OutOfMemory>
     ensures { OnOk result (rows.new ≡ rows.old ++ rows_of_bodies t device (bits_bodies port 1 events.closed events.opened events.halted)) }
 {
-    let halted = has_bit(events.halted);
-    let closed = has_bit(events.closed);
-    let opened = has_bit(events.opened);
+    let halted = has_first(events.halted);
+    let closed = has_first(events.closed);
+    let opened = has_first(events.opened);
     push_if(rows, t, device, halted, Body::Halted { port })?;
     push_if(rows, t, device, closed, Body::Closed { port })?;
     push_if(rows, t, device, opened, Body::Opened { port })
-}
-
-/// The flags of the ports after the first.
-fn rest_of(events: RepeaterEvents) -> RepeaterEvents
-    ensures closed { result.closed ≡ events.closed / 2 }
-    ensures opened { result.opened ≡ events.opened / 2 }
-    ensures halted { result.halted ≡ events.halted / 2 }
-{
-    RepeaterEvents {
-        clash: false,
-        closed: events.closed / 2,
-        opened: events.opened / 2,
-        halted: events.halted / 2,
-    }
 }
 
 /// Writes what happens at the ports of a repeater.
@@ -102,7 +86,7 @@ fn log_ports(
     let mut left = events;
     for port in 0..ports {
         log_port(rows, t, device, port as u32 + 1, left)?;
-        left = rest_of(left);
+        left = behind_first(left);
     }
     Ok(())
 }

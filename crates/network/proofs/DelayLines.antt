@@ -9,9 +9,9 @@ use Rattle.manchester_line.specs.declared.Sym.{Sym}
 use Rattle.manchester_line.specs.declared.Sym.TheVariants.{Idle}
 use Rattle.layout.specs.declared.lines.RepeaterLine.{RepeaterLine}
 use Rattle.port_partition.specs.Guard.{Guard, new_guard}
-use Rattle.repeater_core.specs.declared.modes.Mode.{Mode}
-use Rattle.repeater_core.specs.Counts.{Count, Choice, choices_from, resting_count}
-use Rattle.repeater_core.specs.Step.{State, after, chosen, mode_next, decided_by, emitted_by, guards_after}
+use Rattle.repeater_core.specs.Counts.{Choice, resting_count}
+use Rattle.repeater_core.specs.Step.{State, after, chosen, decided_by, emitted_by, guards_after}
+use Rattle.repeater_core.proofs.Lawful.{length_chosen}
 use Rattle.network.specs.Net.{each_repeater, emitted_before, new_repeater, ports_of}
 
 -- the row decided `back` rows before the latest, and Idle before half bit 0
@@ -50,14 +50,6 @@ length-guards_after (g ∷ gs) [] es lh le = absurd (omega arith)
 length-guards_after (g ∷ gs) (h ∷ hs) [] lh le = absurd (omega arith)
 length-guards_after (g ∷ gs) (h ∷ hs) (e ∷ es) lh le = ap suc (length-guards_after gs hs es (omega arith) (omega arith))
 
-length-choices : (mode : Mode) (hs : List Sym) (q : ℕ) (cs : List Count) → length (choices_from mode hs q cs) ≡ length cs
-length-choices mode hs q [] = refl
-length-choices mode hs q (c ∷ cs) = ap suc (length-choices mode hs (q + 1) cs)
-
-pub length-chosen : (hs : List Sym) (r : State) → length (chosen hs r) ≡ length r.counts
-unfolding chosen
-length-chosen hs r = length-choices (mode_next hs r) hs 0 r.counts
-
 -- a repeater whose own ports had these decisions, the latest first
 pub record IsLined (l : RepeaterLine) (r : State) (own : List (List Sym)) : Type 0 where
   pub guards : length r.guards ≡ length l.ports
@@ -72,7 +64,7 @@ emits_late l r own back e is =
     ap₂ take is.ports (is.rows ∙ ap (lined (length l.ports) own) e) ∙ take_row (length l.ports) (row_before (length l.ports) own back) (lined (length l.ports) own back) (row_length (length l.ports) own back is.wide)
 
 length-decided : (l : RepeaterLine) (r : State) (own : List (List Sym)) (hs : List Sym) → IsLined l r own → length (decided_by hs r) ≡ length l.ports
-length-decided l r own hs is = length-map (chosen hs r) (λ (c : Choice). c.symbol) ∙ length-chosen hs r ∙ is.counts
+length-decided l r own hs is = length-map (chosen hs r) (λ (c : Choice). c.symbol) ∙ length_chosen hs r ∙ is.counts
 
 All_cons : {X : Type 0} (P : X → Type 0) (x : X) (xs : List X) → P x → All P xs → All P (x ∷ xs)
 All_cons P x xs h rest zero d l = h
@@ -87,7 +79,7 @@ lined_on l r own hs back e is heard =
     let emits : length (emitted_by r) ≡ ports = ap length (emits_late l r own back e is) ∙ row_length ports own back is.wide in
     record {
       guards = length-guards_after r.guards hs (emitted_by r) (omega (arith, is.guards, heard)) (omega (arith, is.guards, emits)) ∙ is.guards;
-      counts = length-map (chosen hs r) (λ (c : Choice). c.count) ∙ length-chosen hs r ∙ is.counts;
+      counts = length-map (chosen hs r) (λ (c : Choice). c.count) ∙ length_chosen hs r ∙ is.counts;
       ports = is.ports;
       rows =
           ap₂ (λ n rows. drop n rows ++ decided) is.ports (is.rows ∙ ap (lined ports own) e)

@@ -1,4 +1,5 @@
 pub mod TapsOnSegments
+pub mod HearingOnSegments
 pub mod PortFlags
 pub mod RunnablePlans
 pub mod DelayLines

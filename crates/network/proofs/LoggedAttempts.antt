@@ -25,7 +25,8 @@ time_is : (plan : Plan) (t : ℕ) → (net plan t).t ≡ t
 time_is plan zero = refl
 time_is plan (suc t) = let before = time_is plan t in omega (arith, before)
 
-length-receptions : (hs es : List Sym) (rs : List Receiving) → length rs ≤ length hs → length rs ≤ length es → length (receptions hs es rs) ≡ length rs
+-- as many receptions as receivers
+pub length-receptions : (hs es : List Sym) (rs : List Receiving) → length rs ≤ length hs → length rs ≤ length es → length (receptions hs es rs) ≡ length rs
 length-receptions [] es [] lh le = refl
 length-receptions (h ∷ hs) [] [] lh le = refl
 length-receptions (h ∷ hs) (e ∷ es) [] lh le = refl

@@ -17,13 +17,13 @@ use Rattle.load_plan.specs.declared.plan.Plan.{Plan}
 use Rattle.port_partition.specs.Guard.{Guard}
 use Rattle.repeater_core.specs.Counts.{Choice}
 use Rattle.repeater_core.specs.Step.{State, chosen, decided_by, resting_by}
-use Rattle.repeater_core.proofs.Lawful.{signals}
+use Rattle.repeater_core.proofs.Lawful.{length_chosen, signals}
 use Rattle.network.specs.Attempts.{port_number, tap_number, IsOpen, IsAwake}
 use Rattle.network.specs.Net.{ports_of, net, each_repeater, heard_in, ports_hear}
 use Rattle.network.specs.Signals.{RepeatersRepeat}
 use Rattle.network.specs.Times.{heard, emitted, decided, earlier, port_delays}
 use Rattle.network.proofs.RunnablePlans.{runnable_plan}
-use Rattle.network.proofs.DelayLines.{LinesUp, delayed_from_All, all_ports, ports-lined, length-chosen}
+use Rattle.network.proofs.DelayLines.{LinesUp, delayed_from_All, all_ports, ports-lined}
 use Rattle.network.proofs.AbsoluteTimes.{earlier_at, IsShaped, heard_sizes, shaped, port_emits}
 use Rattle.network.proofs.TapNumbers.{read_behind, port_in, port_below, delay_at}
 
@@ -40,10 +40,10 @@ abbrev all_decided : List Sym → List State → List Sym
 all_decided hs rs = flat_map (λ (symbols : List Sym). symbols) (each_repeater decided_by hs rs)
 
 size_resting : (hs : List Sym) (r : State) → length (resting_by hs r) ≡ length r.counts
-size_resting hs r = length-map (chosen hs r) (λ (c : Choice). c.rests) ∙ length-chosen hs r
+size_resting hs r = length-map (chosen hs r) (λ (c : Choice). c.rests) ∙ length_chosen hs r
 
 size_decided : (hs : List Sym) (r : State) → length (decided_by hs r) ≡ length r.counts
-size_decided hs r = length-map (chosen hs r) (λ (c : Choice). c.symbol) ∙ length-chosen hs r
+size_decided hs r = length-map (chosen hs r) (λ (c : Choice). c.symbol) ∙ length_chosen hs r
 
 -- what an open port hears is decided for the others that do not rest, wherever its repeater stands among all
 row_repeats : (ls : List RepeaterLine) (rs : List State) (h : List (List Sym)) (hs : List Sym) (r i j : ℕ) (x y : PortLine) → LinesUp ls rs h → ports_of rs ≤ length hs

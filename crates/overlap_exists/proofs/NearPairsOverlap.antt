@@ -1,5 +1,5 @@
 -- Two near stations on one segment that both have a frame in half bit 0 overlap, and each is hit as the other is heard.
-use Rattle.std.proofs.Common.{◌≡◌, ◌≢◌, ℕ, zero, suc, ◌+◌, ◌-◌, ◌<◌, Bool, true, false, cond, leb, eqb, ◌&&◌, not, Option, Some, List, [], ◌∷◌, ◌++◌, map, length, get_or, slice_get, option_map, unwrap_or, refl, sym, ap, ap₂, subst, ◌∙◌, inl, arith}
+use Rattle.std.proofs.Common.{◌≡◌, ◌≢◌, ℕ, zero, suc, ◌+◌, ◌-◌, ◌<◌, ◌≤◌, Bool, true, false, cond, leb, eqb, ◌&&◌, not, Option, Some, List, [], ◌∷◌, ◌++◌, map, length, get_or, slice_get, option_map, unwrap_or, refl, sym, ap, ap₂, subst, ◌∙◌, inl, arith}
 use Rattle.std.specs.List.{flat_map}
 use Rattle.std.proofs.lemmas.Bool.{cond-false}
 use Rattle.std.proofs.lemmas.Bool.Decides.{nat_tests}
@@ -19,7 +19,8 @@ use Rattle.layout.specs.declared.ways.Way.TheVariants as way
 use Rattle.layout.specs.Paths.{IsStep, place, step_length, length_of}
 use Rattle.layout.specs.Taps.{tap_of, taps_of}
 use Rattle.mac_parameters.specs.Distances.{distance}
-use Rattle.mac_parameters.specs.Parameters.{preamble_length, shortest_sending}
+use Rattle.mac_parameters.specs.Parameters.{least_frame, preamble_length, shortest_sending}
+use Rattle.frame_layout.specs.declared.queue.Ready.{Ready}
 use Rattle.load_plan.specs.declared.plan.Plan.{Plan}
 use Rattle.mac_transmit.specs.Attempts.{Finishes, run, emits}
 use Rattle.mac_transmit.specs.Sender.{new_sender, end_event}
@@ -94,19 +95,66 @@ quiet_second plan d k t l =
 count : (plan : Plan) (d : ℕ) → BothAreReady plan d → length plan.layout.stations ≡ 2
 count plan d k = ap length k.pair.stations
 
-emits_0 : (plan : Plan) (d : ℕ) → BothAreReady plan d → emitted plan 0 0 ≢ Idle
-emits_0 plan d k idle =
-    let two = count plan d k in
-    let dr : Drawing = record { seed = plan.layout.seed; station = 0; made = 0 } in
-    emits_first k.f k.fs dr (heard plan 0) k.first k.first_text (quiet_first plan d k 0 k.pair.some)
-    (sym (station_emits plan 0 0 (omega (arith, two)) ∙ ap (λ qs. emits (new_sender (get_or qs 0 []) dr) (heard plan 0) 0) k.queues) ∙ idle)
+-- one of the two stations, which hears nothing before half bit d
+record IsOneOfTwo (plan : Plan) (d i : ℕ) : Type 0 where
+  low : i < length plan.layout.stations
+  f : Ready
+  fs : List Ready
+  queue : get_or plan.queues i [] ≡ f ∷ fs
+  at : f.at ≡ 0
+  text : least_frame ≤ length f.frame
+  some : 1 ≤ d
+  short : d < preamble_length
+  quiet : (t : ℕ) → t < d → heard plan i t ≡ Idle
 
-emits_1 : (plan : Plan) (d : ℕ) → BothAreReady plan d → emitted plan 1 0 ≢ Idle
-emits_1 plan d k idle =
-    let two = count plan d k in
-    let dr : Drawing = record { seed = plan.layout.seed; station = 1; made = 0 } in
-    emits_first k.g k.gs dr (heard plan 1) k.second k.second_text (quiet_second plan d k 0 k.pair.some)
-    (sym (station_emits plan 1 0 (omega (arith, two)) ∙ ap (λ qs. emits (new_sender (get_or qs 1 []) dr) (heard plan 1) 0) k.queues) ∙ idle)
+one : (plan : Plan) (d : ℕ) → BothAreReady plan d → IsOneOfTwo plan d 0
+one plan d k = record {
+  low = omega (arith, count plan d k);
+  f = k.f;
+  fs = k.fs;
+  queue = ap (λ qs. get_or qs 0 []) k.queues;
+  at = k.first;
+  text = k.first_text;
+  some = k.pair.some;
+  short = k.pair.short;
+  quiet = quiet_first plan d k;
+}
+
+two : (plan : Plan) (d : ℕ) → BothAreReady plan d → IsOneOfTwo plan d 1
+two plan d k = record {
+  low = omega (arith, count plan d k);
+  f = k.g;
+  fs = k.gs;
+  queue = ap (λ qs. get_or qs 1 []) k.queues;
+  at = k.second;
+  text = k.second_text;
+  some = k.pair.some;
+  short = k.pair.short;
+  quiet = quiet_second plan d k;
+}
+
+abbrev drawing_of : Plan → ℕ → Drawing
+drawing_of plan i = record { seed = plan.layout.seed; station = i; made = 0 }
+
+emits_at_once : (plan : Plan) (d i : ℕ) → IsOneOfTwo plan d i → emitted plan i 0 ≢ Idle
+emits_at_once plan d i o idle =
+    emits_first o.f o.fs (drawing_of plan i) (heard plan i) o.at o.text (o.quiet 0 o.some)
+    (sym (station_emits plan i 0 o.low ∙ ap (λ q. emits (new_sender q (drawing_of plan i)) (heard plan i) 0) o.queue) ∙ idle)
+
+runs : (plan : Plan) (d i : ℕ) → (o : IsOneOfTwo plan d i) → sender_at plan i shortest_sending ≡ run (new_sender (o.f ∷ o.fs) (drawing_of plan i)) (heard plan i) shortest_sending
+runs plan d i o = station_runs plan i shortest_sending o.low ∙ ap (λ q. run (new_sender q (drawing_of plan i)) (heard plan i) shortest_sending) o.queue
+
+ends_in_preamble : (plan : Plan) (d i : ℕ) → IsOneOfTwo plan d i → heard plan i d ≢ Idle → Finishes (sender_at plan i shortest_sending) (hit_in_preamble d)
+ends_in_preamble plan d i o hears =
+    subst (λ s. Finishes s (hit_in_preamble d)) (sym (runs plan d i o))
+    (finishes o.f o.fs (drawing_of plan i) (heard plan i) d o.at o.text o.some o.short o.quiet hears)
+
+leaves_row : (plan : Plan) (d i : ℕ) → IsOneOfTwo plan d i → heard plan i d ≢ Idle → row_of_attempt plan i (hit_in_preamble d) ≡ first_collision plan i d
+leaves_row plan d i o hears =
+    let body : end_event (sender_at plan i shortest_sending) 0 (Some d) ≡ Collided 1 0 1 d (draw_of plan.layout.seed i 0 1) =
+    ap (λ s. end_event s 0 (Some d)) (runs plan d i o)
+    ∙ collided o.f o.fs (drawing_of plan i) (heard plan i) d o.at o.text o.some o.short o.quiet hears in
+    ap (λ (b : Body). (let row : Row = record { t = shortest_sending; device = i; body = b } in row)) body
 
 -- the steps from one to the other
 place_0 : (l : Layout) (a b : StationLine) → l.stations ≡ a ∷ b ∷ [] → place l (Station 0) ≡ Some (tap_of a)
@@ -148,46 +196,20 @@ hears_0 : (plan : Plan) (d : ℕ) → BothAreReady plan d → heard plan 0 d ≢
 hears_0 plan d k =
     let long = cable_back_long plan.layout d k.pair in
     let n : 0 + step_length plan.layout way.Cable (Station 1) (Station 0) ≡ d = omega (arith, long) in
-    subst (λ n. heard plan 0 n ≢ Idle) n (carries plan (Station 1) (Station 0) 0 (cable_back plan.layout d k.pair) (emits_1 plan d k))
+    subst (λ n. heard plan 0 n ≢ Idle) n (carries plan (Station 1) (Station 0) 0 (cable_back plan.layout d k.pair) (emits_at_once plan d 1 (two plan d k)))
 
 hears_1 : (plan : Plan) (d : ℕ) → BothAreReady plan d → heard plan 1 d ≢ Idle
 hears_1 plan d k =
     let long = cable_to_long plan.layout d k.pair in
     let n : 0 + step_length plan.layout way.Cable (Station 0) (Station 1) ≡ d = omega (arith, long) in
-    subst (λ n. heard plan 1 n ≢ Idle) n (carries plan (Station 0) (Station 1) 0 (cable_to plan.layout d k.pair) (emits_0 plan d k))
+    subst (λ n. heard plan 1 n ≢ Idle) n (carries plan (Station 0) (Station 1) 0 (cable_to plan.layout d k.pair) (emits_at_once plan d 0 (one plan d k)))
 
-ends_0 : (plan : Plan) (d : ℕ) → BothAreReady plan d → Finishes (sender_at plan 0 shortest_sending) (hit_in_preamble d)
-ends_0 plan d k =
-    let two = count plan d k in
-    let dr : Drawing = record { seed = plan.layout.seed; station = 0; made = 0 } in
-    subst (λ s. Finishes s (hit_in_preamble d)) (sym (station_runs plan 0 shortest_sending (omega (arith, two)) ∙ ap (λ qs. run (new_sender (get_or qs 0 []) dr) (heard plan 0) shortest_sending) k.queues))
-    (finishes k.f k.fs dr (heard plan 0) d k.first k.first_text k.pair.some k.pair.short (quiet_first plan d k) (hears_0 plan d k))
-
-ends_1 : (plan : Plan) (d : ℕ) → BothAreReady plan d → Finishes (sender_at plan 1 shortest_sending) (hit_in_preamble d)
-ends_1 plan d k =
-    let two = count plan d k in
-    let dr : Drawing = record { seed = plan.layout.seed; station = 1; made = 0 } in
-    subst (λ s. Finishes s (hit_in_preamble d)) (sym (station_runs plan 1 shortest_sending (omega (arith, two)) ∙ ap (λ qs. run (new_sender (get_or qs 1 []) dr) (heard plan 1) shortest_sending) k.queues))
-    (finishes k.g k.gs dr (heard plan 1) d k.second k.second_text k.pair.some k.pair.short (quiet_second plan d k) (hears_1 plan d k))
-
--- and each leaves its row
+-- each leaves its row
 pub row_0 : (plan : Plan) (d : ℕ) → BothAreReady plan d → row_of_attempt plan 0 (hit_in_preamble d) ≡ first_collision plan 0 d
-row_0 plan d k =
-    let two = count plan d k in
-    let dr : Drawing = record { seed = plan.layout.seed; station = 0; made = 0 } in
-    let body : end_event (sender_at plan 0 shortest_sending) 0 (Some d) ≡ Collided 1 0 1 d (draw_of plan.layout.seed 0 0 1) =
-    (ap (λ s. end_event s 0 (Some d)) (station_runs plan 0 shortest_sending (omega (arith, two)) ∙ ap (λ qs. run (new_sender (get_or qs 0 []) dr) (heard plan 0) shortest_sending) k.queues)
-    ∙ collided k.f k.fs dr (heard plan 0) d k.first k.first_text k.pair.some k.pair.short (quiet_first plan d k) (hears_0 plan d k)) in
-    ap (λ (b : Body). (let row : Row = record { t = shortest_sending; device = 0; body = b } in row)) body
+row_0 plan d k = leaves_row plan d 0 (one plan d k) (hears_0 plan d k)
 
 pub row_1 : (plan : Plan) (d : ℕ) → BothAreReady plan d → row_of_attempt plan 1 (hit_in_preamble d) ≡ first_collision plan 1 d
-row_1 plan d k =
-    let two = count plan d k in
-    let dr : Drawing = record { seed = plan.layout.seed; station = 1; made = 0 } in
-    let body : end_event (sender_at plan 1 shortest_sending) 0 (Some d) ≡ Collided 1 0 1 d (draw_of plan.layout.seed 1 0 1) =
-    (ap (λ s. end_event s 0 (Some d)) (station_runs plan 1 shortest_sending (omega (arith, two)) ∙ ap (λ qs. run (new_sender (get_or qs 1 []) dr) (heard plan 1) shortest_sending) k.queues)
-    ∙ collided k.g k.gs dr (heard plan 1) d k.second k.second_text k.pair.some k.pair.short (quiet_second plan d k) (hears_1 plan d k)) in
-    ap (λ (b : Body). (let row : Row = record { t = shortest_sending; device = 1; body = b } in row)) body
+row_1 plan d k = leaves_row plan d 1 (two plan d k) (hears_1 plan d k)
 
 open_path : (plan : Plan) (from to : ℕ) → IsOpenPath plan from to (record { begins = way.Cable; taps = Station 1 ∷ [] })
 open_path plan from to zero tap l = λ t _ _. (tt, tt)
@@ -195,14 +217,14 @@ open_path plan from to (suc n) tap l = absurd (omega arith)
 
 pub near_pairs_overlap : NearPairsOverlap
 near_pairs_overlap plan d k =
-    let two = count plan d k in
+    let both = count plan d k in
     let long : length_of plan.layout (Station 0) (record { begins = way.Cable; taps = Station 1 ∷ [] }) ≡ d =
-    (let one = cable_to_long plan.layout d k.pair in omega (arith, one)) in
+    (let far = cable_to_long plan.layout d k.pair in omega (arith, far)) in
     let short : d < preamble_length = k.pair.short in
     record {
       different = λ e. cc;
-      first = record { station = omega (arith, two); finishes = ends_0 plan d k };
-      second = record { station = omega (arith, two); finishes = ends_1 plan d k };
+      first = record { station = omega (arith, both); finishes = ends_in_preamble plan d 0 (one plan d k) (hears_0 plan d k) };
+      second = record { station = omega (arith, both); finishes = ends_in_preamble plan d 1 (two plan d k) (hears_1 plan d k) };
       path = record { begins = way.Cable; taps = Station 1 ∷ [] };
       leads = (cable_to plan.layout d k.pair, refl);
       overlap = inl (0, ((omega arith, omega arith), (omega (arith, long), omega (arith, long))));

@@ -1,5 +1,5 @@
 -- The farthest of what lies beside a tap and beyond.
-use Rattle.std.proofs.Common.{◌≡◌, ◌≢◌, ◌⊎◌, refl, sym, ◌∙◌, ap, subst, inl, inr, ℕ, zero, suc, ◌+◌, ◌-◌, ◌*◌, ◌<◌, ◌≤◌, Bool, true, false, ltb, eqb, cond, List, [], ◌∷◌, ◌++◌, length, get_or, take, Option, None, Some, arith}
+use Rattle.std.proofs.Common.{◌≡◌, ◌≢◌, ◌⊎◌, refl, sym, ◌∙◌, ap, subst, inl, inr, ℕ, suc, ◌+◌, ◌-◌, ◌*◌, ◌<◌, ◌≤◌, Bool, true, false, ltb, eqb, cond, List, [], ◌∷◌, ◌++◌, length, get_or, take, Option, None, Some, arith}
 use Rattle.std.proofs.lemmas.Bool.{cond_both, ltb-true, ltb-false, eqb-true, eq-eqb, and_parts, and_from}
 use Rattle.std.proofs.lemmas.List.{take_more, take_all}
 use Rattle.mac_parameters.specs.Parameters.{greatest_place}
@@ -8,15 +8,17 @@ use Rattle.layout.specs.declared.ways.Tap.{Tap}
 use Rattle.layout.specs.declared.ways.Tap.TheVariants.{Station, Port}
 use Rattle.layout.specs.declared.ways.Way.{Way}
 use Rattle.layout.specs.declared.ways.Way.TheVariants as way
+use Rattle.layout.specs.Among.{IsAmong}
 use Rattle.layout.specs.Paths.{IsStep, other_way, IsWalk, step_length, walk_length}
 use Rattle.layout.specs.Sound.{IsSound}
+use Rattle.layout.proofs.ItemsOfLists.{among_more, among_end, among_last, among_at}
 use Rattle.layout.proofs.SoundTaps.{step_low, walk_low}
 use Rattle.path_checker.specs.declared.far.Far.{Far}
 use Rattle.path_checker.specs.declared.stops.Network.{Network}
 use Rattle.path_checker.specs.declared.stops.Stop.{Stop}
 use Rattle.path_checker.specs.Far.{IsStop, HasRoom, IsReach, IsVia, IsOnward, IsNoFarther, IsFarthest, lengthened, farther_of, is_same_tap}
 use Rattle.path_checker.specs.Stops.{IsNetworkOf, stops_by}
-use Rattle.path_checker.proofs.TapsBeside.{Among, among_last, IsBeside, beside_found, beside_among}
+use Rattle.path_checker.proofs.TapsBeside.{IsBeside, beside_found, beside_among}
 
 -- the same is the farthest of what holds for the same stations
 pub farthest_same : (Q R : ℕ → ℕ → Type 0) → ((n s : ℕ) → Q n s → R n s) → ((n s : ℕ) → R n s → Q n s) → (b : Option Far) → IsFarthest Q b → IsFarthest R b
@@ -55,19 +57,11 @@ module _ (Q R S : ℕ → ℕ → Type 0) (left : (n s : ℕ) → Q n s → S n 
 -- the stations that a walk reaches whose first tap is one of these
 pub record IsViaOne (l : Layout) (w : Way) (a : Tap) (xs : List Stop) (n s : ℕ) : Type 0 where
   pub stop : Stop
-  pub among : Among stop xs
+  pub among : IsAmong stop xs
   pub via : IsVia l w a stop.tap n s
 
 pub via_none : (l : Layout) (w : Way) (a : Tap) → IsFarthest (IsViaOne l w a []) None
 via_none l w a = λ n s h. h.among
-
-among_more : (x y : Stop) (xs : List Stop) → Among x xs → Among x (xs ++ y ∷ [])
-among_more x y [] h = absurd h
-among_more x y (z ∷ zs) h = elim h [ inl e ↦ inl e | inr k ↦ inr (among_more x y zs k) ]
-
-among_end : (y : Stop) (xs : List Stop) → Among y (xs ++ y ∷ [])
-among_end y [] = inl refl
-among_end y (z ∷ zs) = inr (among_end y zs)
 
 via_last : (l : Layout) (w : Way) (a : Tap) (xs : List Stop) (g : Stop) (n s : ℕ) → IsViaOne l w a (xs ++ g ∷ []) n s → IsViaOne l w a xs n s ⊎ IsVia l w a g.tap n s
 via_last l w a xs g n s h =
@@ -100,18 +94,31 @@ pub add_more : (l : Layout) (w : Way) (a : Tap) (xs : List Stop) (k : ℕ) (d : 
 add_more l w a xs k d best there low h v =
     subst (λ (ys : List Stop). IsFarthest (IsViaOne l w a ys) (farther_of best there)) (sym (take_more xs k d low)) (add_last l w a (take k xs) (get_or xs k d) best there h v)
 
--- from the next tap on
-pub via_lengthened : (l : Layout) (w : Way) (a g : Tap) (there : Option Far) → IsStep l w a g → IsFarthest (IsReach l (other_way w) g) there → IsFarthest (IsVia l w a g) (lengthened (step_length l w a g) there)
-via_lengthened l w a g None step h = λ n s v. h v.rest s v.reach
-via_lengthened l w a g (Some f) step h = (
-  record { step = step; rest = f.length; reach = h.0; sum = refl },
+-- what lies k farther on
+pub record IsAfter (k : ℕ) (Q : ℕ → ℕ → Type 0) (n s : ℕ) : Type 0 where
+  pub rest : ℕ
+  pub has : Q rest s
+  pub sum : k + rest ≡ n
+
+pub after_lengthened : (k : ℕ) (Q : ℕ → ℕ → Type 0) (there : Option Far) → IsFarthest Q there → IsFarthest (IsAfter k Q) (lengthened k there)
+after_lengthened k Q None h = λ n s v. h v.rest s v.has
+after_lengthened k Q (Some f) h = (
+  record { rest = f.length; has = h.0; sum = refl },
   λ n s v.
-      let long : step_length l w a g + v.rest ≡ n = v.sum in
-      elim (h.1 v.rest s v.reach) [
+      let long : k + v.rest ≡ n = v.sum in
+      elim (h.1 v.rest s v.has) [
         | inl less ↦ inl (omega arith)
         | inr (same, lower) ↦ inr (omega arith, lower)
       ],
 )
+
+-- from the next tap on
+via_lengthened : (l : Layout) (w : Way) (a g : Tap) (there : Option Far) → IsStep l w a g → IsFarthest (IsReach l (other_way w) g) there → IsFarthest (IsVia l w a g) (lengthened (step_length l w a g) there)
+via_lengthened l w a g there step h =
+    farthest_same (IsAfter (step_length l w a g) (IsReach l (other_way w) g)) (IsVia l w a g)
+    (λ n s v. record { step = step; rest = v.rest; reach = v.has; sum = v.sum })
+    (λ n s v. record { rest = v.rest; has = v.reach; sum = v.sum })
+    (lengthened (step_length l w a g) there) (after_lengthened (step_length l w a g) (IsReach l (other_way w) g) there h)
 
 no_step : (l : Layout) (j : ℕ) (g : Tap) → IsStep l way.Repeater (Station j) g → ⊥
 no_step l j g step = let none : None ≡ Some step.part = step.from in cc
@@ -123,10 +130,10 @@ own_walk : (l : Layout) (j : ℕ) (ts : List Tap) (s : ℕ) → IsWalk l way.Rep
 own_walk l j [] s walk = (let e : Station j ≡ Station s = walk in cc, refl)
 own_walk l j (t ∷ ts) s walk = absurd (no_step l j t walk.0)
 
-abbrev own_far : ℕ → Option Far
+abbrev pub own_far : ℕ → Option Far
 own_far j = Some (record { length = 0; station = j })
 
-own_reach : (l : Layout) (j : ℕ) → IsFarthest (IsReach l way.Repeater (Station j)) (own_far j)
+pub own_reach : (l : Layout) (j : ℕ) → IsFarthest (IsReach l way.Repeater (Station j)) (own_far j)
 own_reach l j = (
   record { taps = []; leads = refl; long = refl },
   λ n s h.
@@ -164,19 +171,14 @@ onward_from l net w s near k best sound of stands is all h =
     farthest_same (IsViaOne l w s.tap near) (IsOnward l w s.tap)
     (λ n t v. record { first = v.stop.tap; via = v.via })
     (λ n t o.
-    let found : (x : Stop) × Among x (stops_by net w s) × (x.tap ≡ o.first) = beside_among l net sound of w s o.first stands o.via.step in
-    record { stop = found.0; among = subst (λ (xs : List Stop). Among found.0 xs) (sym is) found.1; via = subst (λ (g : Tap). IsVia l w s.tap g n t) (sym found.2) o.via })
+    let found : (x : Stop) × IsAmong x (stops_by net w s) × (x.tap ≡ o.first) = beside_among l net sound of w s o.first stands o.via.step in
+    record { stop = found.0; among = subst (λ (xs : List Stop). IsAmong found.0 xs) (sym is) found.1; via = subst (λ (g : Tap). IsVia l w s.tap g n t) (sym found.2) o.via })
     best (subst (λ (xs : List Stop). IsFarthest (IsViaOne l w s.tap xs) best) (take_all k near all) h)
-
-among_at : (xs : List Stop) (k : ℕ) (d : Stop) → k < length xs → Among (get_or xs k d) xs
-among_at [] k d low = absurd (omega arith)
-among_at (x ∷ xs) zero d low = inl refl
-among_at (x ∷ xs) (suc k) d low = inr (among_at xs k d (omega arith))
 
 -- each tap beside is the layout's
 pub beside_at : (l : Layout) (net : Network) (w : Way) (s : Stop) (near : List Stop) (k : ℕ) (d : Stop) → IsSound l → IsNetworkOf l net → IsStop l s → near ≡ stops_by net w s → k < length near → IsBeside l w s.tap (get_or near k d)
 beside_at l net w s near k d sound of stands is low =
-    beside_found l net sound of w s (get_or near k d) stands (subst (λ (xs : List Stop). Among (get_or near k d) xs) is (among_at near k d low))
+    beside_found l net sound of w s (get_or near k d) stands (subst (λ (xs : List Stop). IsAmong (get_or near k d) xs) is (among_at near k d low))
 
 pub step_to : (l : Layout) (w : Way) (a : Tap) (g : Stop) → IsBeside l w a g → (g.tap ≡ a → ⊥) → IsStep l w a g.tap
 step_to l w a g beside ne = record { different = λ e. ne (sym e); part = beside.part; from = beside.from; to = beside.to }
@@ -187,7 +189,7 @@ room_on l w a g room has step = (
   record { most = λ ts b walk. let low : suc (length ts) ≤ room = has.most (g ∷ ts) b (step, walk) in omega arith },
 )
 
-reach_low : (l : Layout) (w : Way) (a : Tap) (room n s : ℕ) → IsSound l → HasRoom l w a room → IsReach l w a n s → n ≤ greatest_place * room
+pub reach_low : (l : Layout) (w : Way) (a : Tap) (room n s : ℕ) → IsSound l → HasRoom l w a room → IsReach l w a n s → n ≤ greatest_place * room
 reach_low l w a room n s sound has r =
     let most : length r.taps ≤ room = has.most r.taps (Station s) r.leads in
     let long : walk_length l w a r.taps ≡ n = r.long in

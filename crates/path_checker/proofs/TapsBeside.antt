@@ -1,9 +1,9 @@
 -- The lists of a network have just the taps of each segment and of each repeater.
-use Rattle.std.proofs.Common.{◌≡◌, ◌⊎◌, refl, sym, ◌∙◌, ap, subst, inl, inr, ℕ, zero, suc, ◌+◌, ◌<◌, ◌==◌, true, false, List, [], ◌∷◌, ◌++◌, map, length, None, Some, slice_get, arith}
-use Rattle.std.specs.Option.{option_map}
-use Rattle.std.proofs.lemmas.Bool.{cases_Bool}
+use Rattle.std.proofs.Common.{◌≡◌, refl, sym, ◌∙◌, ap, subst, inl, inr, ℕ, zero, suc, ◌+◌, ◌<◌, ◌≤◌, ◌==◌, true, false, List, [], ◌∷◌, ◌++◌, map, length, Option, None, Some, slice_get, arith}
+use Rattle.std.specs.Option.{option_map, unwrap_or}
+use Rattle.std.proofs.lemmas.Bool.{cases_Bool, cases_lt}
 use Rattle.std.proofs.lemmas.Bool.Decides.{Decides-eqb}
-use Rattle.std.proofs.lemmas.Option.{same_Some, slice_get-map, slice_get-get_or}
+use Rattle.std.proofs.lemmas.Option.{same_Some, slice_get-map, slice_get-get_or, slice_get_past}
 use Rattle.layout.specs.declared.lines.Layout.{Layout}
 use Rattle.layout.specs.declared.lines.PortLine.{PortLine}
 use Rattle.layout.specs.declared.lines.RepeaterLine.{RepeaterLine}
@@ -12,11 +12,13 @@ use Rattle.layout.specs.declared.ways.Tap.{Tap}
 use Rattle.layout.specs.declared.ways.Tap.TheVariants.{Station, Port}
 use Rattle.layout.specs.declared.ways.Way.{Way}
 use Rattle.layout.specs.declared.ways.Way.TheVariants as way
+use Rattle.layout.specs.Among.{IsAmong}
 use Rattle.layout.specs.Joined.{counted_up}
 use Rattle.layout.specs.Paths.{place, part_by, IsStep}
 use Rattle.layout.specs.Taps.{tap_of}
 use Rattle.layout.specs.Sound.{IsSound}
 use Rattle.layout.proofs.Cuts.{mapped}
+use Rattle.layout.proofs.ItemsOfLists.{among_left, among_right, among_cases}
 use Rattle.layout.proofs.Joins.{counted-at, length-counted}
 use Rattle.layout.proofs.Sides.{IsPortOf, port_of, port_placed, repeater_number}
 use Rattle.layout.proofs.SoundTaps.{sound_stands}
@@ -25,28 +27,7 @@ use Rattle.path_checker.specs.declared.stops.Stop.{Stop}
 use Rattle.path_checker.specs.Far.{IsStop}
 use Rattle.path_checker.specs.Stops.{station_stop, port_stop, station_stops, port_stops, repeater_stops, all_stops, stops_on, repeater_lists, IsNetworkOf, list_at, ports_at, stops_by}
 
-abbrev pub Among : Stop → List Stop → Type 0
-Among x [] = ⊥
-Among x (y ∷ ys) = (y ≡ x) ⊎ Among x ys
-
-among_left : (x : Stop) (xs ys : List Stop) → Among x xs → Among x (xs ++ ys)
-among_left x [] ys h = absurd h
-among_left x (z ∷ zs) ys h = elim h [ inl e ↦ inl e | inr k ↦ inr (among_left x zs ys k) ]
-
-among_right : (x : Stop) (xs ys : List Stop) → Among x ys → Among x (xs ++ ys)
-among_right x [] ys h = h
-among_right x (z ∷ zs) ys h = inr (among_right x zs ys h)
-
-among_cases : (x : Stop) (xs ys : List Stop) → Among x (xs ++ ys) → Among x xs ⊎ Among x ys
-among_cases x [] ys h = inr h
-among_cases x (z ∷ zs) ys h =
-    elim h [ inl e ↦ inl (inl e) | inr k ↦ elim (among_cases x zs ys k) [ inl j ↦ inl (inr j) | inr j ↦ inr j ] ]
-
-pub among_last : (x y : Stop) (xs : List Stop) → Among x (xs ++ y ∷ []) → Among x xs ⊎ (y ≡ x)
-among_last x y xs h =
-    elim (among_cases x xs (y ∷ []) h) [ inl k ↦ inl k | inr k ↦ elim k [ inl e ↦ inr e | inr none ↦ absurd none ] ]
-
-station_among : (n k j : ℕ) (ss : List StationLine) (s : StationLine) → slice_get ss j ≡ Some s → n ≡ k + j → Among (station_stop n s) (station_stops k ss)
+station_among : (n k j : ℕ) (ss : List StationLine) (s : StationLine) → slice_get ss j ≡ Some s → n ≡ k + j → IsAmong (station_stop n s) (station_stops k ss)
 station_among n k j [] s h at = absurd (cc)
 station_among n k zero (x ∷ xs) s h at =
     let same : x ≡ s = cc in
@@ -54,7 +35,7 @@ station_among n k zero (x ∷ xs) s h at =
     inl (rw (same, e) refl)
 station_among n k (suc j) (x ∷ xs) s h at = inr (station_among n (k + 1) j xs s h (omega arith))
 
-station_found : (k : ℕ) (ss : List StationLine) (g : Stop) → Among g (station_stops k ss) → (j : ℕ) × (s : StationLine) × (slice_get ss j ≡ Some s) × (station_stop (k + j) s ≡ g)
+station_found : (k : ℕ) (ss : List StationLine) (g : Stop) → IsAmong g (station_stops k ss) → (j : ℕ) × (s : StationLine) × (slice_get ss j ≡ Some s) × (station_stop (k + j) s ≡ g)
 station_found k [] g h = absurd h
 station_found k (x ∷ xs) g h =
     elim h [
@@ -65,7 +46,7 @@ station_found k (x ∷ xs) g h =
           (suc found.0, found.1, found.2, rw z found.3)
     ]
 
-port_among : (r n k j : ℕ) (ps : List PortLine) (p : PortLine) → slice_get ps j ≡ Some p → n ≡ k + j → Among (port_stop r n p) (port_stops r k ps)
+port_among : (r n k j : ℕ) (ps : List PortLine) (p : PortLine) → slice_get ps j ≡ Some p → n ≡ k + j → IsAmong (port_stop r n p) (port_stops r k ps)
 port_among r n k j [] p h at = absurd (cc)
 port_among r n k zero (x ∷ xs) p h at =
     let same : x ≡ p = cc in
@@ -73,7 +54,7 @@ port_among r n k zero (x ∷ xs) p h at =
     inl (rw (same, e) refl)
 port_among r n k (suc j) (x ∷ xs) p h at = inr (port_among r n (k + 1) j xs p h (omega arith))
 
-port_found : (r k : ℕ) (ps : List PortLine) (g : Stop) → Among g (port_stops r k ps) → (j : ℕ) × (p : PortLine) × (slice_get ps j ≡ Some p) × (port_stop r (k + j) p ≡ g)
+port_found : (r k : ℕ) (ps : List PortLine) (g : Stop) → IsAmong g (port_stops r k ps) → (j : ℕ) × (p : PortLine) × (slice_get ps j ≡ Some p) × (port_stop r (k + j) p ≡ g)
 port_found r k [] g h = absurd h
 port_found r k (x ∷ xs) g h =
     elim h [
@@ -84,7 +65,7 @@ port_found r k (x ∷ xs) g h =
           (suc found.0, found.1, found.2, rw z found.3)
     ]
 
-repeater_among : (r n i j : ℕ) (rows : List RepeaterLine) (row : RepeaterLine) (p : PortLine) → slice_get rows i ≡ Some row → slice_get row.ports j ≡ Some p → n ≡ r + i → Among (port_stop n j p) (repeater_stops r rows)
+repeater_among : (r n i j : ℕ) (rows : List RepeaterLine) (row : RepeaterLine) (p : PortLine) → slice_get rows i ≡ Some row → slice_get row.ports j ≡ Some p → n ≡ r + i → IsAmong (port_stop n j p) (repeater_stops r rows)
 repeater_among r n i j [] row p h k at = absurd (cc)
 repeater_among r n zero j (x ∷ xs) row p h k at =
     let same : row ≡ x = cc in
@@ -102,7 +83,7 @@ record IsPortStop (r : ℕ) (rows : List RepeaterLine) (g : Stop) : Type 0 where
   of : IsPortOf rows i j line
   is : port_stop (r + i) j line ≡ g
 
-repeater_found : (r : ℕ) (rows : List RepeaterLine) (g : Stop) → Among g (repeater_stops r rows) → IsPortStop r rows g
+repeater_found : (r : ℕ) (rows : List RepeaterLine) (g : Stop) → IsAmong g (repeater_stops r rows) → IsPortStop r rows g
 repeater_found r [] g h = absurd h
 repeater_found r (x ∷ xs) g h =
     elim (among_cases g (port_stops r 0 x.ports) (repeater_stops (r + 1) xs) h) [
@@ -118,18 +99,18 @@ repeater_found r (x ∷ xs) g h =
     ]
 
 -- each of the layout's taps, and no other
-all_among : (l : Layout) (t : Tap) (line : PortLine) → place l t ≡ Some line → Among (record { tap = t; segment = line.segment; at = line.at }) (all_stops l)
+all_among : (l : Layout) (t : Tap) (line : PortLine) → place l t ≡ Some line → IsAmong (record { tap = t; segment = line.segment; at = line.at }) (all_stops l)
 unfolding all_stops
 all_among l (Station k) line h =
     let found : (s : StationLine) × (slice_get l.stations k ≡ Some s) = mapped tap_of (slice_get l.stations k) line h in
     let same : tap_of found.0 ≡ line = same_Some (tap_of found.0) line (sym (ap (option_map tap_of) found.1) ∙ h) in
-    subst (λ (p : PortLine). Among (record { tap = Station k; segment = p.segment; at = p.at }) (station_stops 0 l.stations ++ repeater_stops 0 l.repeaters)) same
+    subst (λ (p : PortLine). IsAmong (record { tap = Station k; segment = p.segment; at = p.at }) (station_stops 0 l.stations ++ repeater_stops 0 l.repeaters)) same
     (among_left (station_stop k found.0) (station_stops 0 l.stations) (repeater_stops 0 l.repeaters) (station_among k 0 k l.stations found.0 found.1 (omega arith)))
 all_among l (Port r q) line h =
     let found : IsPortOf l.repeaters r q line = port_of l r q line h in
     among_right (port_stop r q line) (station_stops 0 l.stations) (repeater_stops 0 l.repeaters) (repeater_among 0 r r q l.repeaters found.row line found.of_row found.of_port (omega arith))
 
-all_found : (l : Layout) (g : Stop) → Among g (all_stops l) → IsStop l g
+all_found : (l : Layout) (g : Stop) → IsAmong g (all_stops l) → IsStop l g
 unfolding all_stops
 all_found l g h =
     elim (among_cases g (station_stops 0 l.stations) (repeater_stops 0 l.repeaters) h) [
@@ -143,7 +124,7 @@ all_found l g h =
           subst (IsStop l) (rw z at found.is) (port_placed l found.i found.j found.line found.of)
     ]
 
-on_among : (g : Stop) (n : ℕ) (all : List Stop) → Among g all → g.segment ≡ n → Among g (stops_on all n)
+on_among : (g : Stop) (n : ℕ) (all : List Stop) → IsAmong g all → g.segment ≡ n → IsAmong g (stops_on all n)
 on_among g n [] h e = absurd h
 on_among g n (x ∷ xs) h e =
     elim (cases_Bool (x.segment == n)) [
@@ -157,7 +138,7 @@ on_among g n (x ∷ xs) h e =
       ])
     ]
 
-on_found : (g : Stop) (n : ℕ) (all : List Stop) → Among g (stops_on all n) → Among g all × (g.segment ≡ n)
+on_found : (g : Stop) (n : ℕ) (all : List Stop) → IsAmong g (stops_on all n) → IsAmong g all × (g.segment ≡ n)
 on_found g n [] h = absurd h
 on_found g n (x ∷ xs) h =
     elim (cases_Bool (x.segment == n)) [
@@ -172,6 +153,11 @@ list_at-counted : (f : ℕ → List Stop) (count n : ℕ) → n < count → list
 list_at-counted f count n low =
     let within : n < length (counted_up count) = rw length-counted low in
     rw (slice_get-map f (counted_up count) n, slice_get-get_or (counted_up count) n 0 within, counted-at count n 0 low) refl
+
+list_at-past : (f : ℕ → List Stop) (count n : ℕ) → count ≤ n → list_at (map f (counted_up count)) n ≡ []
+list_at-past f count n high =
+    let past : slice_get (map f (counted_up count)) n ≡ None = slice_get-map f (counted_up count) n ∙ ap (option_map f) (slice_get_past (counted_up count) n (rw (length-counted count) high)) in
+    ap (λ (o : Option (List Stop)). unwrap_or o []) past
 
 repeater_lists-at : (r n i : ℕ) (rows : List RepeaterLine) (row : RepeaterLine) → slice_get rows i ≡ Some row → n ≡ r + i → slice_get (repeater_lists r rows) i ≡ Some (port_stops n 0 row.ports)
 repeater_lists-at r n i [] row h at = absurd (cc)
@@ -192,31 +178,52 @@ module _ (l : Layout) (n : Network) (sound : IsSound l) (net : IsNetworkOf l n) 
   cable_list : (s : Stop) → IsStop l s → list_at n.segments s.segment ≡ stops_on (all_stops l) s.segment
   cable_list s stands = rw net.segments (list_at-counted (stops_on (all_stops l)) (length l.segments) s.segment (sound_stands l sound s.tap _ stands))
 
+  -- each tap of a segment's list is on the segment, and each tap on the segment is in the list
+  pub segment_each : (segment : ℕ) (g : Stop) → IsAmong g (list_at n.segments segment) → IsStop l g × (part_by l way.Cable g.tap ≡ Some segment)
+  segment_each segment g among =
+      let here : IsAmong g (list_at (map (stops_on (all_stops l)) (counted_up (length l.segments))) segment) = subst (λ (lists : List (List Stop)). IsAmong g (list_at lists segment)) net.segments among in
+      elim (cases_lt segment (length l.segments)) [
+        | inl low ↦
+            let found : IsAmong g (all_stops l) × (g.segment ≡ segment) = on_found g segment (all_stops l) (subst (IsAmong g) (list_at-counted (stops_on (all_stops l)) (length l.segments) segment low) here) in
+            let is : IsStop l g = all_found l g found.0 in
+            (is, rw (is, found.1) refl)
+        | inr high ↦ absurd (subst (IsAmong g) (list_at-past (stops_on (all_stops l)) (length l.segments) segment high) here)
+      ]
+
+  pub segment_all : (segment : ℕ) (t : Tap) → part_by l way.Cable t ≡ Some segment → (s : Stop) × IsAmong s (list_at n.segments segment) × (s.tap ≡ t)
+  segment_all segment t on =
+      let there : (x : PortLine) × (place l t ≡ Some x) = mapped (λ (p : PortLine). p.segment) (place l t) segment on in
+      let same : there.0.segment ≡ segment = same_Some there.0.segment segment (sym (ap (option_map (λ (p : PortLine). p.segment)) there.1) ∙ on) in
+      let s : Stop = record { tap = t; segment = there.0.segment; at = there.0.at } in
+      let among : IsAmong s (stops_on (all_stops l) there.0.segment) = on_among s there.0.segment (all_stops l) (all_among l t there.0 there.1) refl in
+      let listed : IsAmong s (list_at n.segments there.0.segment) = subst (IsAmong s) (sym (cable_list s there.1)) among in
+      (s, subst (λ (m : ℕ). IsAmong s (list_at n.segments m)) same listed, refl)
+
   port_list : (r p : ℕ) (line : PortLine) → place l (Port r p) ≡ Some line → (row : RepeaterLine) × (slice_get l.repeaters r ≡ Some row) × (list_at n.repeaters r ≡ port_stops r 0 row.ports)
   port_list r p line h =
       let found : IsPortOf l.repeaters r p line = port_of l r p line h in
       let e : slice_get (repeater_lists 0 l.repeaters) r ≡ Some (port_stops r 0 found.row.ports) = repeater_lists-at 0 r r l.repeaters found.row found.of_row (omega arith) in
       (found.row, found.of_row, rw (net.repeaters, e) refl)
 
-  ports_found : (t : Tap) (line : PortLine) (g : Stop) → place l t ≡ Some line → Among g (ports_at n t) → IsBeside l way.Repeater t g
+  ports_found : (t : Tap) (line : PortLine) (g : Stop) → place l t ≡ Some line → IsAmong g (ports_at n t) → IsBeside l way.Repeater t g
   ports_found (Station k) line g h among = absurd among
   ports_found (Port r p) line g h among =
       let at : (row : RepeaterLine) × (slice_get l.repeaters r ≡ Some row) × (list_at n.repeaters r ≡ port_stops r 0 row.ports) = port_list r p line h in
-      let here : Among g (port_stops r 0 at.0.ports) = subst (Among g) at.2 among in
+      let here : IsAmong g (port_stops r 0 at.0.ports) = subst (IsAmong g) at.2 among in
       let found : (j : ℕ) × (q : PortLine) × (slice_get at.0.ports j ≡ Some q) × (port_stop r (0 + j) q ≡ g) = port_found r 0 at.0.ports g here in
       let z : 0 + found.0 ≡ found.0 = omega arith in
       let stands : place l (Port r found.0) ≡ Some found.1 = port_placed l r found.0 found.1 (record { row = at.0; of_row = at.1; of_port = found.2 }) in
       let is : IsBeside l way.Repeater (Port r p) (port_stop r found.0 found.1) = record { stands = stands; part = r; from = rw h refl; to = rw stands refl } in
       subst (IsBeside l way.Repeater (Port r p)) (rw z at found.3) is
 
-  pub beside_found : (w : Way) (s g : Stop) → IsStop l s → Among g (stops_by n w s) → IsBeside l w s.tap g
+  pub beside_found : (w : Way) (s g : Stop) → IsStop l s → IsAmong g (stops_by n w s) → IsBeside l w s.tap g
   beside_found way.Cable s g stands among =
-      let found : Among g (all_stops l) × (g.segment ≡ s.segment) = on_found g s.segment (all_stops l) (subst (Among g) (cable_list s stands) among) in
+      let found : IsAmong g (all_stops l) × (g.segment ≡ s.segment) = on_found g s.segment (all_stops l) (subst (IsAmong g) (cable_list s stands) among) in
       let is : IsStop l g = all_found l g found.0 in
       record { stands = is; part = s.segment; from = rw stands refl; to = rw (is, found.1) refl }
   beside_found way.Repeater s g stands among = ports_found s.tap _ g stands among
 
-  ports_among : (t g : Tap) (line : PortLine) → place l t ≡ Some line → IsStep l way.Repeater t g → (s : Stop) × Among s (ports_at n t) × (s.tap ≡ g)
+  ports_among : (t g : Tap) (line : PortLine) → place l t ≡ Some line → IsStep l way.Repeater t g → (s : Stop) × IsAmong s (ports_at n t) × (s.tap ≡ g)
   ports_among (Station k) g line h step = let none : None ≡ Some step.part = step.from in absurd (cc)
   ports_among (Port r p) (Station k) line h step = let none : None ≡ Some step.part = step.to in absurd (cc)
   ports_among (Port r p) (Port t q) line h step =
@@ -227,15 +234,15 @@ module _ (l : Layout) (n : Network) (sound : IsSound l) (net : IsNetworkOf l n) 
       let found : IsPortOf l.repeaters r q there.0 = port_of l r q there.0 here in
       let row : found.row ≡ at.0 = same_Some found.row at.0 (sym found.of_row ∙ at.1) in
       let line_at : slice_get at.0.ports q ≡ Some there.0 = subst (λ (x : RepeaterLine). slice_get x.ports q ≡ Some there.0) row found.of_port in
-      let among : Among (port_stop r q there.0) (port_stops r 0 at.0.ports) = port_among r q 0 q at.0.ports there.0 line_at (omega arith) in
-      (port_stop r q there.0, subst (Among (port_stop r q there.0)) (sym at.2) among, ap (λ (m : ℕ). Port m q) (sym same))
+      let among : IsAmong (port_stop r q there.0) (port_stops r 0 at.0.ports) = port_among r q 0 q at.0.ports there.0 line_at (omega arith) in
+      (port_stop r q there.0, subst (IsAmong (port_stop r q there.0)) (sym at.2) among, ap (λ (m : ℕ). Port m q) (sym same))
 
-  pub beside_among : (w : Way) (s : Stop) (g : Tap) → IsStop l s → IsStep l w s.tap g → (x : Stop) × Among x (stops_by n w s) × (x.tap ≡ g)
+  pub beside_among : (w : Way) (s : Stop) (g : Tap) → IsStop l s → IsStep l w s.tap g → (x : Stop) × IsAmong x (stops_by n w s) × (x.tap ≡ g)
   beside_among way.Cable s g stands step =
       let there : (x : PortLine) × (place l g ≡ Some x) = mapped (λ (p : PortLine). p.segment) (place l g) step.part step.to in
       let number : there.0.segment ≡ step.part = same_Some there.0.segment step.part (sym (ap (option_map (λ (p : PortLine). p.segment)) there.1) ∙ step.to) in
       let own : s.segment ≡ step.part = same_Some s.segment step.part (sym (ap (option_map (λ (p : PortLine). p.segment)) stands) ∙ step.from) in
       let x : Stop = record { tap = g; segment = there.0.segment; at = there.0.at } in
-      let among : Among x (stops_on (all_stops l) s.segment) = on_among x s.segment (all_stops l) (all_among l g there.0 there.1) (number ∙ sym own) in
-      (x, subst (Among x) (sym (cable_list s stands)) among, refl)
+      let among : IsAmong x (stops_on (all_stops l) s.segment) = on_among x s.segment (all_stops l) (all_among l g there.0 there.1) (number ∙ sym own) in
+      (x, subst (IsAmong x) (sym (cable_list s stands)) among, refl)
   beside_among way.Repeater s g stands step = ports_among s.tap g _ stands step

@@ -152,10 +152,10 @@ station_within l k is =
 stations_unlike : (a b : ℕ) → a ≢ b → Station a ≢ Station b
 stations_unlike a b ne = λ e. ne (cc)
 
-apart_within : (l : Layout) (a n b : ℕ) → IsApart l a n b → b < length l.stations
+pub apart_within : (l : Layout) (a n b : ℕ) → IsApart l a n b → b < length l.stations
 apart_within l a n b h = station_within l b (path_ends l h.1.path.begins (Station a) h.1.path.taps (Station b) (stations_unlike a b h.0) h.1.leads)
 
-apart_back : (l : Layout) (a n b : ℕ) → IsApart l a n b → IsApart l b n a
+pub apart_back : (l : Layout) (a n b : ℕ) → IsApart l a n b → IsApart l b n a
 apart_back l a n b h = (λ e. h.0 (sym e), distance_back l (Station a) (Station b) n h.1)
 
 abbrev worst_of : Worst → ℕ

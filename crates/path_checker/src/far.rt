@@ -10,7 +10,10 @@ use crate::stops::{Network, Stop};
 use crate::table::{Entry, Table, entry_of, set_entry};
 use layout::{Layout, Tap, Way};
 
-/// A station, and how far it is in half bits.
+/// As many taps as a layout can have (profile).
+pub const MOST_TAPS: u32 = 5_120;
+
+/// A station's number, from 0, and how far it is in half bits.
 #[derive(Clone, Copy, Debug, PartialEq, Eq)]
 pub struct Far {
     pub length: u32,
@@ -76,7 +79,7 @@ fn is_same_tap(a: Tap, b: Tap) -> bool
 }
 
 /// The farther one, and of two equally far the lower station.
-fn farther(a: Option<Far>, b: Option<Far>) -> Option<Far>
+pub fn farther(a: Option<Far>, b: Option<Far>) -> Option<Far>
     ensures { result ≡ farther_of a b }
 {
     match (a, b) {
@@ -95,7 +98,7 @@ fn farther(a: Option<Far>, b: Option<Far>) -> Option<Far>
 }
 
 /// The same station, so many half bits farther away.
-fn lengthened(by: u32, far: Option<Far>) -> Option<Far>
+pub fn lengthened(by: u32, far: Option<Far>) -> Option<Far>
     requires { ForSome far (λ f. by + f.length < 2 ^ 32) }
     ensures { result ≡ lengthened by far }
 {
@@ -108,8 +111,9 @@ fn lengthened(by: u32, far: Option<Far>) -> Option<Far>
     }
 }
 
-/// The farthest station from a tap by this way. The table has what is known of the ports, and gets what is found.
-/// `room` bounds the steps of any walk from there.
+/// The station that is farthest from a tap over walks of one step or more, the first of which is by this way, and of
+/// equally far ones the first. The table has what is known of the ports, and gets what is found. `room` bounds the steps
+/// of any walk from there.
 pub fn farthest(
     layout: &Layout,
     network: &Network,

@@ -136,7 +136,7 @@ fn repeater_lists(alloc: Global, repeaters: &[RepeaterLine]) -> Result<List<Stop
     Ok(lists)
 }
 
-/// The network of a layout.
+/// The taps of a layout by segment and by repeater. The only error is want of memory.
 pub fn network_of(alloc: Global, layout: &Layout) -> Result<Network, OutOfMemory>
     requires { IsSound layout.now }
     ensures { IfOk result (IsNetworkOf layout.now) }
@@ -162,6 +162,13 @@ fn list_at(lists: &List<Stops>, n: u32) -> &[Stop]
 }
 
 impl Network {
+    /// The taps on segment `n`, counted from 0, and none where there is no such segment.
+    pub fn taps_on(&self, n: u32) -> &[Stop]
+        ensures { result.now ≡ list_at self.now.segments n }
+    {
+        list_at(&self.segments, n)
+    }
+
     /// The taps that share a tap's segment or, for a port, its repeater.
     pub fn beside(&self, way: Way, stop: &Stop) -> &[Stop]
         ensures { result.now ≡ stops_by self.now way stop.now }

@@ -7,16 +7,13 @@ ghost use Rattle.path_checker.specs.Propagation.{IsKept};
 ghost use Rattle.path_checker.specs.Verdicts.{IsVerdict, IsApart, IsWorstBelow, longer_of, verdict_of_worst};
 ghost use Rattle.path_checker.specs.Stops.{IsNetworkOf};
 
-use crate::far::{Far, farthest};
+use crate::far::{Far, MOST_TAPS, farthest};
 use crate::stops::{Network, Stop, network_of};
 use crate::table::{Table, open_table};
 use layout::{Layout, Tap, Way};
 use lists::OutOfMemory;
 use mac_parameters::{INTERFRAME_GAP, SLOT_TIME};
 use std::alloc::Global;
-
-/// As many taps as a layout can have.
-const MOST_TAPS: u32 = 5_120;
 
 /// The worst round trip of a layout in half bits, with the first pair of stations that has it: `a` is below `b`.
 #[derive(Clone, Copy, Debug, PartialEq, Eq)]

@@ -10,9 +10,10 @@ use Rattle.layout.specs.Paths.{part_by, IsStep, other_way, IsWalk, step_length, 
 use Rattle.layout.specs.Sound.{IsSound}
 use Rattle.layout.proofs.Cuts.{same_tap, same_way, has_part, Avoids, leaves}
 use Rattle.layout.proofs.PathsOverEdges.{other-other}
+use Rattle.layout.proofs.WalksBack.{step_back}
 use Rattle.layout.proofs.SoundTaps.{sound_cuts, sound_one_path}
 use Rattle.path_slack.specs.Crossings.{IsCrossed}
-use Rattle.path_slack.proofs.WalksJoined.{step_back, length_back, joined}
+use Rattle.path_slack.proofs.WalksJoined.{joined, crossed_turned}
 
 -- layout m is l where the steps of a part that C names are x longer
 pub record IsGrowth (l m : Layout) (x : ℕ) (v : Way) (part : ℕ) (C : Tap → Tap → Type 0) : Type 0 where
@@ -180,20 +181,7 @@ module _ (l m : Layout) (x : ℕ) (v : Way) (part : ℕ) (C : Tap → Tap → Ty
   }
 
   pub crossed_back : (a b n : ℕ) → IsCrossed l v C a b n → IsCrossed l v C b a n
-  crossed_back a b n h =
-      let same : step_length l v h.near h.far ≡ step_length l v h.far h.near = length_back l v h.near h.far h.step in
-      let sum : h.before + step_length l v h.near h.far + h.after ≡ n = h.sum in
-      record {
-        near = h.far;
-        far = h.near;
-        step = step_back l v h.near h.far h.step;
-        over = g.back h.near h.far h.step h.over;
-        before = h.after;
-        after = h.before;
-        start = h.finish;
-        finish = h.start;
-        sum = omega arith;
-      }
+  crossed_back a b n h = crossed_turned l v C g.back a b n h
 
   -- a distance in m: as in l, or x longer where the path is crossed
   pub record IsGrown (a b n : ℕ) : Type 0 where

@@ -2,8 +2,6 @@ pub mod LongerGaps
 pub mod LongerDelays
 pub mod WalksJoined
 pub mod Growth
-pub mod TapsOfParts
-pub mod FarthestReach
 pub mod Verdicts
 pub mod WorstPairs
 pub mod NoRound

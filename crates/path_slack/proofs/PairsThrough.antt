@@ -15,15 +15,15 @@ use Rattle.layout.specs.Sound.{IsSound}
 use Rattle.layout.proofs.Cuts.{mapped}
 use Rattle.layout.proofs.Sides.{IsPortOf, port_of, port_placed, repeater_number}
 use Rattle.layout.proofs.SoundTaps.{sound_repeater}
-use Rattle.path_checker.specs.Far.{IsReach}
+use Rattle.path_checker.specs.declared.far.Far.{Far}
+use Rattle.path_checker.specs.Far.{IsStop, IsReach, IsFarthest, farther_of, lengthened}
+use Rattle.path_checker.proofs.FarthestStation.{farther_both, IsAfter, after_lengthened, reach_low, far_low}
 use Rattle.path_checker.proofs.ShortWalks.{has_room}
-use Rattle.path_slack.specs.declared.reach.Reach.{Reach}
 use Rattle.path_slack.specs.declared.worst.Worst.{Worst}
 use Rattle.path_slack.specs.Crossings.{ThroughRepeater, IsCrossed}
-use Rattle.path_slack.specs.Reaches.{IsFarthestReach, farther_reach, reach_after, pair_over, worse_of, IsWorstPair}
-use Rattle.path_slack.proofs.FarthestReach.{reach_both, IsAfter, after_reach, reach_low, far_low}
+use Rattle.path_slack.specs.Pairs.{pair_over, worse_of, IsWorstPair}
 use Rattle.path_slack.proofs.NoRound.{no_round}
-use Rattle.path_slack.proofs.WorstPairs.{worst_same, worst_both, IsByBoth, worst_over_both}
+use Rattle.path_slack.proofs.WorstPairs.{worst_same, worst_both, IsOneWay, IsByBoth, worst_over_both}
 
 -- what the first k ports of a repeater reach along their cables
 pub record IsBeyond (l : Layout) (r k n s : ℕ) : Type 0 where
@@ -44,7 +44,7 @@ pub record IsThrough (l : Layout) (r delay k a b n : ℕ) : Type 0 where
   pub finish : IsReach l way.Cable (Port r q) after b
   pub sum : before + delay + after ≡ n
 
-pub beyond_none : (l : Layout) (r : ℕ) → IsFarthestReach (IsBeyond l r 0) None
+pub beyond_none : (l : Layout) (r : ℕ) → IsFarthest (IsBeyond l r 0) None
 beyond_none l r = λ n s h. (let low : h.port < 0 = h.low in omega arith)
 
 pub through_none : (l : Layout) (r delay : ℕ) → IsWorstPair (IsThrough l r delay 0) None
@@ -60,9 +60,9 @@ beyond_last l r k n s h =
       | inr same ↦ inr (subst (λ (p : ℕ). IsReach l way.Cable (Port r p) n s) same h.reach)
     ]
 
-pub beyond_more : (l : Layout) (r k : ℕ) (seen far both : Option Reach) → IsFarthestReach (IsBeyond l r k) seen → IsFarthestReach (IsReach l way.Cable (Port r k)) far → both ≡ farther_reach seen far → IsFarthestReach (IsBeyond l r (k + 1)) both
+pub beyond_more : (l : Layout) (r k : ℕ) (seen far both : Option Far) → IsFarthest (IsBeyond l r k) seen → IsFarthest (IsReach l way.Cable (Port r k)) far → both ≡ farther_of seen far → IsFarthest (IsBeyond l r (k + 1)) both
 beyond_more l r k seen far both h reach is =
-    rw is (reach_both (IsBeyond l r k) (IsReach l way.Cable (Port r k)) (IsBeyond l r (k + 1))
+    rw is (farther_both (IsBeyond l r k) (IsReach l way.Cable (Port r k)) (IsBeyond l r (k + 1))
     (λ n s v. record { port = v.port; low = (let low : v.port < k = v.low in omega arith); reach = v.reach })
     (λ n s v. record { port = k; low = omega arith; reach = v })
     (λ n s v. beyond_last l r k n s v) seen far h reach)
@@ -84,77 +84,79 @@ module _ (l : Layout) (sound : IsSound l) (r : ℕ) (row : RepeaterLine) (is_row
       let port : x.port < k = x.low in
       no_round l sound way.Repeater (Port r x.port) (Port r k) p y.rest s (port_step x.port k (omega arith) low (omega arith)) x.reach y.has
 
+  through_turned : (k a b n : ℕ) → IsThrough l r row.delay k a b n → IsThrough l r row.delay k b a n
+  through_turned k a b n h =
+      let whole : h.before + row.delay + h.after ≡ n = h.sum in
+      record { p = h.q; q = h.p; low_p = h.low_q; low_q = h.low_p; apart = λ e. h.apart (sym e); before = h.after; after = h.before; start = h.finish; finish = h.start; sum = omega arith }
+
+  through_one : (k a b n : ℕ) → IsOneWay (IsBeyond l r k) (IsAfter row.delay (IsReach l way.Cable (Port r k))) a b n → IsThrough l r row.delay (k + 1) a b n
+  through_one k a b n one =
+      let port : one.near.port < k = one.near.low in
+      let after : row.delay + one.far.rest ≡ one.q = one.far.sum in
+      let whole : one.p + one.q ≡ n = one.sum in
+      record { p = one.near.port; q = k; low_p = omega arith; low_q = omega arith; apart = omega arith; before = one.p; after = one.far.rest; start = one.near.reach; finish = one.far.has; sum = omega arith }
+
   through_by : (k a b n : ℕ) → IsByBoth (IsBeyond l r k) (IsAfter row.delay (IsReach l way.Cable (Port r k))) a b n → IsThrough l r row.delay (k + 1) a b n
-  through_by k a b n h =
-      elim h [
-        | inl one ↦
-            let port : one.near.port < k = one.near.low in
-            let after : row.delay + one.far.rest ≡ one.q = one.far.sum in
-            let whole : one.p + one.q ≡ n = one.sum in
-            record { p = one.near.port; q = k; low_p = omega arith; low_q = omega arith; apart = omega arith; before = one.p; after = one.far.rest; start = one.near.reach; finish = one.far.has; sum = omega arith }
-        | inr two ↦
-            let port : two.near.port < k = two.near.low in
-            let after : row.delay + two.far.rest ≡ two.q = two.far.sum in
-            let whole : two.p + two.q ≡ n = two.sum in
-            record { p = k; q = two.near.port; low_p = omega arith; low_q = omega arith; apart = omega arith; before = two.far.rest; after = two.p; start = two.far.has; finish = two.near.reach; sum = omega arith }
-      ]
+  through_by k a b n h = elim h [ inl one ↦ through_one k a b n one | inr two ↦ through_turned (k + 1) b a n (through_one k b a n two) ]
+
+  one_last : (k a b n : ℕ) → (h : IsThrough l r row.delay (k + 1) a b n) → h.p < k → h.q ≡ k → IsOneWay (IsBeyond l r k) (IsAfter row.delay (IsReach l way.Cable (Port r k))) a b n
+  one_last k a b n h low last =
+      let whole : h.before + row.delay + h.after ≡ n = h.sum in
+      record {
+        p = h.before;
+        q = row.delay + h.after;
+        near = record { port = h.p; low = low; reach = h.start };
+        far = record { rest = h.after; has = subst (λ (p : ℕ). IsReach l way.Cable (Port r p) h.after b) last h.finish; sum = refl };
+        sum = omega arith;
+      }
 
   through_last : (k a b n : ℕ) → IsThrough l r row.delay (k + 1) a b n → IsThrough l r row.delay k a b n ⊎ IsByBoth (IsBeyond l r k) (IsAfter row.delay (IsReach l way.Cable (Port r k))) a b n
+  unfolding through_turned
   through_last k a b n h =
-      let whole : h.before + row.delay + h.after ≡ n = h.sum in
       elim (up_to h.p k h.low_p) [
         | inl p_low ↦ elim (up_to h.q k h.low_q) [
           | inl q_low ↦ inl (record { p = h.p; q = h.q; low_p = p_low; low_q = q_low; apart = h.apart; before = h.before; after = h.after; start = h.start; finish = h.finish; sum = h.sum })
-          | inr q_is ↦ inr (inl (record {
-            p = h.before;
-            q = row.delay + h.after;
-            near = record { port = h.p; low = p_low; reach = h.start };
-            far = record { rest = h.after; has = subst (λ (p : ℕ). IsReach l way.Cable (Port r p) h.after b) q_is h.finish; sum = refl };
-            sum = omega arith;
-          }))
+          | inr q_is ↦ inr (inl (one_last k a b n h p_low q_is))
         ]
         | inr p_is ↦ elim (up_to h.q k h.low_q) [
-          | inl q_low ↦ inr (inr (record {
-            p = h.after;
-            q = row.delay + h.before;
-            near = record { port = h.q; low = q_low; reach = h.finish };
-            far = record { rest = h.before; has = subst (λ (p : ℕ). IsReach l way.Cable (Port r p) h.before a) p_is h.start; sum = refl };
-            sum = omega arith;
-          }))
+          | inl q_low ↦ inr (inr (one_last k b a n (through_turned (k + 1) a b n h) q_low p_is))
           | inr q_is ↦ absurd (h.apart (p_is ∙ sym q_is))
         ]
       ]
 
-  pub through_more : (k : ℕ) (worst next both : Option Worst) (seen far on : Option Reach) → k < length row.ports → IsWorstPair (IsThrough l r row.delay k) worst → IsFarthestReach (IsBeyond l r k) seen → IsFarthestReach (IsReach l way.Cable (Port r k)) far
-      → on ≡ reach_after row.delay far → next ≡ pair_over seen on → both ≡ worse_of worst next → IsWorstPair (IsThrough l r row.delay (k + 1)) both
+  pub through_more : (k : ℕ) (worst next both : Option Worst) (seen far on : Option Far) → k < length row.ports → IsWorstPair (IsThrough l r row.delay k) worst → IsFarthest (IsBeyond l r k) seen → IsFarthest (IsReach l way.Cable (Port r k)) far
+      → on ≡ lengthened row.delay far → next ≡ pair_over seen on → both ≡ worse_of worst next → IsWorstPair (IsThrough l r row.delay (k + 1)) both
   through_more k worst next both seen far on low h beyond reach on_is next_is is =
-      let there : IsFarthestReach (IsAfter row.delay (IsReach l way.Cable (Port r k))) on = rw on_is (after_reach row.delay (IsReach l way.Cable (Port r k)) far reach) in
+      let there : IsFarthest (IsAfter row.delay (IsReach l way.Cable (Port r k))) on = rw on_is (after_lengthened row.delay (IsReach l way.Cable (Port r k)) far reach) in
       let new : IsWorstPair (IsByBoth (IsBeyond l r k) (IsAfter row.delay (IsReach l way.Cable (Port r k)))) next = rw next_is (worst_over_both (IsBeyond l r k) (IsAfter row.delay (IsReach l way.Cable (Port r k))) (ends_apart k low) seen on beyond there) in
       rw is (worst_both (IsThrough l r row.delay k) (IsByBoth (IsBeyond l r k) (IsAfter row.delay (IsReach l way.Cable (Port r k)))) (IsThrough l r row.delay (k + 1))
       (λ a b n v. record { p = v.p; q = v.q; low_p = (let x : v.p < k = v.low_p in omega arith); low_q = (let x : v.q < k = v.low_q in omega arith); apart = v.apart; before = v.before; after = v.after; start = v.start; finish = v.finish; sum = v.sum })
       (λ a b n v. through_by k a b n v) (λ a b n less v. through_last k a b n v) worst next h new)
 
+  pub port_stands : (k : ℕ) (p : PortLine) → slice_get row.ports k ≡ Some p → IsStop l (record { tap = Port r k; segment = p.segment; at = p.at })
+  port_stands k p is = port_placed l r k p (record { row = row; of_row = is_row; of_port = is })
+
   -- no length is too great
-  pub port_fits : (k : ℕ) (far : Option Reach) (f : Reach) → IsFarthestReach (IsReach l way.Cable (Port r k)) far → far ≡ Some f → row.delay + f.length < 1073741824
+  pub port_fits : (k : ℕ) (far : Option Far) (f : Far) → IsFarthest (IsReach l way.Cable (Port r k)) far → far ≡ Some f → row.delay + f.length < 1073741824
   port_fits k far f h e =
       let most : f.length ≤ greatest_place * 5120 = far_low l way.Cable (Port r k) 5120 far f sound (has_room l sound way.Cable (Port r k)) h e in
       let delay : row.delay ≤ greatest_delay = (sound_repeater l sound r row is_row).delay_most in
       omega arith
 
-  pub seen_fits : (k : ℕ) (seen : Option Reach) (f : Reach) → IsFarthestReach (IsBeyond l r k) seen → seen ≡ Some f → f.length < 1073741824
+  pub seen_fits : (k : ℕ) (seen : Option Far) (f : Far) → IsFarthest (IsBeyond l r k) seen → seen ≡ Some f → f.length < 1073741824
   seen_fits k None f h e = absurd (cc)
   seen_fits k (Some x) f h e =
       let same : x ≡ f = same_Some x f e in
       let most : x.length ≤ greatest_place * 5120 = reach_low l way.Cable (Port r h.0.port) 5120 x.length x.station sound (has_room l sound way.Cable (Port r h.0.port)) h.0.reach in
       let low : x.length < 1073741824 = omega arith in
-      subst (λ (y : Reach). y.length < 1073741824) same low
+      subst (λ (y : Far). y.length < 1073741824) same low
 
-  pub after_fits : (k : ℕ) (far on : Option Reach) (f : Reach) → IsFarthestReach (IsReach l way.Cable (Port r k)) far → on ≡ reach_after row.delay far → on ≡ Some f → f.length < 1073741824
+  pub after_fits : (k : ℕ) (far on : Option Far) (f : Far) → IsFarthest (IsReach l way.Cable (Port r k)) far → on ≡ lengthened row.delay far → on ≡ Some f → f.length < 1073741824
   after_fits k None on f h is e = absurd (let no : None ≡ Some f = sym is ∙ e in cc)
   after_fits k (Some x) on f h is e =
       let low : row.delay + x.length < 1073741824 = port_fits k (Some x) x h refl in
-      let same : Some (let y : Reach = record { length = row.delay + x.length; station = x.station } in y) ≡ Some f = sym is ∙ e in
-      subst (λ (y : Reach). y.length < 1073741824) (same_Some (let y : Reach = record { length = row.delay + x.length; station = x.station } in y) f same) low
+      let same : Some (let y : Far = record { length = row.delay + x.length; station = x.station } in y) ≡ Some f = sym is ∙ e in
+      subst (λ (y : Far). y.length < 1073741824) (same_Some (let y : Far = record { length = row.delay + x.length; station = x.station } in y) f same) low
 
   through_crossed : (k a b n : ℕ) → k ≤ length row.ports → IsThrough l r row.delay k a b n → IsCrossed l way.Repeater (ThroughRepeater l r) a b n
   through_crossed k a b n most h =

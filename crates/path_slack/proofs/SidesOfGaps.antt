@@ -1,5 +1,5 @@
 -- The stations on the two sides of a piece of cable, and the pairs over it.
-use Rattle.std.proofs.Common.{◌≡◌, ◌⊎◌, refl, sym, ◌∙◌, ap, subst, inl, inr, ℕ, zero, suc, ◌+◌, ◌-◌, ◌*◌, ◌<◌, ◌≤◌, List, [], ◌∷◌, ◌++◌, length, get_or, take, Option, None, Some, arith}
+use Rattle.std.proofs.Common.{◌≡◌, refl, sym, ◌∙◌, ap, subst, inl, inr, ℕ, ◌+◌, ◌-◌, ◌*◌, ◌<◌, ◌≤◌, List, [], ◌∷◌, ◌++◌, length, get_or, take, Option, None, Some, arith}
 use Rattle.std.proofs.lemmas.List.{take_more, take_all}
 use Rattle.std.proofs.lemmas.Option.{same_Some}
 use Rattle.mac_parameters.specs.Distances.{distance}
@@ -7,43 +7,28 @@ use Rattle.mac_parameters.specs.Parameters.{greatest_place}
 use Rattle.layout.specs.declared.lines.Layout.{Layout}
 use Rattle.layout.specs.declared.ways.Tap.{Tap}
 use Rattle.layout.specs.declared.ways.Way.TheVariants as way
+use Rattle.layout.specs.Among.{IsAmong}
 use Rattle.layout.specs.Paths.{part_by, IsStep, at_of}
 use Rattle.layout.specs.Sound.{IsSound}
+use Rattle.layout.proofs.ItemsOfLists.{among_more, among_end, among_last, among_at}
 use Rattle.layout.proofs.SoundTaps.{at_low}
-use Rattle.path_checker.specs.Far.{IsReach}
+use Rattle.path_checker.specs.declared.far.Far.{Far}
+use Rattle.path_checker.specs.Far.{IsReach, IsFarthest, farther_of, lengthened}
+use Rattle.path_checker.proofs.FarthestStation.{farthest_same, farther_both, IsAfter, after_lengthened, reach_low, far_low}
 use Rattle.path_checker.proofs.ShortWalks.{has_room}
 use Rattle.path_slack.specs.declared.branches.Branch.{Branch}
-use Rattle.path_slack.specs.declared.reach.Reach.{Reach}
 use Rattle.path_slack.specs.declared.worst.Worst.{Worst}
-use Rattle.path_slack.specs.Crossings.{OverPiece, IsCrossed}
-use Rattle.path_slack.specs.Parts.{IsBranchAmong, IsBranch, AreBranchesOf}
-use Rattle.path_slack.specs.Reaches.{IsFarthestReach, farther_reach, reach_after, pair_over, IsWorstPair}
-use Rattle.path_slack.proofs.FarthestReach.{reach_same, reach_both, IsAfter, after_reach, reach_low, far_low}
+use Rattle.path_slack.specs.Crossings.{Rises, OverPiece, IsCrossed}
+use Rattle.path_slack.specs.Branches.{IsBranch, AreBranchesOf}
+use Rattle.path_slack.specs.Pairs.{pair_over, IsWorstPair}
 use Rattle.path_slack.proofs.NoRound.{no_round}
+use Rattle.path_slack.proofs.WalksJoined.{crossed_turned}
 use Rattle.path_slack.proofs.WorstPairs.{worst_same, IsOneWay, IsByBoth, worst_over_both}
-
-pub branch_more : (x y : Branch) (xs : List Branch) → IsBranchAmong x xs → IsBranchAmong x (xs ++ y ∷ [])
-branch_more x y [] h = absurd h
-branch_more x y (z ∷ zs) h = elim h [ inl e ↦ inl e | inr k ↦ inr (branch_more x y zs k) ]
-
-pub branch_end : (y : Branch) (xs : List Branch) → IsBranchAmong y (xs ++ y ∷ [])
-branch_end y [] = inl refl
-branch_end y (z ∷ zs) = inr (branch_end y zs)
-
-pub branch_last : (x y : Branch) (xs : List Branch) → IsBranchAmong x (xs ++ y ∷ []) → IsBranchAmong x xs ⊎ (y ≡ x)
-branch_last x y [] h = elim h [ inl e ↦ inr e | inr none ↦ absurd none ]
-branch_last x y (z ∷ zs) h =
-    elim h [ inl e ↦ inl (inl e) | inr k ↦ elim (branch_last x y zs k) [ inl j ↦ inl (inr j) | inr e ↦ inr e ] ]
-
-pub branch_at : (xs : List Branch) (k : ℕ) (d : Branch) → k < length xs → IsBranchAmong (get_or xs k d) xs
-branch_at [] k d low = absurd (omega arith)
-branch_at (x ∷ xs) zero d low = inl refl
-branch_at (x ∷ xs) (suc k) d low = inr (branch_at xs k d (omega arith))
 
 -- what the branches reach whose taps S takes, so many half bits farther on
 pub record IsFromSide (l : Layout) (S : Tap → ℕ → Type 0) (bs : List Branch) (n s : ℕ) : Type 0 where
   pub branch : Branch
-  pub among : IsBranchAmong branch bs
+  pub among : IsAmong branch bs
   pub by : ℕ
   pub side : S branch.tap by
   pub after : IsAfter by (IsReach l way.Repeater branch.tap) n s
@@ -55,31 +40,31 @@ Below l high t k = (at_of l t < high) × (k ≡ high - at_of l t)
 abbrev pub Above : Layout → ℕ → Tap → ℕ → Type 0
 Above l high t k = (high ≤ at_of l t) × (k ≡ at_of l t - high)
 
-pub side_none : (l : Layout) (S : Tap → ℕ → Type 0) → IsFarthestReach (IsFromSide l S []) None
+pub side_none : (l : Layout) (S : Tap → ℕ → Type 0) → IsFarthest (IsFromSide l S []) None
 side_none l S = λ n s h. h.among
 
 module _ (l : Layout) (S : Tap → ℕ → Type 0) (bs : List Branch) (k : ℕ) (d : Branch) (low : k < length bs) where
   side_before : (n s : ℕ) → IsFromSide l S (take k bs) n s → IsFromSide l S (take k bs ++ get_or bs k d ∷ []) n s
-  side_before n s h = record { branch = h.branch; among = branch_more h.branch (get_or bs k d) (take k bs) h.among; by = h.by; side = h.side; after = h.after }
+  side_before n s h = record { branch = h.branch; among = among_more h.branch (get_or bs k d) (take k bs) h.among; by = h.by; side = h.side; after = h.after }
 
-  pub side_skip : (best : Option Reach) → ((by : ℕ) → S (get_or bs k d).tap by → ⊥) → IsFarthestReach (IsFromSide l S (take k bs)) best → IsFarthestReach (IsFromSide l S (take (k + 1) bs)) best
+  pub side_skip : (best : Option Far) → ((by : ℕ) → S (get_or bs k d).tap by → ⊥) → IsFarthest (IsFromSide l S (take k bs)) best → IsFarthest (IsFromSide l S (take (k + 1) bs)) best
   side_skip best not h =
-      subst (λ (xs : List Branch). IsFarthestReach (IsFromSide l S xs) best) (sym (take_more bs k d low))
-      (reach_same (IsFromSide l S (take k bs)) (IsFromSide l S (take k bs ++ get_or bs k d ∷ [])) side_before
-      (λ n s v. elim (branch_last v.branch (get_or bs k d) (take k bs) v.among) [
+      subst (λ (xs : List Branch). IsFarthest (IsFromSide l S xs) best) (sym (take_more bs k d low))
+      (farthest_same (IsFromSide l S (take k bs)) (IsFromSide l S (take k bs ++ get_or bs k d ∷ [])) side_before
+      (λ n s v. elim (among_last v.branch (get_or bs k d) (take k bs) v.among) [
         | inl before ↦ record { branch = v.branch; among = before; by = v.by; side = v.side; after = v.after }
         | inr same ↦ absurd (not v.by (subst (λ (b : Branch). S b.tap v.by) (sym same) v.side))
       ]) best h)
 
-  pub side_add : (by : ℕ) (best on far : Option Reach) → S (get_or bs k d).tap by → ((j : ℕ) → S (get_or bs k d).tap j → j ≡ by) → IsBranch l (get_or bs k d) → IsFarthestReach (IsFromSide l S (take k bs)) best
-      → on ≡ reach_after by (get_or bs k d).far → far ≡ farther_reach best on → IsFarthestReach (IsFromSide l S (take (k + 1) bs)) far
+  pub side_add : (by : ℕ) (best on far : Option Far) → S (get_or bs k d).tap by → ((j : ℕ) → S (get_or bs k d).tap j → j ≡ by) → IsBranch l (get_or bs k d) → IsFarthest (IsFromSide l S (take k bs)) best
+      → on ≡ lengthened by (get_or bs k d).far → far ≡ farther_of best on → IsFarthest (IsFromSide l S (take (k + 1) bs)) far
   side_add by best on far side one branch h on_is far_is =
       let c : Branch = get_or bs k d in
-      let here : IsFarthestReach (IsAfter by (IsReach l way.Repeater c.tap)) on = rw on_is (after_reach by (IsReach l way.Repeater c.tap) c.far branch) in
-      subst (λ (xs : List Branch). IsFarthestReach (IsFromSide l S xs) far) (sym (take_more bs k d low))
-      (rw far_is (reach_both (IsFromSide l S (take k bs)) (IsAfter by (IsReach l way.Repeater c.tap)) (IsFromSide l S (take k bs ++ c ∷ [])) side_before
-      (λ n s v. record { branch = c; among = branch_end c (take k bs); by = by; side = side; after = v })
-      (λ n s v. elim (branch_last v.branch c (take k bs) v.among) [
+      let here : IsFarthest (IsAfter by (IsReach l way.Repeater c.tap)) on = rw on_is (after_lengthened by (IsReach l way.Repeater c.tap) c.far branch) in
+      subst (λ (xs : List Branch). IsFarthest (IsFromSide l S xs) far) (sym (take_more bs k d low))
+      (rw far_is (farther_both (IsFromSide l S (take k bs)) (IsAfter by (IsReach l way.Repeater c.tap)) (IsFromSide l S (take k bs ++ c ∷ [])) side_before
+      (λ n s v. record { branch = c; among = among_end c (take k bs); by = by; side = side; after = v })
+      (λ n s v. elim (among_last v.branch c (take k bs) v.among) [
         | inl before ↦ inl (record { branch = v.branch; among = before; by = v.by; side = v.side; after = v.after })
         | inr same ↦ inr (own v.branch v.by n s (sym same) v.side v.after)
       ]) best on h here))
@@ -91,30 +76,30 @@ module _ (l : Layout) (S : Tap → ℕ → Type 0) (bs : List Branch) (k : ℕ) 
 
 -- the loop's steps
 module _ (l : Layout) (segment high : ℕ) (bs : List Branch) (sound : IsSound l) (of : AreBranchesOf l segment bs) where
-  pub below_more : (k : ℕ) (d : Branch) (at : ℕ) (best on far : Option Reach) → k < length bs → at ≡ at_of l (get_or bs k d).tap → at < high → IsFarthestReach (IsFromSide l (Below l high) (take k bs)) best → on ≡ reach_after (high - at) (get_or bs k d).far → far ≡ farther_reach best on → IsFarthestReach (IsFromSide l (Below l high) (take (k + 1) bs)) far
+  pub below_more : (k : ℕ) (d : Branch) (at : ℕ) (best on far : Option Far) → k < length bs → at ≡ at_of l (get_or bs k d).tap → at < high → IsFarthest (IsFromSide l (Below l high) (take k bs)) best → on ≡ lengthened (high - at) (get_or bs k d).far → far ≡ farther_of best on → IsFarthest (IsFromSide l (Below l high) (take (k + 1) bs)) far
   below_more k d at best on far low is under h on_is far_is =
-      side_add l (Below l high) bs k d low (high - at) best on far (rw (← is) (under, refl)) (λ j s. s.1 ∙ ap (λ (i : ℕ). high - i) (sym is)) (of.far (get_or bs k d) (branch_at bs k d low)) h on_is far_is
+      side_add l (Below l high) bs k d low (high - at) best on far (rw (← is) (under, refl)) (λ j s. s.1 ∙ ap (λ (i : ℕ). high - i) (sym is)) (of.far (get_or bs k d) (among_at bs k d low)) h on_is far_is
 
-  pub below_skip : (k : ℕ) (d : Branch) (at : ℕ) (best : Option Reach) → k < length bs → at ≡ at_of l (get_or bs k d).tap → high ≤ at → IsFarthestReach (IsFromSide l (Below l high) (take k bs)) best → IsFarthestReach (IsFromSide l (Below l high) (take (k + 1) bs)) best
+  pub below_skip : (k : ℕ) (d : Branch) (at : ℕ) (best : Option Far) → k < length bs → at ≡ at_of l (get_or bs k d).tap → high ≤ at → IsFarthest (IsFromSide l (Below l high) (take k bs)) best → IsFarthest (IsFromSide l (Below l high) (take (k + 1) bs)) best
   below_skip k d at best low is over h = side_skip l (Below l high) bs k d low best (λ by s. let under : at_of l (get_or bs k d).tap < high = s.0 in omega arith) h
 
-  pub above_more : (k : ℕ) (d : Branch) (at : ℕ) (best on far : Option Reach) → k < length bs → at ≡ at_of l (get_or bs k d).tap → high ≤ at → IsFarthestReach (IsFromSide l (Above l high) (take k bs)) best → on ≡ reach_after (at - high) (get_or bs k d).far → far ≡ farther_reach best on → IsFarthestReach (IsFromSide l (Above l high) (take (k + 1) bs)) far
+  pub above_more : (k : ℕ) (d : Branch) (at : ℕ) (best on far : Option Far) → k < length bs → at ≡ at_of l (get_or bs k d).tap → high ≤ at → IsFarthest (IsFromSide l (Above l high) (take k bs)) best → on ≡ lengthened (at - high) (get_or bs k d).far → far ≡ farther_of best on → IsFarthest (IsFromSide l (Above l high) (take (k + 1) bs)) far
   above_more k d at best on far low is over h on_is far_is =
-      side_add l (Above l high) bs k d low (at - high) best on far (rw (← is) (over, refl)) (λ j s. s.1 ∙ ap (λ (i : ℕ). i - high) (sym is)) (of.far (get_or bs k d) (branch_at bs k d low)) h on_is far_is
+      side_add l (Above l high) bs k d low (at - high) best on far (rw (← is) (over, refl)) (λ j s. s.1 ∙ ap (λ (i : ℕ). i - high) (sym is)) (of.far (get_or bs k d) (among_at bs k d low)) h on_is far_is
 
-  pub above_skip : (k : ℕ) (d : Branch) (at : ℕ) (best : Option Reach) → k < length bs → at ≡ at_of l (get_or bs k d).tap → at < high → IsFarthestReach (IsFromSide l (Above l high) (take k bs)) best → IsFarthestReach (IsFromSide l (Above l high) (take (k + 1) bs)) best
+  pub above_skip : (k : ℕ) (d : Branch) (at : ℕ) (best : Option Far) → k < length bs → at ≡ at_of l (get_or bs k d).tap → at < high → IsFarthest (IsFromSide l (Above l high) (take k bs)) best → IsFarthest (IsFromSide l (Above l high) (take (k + 1) bs)) best
   above_skip k d at best low is under h = side_skip l (Above l high) bs k d low best (λ by s. let over : high ≤ at_of l (get_or bs k d).tap = s.0 in omega arith) h
 
   -- no length is too great
-  pub branch_fits : (k : ℕ) (d : Branch) (by : ℕ) → k < length bs → by ≤ greatest_place → (f : Reach) → (get_or bs k d).far ≡ Some f → by + f.length < 4294967296
+  pub branch_fits : (k : ℕ) (d : Branch) (by : ℕ) → k < length bs → by ≤ greatest_place → (f : Far) → (get_or bs k d).far ≡ Some f → by + f.length < 4294967296
   branch_fits k d by low short f e =
-      let most : f.length ≤ greatest_place * 5120 = far_low l way.Repeater (get_or bs k d).tap 5120 (get_or bs k d).far f sound (has_room l sound way.Repeater (get_or bs k d).tap) (of.far (get_or bs k d) (branch_at bs k d low)) e in
+      let most : f.length ≤ greatest_place * 5120 = far_low l way.Repeater (get_or bs k d).tap 5120 (get_or bs k d).far f sound (has_room l sound way.Repeater (get_or bs k d).tap) (of.far (get_or bs k d) (among_at bs k d low)) e in
       omega arith
 
   pub at_fits : (t : Tap) → at_of l t ≤ greatest_place
   at_fits t = at_low l sound t
 
-  side_low : (S : Tap → ℕ → Type 0) → ((t : Tap) (k : ℕ) → S t k → k ≤ greatest_place) → (xs : List Branch) (best : Option Reach) → IsFarthestReach (IsFromSide l S xs) best → (r : Reach) → best ≡ Some r → r.length < 1073741824
+  side_low : (S : Tap → ℕ → Type 0) → ((t : Tap) (k : ℕ) → S t k → k ≤ greatest_place) → (xs : List Branch) (best : Option Far) → IsFarthest (IsFromSide l S xs) best → (r : Far) → best ≡ Some r → r.length < 1073741824
   side_low S short xs None h r e = absurd (cc)
   side_low S short xs (Some x) h r e =
       let same : x ≡ r = same_Some x r e in
@@ -122,28 +107,20 @@ module _ (l : Layout) (segment high : ℕ) (bs : List Branch) (sound : IsSound l
       let rest : h.0.after.rest ≤ greatest_place * 5120 = reach_low l way.Repeater h.0.branch.tap 5120 h.0.after.rest x.station sound (has_room l sound way.Repeater h.0.branch.tap) h.0.after.has in
       let sum : h.0.by + h.0.after.rest ≡ x.length = h.0.after.sum in
       let low : x.length < 1073741824 = omega arith in
-      subst (λ (y : Reach). y.length < 1073741824) same low
+      subst (λ (y : Far). y.length < 1073741824) same low
 
-  pub below_low : high ≤ greatest_place → (xs : List Branch) (best : Option Reach) → IsFarthestReach (IsFromSide l (Below l high) xs) best → (r : Reach) → best ≡ Some r → r.length < 1073741824
+  pub below_low : high ≤ greatest_place → (xs : List Branch) (best : Option Far) → IsFarthest (IsFromSide l (Below l high) xs) best → (r : Far) → best ≡ Some r → r.length < 1073741824
   below_low top xs best h = side_low (Below l high) (λ t k s. let is : k ≡ high - at_of l t = s.1 in omega arith) xs best h
 
-  pub above_low : (xs : List Branch) (best : Option Reach) → IsFarthestReach (IsFromSide l (Above l high) xs) best → (r : Reach) → best ≡ Some r → r.length < 1073741824
+  pub above_low : (xs : List Branch) (best : Option Far) → IsFarthest (IsFromSide l (Above l high) xs) best → (r : Far) → best ≡ Some r → r.length < 1073741824
   above_low xs best h = side_low (Above l high) (λ t k s. let is : k ≡ at_of l t - high = s.1 in let low : at_of l t ≤ greatest_place = at_low l sound t in omega arith) xs best h
 
-  step_over : (b c : Branch) → IsBranchAmong b bs → IsBranchAmong c bs → at_of l b.tap < high → high ≤ at_of l c.tap → IsStep l way.Cable b.tap c.tap
+  step_over : (b c : Branch) → IsAmong b bs → IsAmong c bs → at_of l b.tap < high → high ≤ at_of l c.tap → IsStep l way.Cable b.tap c.tap
   step_over b c in_b in_c low up = record {
     different = λ e. (let same : at_of l b.tap ≡ at_of l c.tap = ap (at_of l) e in omega arith);
     part = segment;
     from = of.on b in_b;
     to = of.on c in_c;
-  }
-
-  step_down : (b c : Branch) → IsBranchAmong b bs → IsBranchAmong c bs → at_of l b.tap < high → high ≤ at_of l c.tap → IsStep l way.Cable c.tap b.tap
-  step_down b c in_b in_c low up = record {
-    different = λ e. (let same : at_of l c.tap ≡ at_of l b.tap = ap (at_of l) e in omega arith);
-    part = segment;
-    from = of.on c in_c;
-    to = of.on b in_b;
   }
 
   sides_apart : (p q s : ℕ) → IsFromSide l (Below l high) bs p s → IsFromSide l (Above l high) bs q s → ⊥
@@ -152,9 +129,6 @@ module _ (l : Layout) (segment high : ℕ) (bs : List Branch) (sound : IsSound l
 
   across : (a b : ℕ) (p r q k j n : ℕ) → a < k → k ≤ b → p ≡ (k - a) + r → q ≡ (b - k) + j → p + q ≡ n → r + distance a b + j ≡ n
   across a b p r q k j n low up pe qe sum = omega arith
-
-  down : (a b : ℕ) (p r q k j n : ℕ) → a < k → k ≤ b → p ≡ (k - a) + r → q ≡ (b - k) + j → p + q ≡ n → j + distance b a + r ≡ n
-  down a b p r q k j n low up pe qe sum = omega arith
 
   one_crossed : (a b n : ℕ) → IsOneWay (IsFromSide l (Below l high) bs) (IsFromSide l (Above l high) bs) a b n → IsCrossed l way.Cable (OverPiece l segment high) a b n
   one_crossed a b n h =
@@ -174,26 +148,14 @@ module _ (l : Layout) (segment high : ℕ) (bs : List Branch) (sound : IsSound l
         sum = across (at_of l h.near.branch.tap) (at_of l h.far.branch.tap) h.p h.near.after.rest h.q high h.far.after.rest n h.near.side.0 h.far.side.0 p_is q_is h.sum;
       }
 
-  two_crossed : (a b n : ℕ) → IsOneWay (IsFromSide l (Below l high) bs) (IsFromSide l (Above l high) bs) b a n → IsCrossed l way.Cable (OverPiece l segment high) a b n
-  two_crossed a b n h =
-      let p_is : h.p ≡ (high - at_of l h.near.branch.tap) + h.near.after.rest = sym h.near.after.sum ∙ ap (λ (i : ℕ). i + h.near.after.rest) h.near.side.1 in
-      let q_is : h.q ≡ (at_of l h.far.branch.tap - high) + h.far.after.rest = sym h.far.after.sum ∙ ap (λ (i : ℕ). i + h.far.after.rest) h.far.side.1 in
-      record {
-        near = h.far.branch.tap;
-        far = h.near.branch.tap;
-        step = step_down h.near.branch h.far.branch h.near.among h.far.among h.near.side.0 h.far.side.0;
-        over = (of.on h.far.branch h.far.among, inr (h.near.side.0, h.far.side.0));
-        before = h.far.after.rest;
-        after = h.near.after.rest;
-        start = h.far.after.has;
-        finish = h.near.after.has;
-        sum = down (at_of l h.near.branch.tap) (at_of l h.far.branch.tap) h.p h.near.after.rest h.q high h.far.after.rest n h.near.side.0 h.far.side.0 p_is q_is h.sum;
-      }
+  -- the same steps go over the piece the other way
+  piece_turned : (s t : Tap) → IsStep l way.Cable s t → OverPiece l segment high s t → OverPiece l segment high t s
+  piece_turned s t step over = (step.to ∙ sym step.from ∙ over.0, elim over.1 [ inl rises ↦ inr rises | inr falls ↦ inl falls ])
 
   -- a tap of the segment on a side
   on_side : (S : Tap → ℕ → Type 0) (t : Tap) (by rest s : ℕ) → part_by l way.Cable t ≡ Some segment → S t by → IsReach l way.Repeater t rest s → IsFromSide l S bs (by + rest) s
   on_side S t by rest s on side reach =
-      let found : (b : Branch) × IsBranchAmong b bs × (b.tap ≡ t) = of.all t on in
+      let found : (b : Branch) × IsAmong b bs × (b.tap ≡ t) = of.all t on in
       record {
         branch = found.0;
         among = found.1;
@@ -205,35 +167,31 @@ module _ (l : Layout) (segment high : ℕ) (bs : List Branch) (sound : IsSound l
   added : (a b r j k n : ℕ) → a < k → k ≤ b → r + distance a b + j ≡ n → (k - a) + r + ((b - k) + j) ≡ n
   added a b r j k n low up sum = omega arith
 
-  turned : (a b r j k n : ℕ) → a < k → k ≤ b → r + distance b a + j ≡ n → (k - a) + j + ((b - k) + r) ≡ n
-  turned a b r j k n low up sum = omega arith
-
-  crossed_both : (a b n : ℕ) → IsCrossed l way.Cable (OverPiece l segment high) a b n → IsByBoth (IsFromSide l (Below l high) bs) (IsFromSide l (Above l high) bs) a b n
-  crossed_both a b n h =
+  rising_way : (a b n : ℕ) → (h : IsCrossed l way.Cable (OverPiece l segment high) a b n) → Rises l high h.near h.far → IsOneWay (IsFromSide l (Below l high) bs) (IsFromSide l (Above l high) bs) a b n
+  rising_way a b n h rises =
       let on : part_by l way.Cable h.near ≡ Some segment = h.over.0 in
       let far_on : part_by l way.Cable h.far ≡ Some segment = h.step.to ∙ sym h.step.from ∙ on in
+      record {
+        p = (high - at_of l h.near) + h.before;
+        q = (at_of l h.far - high) + h.after;
+        near = on_side (Below l high) h.near (high - at_of l h.near) h.before a on (rises.0, refl) h.start;
+        far = on_side (Above l high) h.far (at_of l h.far - high) h.after b far_on (rises.1, refl) h.finish;
+        sum = added (at_of l h.near) (at_of l h.far) h.before h.after high n rises.0 rises.1 h.sum;
+      }
+
+  crossed_both : (a b n : ℕ) → IsCrossed l way.Cable (OverPiece l segment high) a b n → IsByBoth (IsFromSide l (Below l high) bs) (IsFromSide l (Above l high) bs) a b n
+  unfolding crossed_turned
+  crossed_both a b n h =
       elim h.over.1 [
-        | inl rises ↦ inl (record {
-          p = (high - at_of l h.near) + h.before;
-          q = (at_of l h.far - high) + h.after;
-          near = on_side (Below l high) h.near (high - at_of l h.near) h.before a on (rises.0, refl) h.start;
-          far = on_side (Above l high) h.far (at_of l h.far - high) h.after b far_on (rises.1, refl) h.finish;
-          sum = added (at_of l h.near) (at_of l h.far) h.before h.after high n rises.0 rises.1 h.sum;
-        })
-        | inr falls ↦ inr (record {
-          p = (high - at_of l h.far) + h.after;
-          q = (at_of l h.near - high) + h.before;
-          near = on_side (Below l high) h.far (high - at_of l h.far) h.after b far_on (falls.0, refl) h.finish;
-          far = on_side (Above l high) h.near (at_of l h.near - high) h.before a on (falls.1, refl) h.start;
-          sum = turned (at_of l h.far) (at_of l h.near) h.before h.after high n falls.0 falls.1 h.sum;
-        })
+        | inl rises ↦ inl (rising_way a b n h rises)
+        | inr falls ↦ inr (rising_way b a n (crossed_turned l way.Cable (OverPiece l segment high) piece_turned a b n h) falls)
       ]
 
   -- the pair of the two sides' farthest stations is the worst one
-  pub worst_over_gap : (k : ℕ) (below above : Option Reach) (worst : Option Worst) → length bs ≤ k → IsFarthestReach (IsFromSide l (Below l high) (take k bs)) below → IsFarthestReach (IsFromSide l (Above l high) (take k bs)) above → worst ≡ pair_over below above → IsWorstPair (IsCrossed l way.Cable (OverPiece l segment high)) worst
+  pub worst_over_gap : (k : ℕ) (below above : Option Far) (worst : Option Worst) → length bs ≤ k → IsFarthest (IsFromSide l (Below l high) (take k bs)) below → IsFarthest (IsFromSide l (Above l high) (take k bs)) above → worst ≡ pair_over below above → IsWorstPair (IsCrossed l way.Cable (OverPiece l segment high)) worst
   worst_over_gap k below above worst all low up is =
-      let lower : IsFarthestReach (IsFromSide l (Below l high) bs) below = subst (λ (xs : List Branch). IsFarthestReach (IsFromSide l (Below l high) xs) below) (take_all k bs all) low in
-      let upper : IsFarthestReach (IsFromSide l (Above l high) bs) above = subst (λ (xs : List Branch). IsFarthestReach (IsFromSide l (Above l high) xs) above) (take_all k bs all) up in
+      let lower : IsFarthest (IsFromSide l (Below l high) bs) below = subst (λ (xs : List Branch). IsFarthest (IsFromSide l (Below l high) xs) below) (take_all k bs all) low in
+      let upper : IsFarthest (IsFromSide l (Above l high) bs) above = subst (λ (xs : List Branch). IsFarthest (IsFromSide l (Above l high) xs) above) (take_all k bs all) up in
       worst_same (IsByBoth (IsFromSide l (Below l high) bs) (IsFromSide l (Above l high) bs)) (IsCrossed l way.Cable (OverPiece l segment high))
-      (λ a b n h. elim h [ inl one ↦ one_crossed a b n one | inr two ↦ two_crossed a b n two ]) crossed_both worst
+      (λ a b n h. elim h [ inl one ↦ one_crossed a b n one | inr two ↦ crossed_turned l way.Cable (OverPiece l segment high) piece_turned b a n (one_crossed b a n two) ]) crossed_both worst
       (rw is (worst_over_both (IsFromSide l (Below l high) bs) (IsFromSide l (Above l high) bs) sides_apart below above lower upper))

@@ -14,7 +14,7 @@ use Rattle.path_slack.specs.declared.slack.Limit.{Limit}
 use Rattle.path_slack.specs.declared.worst.Worst.{Worst}
 use Rattle.path_slack.specs.Crossings.{IsCrossed}
 use Rattle.path_slack.specs.Lengthened.{KeepsBounds}
-use Rattle.path_slack.specs.Reaches.{IsWorstPair}
+use Rattle.path_slack.specs.Pairs.{IsWorstPair}
 use Rattle.path_slack.specs.Slacks.{IsOverlong, IsStoppedBy, IsSlack, IsReckoned}
 use Rattle.path_slack.proofs.Growth.{IsGrowth, IsGrown, grown, crossed_distance, crossed_longer, crossed_back}
 use Rattle.path_slack.proofs.Verdicts.{second_within}
@@ -43,19 +43,9 @@ module _ (l : Layout) (v : Way) (part : ℕ) (C : Tap → Tap → Type 0) (m : �
         | inr high ↦ elim (is.2 b a n (omega arith) (crossed_back l (m 0) 0 v part C sound (g 0) a b n h)) [ inl less ↦ omega arith | inr (same, later) ↦ omega arith ]
       ]
 
-  no_crossed_short : (x : ℕ) → IsWorstPair (IsCrossed l v C) None → IsOverlong (m x) → ⊥
-  no_crossed_short x is over =
-      let is_grown : IsGrown l (m x) x v part C sound (g x) over.a over.b over.has.distance = grown l (m x) x v part C sound (g x) over.a over.b over.has.distance over.different over.has.apart in
-      let low : 2 * is_grown.short + interframe_gap < slot_time = trip_short over.a over.b is_grown.short over.different is_grown.apart in
-      let sum : over.trip ≡ 2 * over.has.distance + interframe_gap = over.has.sum in
-      let most : slot_time ≤ over.trip = over.most in
-      elim is_grown.grown [
-        | inl same ↦ omega arith
-        | inr (longer, crossed) ↦ none_crossed is over.a over.b is_grown.short over.different crossed
-      ]
-
-  grown_short : (x : ℕ) (w : Worst) → IsWorstPair (IsCrossed l v C) (Some w) → 2 * (w.length + x) + interframe_gap < slot_time → IsOverlong (m x) → ⊥
-  grown_short x w is fits over =
+  -- where each crossed pair's trip is short with its path x longer, all trips are
+  short_by : (x : ℕ) → ((a b n : ℕ) → a ≢ b → IsCrossed l v C a b n → 2 * (n + x) + interframe_gap < slot_time) → IsOverlong (m x) → ⊥
+  short_by x small over =
       let is_grown : IsGrown l (m x) x v part C sound (g x) over.a over.b over.has.distance = grown l (m x) x v part C sound (g x) over.a over.b over.has.distance over.different over.has.apart in
       let low : 2 * is_grown.short + interframe_gap < slot_time = trip_short over.a over.b is_grown.short over.different is_grown.apart in
       let sum : over.trip ≡ 2 * over.has.distance + interframe_gap = over.has.sum in
@@ -63,9 +53,15 @@ module _ (l : Layout) (v : Way) (part : ℕ) (C : Tap → Tap → Type 0) (m : �
       elim is_grown.grown [
         | inl same ↦ omega arith
         | inr (longer, crossed) ↦
-            let bound : is_grown.short ≤ w.length = crossed_most w is over.a over.b is_grown.short over.different crossed in
+            let still : 2 * (is_grown.short + x) + interframe_gap < slot_time = small over.a over.b is_grown.short over.different crossed in
             omega arith
       ]
+
+  no_crossed_short : (x : ℕ) → IsWorstPair (IsCrossed l v C) None → IsOverlong (m x) → ⊥
+  no_crossed_short x is over = short_by x (λ a b n ne h. absurd (none_crossed is a b n ne h)) over
+
+  grown_short : (x : ℕ) (w : Worst) → IsWorstPair (IsCrossed l v C) (Some w) → 2 * (w.length + x) + interframe_gap < slot_time → IsOverlong (m x) → ⊥
+  grown_short x w is fits over = short_by x (λ a b n ne h. let bound : n ≤ w.length = crossed_most w is a b n ne h in omega arith) over
 
   worst_trip : (x : ℕ) (w : Worst) → IsWorstPair (IsCrossed l v C) (Some w) → IsRoundTrip (m x) w.a w.b (2 * (w.length + x) + interframe_gap)
   worst_trip x w is = record { distance = w.length + x; apart = crossed_longer l (m x) x v part C sound (g x) w.a w.b w.length is.1; sum = refl }

@@ -1,41 +1,20 @@
 -- A layout has too long a round trip exactly where its verdict is Over.
-use Rattle.std.proofs.Common.{◌≡◌, ◌≢◌, refl, sym, subst, ℕ, ◌<◌, ◌≤◌, ◌↔◌, true, false, List, [], ◌∷◌, length, Some, slice_get, arith}
+use Rattle.std.proofs.Common.{◌≡◌, ◌≢◌, refl, sym, subst, ℕ, ◌<◌, ◌≤◌, ◌↔◌, true, false, length, arith}
 use Rattle.std.proofs.lemmas.Bool.{false≢true}
-use Rattle.std.proofs.lemmas.Option.{slice_get_within}
 use Rattle.mac_parameters.specs.Parameters.{slot_time}
 use Rattle.layout.specs.declared.lines.Layout.{Layout}
-use Rattle.layout.specs.declared.lines.StationLine.{StationLine}
-use Rattle.layout.specs.declared.ways.Tap.{Tap}
 use Rattle.layout.specs.declared.ways.Tap.TheVariants.{Station}
-use Rattle.layout.specs.declared.ways.Way.{Way}
-use Rattle.layout.specs.Paths.{IsTap, other_way, IsWalk, IsDistance}
-use Rattle.layout.specs.Taps.{tap_of}
-use Rattle.layout.proofs.Cuts.{mapped, steps_to}
+use Rattle.layout.specs.Paths.{IsDistance}
 use Rattle.layout.proofs.WalksBack.{distance_back}
 use Rattle.path_checker.specs.declared.verdict.PathVerdict.{PathVerdict}
 use Rattle.path_checker.specs.declared.verdict.PathVerdict.TheVariants.{Within, Over, NoPair}
 use Rattle.path_checker.specs.Verdicts.{IsVerdict}
+use Rattle.path_checker.proofs.WorstPair.{apart_within}
 use Rattle.path_slack.specs.Slacks.{IsOverlong}
-
-ends_at : (l : Layout) (w : Way) (a t : Tap) (ts : List Tap) (b : Tap) → IsWalk l w a (t ∷ ts) b → IsTap l b
-ends_at l w a t [] b walk = subst (IsTap l) walk.1 (steps_to l w a t walk.0)
-ends_at l w a t (u ∷ us) b walk = ends_at l (other_way w) t u us b walk.1
-
-path_ends : (l : Layout) (w : Way) (a : Tap) (ts : List Tap) (b : Tap) → a ≢ b → IsWalk l w a ts b → IsTap l b
-path_ends l w a [] b ne walk = absurd (ne walk)
-path_ends l w a (t ∷ ts) b ne walk = ends_at l w a t ts b walk
-
-station_within : (l : Layout) (k : ℕ) → IsTap l (Station k) → k < length l.stations
-station_within l k is =
-    let found : (s : StationLine) × (slice_get l.stations k ≡ Some s) = mapped tap_of (slice_get l.stations k) is.0 is.1 in
-    slice_get_within l.stations k found.0 found.1
-
-stations_unlike : (a b : ℕ) → a ≢ b → Station a ≢ Station b
-stations_unlike a b ne = λ e. ne (cc)
 
 -- stations with a distance are the layout's
 pub second_within : (l : Layout) (a b n : ℕ) → a ≢ b → IsDistance l (Station a) (Station b) n → b < length l.stations
-second_within l a b n ne d = station_within l b (path_ends l d.path.begins (Station a) d.path.taps (Station b) (stations_unlike a b ne) d.leads)
+second_within l a b n ne d = apart_within l a n b (ne, d)
 
 pub first_within : (l : Layout) (a b n : ℕ) → a ≢ b → IsDistance l (Station a) (Station b) n → a < length l.stations
 first_within l a b n ne d = second_within l b a n (λ e. ne (sym e)) (distance_back l (Station a) (Station b) n d)

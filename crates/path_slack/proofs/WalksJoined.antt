@@ -1,55 +1,31 @@
--- Two walks that begin at the ends of a step make one path.
-use Rattle.std.proofs.Common.{◌≡◌, refl, sym, ◌∙◌, ap, subst, ℕ, ◌+◌, List, [], ◌∷◌, Some, arith}
+-- Two walks that begin at the ends of a step make one path, either way round.
+use Rattle.std.proofs.Common.{◌≡◌, refl, subst, ℕ, ◌+◌, List, ◌∷◌, arith}
 use Rattle.layout.specs.declared.lines.Layout.{Layout}
 use Rattle.layout.specs.declared.ways.Tap.{Tap}
-use Rattle.layout.specs.declared.ways.Tap.TheVariants.{Station, Port}
 use Rattle.layout.specs.declared.ways.Way.{Way}
-use Rattle.layout.specs.declared.ways.Way.TheVariants as way
-use Rattle.layout.specs.Paths.{part_by, IsStep, other_way, IsWalk, at_of, delay_of, step_length, walk_length, IsDistance}
-use Rattle.mac_parameters.specs.Distances.{distance}
-use Rattle.layout.proofs.PathsOverEdges.{other-other}
-use Rattle.layout.proofs.Sides.{repeater_number}
-use Rattle.layout.proofs.WalksBack.{distance_back}
-
-pub step_back : (l : Layout) (w : Way) (a b : Tap) → IsStep l w a b → IsStep l w b a
-step_back l w a b s = record { different = λ e. s.different (sym e); part = s.part; from = s.to; to = s.from }
-
-row_delay : (l : Layout) (a b : Tap) (part : ℕ) → part_by l way.Repeater a ≡ Some part → part_by l way.Repeater b ≡ Some part → delay_of l a ≡ delay_of l b
-row_delay l (Station k) b part h k' = absurd (cc)
-row_delay l (Port r p) (Station j) part h k' = absurd (cc)
-row_delay l (Port r p) (Port s q) part h k' =
-    let same : r ≡ s = repeater_number l r p part h ∙ sym (repeater_number l s q part k') in
-    rw same refl
-
-either_way : (x y : ℕ) → distance x y ≡ distance y x
-either_way x y = omega arith
-
-pub length_back : (l : Layout) (w : Way) (a b : Tap) → IsStep l w a b → step_length l w a b ≡ step_length l w b a
-length_back l way.Cable a b s = either_way (at_of l a) (at_of l b)
-length_back l way.Repeater a b s = row_delay l a b s.part s.from s.to
-
--- over these taps, and then back over those that were before
-onto : (l : Layout) (w : Way) (a c : Tap) (rs ts : List Tap) (b : Tap) (m n : ℕ) → IsWalk l (other_way w) c rs a → walk_length l (other_way w) c rs ≡ m → IsWalk l w c ts b → walk_length l w c ts ≡ n → IsDistance l b a (m + n)
-onto l w a c rs [] b m n before so_far walk long =
-    let none : n ≡ 0 = sym long in
-    let all : m ≡ m + n = omega arith in
-    record {
-      path = record { begins = other_way w; taps = rs };
-      leads = subst (λ (x : Tap). IsWalk l (other_way w) x rs a) walk before;
-      long = subst (λ (x : Tap). walk_length l (other_way w) x rs ≡ m + n) walk (so_far ∙ all);
-    }
-onto l w a c rs (t ∷ ts) b m n before so_far walk long =
-    let again : IsWalk l (other_way (other_way w)) t (c ∷ rs) a = subst (λ (u : Way). IsWalk l u t (c ∷ rs) a) (sym (other-other w)) (step_back l w c t walk.0, before) in
-    let one : step_length l w c t ≡ step_length l w t c = length_back l w c t walk.0 in
-    let more : walk_length l w t (c ∷ rs) ≡ step_length l w t c + m = ap (λ (x : ℕ). step_length l w t c + x) so_far in
-    let over : walk_length l (other_way (other_way w)) t (c ∷ rs) ≡ step_length l w c t + m = subst (λ (u : Way). walk_length l u t (c ∷ rs) ≡ step_length l w c t + m) (sym (other-other w)) (more ∙ ap (λ (x : ℕ). x + m) (sym one)) in
-    let rest : step_length l w c t + walk_length l (other_way w) t ts ≡ n = long in
-    let sum : step_length l w c t + m + walk_length l (other_way w) t ts ≡ m + n = omega arith in
-    subst (λ (x : ℕ). IsDistance l b a x) sum (onto l (other_way w) a t (c ∷ rs) ts b (step_length l w c t + m) (walk_length l (other_way w) t ts) again over walk.1 refl)
+use Rattle.layout.specs.Paths.{IsStep, other_way, IsWalk, step_length, walk_length, IsDistance}
+use Rattle.layout.proofs.WalksBack.{step_back, step_length-back, back, distance_back}
+use Rattle.path_slack.specs.Crossings.{IsCrossed}
 
 pub joined : (l : Layout) (w : Way) (near far a b : Tap) (rs us : List Tap) → IsStep l w near far → IsWalk l (other_way w) near rs a → IsWalk l (other_way w) far us b
     → IsDistance l a b (walk_length l (other_way w) near rs + step_length l w near far + walk_length l (other_way w) far us)
 joined l w near far a b rs us step before after =
-    let there : IsDistance l b a (walk_length l (other_way w) near rs + walk_length l w near (far ∷ us)) = onto l w a near rs (far ∷ us) b (walk_length l (other_way w) near rs) (walk_length l w near (far ∷ us)) before refl (step, after) refl in
+    let there : IsDistance l b a (walk_length l (other_way w) near rs + walk_length l w near (far ∷ us)) = back l w a near rs (far ∷ us) b (walk_length l (other_way w) near rs) (walk_length l w near (far ∷ us)) before refl (step, after) refl in
     let sum : walk_length l (other_way w) near rs + walk_length l w near (far ∷ us) ≡ walk_length l (other_way w) near rs + step_length l w near far + walk_length l (other_way w) far us = omega arith in
     distance_back l b a (walk_length l (other_way w) near rs + step_length l w near far + walk_length l (other_way w) far us) (subst (λ (x : ℕ). IsDistance l b a x) sum there)
+
+unfoldable pub crossed_turned : (l : Layout) (v : Way) (C : Tap → Tap → Type 0) → ((a b : Tap) → IsStep l v a b → C a b → C b a) → (a b n : ℕ) → IsCrossed l v C a b n → IsCrossed l v C b a n
+crossed_turned l v C turn a b n h =
+    let same : step_length l v h.near h.far ≡ step_length l v h.far h.near = step_length-back l v h.near h.far h.step in
+    let sum : h.before + step_length l v h.near h.far + h.after ≡ n = h.sum in
+    record {
+      near = h.far;
+      far = h.near;
+      step = step_back l v h.near h.far h.step;
+      over = turn h.near h.far h.step h.over;
+      before = h.after;
+      after = h.before;
+      start = h.finish;
+      finish = h.start;
+      sum = omega arith;
+    }

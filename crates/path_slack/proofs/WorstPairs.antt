@@ -1,10 +1,11 @@
 -- The worst pair of what two sides reach, and of two kinds of pairs.
 use Rattle.std.proofs.Common.{◌≡◌, ◌⊎◌, refl, sym, subst, inl, inr, ℕ, ◌+◌, ◌<◌, ◌≤◌, ltb, cond, Option, None, Some, arith}
 use Rattle.std.proofs.lemmas.Bool.{cond_both, ltb-true, ltb-false, cases_lt}
+use Rattle.path_checker.specs.declared.far.Far.{Far}
+use Rattle.path_checker.specs.Far.{IsFarthest}
 use Rattle.path_checker.specs.Verdicts.{IsNoLater}
-use Rattle.path_slack.specs.declared.reach.Reach.{Reach}
 use Rattle.path_slack.specs.declared.worst.Worst.{Worst}
-use Rattle.path_slack.specs.Reaches.{IsFarthestReach, pair_over, worse_pair, worse_of, IsWorstPair}
+use Rattle.path_slack.specs.Pairs.{pair_over, worse_pair, worse_of, IsWorstPair}
 
 -- the same is the worst of the same pairs
 pub worst_same : (Q R : ℕ → ℕ → ℕ → Type 0) → ((a b n : ℕ) → Q a b n → R a b n) → ((a b n : ℕ) → R a b n → Q a b n) → (w : Option Worst) → IsWorstPair Q w → IsWorstPair R w
@@ -77,8 +78,16 @@ pub record IsOneWay (L R : ℕ → ℕ → Type 0) (a b n : ℕ) : Type 0 where
 abbrev pub IsByBoth : (ℕ → ℕ → Type 0) → (ℕ → ℕ → Type 0) → ℕ → ℕ → ℕ → Type 0
 IsByBoth L R a b n = IsOneWay L R a b n ⊎ IsOneWay L R b a n
 
-module _ (L R : ℕ → ℕ → Type 0) (apart : (p q s : ℕ) → L p s → R q s → ⊥) where
-  least_one_way : (x y : Reach) → IsFarthestReach L (Some x) → IsFarthestReach R (Some y) → (a b n : ℕ) → IsOneWay L R a b n
+one_turned : (L R : ℕ → ℕ → Type 0) (a b n : ℕ) → IsOneWay L R a b n → IsOneWay R L b a n
+one_turned L R a b n h =
+    let sum : h.p + h.q ≡ n = h.sum in
+    record { p = h.q; q = h.p; near = h.far; far = h.near; sum = omega arith }
+
+sides_turned : (L R : ℕ → ℕ → Type 0) (a b n : ℕ) → IsByBoth L R a b n → IsByBoth R L a b n
+sides_turned L R a b n h = elim h [ inl one ↦ inr (one_turned L R a b n one) | inr two ↦ inl (one_turned L R b a n two) ]
+
+module _ (L R : ℕ → ℕ → Type 0) where
+  least_one_way : (x y : Far) → IsFarthest L (Some x) → IsFarthest R (Some y) → (a b n : ℕ) → IsOneWay L R a b n
       → (n < x.length + y.length) ⊎ ((n ≡ x.length + y.length) × (x.station ≤ a) × (y.station ≤ b))
   least_one_way x y l r a b n h =
       let sum : h.p + h.q ≡ n = h.sum in
@@ -87,7 +96,7 @@ module _ (L R : ℕ → ℕ → Type 0) (apart : (p q s : ℕ) → L p s → R q
         | inr (equal, over) ↦ elim (r.1 h.q b h.far) [ inl low ↦ inl (omega arith) | inr (same, after) ↦ inr (omega arith, over, after) ]
       ]
 
-  both_low : (x y : Reach) → IsFarthestReach L (Some x) → IsFarthestReach R (Some y) → x.station < y.station → IsWorstPair (IsByBoth L R) (Some (record { length = x.length + y.length; a = x.station; b = y.station }))
+  both_low : (x y : Far) → IsFarthest L (Some x) → IsFarthest R (Some y) → x.station < y.station → IsWorstPair (IsByBoth L R) (Some (record { length = x.length + y.length; a = x.station; b = y.station }))
   both_low x y l r low = (
     low,
     inl (record { p = x.length; q = y.length; near = l.0; far = r.0; sum = refl }),
@@ -104,32 +113,23 @@ module _ (L R : ℕ → ℕ → Type 0) (apart : (p q s : ℕ) → L p s → R q
         ],
   )
 
-  both_high : (x y : Reach) → IsFarthestReach L (Some x) → IsFarthestReach R (Some y) → y.station < x.station → IsWorstPair (IsByBoth L R) (Some (record { length = x.length + y.length; a = y.station; b = x.station }))
-  both_high x y l r low = (
-    low,
-    inr (record { p = x.length; q = y.length; near = l.0; far = r.0; sum = refl }),
-    λ a b n order h.
-        elim h [
-          | inl one ↦ elim (least_one_way x y l r a b n one) [
-            | inl less ↦ inl less
-            | inr (same, p, q) ↦ inr (same, inl (omega arith))
-          ]
-          | inr two ↦ elim (least_one_way x y l r b a n two) [
-            | inl less ↦ inl less
-            | inr (same, p, q) ↦ inr (same, elim (cases_lt y.station a) [ inl less ↦ inl less | inr most ↦ inr (omega arith, p) ])
-          ]
-        ],
-  )
+-- the same, where the station of the second side is the lower one
+both_high : (L R : ℕ → ℕ → Type 0) (x y : Far) → IsFarthest L (Some x) → IsFarthest R (Some y) → y.station < x.station → IsWorstPair (IsByBoth L R) (Some (record { length = x.length + y.length; a = y.station; b = x.station }))
+both_high L R x y l r low =
+    let sum : y.length + x.length ≡ x.length + y.length = omega arith in
+    subst (λ (n : ℕ). IsWorstPair (IsByBoth L R) (Some (record { length = n; a = y.station; b = x.station }))) sum
+    (worst_same (IsByBoth R L) (IsByBoth L R) (sides_turned R L) (sides_turned L R) (Some (record { length = y.length + x.length; a = y.station; b = x.station })) (both_low R L y x r l low))
 
-  pub worst_over_both : (x y : Option Reach) → IsFarthestReach L x → IsFarthestReach R y → IsWorstPair (IsByBoth L R) (pair_over x y)
+module _ (L R : ℕ → ℕ → Type 0) (apart : (p q s : ℕ) → L p s → R q s → ⊥) where
+  pub worst_over_both : (x y : Option Far) → IsFarthest L x → IsFarthest R y → IsWorstPair (IsByBoth L R) (pair_over x y)
   worst_over_both None y l r = λ a b n low h. elim h [ inl one ↦ l one.p a one.near | inr two ↦ l two.p b two.near ]
   worst_over_both (Some x) None l r = λ a b n low h. elim h [ inl one ↦ r one.q b one.far | inr two ↦ r two.q a two.far ]
   worst_over_both (Some x) (Some y) l r =
       cond_both (ltb x.station y.station) (record { length = x.length + y.length; a = x.station; b = y.station }) (record { length = x.length + y.length; a = y.station; b = x.station }) (λ (w : Worst). IsWorstPair (IsByBoth L R) (Some w))
-      (λ low. both_low x y l r (ltb-true x.station y.station low))
+      (λ low. both_low L R x y l r (ltb-true x.station y.station low))
       (λ most.
       let high : y.station ≤ x.station = ltb-false x.station y.station most in
       elim (cases_lt y.station x.station) [
-        | inl less ↦ both_high x y l r less
+        | inl less ↦ both_high L R x y l r less
         | inr least ↦ absurd (apart x.length y.length x.station l.0 (subst (λ (s : ℕ). R y.length s) (let same : y.station ≡ x.station = omega arith in same) r.0))
       ])

@@ -1,5 +1,5 @@
 pub mod Lengthened
 pub mod Crossings
-pub mod Reaches
-pub mod Parts
+pub mod Pairs
+pub mod Branches
 pub mod Slacks

@@ -4,24 +4,23 @@ ghost use Rattle.mac_parameters.specs.Parameters.{greatest_place};
 ghost use Rattle.layout.specs.Sound.{IsSound};
 ghost use Rattle.layout.specs.declared.ways.Way.TheVariants as way;
 ghost use Rattle.path_slack.specs.Crossings.{IsCrossed, OverPiece, ThroughRepeater};
-ghost use Rattle.path_slack.specs.Parts.{ArePartsOf, AreBranchesOf};
-ghost use Rattle.path_slack.specs.Reaches.{IsWorstPair};
+ghost use Rattle.path_checker.specs.Far.{IsStop, IsReach, IsFarthest, IsRight};
+ghost use Rattle.path_checker.specs.Stops.{IsNetworkOf};
+ghost use Rattle.path_slack.specs.Branches.{AreBranchesOf};
+ghost use Rattle.path_slack.specs.Pairs.{IsWorstPair};
 
-use crate::parts::Parts;
-use crate::reach::{Reach, at_of, farther, farthest, reach_after};
+use crate::places::at_of;
 use crate::worst::{Worst, pair_over, worse};
 use layout::{Layout, Tap, Way};
 use lists::{List, OutOfMemory};
+use path_checker::{Far, MOST_TAPS, Network, Stop, Table, farther, farthest, lengthened};
 use std::alloc::Global;
-
-/// As many taps as a layout can have.
-const MOST_TAPS: u32 = 5_120;
 
 /// A tap, and the station that is farthest from it off its cable.
 #[derive(Clone, Copy, Debug, PartialEq, Eq)]
 pub struct Branch {
     pub tap: Tap,
-    pub far: Option<Reach>,
+    pub far: Option<Far>,
 }
 
 /// The branches of a segment, one for each of its taps.
@@ -31,24 +30,42 @@ pub struct Branches {
     pub list: List<Branch>,
 }
 
-/// The branches of a segment.
+/// The station that is farthest from a tap off its cable: from a station that is itself.
+fn off_cable(layout: &Layout, network: &Network, table: &mut Table, stop: &Stop) -> Option<Far>
+    requires sound { IsSound layout.now }
+    requires network { IsNetworkOf layout.now network.now }
+    requires table { IsRight layout.now table.old }
+    requires stop { IsStop layout.now stop.now }
+    ensures far { IsFarthest (IsReach layout.now way.Repeater stop.now.tap) result }
+    ensures table { IsRight layout.now table.new }
+{
+    if let Tap::Station(station) = stop.tap {
+        return Some(Far { length: 0, station });
+    }
+    farthest(layout, network, table, Way::Repeater, stop, MOST_TAPS)
+}
+
+/// The branches of a segment. The table is that of `farthest`.
 pub fn branches_of(
     alloc: Global,
     layout: &Layout,
-    parts: &Parts,
+    network: &Network,
+    table: &mut Table,
     segment: u32,
 ) -> Result<Branches, OutOfMemory>
     requires sound { IsSound layout.now }
-    requires parts { ArePartsOf layout.now parts.now }
+    requires network { IsNetworkOf layout.now network.now }
+    requires table { IsRight layout.now table.old }
     ensures segment { IfOk result (λ bs. bs.segment ≡ segment) }
     ensures list { IfOk result (λ bs. AreBranchesOf layout.now segment bs.list) }
+    ensures table { IsRight layout.now table.new }
 {
-    let taps = parts.taps(Way::Cable, segment);
+    let stops = network.taps_on(segment);
     let mut list = List::new(alloc);
-    for k in 0..taps.len() {
-        let tap = taps[k];
-        let far = farthest(layout, parts, Way::Repeater, tap, MOST_TAPS);
-        list.push(Branch { tap, far })?;
+    for k in 0..stops.len() {
+        let stop = stops[k];
+        let far = off_cable(layout, network, table, &stop);
+        list.push(Branch { tap: stop.tap, far })?;
     }
     Ok(Branches { segment, list })
 }
@@ -67,31 +84,43 @@ pub fn worst_over(layout: &Layout, branches: &Branches, high: u32) -> Option<Wor
         let branch = list[k];
         let at = at_of(layout, branch.tap);
         if at < high {
-            below = farther(below, reach_after(high - at, branch.far));
+            below = farther(below, lengthened(high - at, branch.far));
             continue;
         }
-        above = farther(above, reach_after(at - high, branch.far));
+        above = farther(above, lengthened(at - high, branch.far));
     }
     pair_over(below, above)
 }
 
-/// The pair of stations that is farthest apart through a repeater.
-pub fn worst_through(layout: &Layout, parts: &Parts, repeater: u32) -> Option<Worst>
+/// The pair of stations that is farthest apart through a repeater. The table is that of `farthest`.
+pub fn worst_through(
+    layout: &Layout,
+    network: &Network,
+    table: &mut Table,
+    repeater: u32,
+) -> Option<Worst>
     requires sound { IsSound layout.now }
-    requires parts { ArePartsOf layout.now parts.now }
+    requires network { IsNetworkOf layout.now network.now }
+    requires table { IsRight layout.now table.old }
     requires repeater { repeater < length layout.now.repeaters }
-    ensures { IsWorstPair (IsCrossed layout.now way.Repeater (ThroughRepeater layout.now repeater)) result }
+    ensures worst { IsWorstPair (IsCrossed layout.now way.Repeater (ThroughRepeater layout.now repeater)) result }
+    ensures table { IsRight layout.now table.new }
 {
     let line = layout.repeaters.get(repeater as usize);
     let mut seen = None;
     let mut worst = None;
     for k in 0..line.ports.len() {
-        let port = Tap::Port {
-            repeater,
-            port: k as u32,
+        let port = *line.ports.get(k);
+        let stop = Stop {
+            tap: Tap::Port {
+                repeater,
+                port: k as u32,
+            },
+            segment: port.segment,
+            at: port.at,
         };
-        let far = farthest(layout, parts, Way::Cable, port, MOST_TAPS);
-        worst = worse(worst, pair_over(seen, reach_after(line.delay, far)));
+        let far = farthest(layout, network, table, Way::Cable, &stop, MOST_TAPS);
+        worst = worse(worst, pair_over(seen, lengthened(line.delay, far)));
         seen = farther(seen, far);
     }
     worst

@@ -3,8 +3,7 @@
 
 mod branches;
 mod lengthen;
-mod parts;
-mod reach;
+mod places;
 mod slack;
 mod worst;
 

@@ -4,19 +4,20 @@ ghost use Rattle.std.specs.Option.{ForSome};
 ghost use Rattle.mac_parameters.specs.Parameters.{slot_time, interframe_gap};
 ghost use Rattle.layout.specs.Joined.{counted_up};
 ghost use Rattle.layout.specs.Sound.{IsSound};
-ghost use Rattle.path_slack.specs.Parts.{ArePartsOf, AreBranchesOf};
+ghost use Rattle.path_checker.specs.Far.{IsRight};
+ghost use Rattle.path_checker.specs.Stops.{IsNetworkOf};
+ghost use Rattle.path_slack.specs.Branches.{AreBranchesOf};
 ghost use Rattle.path_slack.specs.Lengthened.{lengthened_gap, lengthened_delay};
 ghost use Rattle.path_slack.specs.Slacks.{IsOverlong, IsSlack, IsReckoned, HasTapAt, lower_place, IsFirstPlace, IsLastPlace, AreGapsBelow, AreGaps, IsGapSlack, IsDelaySlack};
 
 use crate::branches::{Branches, branches_of, worst_over, worst_through};
 use crate::lengthen::MOST_DELAY;
-use crate::parts::{Parts, parts_of};
-use crate::reach::at_of;
+use crate::places::at_of;
 use crate::worst::Worst;
 use layout::Layout;
 use lists::{List, OutOfMemory};
 use mac_parameters::{GREATEST_PLACE, INTERFRAME_GAP, SLOT_TIME};
-use path_checker::{PathVerdict, check_paths};
+use path_checker::{Network, PathVerdict, Table, check_paths, network_of, open_table};
 use std::alloc::Global;
 
 /// What stops a lengthening.
@@ -193,46 +194,62 @@ fn push_gaps(
 fn gap_slacks(
     alloc: Global,
     layout: &Layout,
-    parts: &Parts,
+    network: &Network,
+    table: &mut Table,
     over: bool,
 ) -> Result<GapList, OutOfMemory>
     requires sound { IsSound layout.now }
-    requires parts { ArePartsOf layout.now parts.now }
+    requires network { IsNetworkOf layout.now network.now }
+    requires table { IsRight layout.now table.old }
     requires over { (over ≡ true) ↔ IsOverlong layout.now }
     ensures gaps { IfOk result (AreGaps layout.now) }
     ensures slacks { IfOk result (All (IsGapSlack layout.now)) }
+    ensures table { IsRight layout.now table.new }
 {
     let mut gaps = List::new(alloc);
     for segment in 0..layout.segments.len() {
-        let branches = branches_of(alloc, layout, parts, segment as u32)?;
+        let branches = branches_of(alloc, layout, network, table, segment as u32)?;
         push_gaps(&mut gaps, layout, &branches, over)?;
     }
     Ok(gaps)
 }
 
 /// The slack of a repeater's delay.
-fn delay_slack(layout: &Layout, parts: &Parts, repeater: u32, over: bool) -> Option<(u32, Limit)>
+fn delay_slack(
+    layout: &Layout,
+    network: &Network,
+    table: &mut Table,
+    repeater: u32,
+    over: bool,
+) -> Option<(u32, Limit)>
     requires sound { IsSound layout.now }
-    requires parts { ArePartsOf layout.now parts.now }
+    requires network { IsNetworkOf layout.now network.now }
+    requires table { IsRight layout.now table.old }
     requires repeater { repeater < length layout.now.repeaters }
     requires over { (over ≡ true) ↔ IsOverlong layout.now }
-    ensures { IsSlack layout.now (lengthened_delay layout.now repeater) result }
+    ensures slack { IsSlack layout.now (lengthened_delay layout.now repeater) result }
+    ensures table { IsRight layout.now table.new }
 {
     if over {
         return None;
     }
     let delay = layout.repeaters.get(repeater as usize).delay;
-    Some(reckoned(MOST_DELAY - delay, worst_through(layout, parts, repeater)))
+    Some(reckoned(
+        MOST_DELAY - delay,
+        worst_through(layout, network, table, repeater),
+    ))
 }
 
 fn delay_slacks(
     alloc: Global,
     layout: &Layout,
-    parts: &Parts,
+    network: &Network,
+    table: &mut Table,
     over: bool,
 ) -> Result<DelayList, OutOfMemory>
     requires sound { IsSound layout.now }
-    requires parts { ArePartsOf layout.now parts.now }
+    requires network { IsNetworkOf layout.now network.now }
+    requires table { IsRight layout.now table.old }
     requires over { (over ≡ true) ↔ IsOverlong layout.now }
     ensures repeaters { IfOk result (λ ds. map (λ d. d.repeater) ds ≡ counted_up (length layout.now.repeaters)) }
     ensures slacks { IfOk result (All (IsDelaySlack layout.now)) }
@@ -242,7 +259,7 @@ fn delay_slacks(
         let repeater = k as u32;
         delays.push(DelaySlack {
             repeater,
-            slack: delay_slack(layout, parts, repeater, over),
+            slack: delay_slack(layout, network, table, repeater, over),
         })?;
     }
     Ok(delays)
@@ -261,8 +278,9 @@ pub fn path_slack(alloc: Global, layout: &Layout) -> Result<Slacks, OutOfMemory>
     ensures delay_slacks { IfOk result (λ s. All (IsDelaySlack layout.now) s.delays) }
 {
     let over = is_over(alloc, layout)?;
-    let parts = parts_of(alloc, layout)?;
-    let gaps = gap_slacks(alloc, layout, &parts, over)?;
-    let delays = delay_slacks(alloc, layout, &parts, over)?;
+    let network = network_of(alloc, layout)?;
+    let mut table = open_table(alloc, layout.repeaters.len())?;
+    let gaps = gap_slacks(alloc, layout, &network, &mut table, over)?;
+    let delays = delay_slacks(alloc, layout, &network, &mut table, over)?;
     Ok(Slacks { gaps, delays })
 }

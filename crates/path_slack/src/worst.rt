@@ -1,9 +1,9 @@
 //! The pair of stations that is farthest apart.
 ghost use Rattle.std.specs.Prelude.{◌≡◌, ℕ, ◌+◌, ◌^◌, ◌<◌, ◌≤◌};
 ghost use Rattle.std.specs.Option.{ForSome};
-ghost use Rattle.path_slack.specs.Reaches.{pair_over, worse_of, worse_pair};
+ghost use Rattle.path_slack.specs.Pairs.{pair_over, worse_of, worse_pair};
 
-use crate::reach::Reach;
+use path_checker::Far;
 
 /// Two stations, the lower one first, and how far apart they are in half bits.
 #[derive(Clone, Copy, Debug, PartialEq, Eq)]
@@ -14,7 +14,7 @@ pub struct Worst {
 }
 
 /// The pair of the stations that two sides reach.
-pub fn pair_over(near: Option<Reach>, far: Option<Reach>) -> Option<Worst>
+pub fn pair_over(near: Option<Far>, far: Option<Far>) -> Option<Worst>
     requires near { ForSome near (λ r. r.length < 2 ^ 30) }
     requires far { ForSome far (λ r. r.length < 2 ^ 30) }
     ensures { result ≡ pair_over near far }

@@ -1,5 +1,5 @@
 -- The calm is exact: nothing happens in so many silent half bits, and something does in the next. What they leave.
-use Rattle.std.proofs.Common.{◌≡◌, ℕ, zero, suc, ◌*◌, ◌<◌, ◌≤◌, min, true, false, not, cond, ◌&&◌, List, [], ◌∷◌, length, map, replicate, inl, inr, refl, sym, ap, ap₂, subst, ◌∙◌, arith, length-take-le}
+use Rattle.std.proofs.Common.{◌≡◌, ℕ, zero, suc, ◌*◌, ◌<◌, ◌≤◌, min, Bool, true, false, not, cond, ◌&&◌, List, [], ◌∷◌, length, map, replicate, inl, inr, refl, sym, ap, ap₂, subst, ◌∙◌, arith, length-take-le}
 use Rattle.std.proofs.lemmas.Bool.{cases_eq, cases_Bool, cases_lt, cond_both}
 use Rattle.std.proofs.lemmas.Bool.Decides.{nat_tests}
 use Rattle.std.proofs.lemmas.List.{length-replicate, length-map}
@@ -178,6 +178,10 @@ calm_shut r a b e f g = ap (λ b. cond b 0 (min (ports_calm r.mode 0 r.counts) (
 pub calm_is : (n : ℕ) (r : State) → IsState r → calm_of r ≡ n → IsCalm r n
 calm_is n r h e = let most = calm_at_most_of r h in record { at_most = omega arith; uneventful = λ k l. uneventful_at k r h (let w : k < calm_of r = omega arith in w) }
 
+calm_told : (n : ℕ) (r s : State) → r ≡ s → IsState r → calm_of r ≡ n → IsCalm s n × (n < most_calm → ¬ IsUneventful (iterate silent_step n s))
+calm_told n r s same h e =
+    (subst (λ r. IsCalm r n) same (calm_is n r h e), subst (λ r. n < most_calm → ¬ IsUneventful (iterate silent_step n r)) same (eventful_at n r h e))
+
 -- as many half bits as the calm, or fewer
 pub calm_within : (n : ℕ) (r : State) → IsState r → IsCalm r n → n ≤ calm_of r
 calm_within n r h c = elim (cases_lt (calm_of r) n) [
@@ -230,3 +234,26 @@ leapt n r mode guards counts line h c l m g k e =
     let parts : State = record { mode = iterate silent_mode n r.mode; guards = iterate (map silent_guard) n r.guards; counts = iterate (map silent_count) n r.counts; line = iterate silent_line n r.line } in
     same_state (record { mode = mode; guards = guards; counts = counts; line = line }) parts m (g ∙ sym (guards_leap n r.guards l)) (k ∙ sym (counts_leap n r.counts)) e
     ∙ sym (leaps n r h (calm_within n r h c))
+
+-- what a repeater's calls give of it, told of the same repeater s as the contract names it: its calm where a port opens ..
+pub calm_where_open : (r s : State) (gs : List Guard) (b : Bool) → r ≡ s → IsState r → b ≡ any_opens gs → gs ≡ r.guards → b ≡ true
+    → IsCalm s 0 × (0 < most_calm → ¬ IsUneventful (iterate silent_step 0 s))
+calm_where_open r s gs b same h opens guards e = calm_told 0 r s same h (calm_opens r (ap any_opens (sym guards) ∙ sym opens ∙ e))
+
+-- .. and where none does ..
+pub calm_where_shut : (r s : State) (gs : List Guard) (cs : List Count) (b : Bool) (ports line n : ℕ) → r ≡ s → IsState r → b ≡ any_opens gs → gs ≡ r.guards → b ≡ false
+    → ports ≡ ports_calm r.mode 0 cs → cs ≡ r.counts → line ≡ line_calm r.line → n ≡ min ports line
+    → IsCalm s n × (n < most_calm → ¬ IsUneventful (iterate silent_step n s))
+calm_where_shut r s gs cs b ports line n same h opens guards e calm counts lines least =
+    calm_told n r s same h
+    (calm_shut r ports line (ap any_opens (sym guards) ∙ sym opens ∙ e) (calm ∙ ap (ports_calm r.mode 0) counts) lines ∙ sym least)
+
+-- .. and the repeater after a leap
+pub leap_told : (n : ℕ) (r s : State) (mode : Mode) (gs gs' : List Guard) (cs cs' : List Count) (line : Delayed) → r ≡ s → IsState r → IsCalm s n → 0 < n
+    → mode ≡ iterate silent_mode n r.mode → gs ≡ r.guards → cs ≡ r.counts → gs' ≡ map silent_guard gs → cs' ≡ map (λ c. iterate silent_count n c) cs → line ≡ iterate silent_line n r.line
+    → IsState (record { mode = mode; guards = gs'; counts = cs'; line = line }) × (◌≡◌ {A = State} (record { mode = mode; guards = gs'; counts = cs'; line = line }) (iterate silent_step n s))
+leap_told n r s mode gs gs' cs cs' line same h calm some m g k later_guards later_counts e =
+    let is =
+    leapt n r mode gs' cs' line h (subst (λ r. IsCalm r n) (sym same) calm) some m
+    (later_guards ∙ ap (map silent_guard) g) (later_counts ∙ ap (map (λ c. iterate silent_count n c)) k) e in
+    (subst IsState (sym is) (state_at n r h), is ∙ ap (iterate silent_step n) same)

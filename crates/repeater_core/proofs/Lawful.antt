@@ -88,6 +88,10 @@ pub length_choices : (mode : Mode) (ss : List Sym) (k : ℕ) (cs : List Count) �
 length_choices mode ss k [] = refl
 length_choices mode ss k (c ∷ cs) = ap suc (length_choices mode ss (k + 1) cs)
 
+pub length_chosen : (hears : List Sym) (r : State) → length (chosen hears r) ≡ length r.counts
+unfolding chosen
+length_chosen hears r = length_choices (mode_next hears r) hears 0 r.counts
+
 pub choice_of : (mode : Mode) (ss : List Sym) (k q : ℕ) (cs : List Count) (x : Choice) → q < length cs → get_or (choices_from mode ss k cs) q x ≡ choice (wish_of mode ss (k + q)) (count_at cs q)
 choice_of mode ss k q [] x l = absurd (omega arith)
 choice_of mode ss k zero (c ∷ cs) x l = let e : k ≡ k + 0 = omega arith in ap (λ n. choice (wish_of mode ss n) c) e

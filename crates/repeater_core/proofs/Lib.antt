@@ -17,3 +17,4 @@ pub mod SteadyCount
 pub mod AlikeRows
 pub mod SteadyMost
 pub mod SteadyRows
+pub mod LeapedParts

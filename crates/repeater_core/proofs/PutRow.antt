@@ -15,10 +15,15 @@ put_one h k old new ds l m e =
     take-set_at new (h + k) (h + (k + 1)) (get_or ds k Idle) (omega arith) l ∙ ap (λ xs. xs ++ get_or ds k Idle ∷ []) e
     ∙ append_assoc (take h old) (take k ds) (get_or ds k Idle ∷ []) ∙ ap (λ xs. take h old ++ xs) (sym (take_more ds k Idle m))
 
-pub leave_rest : (i : ℕ) (old new : List Sym) (s : Sym) → drop i new ≡ drop i old → drop (i + 1) (set new i s) ≡ drop (i + 1) old
-leave_rest i old new s e =
+rest_left : (i : ℕ) (old new : List Sym) (s : Sym) → drop i new ≡ drop i old → drop (i + 1) (set new i s) ≡ drop (i + 1) old
+rest_left i old new s e =
     let kept : drop (i + 1) (set new i s) ≡ drop (i + 1) new = grind (arith, common_steps) in
     kept ∙ sym (drop-drop 1 i new) ∙ ap (drop 1) e ∙ drop-drop 1 i old
+
+pub leave_rest : (h k : ℕ) (old new : List Sym) (s : Sym) → drop (h + k) new ≡ drop (h + k) old → drop (h + (k + 1)) (set new (h + k) s) ≡ drop (h + (k + 1)) old
+leave_rest h k old new s e =
+    let more : h + (k + 1) ≡ h + k + 1 = omega arith in
+    ap (λ n. drop n (set new (h + k) s)) more ∙ rest_left (h + k) old new s e ∙ sym (ap (λ n. drop n old) more)
 
 pub text_put : (k : ℕ) (flags : List Sym) (text d : Sym) → k < length flags → get_or (texted (map is_signal flags) text) k Idle ≡ cond (is_signal (get_or flags k d)) text Idle
 text_put k [] text d l = absurd (omega arith)

@@ -153,17 +153,21 @@ filled_within : (idle : Bool) (filled delay : ℕ) → filled ≤ delay → cond
 filled_within true filled delay l = omega arith
 filled_within false filled delay l = omega arith
 
-pub stepped_ring : (ports delay turn next filled filled' : ℕ) (xs ys decided : List Sym) (idle : Bool) → IsRing ports delay turn filled xs → length decided ≡ ports → length ys ≡ length xs
-    → rotated (turn * ports + length decided) ys ≡ drop (length decided) (rotated (turn * ports) xs) ++ decided
-    → next ≡ turn_after turn delay → next < delay → (idle ≡ true → AllIdle decided) → filled' ≡ cond idle (filled - 1) delay → IsRing ports delay next filled' ys
-stepped_ring ports delay turn next filled filled' xs ys decided idle h n len rows e below d f =
-    let same : length ys ≡ delay * ports = len ∙ h.slots_len in
-    let moved : rotated (next * ports) ys ≡ drop ports (rotated (turn * ports) xs) ++ decided =
-    ap (λ t. rotated (t * ports) ys) e ∙ rotated_turn turn delay ports ys same ∙ ap (λ k. rotated (turn * ports + k) ys) (sym n) ∙ rows ∙ ap (λ k. drop k (rotated (turn * ports) xs) ++ decided) n in
-    let whole : length (drop ports (rotated (turn * ports) xs) ++ decided) ≡ delay * ports = ap length (sym moved) ∙ rotated_len (next * ports) ys ∙ same in
+-- a row of k symbols, one for each port, is put in where the oldest was, and the ring turns on
+pub moved_row : (ports delay turn next k : ℕ) (xs xs' ys decided : List Sym) → k ≡ ports → length ys ≡ delay * ports → next ≡ turn_after turn delay → xs' ≡ xs
+    → rotated (turn * ports + k) ys ≡ drop k (rotated (turn * ports) xs') ++ decided → rotated (next * ports) ys ≡ drop ports (rotated (turn * ports) xs) ++ decided
+moved_row ports delay turn next k xs xs' ys decided n len e same rows =
+    ap (λ t. rotated (t * ports) ys) e ∙ rotated_turn turn delay ports ys len ∙ ap (λ k. rotated (turn * ports + k) ys) (sym n) ∙ rows
+    ∙ ap₂ (λ k (xs : List Sym). drop k (rotated (turn * ports) xs) ++ decided) n same
+
+pub stepped_ring : (ports delay turn next filled filled' : ℕ) (xs ys decided : List Sym) (idle : Bool) → IsRing ports delay turn filled xs → length ys ≡ delay * ports
+    → rotated (next * ports) ys ≡ drop ports (rotated (turn * ports) xs) ++ decided
+    → next < delay → (idle ≡ true → AllIdle decided) → filled' ≡ cond idle (filled - 1) delay → IsRing ports delay next filled' ys
+stepped_ring ports delay turn next filled filled' xs ys decided idle h len moved below d f =
+    let whole : length (drop ports (rotated (turn * ports) xs) ++ decided) ≡ delay * ports = ap length (sym moved) ∙ rotated_len (next * ports) ys ∙ len in
     record {
       turn_below = below;
-      slots_len = same;
+      slots_len = len;
       delay_at_most = h.delay_at_most;
       filled_at_most = subst (λ k. k ≤ delay) (sym f) (filled_within idle filled delay h.filled_at_most);
       rest_idle = subst (λ k. AllIdle (drop (k * ports) (rotated (next * ports) ys))) (sym f)

@@ -4,7 +4,8 @@ use Rattle.std.proofs.lemmas.Bool.Decides.{nat_tests}
 use Rattle.mac_parameters.specs.Parameters.{fragment_extension, preamble_length}
 use Rattle.manchester_line.specs.declared.Sym.{Sym}
 use Rattle.manchester_line.specs.declared.Sym.TheVariants as sy
-use Rattle.manchester_line.specs.Line.{jam_at, half_at, preamble_at, is_signal}
+use Rattle.manchester_line.specs.Line.{jam_at, preamble_at, is_signal}
+use Rattle.manchester_line.proofs.Levels.{IsLevel, high, low, jam_level, half_level}
 use Rattle.port_partition.specs.Guard.{Guard}
 use Rattle.repeater_core.specs.declared.modes.Mode.{Mode}
 use Rattle.repeater_core.specs.declared.modes.Mode.TheVariants.{Idle, Repeat, Extend, RxClash, TxClash, OnePort}
@@ -17,25 +18,6 @@ pub choose : {A : Type 0} (P : A → Type 0) (b : Bool) (x y : A) → (b ≡ tru
 choose P true x y f g = f refl
 choose P false x y f g = g refl
 
--- a signal that is no clash
-abbrev pub IsLevel : Sym → Type 0
-IsLevel s = (s ≢ sy.Idle) × (s ≢ sy.Clash)
-
-hi : IsLevel sy.Hi
-hi = (λ e. cc, λ e. cc)
-
-lo : IsLevel sy.Lo
-lo = (λ e. cc, λ e. cc)
-
-pub jam_level : (i : ℕ) → IsLevel (jam_at i)
-jam_level i = choose IsLevel _ sy.Lo sy.Hi (λ _. lo) (λ _. hi)
-
-pub half_level : (a b : Bool) → IsLevel (half_at a b)
-half_level true true = hi
-half_level true false = lo
-half_level false true = lo
-half_level false false = hi
-
 pub carrier : (s : Sym) → s ≢ sy.Idle → is_signal s ≡ true
 carrier sy.Idle h = absurd (h refl)
 carrier sy.Hi h = refl
@@ -44,8 +26,8 @@ carrier sy.Clash h = refl
 
 busy_is : (s : Sym) → is_signal s ≡ true → s ≢ sy.Idle
 busy_is sy.Idle h = λ _. absurd (cc)
-busy_is sy.Hi h = hi.0
-busy_is sy.Lo h = lo.0
+busy_is sy.Hi h = high.0
+busy_is sy.Lo h = low.0
 busy_is sy.Clash h = λ e. cc
 
 -- the port that alone is active hears the signal that the activity names; ports are counted from k on
@@ -89,14 +71,14 @@ level_heard ss n s h c =
 
 begun_repeatable : (ss : List Sym) (n : ℕ) (s : Sym) → HearsAs ss 0 (One n s) → IsRepeatable ss (begun n s)
 begun_repeatable ss n sy.Idle h = level_heard ss n sy.Idle h (λ e. cc)
-begun_repeatable ss n sy.Hi h = level_heard ss n sy.Hi h hi.1
-begun_repeatable ss n sy.Lo h = level_heard ss n sy.Lo h lo.1
+begun_repeatable ss n sy.Hi h = level_heard ss n sy.Hi h high.1
+begun_repeatable ss n sy.Lo h = level_heard ss n sy.Lo h low.1
 begun_repeatable ss n sy.Clash h = tt
 
 repeated_repeatable : (ss : List Sym) (n i : ℕ) (s : Sym) → HearsAs ss 0 (One n s) → IsRepeatable ss (repeated n i s)
 repeated_repeatable ss n i sy.Idle h = level_heard ss n sy.Idle h (λ e. cc)
-repeated_repeatable ss n i sy.Hi h = level_heard ss n sy.Hi h hi.1
-repeated_repeatable ss n i sy.Lo h = level_heard ss n sy.Lo h lo.1
+repeated_repeatable ss n i sy.Hi h = level_heard ss n sy.Hi h high.1
+repeated_repeatable ss n i sy.Lo h = level_heard ss n sy.Lo h low.1
 repeated_repeatable ss n i sy.Clash h = tt
 
 pub same : (m n : ℕ) → eqb m n ≡ true → n ≡ m

@@ -7,6 +7,8 @@ use Rattle.mac_parameters.specs.Parameters.{jabber_limit, preamble_length}
 use Rattle.manchester_line.specs.declared.Sym.{Sym}
 use Rattle.manchester_line.specs.declared.Sym.TheVariants as sy
 use Rattle.manchester_line.specs.Line.{is_signal, preamble_at, jam_at}
+use Rattle.manchester_line.proofs.Levels.{IsLevel, jam_level, half_level}
+use Rattle.port_partition.specs.declared.guard.GuardEvent.{GuardEvent}
 use Rattle.port_partition.specs.declared.guard.GuardEvent.TheVariants as event
 use Rattle.port_partition.specs.Guard.{Guard, event_of}
 use Rattle.port_partition.specs.Alike.{HasNoEvent}
@@ -20,7 +22,7 @@ use Rattle.repeater_core.specs.Counts.{Count, Choice, choice, choice_awake, choi
 use Rattle.repeater_core.specs.SilentParts.{sends_to}
 use Rattle.repeater_core.specs.Step.{State, IsState, mode_next, chosen, after, emitted_by, decided_by, is_closing, is_opening, mask_from}
 use Rattle.repeater_core.specs.Steady.{mode_on, mode_steady, port_steady, ports_steady, AreAlikeRows, IsSteadyStep, IsSteady, Kind, kind_of, kinds_of, at_each, guard_by, count_by, HaveNoEvents}
-use Rattle.repeater_core.proofs.SendsToOthers.{choose, IsLevel, jam_level, half_level, IsRepeatable, repeatable, hears_as, carrier}
+use Rattle.repeater_core.proofs.SendsToOthers.{choose, IsRepeatable, repeatable, hears_as, carrier}
 use Rattle.repeater_core.proofs.CalmIsExact.{length_emitted}
 use Rattle.repeater_core.proofs.SteadyHalfBits.{each_length, steady_once}
 use Rattle.repeater_core.proofs.SteadyLeap.{kind_is}
@@ -141,19 +143,12 @@ calm_falls n [] gs h = tt
 calm_falls n (k ∷ ks) [] h = tt
 calm_falls n (k ∷ ks) (g ∷ gs) h = (λ i l. h.0 (suc i) (omega arith), calm_falls n ks gs h.1)
 
-none_closes : (n p : ℕ) (ks : List Kind) (gs : List Guard) → CalmBy (suc n) ks gs → mask_from p (map is_closing (events_by ks gs)) ≡ 0
-none_closes n p [] gs h = refl
-none_closes n p (k ∷ ks) [] h = refl
-none_closes n p (k ∷ ks) (g ∷ gs) h =
-    let here = ap (λ x. cond (is_closing x) (2 ^ p) 0) (h.0 0 (omega arith)) in
-    let rest = none_closes n (p + 1) ks gs h.1 in omega arith
-
-none_opens : (n p : ℕ) (ks : List Kind) (gs : List Guard) → CalmBy (suc n) ks gs → mask_from p (map is_opening (events_by ks gs)) ≡ 0
-none_opens n p [] gs h = refl
-none_opens n p (k ∷ ks) [] h = refl
-none_opens n p (k ∷ ks) (g ∷ gs) h =
-    let here = ap (λ x. cond (is_opening x) (2 ^ p) 0) (h.0 0 (omega arith)) in
-    let rest = none_opens n (p + 1) ks gs h.1 in omega arith
+none_told : (tells : GuardEvent → Bool) → tells event.None ≡ false → (n p : ℕ) (ks : List Kind) (gs : List Guard) → CalmBy (suc n) ks gs → mask_from p (map tells (events_by ks gs)) ≡ 0
+none_told tells e n p [] gs h = refl
+none_told tells e n p (k ∷ ks) [] h = refl
+none_told tells e n p (k ∷ ks) (g ∷ gs) h =
+    let here = ap (λ x. cond (tells x) (2 ^ p) 0) (h.0 0 (omega arith)) ∙ ap (λ b. cond b (2 ^ p) 0) e in
+    let rest = none_told tells e n (p + 1) ks gs h.1 in omega arith
 
 closed_same : (k : Kind) (g : Guard) → event_of g k.hears k.clash ≡ event.None → (guard_by k g).closed ≡ g.closed
 closed_same k g e = grind (arith, nat_tests)
@@ -218,8 +213,8 @@ fits_step hears emitting a n r f =
       mode = m;
       emits = e;
       decides = ap (λ x. map is_signal (map (λ c. c.symbol) (choices_from x hears 0 r.counts))) m ∙ decides_flags r.mode (mode_on r.mode) hears 0 r.counts w some;
-      none_closes = ap (λ xs. mask_from 0 (map is_closing xs)) events ∙ none_closes n 0 (kinds_of hears emitting) r.guards f.guards;
-      none_opens = ap (λ xs. mask_from 0 (map is_opening xs)) events ∙ none_opens n 0 (kinds_of hears emitting) r.guards f.guards;
+      none_closes = ap (λ xs. mask_from 0 (map is_closing xs)) events ∙ none_told is_closing refl n 0 (kinds_of hears emitting) r.guards f.guards;
+      none_opens = ap (λ xs. mask_from 0 (map is_opening xs)) events ∙ none_told is_opening refl n 0 (kinds_of hears emitting) r.guards f.guards;
       none_halted = ap (λ x. mask_from 0 (map (λ c. c.halted) (choices_from x hears 0 r.counts))) m ∙ none_halted r.mode (mode_on r.mode) hears 0 0 r.counts w some;
     }
 

@@ -9,6 +9,7 @@ use Rattle.std.specs.Fn.{iterate}
 use Rattle.mac_parameters.specs.Parameters.{preamble_length, jabber_limit}
 use Rattle.manchester_line.specs.declared.Sym.{Sym}
 use Rattle.manchester_line.specs.declared.Sym.TheVariants as sy
+use Rattle.manchester_line.proofs.Levels.{IsLevel}
 use Rattle.manchester_line.specs.Line.{is_signal, preamble_at}
 use Rattle.port_partition.specs.Guard.{Guard}
 use Rattle.repeater_core.specs.declared.modes.Mode.{Mode}
@@ -23,7 +24,7 @@ use Rattle.repeater_core.specs.Steady.{mode_on, IsSteadyStep, IsSteady, sent_tex
 use Rattle.repeater_core.specs.Classes.{class_of, after_rows, text_for, texts_after, line_with, IsSource, IsOfSource, AreHeardAs, AreSteadyRows, DecideTexts, EmitRows}
 use Rattle.repeater_core.proofs.SteadyHalfBits.{each_later, steady_once}
 use Rattle.repeater_core.proofs.SteadyState.{events_by, events_by_kind, kinds_length, state_after, ports_after, length_decided, texts_at}
-use Rattle.repeater_core.proofs.SendsToOthers.{IsLevel, IsRepeatable}
+use Rattle.repeater_core.proofs.SendsToOthers.{IsRepeatable}
 use Rattle.repeater_core.proofs.CalmIsExact.{same_state, length_emitted}
 use Rattle.repeater_core.proofs.SteadyMost.{repeats}
 use Rattle.repeater_core.proofs.SteadyCount.{row_on}

@@ -1,5 +1,5 @@
 //! A repeater.
-ghost use Rattle.std.specs.Prelude.{◌≡◌, ◌<◌, ◌≤◌, ◌+◌, ◌-◌, List, length, map, slice_get, slice_index_or, Some, IfOk, IsTrue};
+ghost use Rattle.std.specs.Prelude.{◌≡◌, ◌<◌, ◌≤◌, ◌+◌, ◌-◌, ◌/◌, ◌%◌, ◌==◌, List, length, map, slice_get, slice_index_or, Some, IfOk, IsTrue};
 ghost use Rattle.std.specs.Fn.{iterate};
 ghost use Rattle.repeater_core.specs.Calm.{silent_step, IsUneventful, IsCalm, IsUnchanged};
 ghost use Rattle.std.specs.List.{All};
@@ -41,6 +41,27 @@ pub struct RepeaterEvents {
     pub closed: u32,
     pub opened: u32,
     pub halted: u32,
+}
+
+/// Whether the first port is one of these, bit p standing for port p.
+pub fn has_first(mask: u32) -> bool
+    ensures { result ≡ (mask % 2 == 1) }
+{
+    mask % 2 == 1
+}
+
+/// What happened at the ports behind the first, which count from 0 again.
+pub fn behind_first(events: RepeaterEvents) -> RepeaterEvents
+    ensures closed { result.closed ≡ events.closed / 2 }
+    ensures opened { result.opened ≡ events.opened / 2 }
+    ensures halted { result.halted ≡ events.halted / 2 }
+{
+    RepeaterEvents {
+        clash: false,
+        closed: events.closed / 2,
+        opened: events.opened / 2,
+        halted: events.halted / 2,
+    }
 }
 
 /// A repeater of 2 to 32 ports that emits what it decides 1 to 200 half bits later.

@@ -1,6 +1,6 @@
 ghost use Rattle.std.specs.Prelude.{◌≡◌, length, IfOk};
 
-use crate::{Mode, Repeater};
+use crate::{Mode, Repeater, RepeaterEvents, behind_first, has_first};
 use lists::OutOfMemory;
 use manchester_line::{Sym, header_sym, jam_sym};
 use port_partition::PortGuard;
@@ -377,5 +377,20 @@ fn leaps_over_steady_half_bits_leave_what_steps_leave(rt: HostRuntime) -> Result
         );
         assert!(rt; go_on_alike(&mut leaper, &mut stepper, 450));
     }
+    Ok(())
+}
+
+#[test]
+fn the_ports_behind_the_first_count_from_0(rt: HostRuntime) -> Result<(), OutOfMemory> {
+    let events = RepeaterEvents {
+        clash: true,
+        closed: 5,
+        opened: 2,
+        halted: 0,
+    };
+    let behind = behind_first(events);
+    assert!(rt; has_first(events.closed) && !has_first(events.opened));
+    assert!(rt; !has_first(behind.closed) && has_first(behind.opened));
+    assert_eq!(rt; behind.halted, 0);
     Ok(())
 }

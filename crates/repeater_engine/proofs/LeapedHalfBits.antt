@@ -24,7 +24,8 @@ use Rattle.net_parts.proofs.NetworkFacts.{repeater_facts}
 use Rattle.net_parts.proofs.RepeaterSteps.{length-span, get_or-span, repeaters_go_on}
 use Rattle.repeater_engine.specs.KeptRepeaters.{parcel_after, piece_of, with_piece}
 use Rattle.repeater_engine.specs.RowWaits.{rows_apart, waits, row_places, HasRowRoom}
-use Rattle.repeater_engine.proofs.RowsApart.{length-chosen, length-guard_events, rows_pay}
+use Rattle.repeater_core.proofs.Lawful.{length_chosen}
+use Rattle.repeater_engine.proofs.RowsApart.{length-guard_events, rows_pay}
 
 no_clash : (m : Mode) → is_tx_clash (mode_on m) && not (is_tx_clash m) ≡ false
 no_clash mode.Idle = refl
@@ -42,7 +43,7 @@ steady_bodies hears emitting deciding r ports lh lg lc le s =
     let emits : length (emitted_by r) ≡ ports = sym (length-map (emitted_by r) is_signal) ∙ ap length s.emits ∙ le in
     let events : ports ≡ length (guard_events r.guards hears (emitted_by r)) = sym (length-guard_events r.guards hears (emitted_by r) (lh ∙ sym lg) (emits ∙ sym lg) ∙ lg) in
     let clash : false ≡ clash_begins hears r = sym (ap (λ m. is_tx_clash m && not (is_tx_clash r.mode)) s.mode ∙ no_clash r.mode) in
-    sym (told_are hears r ports none events (length-chosen hears r ∙ lc) clash (sym s.none_closes) (sym s.none_opens) (sym s.none_halted)) ∙ no_bits 1 ports
+    sym (told_are hears r ports none events (length_chosen hears r ∙ lc) clash (sym s.none_closes) (sym s.none_opens) (sym s.none_halted)) ∙ no_bits 1 ports
 
 span_split : {X : Type 0} (f : ℕ → X) (t u a b : ℕ) → u ≡ t + a → span f t (a + b) ≡ span f t a ++ span f u b
 span_split f t u zero b e = let same : u ≡ t = omega arith in let none : zero + b ≡ b = omega arith in ap₂ (span f) (sym same) none

@@ -10,7 +10,6 @@ use Rattle.manchester_line.specs.declared.Sym.TheVariants.{Idle}
 use Rattle.load_plan.specs.declared.plan.Plan.{Plan}
 use Rattle.network.specs.Outputs.{half_bits}
 use Rattle.network.specs.Times.{decided}
-use Rattle.network.proofs.RunnablePlans.{runnable_plan}
 use Rattle.net_parts.specs.declared.parcel.Parcel.{Parcel}
 use Rattle.net_parts.specs.Windows.{lookahead, windows, time, size}
 use Rattle.net_parts.specs.Machines.{span}
@@ -19,8 +18,8 @@ use Rattle.net_parts.specs.Standing.{arrives, port_hears, repeater_at}
 use Rattle.net_parts.specs.Parts.{OfRepeater, is_segment_part, parts, part_at, edges_of_part}
 use Rattle.net_parts.specs.Parcels.{true_symbols, true_parcel, next_stamp, arrived, refilled}
 use Rattle.net_parts.specs.OutputsOfParts.{rows_of_part, captures_of_part, rows_handed_out, captures_handed_out}
-use Rattle.net_parts.proofs.LookaheadLeads.{some_lookahead}
-use Rattle.net_parts.proofs.WindowCuts.{span_alike, begins_before}
+use Rattle.net_parts.proofs.WindowCuts.{span_alike}
+use Rattle.net_parts.proofs.WindowTimes.{some_lead, begins_in_run}
 use Rattle.net_parts.proofs.RowsHandedOut.{parts_hand_out}
 use Rattle.repeater_engine.specs.KeptRepeaters.{parcel_after, parcels_after, turned_to_segment}
 use Rattle.repeater_engine.specs.RepeaterNumbers.{not_segment, is_one_part, edges_at_part, part_stands}
@@ -33,14 +32,8 @@ module _ (plan : Plan) where
   abbrev H : ℕ
   H = half_bits plan
 
-  lead_some : 1 ≤ L
-  lead_some = some_lookahead plan.layout (runnable_plan plan).some_delay
-
-  pub begins : (w : ℕ) → w < windows plan → w * L < H
-  begins w below = begins_before H L w (let s = lead_some in omega (arith, s)) below
-
   pub ends : (w : ℕ) → w < windows plan → time plan w + size plan w ≡ time plan (w + 1)
-  ends w below = let b = begins w below in omega (arith, b)
+  ends w below = let b = begins_in_run plan w below in omega (arith, b)
 
   -- a window's first half bit is not far behind the run
   pub within_run : (w : ℕ) → w ≤ windows plan → w * L ≤ H + L
@@ -74,7 +67,7 @@ module _ (plan : Plan) (u i : ℕ) (is : u ≡ length plan.layout.segments + i) 
     brings_heard : (e : ℕ) → true_parcel plan true w e ≡ parcel_after plan w t n 0 e
     unfolding true_symbols
     brings_heard e =
-        let b = begins plan w below in
+        let b = begins_in_run plan w below in
         let from : w * L plan ≡ t + 0 = omega (arith, b, first) in
         let count : size plan w ≡ n - 0 = omega (arith, many) in
         ap₂ (λ a m. let p : Parcel = record { edge = e; window = w; to_repeater = true; symbols = span (port_hears plan e) a m; spoiled = false } in p) from count
@@ -88,8 +81,8 @@ module _ (plan : Plan) (u i : ℕ) (is : u ≡ length plan.layout.segments + i) 
     later : (e : ℕ) → span (decided plan e) t n ≡ true_symbols plan false e (w + 1)
     unfolding true_symbols
     later e =
-        let b = begins plan w below in
-        let s = lead_some plan in
+        let b = begins_in_run plan w below in
+        let s = some_lead plan in
         let next : (w + 1) * L plan ≡ w * L plan + L plan = omega arith in
         let from : t ≡ w * L plan = omega (arith, b, first) in
         let count : n ≡ min (L plan) (H plan + L plan - (w + 1) * L plan) = omega (arith, next, many, b) in

@@ -17,6 +17,7 @@ use Rattle.repeater_core.specs.Counts.{Count, Choice, choice, choices_from}
 use Rattle.repeater_core.specs.Modes.{activity_from, mode_after, is_tx_clash, wish_of}
 use Rattle.repeater_core.specs.Step.{State, mode_next, chosen, emitted_by, decided_by, after, collides, guards_after, guard_events, clash_begins, closed_mask, opened_mask, halted_mask}
 use Rattle.repeater_core.specs.declared.repeater.RepeaterEvents.{RepeaterEvents}
+use Rattle.repeater_core.proofs.Lawful.{length_chosen}
 use Rattle.network.proofs.PortFlags.{step_told}
 use Rattle.network.specs.Rows.{told_bodies, happened, guard_bodies, port_bodies, repeater_bodies}
 use Rattle.repeater_engine.specs.RowWaits.{rows_apart, clash_wait, halt_wait, guard_wait, waits, row_places, HasRowRoom}
@@ -147,14 +148,6 @@ rows_pay heard s lh le lc =
     (clash_wait (mode_next heard s)) (sum_by halt_wait (map (λ (c : Choice). c.count) (chosen heard s))) (sum_by guard_wait (guards_after s.guards heard (emitted_by s)))
     (length s.guards) (length s.counts) lc (omega (arith, ports, sum)) m c g
 
-length-choices : (mode : Mode) (hs : List Sym) (q : ℕ) (cs : List Count) → length (choices_from mode hs q cs) ≡ length cs
-length-choices mode hs q [] = refl
-length-choices mode hs q (c ∷ cs) = ap suc (length-choices mode hs (q + 1) cs)
-
-pub length-chosen : (hs : List Sym) (r : State) → length (chosen hs r) ≡ length r.counts
-unfolding chosen
-length-chosen hs r = length-choices (mode_next hs r) hs 0 r.counts
-
 halts_wait : (cs : List Count) → sum_by halt_wait cs ≤ (rows_apart - 1) * length cs
 halts_wait [] = omega arith
 halts_wait (c ∷ cs) = let rest = halts_wait cs in let sum = sum_by-cons halt_wait c cs in omega (arith, rest, sum)
@@ -211,7 +204,7 @@ pub record HalfBit (heard emitted decided : List Sym) (ports : ℕ) (r s : State
 
 module _ (heard emitted decided : List Sym) (ports : ℕ) (r s : State) (half : HalfBit heard emitted decided ports r s) where
   counts_len : length r.counts ≡ ports
-  counts_len = sym (length-chosen heard r) ∙ sym (length-map (chosen heard r) (λ (c : Choice). c.symbol)) ∙ ap length (sym half.decides) ∙ half.decided_len
+  counts_len = sym (length_chosen heard r) ∙ sym (length-map (chosen heard r) (λ (c : Choice). c.symbol)) ∙ ap length (sym half.decides) ∙ half.decided_len
 
   emitted_so : length (emitted_by r) ≡ ports
   emitted_so = ap length (sym half.emits) ∙ half.emitted_len
@@ -227,7 +220,7 @@ module _ (heard emitted decided : List Sym) (ports : ℕ) (r s : State) (half : 
   most =
       let a = half.guards_len in
       let guards = length-guards_after r.guards heard (emitted_by r) (half.heard_len ∙ sym a) (emitted_so ∙ sym a) ∙ a in
-      let counts = length-map (chosen heard r) (λ (c : Choice). c.count) ∙ length-chosen heard r ∙ counts_len in
+      let counts = length-map (chosen heard r) (λ (c : Choice). c.count) ∙ length_chosen heard r ∙ counts_len in
       subst (λ (x : State). waits x ≤ (rows_apart - 1) * row_places ports) (sym half.state) (waits_most (after heard r) ports guards counts)
 
   -- there is room for its rows, and room is left for those of the half bits after it

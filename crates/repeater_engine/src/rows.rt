@@ -1,5 +1,5 @@
 //! The rows of a repeater's half bit, in room that was taken before.
-ghost use Rattle.std.specs.Prelude.{◌≡◌, ◌≤◌, ◌<◌, ◌^◌, ◌/◌, ◌%◌, ◌==◌, ◌++◌, length};
+ghost use Rattle.std.specs.Prelude.{◌≡◌, ◌≤◌, ◌<◌, ◌^◌, ◌++◌, length};
 ghost use Rattle.mac_parameters.specs.Parameters.{most_ports};
 ghost use Rattle.network.specs.Rows.{bits_bodies, happened, rows_of_bodies, told_bodies};
 ghost use Rattle.repeater_engine.specs.Logging.{Logs};
@@ -7,7 +7,7 @@ ghost use Rattle.repeater_engine.specs.RowWaits.{most_rows};
 
 use collision_log::{Body, Row};
 use mac_parameters::PARTITION_IN_A_ROW;
-use repeater_core::RepeaterEvents;
+use repeater_core::{RepeaterEvents, behind_first, has_first};
 use window_room::RowRoom;
 
 /// The half bits from one row of a kind at a place to the next at least.
@@ -32,13 +32,6 @@ fn push_if(log: &mut RowRoom, t: u64, device: u32, yes: bool, body: Body)
     }
 }
 
-/// Whether the least bit is 1.
-fn has_bit(mask: u32) -> bool
-    ensures { result ≡ (mask % 2 == 1) }
-{
-    mask % 2 == 1
-}
-
 /// Writes what happens at one port, counted from 1, whose flags are the least bits.
 fn log_port(log: &mut RowRoom, t: u64, device: u32, port: u32, events: RepeaterEvents)
     requires { length (bits_bodies port 1 events.closed events.opened events.halted) ≤ log.old.row_room }
@@ -48,37 +41,23 @@ fn log_port(log: &mut RowRoom, t: u64, device: u32, port: u32, events: RepeaterE
         log,
         t,
         device,
-        has_bit(events.halted),
+        has_first(events.halted),
         Body::Halted { port },
     );
     push_if(
         log,
         t,
         device,
-        has_bit(events.closed),
+        has_first(events.closed),
         Body::Closed { port },
     );
     push_if(
         log,
         t,
         device,
-        has_bit(events.opened),
+        has_first(events.opened),
         Body::Opened { port },
     );
-}
-
-/// The flags of the ports after the first.
-fn rest_of(events: RepeaterEvents) -> RepeaterEvents
-    ensures closed { result.closed ≡ events.closed / 2 }
-    ensures opened { result.opened ≡ events.opened / 2 }
-    ensures halted { result.halted ≡ events.halted / 2 }
-{
-    RepeaterEvents {
-        clash: false,
-        closed: events.closed / 2,
-        opened: events.opened / 2,
-        halted: events.halted / 2,
-    }
 }
 
 /// Writes what happens at the ports of a repeater.
@@ -90,7 +69,7 @@ fn log_ports(log: &mut RowRoom, t: u64, device: u32, ports: usize, events: Repea
     let mut left = events;
     for port in 0..ports {
         log_port(log, t, device, port as u32 + 1, left);
-        left = rest_of(left);
+        left = behind_first(left);
     }
 }
 

@@ -77,25 +77,20 @@ IsBounded r = r.most ≤ most_octets_tagged
 abbrev AreFew : List ℕ → Type 0
 AreFew octets = length octets ≤ greatest_frame
 
+-- what each reception has that begins with a bounded receiver
+receptions_have : {X : Type 0} (P : X → Type 0) (part : Reception → X) → ((r : Receiving) (heard : Sym) (sending : Bool) → IsBounded r → P (part (receiver_step r heard sending)))
+    → (hs es : List Sym) (rs : List Receiving) → All IsBounded rs → All P (map part (receptions hs es rs))
+receptions_have P part step [] es rs h = All-nil P
+receptions_have P part step (x ∷ hs) [] rs h = All-nil P
+receptions_have P part step (x ∷ hs) (e ∷ es) [] h = All-nil P
+receptions_have P part step (x ∷ hs) (e ∷ es) (r ∷ rs) h =
+    All-cons P (part (receiver_step r x (is_signal e))) (map part (receptions hs es rs)) (step r x (is_signal e) (All-head IsBounded r rs h)) (receptions_have P part step hs es rs (All-tail IsBounded r rs h))
+
 receivers_stay : (hs es : List Sym) (rs : List Receiving) → All IsBounded rs → All IsBounded (map (λ (o : Reception). o.state) (receptions hs es rs))
-receivers_stay [] es rs h = All-nil IsBounded
-receivers_stay (x ∷ hs) [] rs h = All-nil IsBounded
-receivers_stay (x ∷ hs) (e ∷ es) [] h = All-nil IsBounded
-receivers_stay (x ∷ hs) (e ∷ es) (r ∷ rs) h =
-    let o = receiver_step r x (is_signal e) in
-    let same : o.state.most ≡ r.most = (received_mild r x (is_signal e)).most in
-    let first : r.most ≤ most_octets_tagged = All-head IsBounded r rs h in
-    All-cons IsBounded o.state (map (λ (p : Reception). p.state) (receptions hs es rs)) (omega arith) (receivers_stay hs es rs (All-tail IsBounded r rs h))
+receivers_stay hs es rs h = receptions_have IsBounded (λ (o : Reception). o.state) (λ r heard sending first. omega (arith, (received_mild r heard sending).most)) hs es rs h
 
 octets_few : (hs es : List Sym) (rs : List Receiving) → All IsBounded rs → All AreFew (map (λ (o : Reception). o.octets) (receptions hs es rs))
-octets_few [] es rs h = All-nil AreFew
-octets_few (x ∷ hs) [] rs h = All-nil AreFew
-octets_few (x ∷ hs) (e ∷ es) [] h = All-nil AreFew
-octets_few (x ∷ hs) (e ∷ es) (r ∷ rs) h =
-    let o = receiver_step r x (is_signal e) in
-    let few : length o.octets ≤ r.most + 4 = (received_mild r x (is_signal e)).few in
-    let first : r.most ≤ most_octets_tagged = All-head IsBounded r rs h in
-    All-cons AreFew o.octets (map (λ (p : Reception). p.octets) (receptions hs es rs)) (omega arith) (octets_few hs es rs (All-tail IsBounded r rs h))
+octets_few hs es rs h = receptions_have AreFew (λ (o : Reception). o.octets) (λ r heard sending first. omega (arith, (received_mild r heard sending).few)) hs es rs h
 
 -- taken before half bit t, and of at most 1,518 octets
 pub record IsTaken (t : ℕ) (x : Taken) : Type 0 where

@@ -1,18 +1,18 @@
 -- The rows of a sender.
-use Rattle.std.proofs.Common.{◌≡◌, ℕ, suc, ◌+◌, ◌*◌, ◌/◌, ◌≤◌, Bool, true, false, ◌&&◌, ltb, leb, eqb, Option, Some, None, List, [], ◌∷◌, length, refl, ap, ◌∙◌, arith}
+use Rattle.std.proofs.Common.{◌≡◌, ℕ, suc, ◌+◌, ◌*◌, ◌/◌, ◌≤◌, Bool, true, false, ◌&&◌, ltb, leb, Option, Some, None, List, [], ◌∷◌, length, refl, ap, ◌∙◌, arith}
 use Rattle.std.specs.Prelude.{if◌then◌else◌}
-use Rattle.mac_parameters.specs.Parameters.{attempt_limit, preamble_length, slot_time}
+use Rattle.mac_parameters.specs.Parameters.{preamble_length}
 use Rattle.std.proofs.lemmas.Bool.{cond_both, leb-true}
 use Rattle.manchester_line.specs.Line.{is_signal}
 use Rattle.manchester_line.specs.declared.Sym.{Sym}
 use Rattle.std.proofs.lemmas.Bool.Decides.{nat_tests}
-use Rattle.backoff_draw.specs.Draws.{draw_of, drawn}
 use Rattle.manchester_line.proofs.Places.{length_line}
 use Rattle.collision_log.specs.declared.row.Body.{Body}
 use Rattle.mac_receive.specs.Receiver.{with_event}
 use Rattle.mac_transmit.specs.declared.phase.Phase.{Phase}
 use Rattle.mac_transmit.specs.declared.phase.Phase.TheVariants.{Rest, Waiting, Sending, Backoff}
 use Rattle.mac_transmit.specs.Sender.{Sender, sender_step, finished, finished_from, sending_ended, end_event, event_from, promoted, promoted_from, ready_at, deferring, is_free, sending_started, phase_started, emitting, phase_after, after_turn, frame_at, line_length, sending_length, jam_start}
+use Rattle.mac_transmit.proofs.EndedSendings.{ended_either}
 use Rattle.window_room.specs.Sendings.{elapsed, sending_bodies}
 
 jam_late : (hit : ℕ) → preamble_length ≤ jam_start hit
@@ -36,17 +36,7 @@ stays : (s : Sender) → Follows s s None
 stays s = (refl, omega arith)
 
 ended_still : (s : Sender) (hit : Option ℕ) → ((sending_ended s hit).t ≡ s.t) × (elapsed s.t (sending_ended s hit).phase ≡ 0)
-ended_still s None = (refl, refl)
-ended_still s (Some hit) =
-    cond_both (eqb s.attempt attempt_limit)
-    (record s { place = s.place + 1; phase = Rest; last_end = Some s.t })
-    (record s {
-      phase = Backoff (s.t + slot_time * draw_of s.draws.seed s.draws.station s.draws.made s.attempt);
-      attempt = s.attempt + 1;
-      draws = drawn s.draws;
-      last_end = Some s.t;
-    })
-    (λ x. (x.t ≡ s.t) × (elapsed s.t x.phase ≡ 0)) (λ _. (refl, refl)) (λ _. (refl, refl))
+ended_still s hit = ended_either (λ x. (x.t ≡ s.t) × (elapsed s.t x.phase ≡ 0)) s hit (refl, refl) (refl, refl)
 
 finishes_if : (b : Bool) (s s' : Sender) (e : Body) → (b ≡ true → Follows s s' (Some e)) → Follows s (if b then s' else s) (if b then Some e else None)
 finishes_if true s s' e f = f refl

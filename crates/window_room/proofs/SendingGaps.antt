@@ -1,10 +1,9 @@
 -- The rows of a sender whose gaps are kept.
-use Rattle.std.proofs.Common.{◌≡◌, ℕ, suc, ◌+◌, ◌*◌, ◌/◌, ◌≤◌, ◌⊎◌, inl, inr, Bool, true, false, ◌&&◌, ltb, leb, eqb, Option, Some, None, List, [], ◌∷◌, length, refl, sym, ap, subst, ◌∙◌, arith}
+use Rattle.std.proofs.Common.{◌≡◌, ℕ, suc, ◌+◌, ◌*◌, ◌/◌, ◌≤◌, ◌⊎◌, inl, inr, Bool, true, false, ◌&&◌, ltb, leb, Option, Some, None, List, [], ◌∷◌, length, refl, sym, ap, subst, ◌∙◌, arith}
 use Rattle.std.specs.Prelude.{if◌then◌else◌}
-use Rattle.mac_parameters.specs.Parameters.{attempt_limit, interframe_gap, slot_time}
+use Rattle.mac_parameters.specs.Parameters.{interframe_gap}
 use Rattle.std.proofs.lemmas.Bool.{cond_both, leb-true}
 use Rattle.std.proofs.lemmas.Option.{none-some}
-use Rattle.backoff_draw.specs.Draws.{draw_of, drawn}
 use Rattle.manchester_line.specs.Line.{is_signal}
 use Rattle.manchester_line.specs.declared.Sym.{Sym}
 use Rattle.collision_log.specs.declared.row.Body.{Body}
@@ -14,6 +13,7 @@ use Rattle.mac_transmit.specs.declared.phase.Phase.TheVariants.{Rest, Waiting, S
 use Rattle.mac_transmit.specs.Laws.{StartsAt, IsAway, end_after}
 use Rattle.mac_transmit.specs.Sender.{Sender, IsSender, sender_step, finished, finished_from, sending_ended, end_event, event_from, promoted, promoted_from, ready_at, deferring, is_free, sending_started, phase_started, emitting, phase_after, after_turn, frame_at, sending_length}
 use Rattle.mac_transmit.proofs.StartGaps as going
+use Rattle.mac_transmit.proofs.EndedSendings.{ended_either}
 use Rattle.window_room.specs.Sendings.{least_turn, sending_bodies}
 use Rattle.window_room.proofs.SendingBounds.{finishes, promotes, length_least}
 
@@ -23,17 +23,7 @@ Starts A (Sending start hit) = A start
 Starts A _ = Unit {0}
 
 ended_keeps : (A : ℕ → Type 0) (s : Sender) (hit : Option ℕ) → Starts A (sending_ended s hit).phase
-ended_keeps A s None = tt
-ended_keeps A s (Some hit) =
-    cond_both (eqb s.attempt attempt_limit)
-    (record s { place = s.place + 1; phase = Rest; last_end = Some s.t })
-    (record s {
-      phase = Backoff (s.t + slot_time * draw_of s.draws.seed s.draws.station s.draws.made s.attempt);
-      attempt = s.attempt + 1;
-      draws = drawn s.draws;
-      last_end = Some s.t;
-    })
-    (λ x. Starts A x.phase) (λ _. tt) (λ _. tt)
+ended_keeps A s hit = ended_either (λ x. Starts A x.phase) s hit tt tt
 
 if_keeps : (A : ℕ → Type 0) (b : Bool) (x y : Sender) (e : Body) → Starts A y.phase → ((if b then Some e else None) ≡ None → Starts A x.phase) → Starts A (if b then y else x).phase
 if_keeps A true x y e a g = a

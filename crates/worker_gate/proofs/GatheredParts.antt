@@ -9,6 +9,7 @@ use Rattle.exchange_core.specs.Holdings.{Holding}
 use Rattle.exchange_core.specs.Shares.{Rack, part_on, Handed, handed, handed_as, handed_out}
 use Rattle.worker_gate.specs.PlannedShares.{IsPlannedRack}
 use Rattle.worker_gate.specs.FinishedParts.{IsFinished, AreFinished}
+use Rattle.worker_gate.proofs.KeptPlans.{boxed_as, same_plan}
 
 each_snoc : {S : Type 0} (P : ℕ → S → Type 0) (xs : List S) (x : S) → ((k : ℕ) (d : S) → k < length xs → P k (get_or xs k d)) → P (length xs) x
     → (k : ℕ) (d : S) → k < length (xs ++ x ∷ []) → P k (get_or (xs ++ x ∷ []) k d)
@@ -29,9 +30,6 @@ one_more plan_of number at plan first k xs x ys w h e =
           (subst (λ n. IsFinished plan_of number at plan (first + n) x) (sym w.long) h)
           j d (let l = ap length (sym e) in omega (arith, l, long, below)));
     }
-
-abbrev boxed_as : Plan → Option Plan
-boxed_as plan = Some plan
 
 abbrev first_or : Option Handed → List (Option Handed) → Option Handed
 first_or d [] = d
@@ -74,13 +72,6 @@ all_before P xs ys x e all =
       (λ k d in'. subst P (ap (λ zs. get_or zs k d) e ∙ get_or_append_left ys (x ∷ []) d k in') (all k d (omega (arith, l, in')))),
       subst P (ap (λ zs. get_or zs (length ys) x) e ∙ get_or-append_seam ys x [] x) (all (length ys) x (omega (arith, l))),
     )
-
-abbrev plan_or : Plan → Option Plan → Plan
-plan_or d None = d
-plan_or d (Some plan) = plan
-
-same_plan : (p q : Plan) → boxed_as p ≡ boxed_as q → p ≡ q
-same_plan p q e = ap (plan_or p) e
 
 pub finished_of : {S : Type 0} (plan_of : S → Plan) (number at : S → ℕ) (boxed : Option Plan) (plan : Plan) (u : ℕ) (s : S) → Some plan ≡ boxed
     → (Some (plan_of s) ≡ boxed) × (number s ≡ u) × (at s ≡ windows (plan_of s)) → IsFinished plan_of number at plan u s

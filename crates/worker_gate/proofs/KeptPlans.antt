@@ -1,5 +1,5 @@
 -- Each call of a share leaves its parts of the plan of which they are.
-use Rattle.std.proofs.Common.{◌≡◌, ◌≢◌, ℕ, zero, suc, ◌<◌, Bool, true, false, List, [], ◌∷◌, length, map, get_or, refl, sym, ap, ◌∙◌, arith, subst, true≢false}
+use Rattle.std.proofs.Common.{◌≡◌, ℕ, zero, suc, Bool, true, false, List, [], ◌∷◌, get_or, refl, sym, ap, ◌∙◌, subst, true≢false}
 use Rattle.std.specs.Prelude.{Option, Some, None, IfSome, if◌then◌else◌}
 use Rattle.load_plan.specs.declared.plan.Plan.{Plan}
 use Rattle.net_parts.specs.declared.parcel.Parcel.{Parcel}
@@ -11,7 +11,7 @@ use Rattle.exchange_core.proofs.GrownShares.{added_on}
 use Rattle.exchange_core.proofs.ShareLaws.{parts_change, parcels_serve}
 use Rattle.worker_gate.specs.PlannedShares.{IsPlannedRack, IsPlannedShare, StaysPlanned, has_plan, the_plan}
 
-abbrev boxed_as : Plan → Option Plan
+abbrev pub boxed_as : Plan → Option Plan
 boxed_as plan = Some plan
 
 -- what a part becomes is of its plan
@@ -145,12 +145,8 @@ cause_spoiled None not_clean = tt
 cause_spoiled (Some h) not_clean = λ _ _ clean. not_clean clean
 
 -- what leaves a share and what comes to it is true for the plan of its parts
-abbrev plan_or : Plan → Option Plan → Plan
-plan_or d None = d
-plan_or d (Some plan) = plan
-
-same_plan : (p q : Plan) → boxed_as p ≡ boxed_as q → p ≡ q
-same_plan p q e = ap (plan_or p) e
+pub same_plan : (p q : Plan) → boxed_as p ≡ boxed_as q → p ≡ q
+same_plan p q e = cc
 
 of_boxed : (plan : Plan) (s : Held) → IsPlannedShare (boxed_as plan) s → IsOfPlan plan s
 of_boxed plan s p true u h is = same_plan h.plan plan (p.segments u h is)

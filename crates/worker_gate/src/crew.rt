@@ -1,8 +1,8 @@
 //! The kits of a run.
 ghost use Rattle.std.specs.Prelude.{◌≡◌, ◌<◌, ◌+◌, ◌≤◌, Some, length};
-ghost use Rattle.worker_gate.specs.PartMakers.{MayMake, MakesParts};
+ghost use Rattle.worker_gate.specs.PartMakers.{MakesSegments, MakesRepeaters};
 
-use crate::dealing::{outlets_of_repeater, outlets_of_segment, owner_of, owners};
+use crate::dealing::{outlets_of, owner_of, owners};
 use crate::desk::{Desk, Segments};
 use crate::kit::{Duty, Kit};
 use lists::OutOfMemory;
@@ -26,10 +26,8 @@ pub fn make_kits<
     repeater: &H,
 ) -> Result<Vec<Kit<P, S, R>>, OutOfMemory>
     requires boxed { Some plan.now ≡ P.plan }
-    requires may_segment { MayMake (length plan.now.layout.segments) (F.pre segment.now) }
-    requires segments { MakesParts S.plan S.number S.at plan.now 0 (F.post segment.now) }
-    requires may_repeater { MayMake (length plan.now.layout.repeaters) (H.pre repeater.now) }
-    requires repeaters { MakesParts R.plan R.number R.at plan.now (length plan.now.layout.segments) (H.post repeater.now) }
+    requires segments { MakesSegments S.plan S.number S.at plan.now (F.pre segment.now) (F.post segment.now) }
+    requires repeaters { MakesRepeaters R.plan R.number R.at plan.now (H.pre repeater.now) (H.post repeater.now) }
 {
     let owners = owners(alloc, &plan.layout, workers)?;
     let mut kits = Vec::new(alloc);
@@ -55,10 +53,8 @@ fn make_kit<
     repeater: &H,
 ) -> Result<Kit<P, S, R>, OutOfMemory>
     requires boxed { Some plan.now ≡ P.plan }
-    requires may_segment { MayMake (length plan.now.layout.segments) (F.pre segment.now) }
-    requires segments { MakesParts S.plan S.number S.at plan.now 0 (F.post segment.now) }
-    requires may_repeater { MayMake (length plan.now.layout.repeaters) (H.pre repeater.now) }
-    requires repeaters { MakesParts R.plan R.number R.at plan.now (length plan.now.layout.segments) (H.post repeater.now) }
+    requires segments { MakesSegments S.plan S.number S.at plan.now (F.pre segment.now) (F.post segment.now) }
+    requires repeaters { MakesRepeaters R.plan R.number R.at plan.now (H.pre repeater.now) (H.post repeater.now) }
 {
     let mut duties = Vec::new(alloc);
     let segments: Segments<P, S, R> = deal_segments(
@@ -92,8 +88,7 @@ fn deal_segments<P: Planned, S: Part, R: Part, F: Fn(u32) -> Result<S, OutOfMemo
     duties: &mut Vec<Duty>,
 ) -> Result<Segments<P, S, R>, OutOfMemory>
     requires boxed { Some plan.now ≡ P.plan }
-    requires may_segment { MayMake (length plan.now.layout.segments) (F.pre segment.now) }
-    requires segments { MakesParts S.plan S.number S.at plan.now 0 (F.post segment.now) }
+    requires segments { MakesSegments S.plan S.number S.at plan.now (F.pre segment.now) (F.post segment.now) }
 {
     let Ok(count) = u32::try_from(plan.layout.segments.len()) else {
         return Err(OutOfMemory);
@@ -105,7 +100,7 @@ fn deal_segments<P: Planned, S: Part, R: Part, F: Fn(u32) -> Result<S, OutOfMemo
         }
         let part = segment(i)?;
         segments.add(alloc, plan, part)?;
-        let outlets = outlets_of_segment(alloc, &plan.layout, owners, i)?;
+        let outlets = outlets_of(alloc, plan, owners, i)?;
         duties.push(Duty { part: i, outlets })?;
     }
     Ok(segments)
@@ -122,8 +117,7 @@ fn deal_repeaters<P: Planned, S: Part, R: Part, H: Fn(u32) -> Result<R, OutOfMem
     duties: &mut Vec<Duty>,
 ) -> Result<(), OutOfMemory>
     requires boxed { Some plan.now ≡ P.plan }
-    requires may_repeater { MayMake (length plan.now.layout.repeaters) (H.pre repeater.now) }
-    requires repeaters { MakesParts R.plan R.number R.at plan.now (length plan.now.layout.segments) (H.post repeater.now) }
+    requires repeaters { MakesRepeaters R.plan R.number R.at plan.now (H.pre repeater.now) (H.post repeater.now) }
 {
     let Ok(count) = u32::try_from(plan.layout.repeaters.len()) else {
         return Err(OutOfMemory);
@@ -136,7 +130,7 @@ fn deal_repeaters<P: Planned, S: Part, R: Part, H: Fn(u32) -> Result<R, OutOfMem
         let part = repeater(i)?;
         let number = part.part();
         desk.add_repeater(plan, part)?;
-        let outlets = outlets_of_repeater(alloc, &plan.layout, owners, i)?;
+        let outlets = outlets_of(alloc, plan, owners, number)?;
         duties.push(Duty {
             part: number,
             outlets,

@@ -1,6 +1,14 @@
 //! Which worker gets which part: parts are dealt along a walk of the tree, in runs of about equal work.
+ghost use Rattle.std.specs.Prelude.{◌≡◌, ◌<◌, ◌≤◌, ◌==◌, All, IfOk, count_by, length, map, slice_index_or};
+ghost use Rattle.layout.specs.declared.lines.PortLine.{PortLine};
+ghost use Rattle.net_parts.specs.Parts.{edges_of_part, parts};
+ghost use Rattle.net_parts.specs.RepeaterParts.{edges_before};
+ghost use Rattle.worker_gate.specs.declared.dealing.Outlet.{Outlet};
+
 use layout::{Layout, PortLine};
 use lists::OutOfMemory;
+use load_plan::Plan;
+use net_parts::edges_of;
 use std::alloc::Global;
 
 /// The number of an edge and that of the worker to which its parcel goes from a part.
@@ -11,12 +19,11 @@ pub struct Outlet {
 }
 
 /// For each part of so many workers that which gets it.
-pub fn owners(alloc: Global, layout: &Layout, workers: u32) -> Result<Vec<u32>, OutOfMemory> {
+pub fn owners(alloc: Global, layout: &Layout, workers: u32) -> Result<Vec<u32>, OutOfMemory>
+    ensures { 0 < workers → IfOk result (λ owners. All (λ w. w < workers) owners.items) }
+{
     let order = walk(alloc, layout)?;
-    let mut total = 0u64;
-    for i in 0..order.len() {
-        total = total.saturating_add(work_of(layout, order[i]));
-    }
+    let total = work_of_all(layout, order.as_slice());
     let mut owners = vec![in alloc; 0u32; order.len()]?;
     let mut before = 0u64;
     for i in 0..order.len() {
@@ -30,14 +37,26 @@ pub fn owners(alloc: Global, layout: &Layout, workers: u32) -> Result<Vec<u32>, 
     Ok(owners)
 }
 
+/// About how much work these parts have together.
+fn work_of_all(layout: &Layout, parts: &[usize]) -> u64 {
+    let mut total = 0u64;
+    for i in 0..parts.len() {
+        total = total.saturating_add(work_of(layout, parts[i]));
+    }
+    total
+}
+
 /// Which of so many workers gets the part with so much work before it, of that total: it goes by the part's middle.
-fn worker_at(before: u64, work: u64, total: u64, workers: u32) -> u32 {
+fn worker_at(before: u64, work: u64, total: u64, workers: u32) -> u32
+    ensures { 0 < workers → result < workers }
+{
     let middle = before.saturating_mul(2).saturating_add(work);
     let whole = total.saturating_mul(2);
     if whole == 0 {
         return 0;
     }
-    u32::try_from(middle.saturating_mul(u64::from(workers)) / whole).unwrap_or(0)
+    let worker = u32::try_from(middle.saturating_mul(u64::from(workers)) / whole).unwrap_or(0);
+    worker.min(workers.saturating_sub(1))
 }
 
 /// All parts, those of a tree in the order of a walk from the first segment on.
@@ -95,14 +114,13 @@ fn visit_beside(
 }
 
 /// How many of the ports are on a segment.
-fn ports_on(ports: &[PortLine], segment: usize) -> u64 {
-    let mut count = 0u64;
-    for p in 0..ports.len() {
-        if ports[p].segment as usize == segment {
-            count = count.saturating_add(1);
-        }
-    }
-    count
+fn ports_on(ports: &[PortLine], segment: usize) -> u64
+    ensures { result ≡ count_by (λ (p : PortLine). p.segment == segment) ports.now }
+{
+    ports
+        .iter()
+        .filter(|p| p.segment as usize == segment)
+        .count() as u64
 }
 
 /// About how much work a part has: its taps and one more.
@@ -129,64 +147,62 @@ fn work_of(layout: &Layout, part: usize) -> u64 {
 }
 
 /// How many edges there are.
-pub fn count_edges(layout: &Layout) -> u32 {
-    let repeaters = layout.repeaters.as_slice();
+pub fn count_edges(plan: &Plan) -> u32
+    ensures { result ≡ edges_before plan.now.layout.repeaters (length plan.now.layout.repeaters) }
+{
+    let repeaters = plan.layout.repeaters.as_slice();
     let mut count = 0u32;
     for k in 0..repeaters.len() {
-        for _port in 0..repeaters[k].ports.len() {
-            count = count.saturating_add(1);
-        }
+        count += repeaters[k].ports.len() as u32;
     }
     count
 }
 
-/// The edges of a segment, each with the worker that has its repeater.
-pub fn outlets_of_segment(
+/// The edges of a part, each with the worker that has the part at its other end.
+pub fn outlets_of(
     alloc: Global,
-    layout: &Layout,
+    plan: &Plan,
     owners: &[u32],
-    segment: u32,
-) -> Result<Vec<Outlet>, OutOfMemory> {
-    let repeaters = layout.repeaters.as_slice();
+    part: u32,
+) -> Result<Vec<Outlet>, OutOfMemory>
+    requires { part < parts plan.now }
+    ensures { IfOk result (λ outlets. map (λ (o : Outlet). o.edge) outlets.items ≡ edges_of_part plan.now part) }
+{
+    let list = edges_of(alloc, plan, part)?;
+    let edges = list.as_slice();
     let mut outlets = Vec::new(alloc);
-    let mut edge = 0u32;
-    for k in 0..repeaters.len() {
-        let ports = repeaters[k].ports.as_slice();
-        let worker = owner_of(owners, layout.segments.len().saturating_add(k));
-        for p in 0..ports.len() {
-            if ports[p].segment == segment {
-                outlets.push(Outlet { edge, worker })?;
-            }
-            edge = edge.saturating_add(1);
-        }
+    for k in 0..edges.len() {
+        let edge = edges[k];
+        let worker = owner_of(
+            owners,
+            other_end(&plan.layout, part as usize, edge as usize),
+        );
+        outlets.push(Outlet { edge, worker })?;
     }
     Ok(outlets)
 }
 
-/// The edges of a repeater, each with the worker that has its segment.
-pub fn outlets_of_repeater(
-    alloc: Global,
-    layout: &Layout,
-    owners: &[u32],
-    repeater: u32,
-) -> Result<Vec<Outlet>, OutOfMemory> {
+/// The part at the other end of an edge of this part.
+pub fn other_end(layout: &Layout, part: usize, edge: usize) -> usize {
+    let segments = layout.segments.len();
     let repeaters = layout.repeaters.as_slice();
-    let mut outlets = Vec::new(alloc);
-    let mut edge = 0u32;
+    let mut first = 0usize;
     for k in 0..repeaters.len() {
         let ports = repeaters[k].ports.as_slice();
-        for p in 0..ports.len() {
-            if k == repeater as usize {
-                let worker = owner_of(owners, ports[p].segment as usize);
-                outlets.push(Outlet { edge, worker })?;
+        if first <= edge && edge - first < ports.len() {
+            if part < segments {
+                return segments.saturating_add(k);
             }
-            edge = edge.saturating_add(1);
+            return ports[edge - first].segment as usize;
         }
+        first = first.saturating_add(ports.len());
     }
-    Ok(outlets)
+    segments
 }
 
-/// The worker that has a part.
-pub fn owner_of(owners: &[u32], part: usize) -> u32 {
+/// The worker that has a part, and the first where none has it.
+pub fn owner_of(owners: &[u32], part: usize) -> u32
+    ensures { result ≡ slice_index_or owners.now part 0 }
+{
     if part < owners.len() { owners[part] } else { 0 }
 }

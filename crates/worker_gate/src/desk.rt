@@ -1,5 +1,5 @@
 //! What a worker owns of the plan that a type carries.
-ghost use Rattle.std.specs.Prelude.{◌≡◌, ◌<◌, ◌≤◌, ◌+◌, [], true, false, All, IfSome, Some, length};
+ghost use Rattle.std.specs.Prelude.{◌≡◌, ◌<◌, ◌≤◌, ◌+◌, ◌↔◌, [], true, false, All, IfSome, IsTrue, Some, length};
 ghost use Rattle.net_parts.specs.Parcels.{IsTrueParcel};
 ghost use Rattle.exchange_core.specs.Holdings.{IsHoldingReady, IsHoldingClean};
 ghost use Rattle.exchange_core.specs.Shares.{rack, owns, part_of};
@@ -109,12 +109,17 @@ impl<P: Planned, S: Part, R: Part> Desk<P, S, R> {
     }
 
     /// Whether the part has made so many windows, or was given up for them, or isn't here.
-    pub fn is_past(&self, part: u32, windows: u64) -> bool {
+    pub fn is_past(&self, part: u32, windows: u64) -> bool
+        ensures { IsTrue result ↔ IfSome (part_of part self.now.share) (λ h. windows ≤ h.window) }
+    {
         !self.share.owns(part) || self.share.window(part) >= windows
     }
 
     /// Whether the part was given up.
-    pub fn is_lost(&self, part: u32) -> bool {
+    pub fn is_lost(&self, part: u32) -> bool
+        ensures here { IfSome (part_of part self.now.share) (λ h. result ≡ h.lost) }
+        ensures elsewhere { owns part self.now.share ≡ false → result ≡ false }
+    {
         self.share.owns(part) && self.share.lost(part)
     }
 

@@ -1,7 +1,7 @@
 //! The run of a plan by workers.
 ghost use Rattle.std.specs.Prelude.{◌≡◌, ◌<◌, ◌≤◌, ◌+◌, IfOk, IfSome, Some, length};
 ghost use Rattle.worker_gate.specs.FinishedParts.{AreFinished};
-ghost use Rattle.worker_gate.specs.PartMakers.{MayMake, MakesParts};
+ghost use Rattle.worker_gate.specs.PartMakers.{MakesSegments, MakesRepeaters};
 
 use crate::crew::make_kits;
 use crate::gather::{gather, put_parts};
@@ -40,10 +40,8 @@ pub fn run_planned<
 ) -> Result<(PartList<S>, PartList<R>), OutOfMemory>
     requires least { 1 ≤ workers }
     requires most { workers ≤ 64 }
-    requires may_segment { MayMake (length plan.now.layout.segments) (F.pre make_segment.now) }
-    requires segments { MakesParts S.plan S.number S.at plan.now 0 (F.post make_segment.now) }
-    requires may_repeater { MayMake (length plan.now.layout.repeaters) (H.pre make_repeater.now) }
-    requires repeaters { MakesParts R.plan R.number R.at plan.now (length plan.now.layout.segments) (H.post make_repeater.now) }
+    requires segments { MakesSegments S.plan S.number S.at plan.now (F.pre make_segment.now) (F.post make_segment.now) }
+    requires repeaters { MakesRepeaters R.plan R.number R.at plan.now (H.pre make_repeater.now) (H.post make_repeater.now) }
     ensures segments { IfOk result (λ r. AreFinished S.plan S.number S.at plan.now 0 (length plan.now.layout.segments) r.0.items) }
     ensures repeaters { IfOk result (λ r. AreFinished R.plan R.number R.at plan.now (length plan.now.layout.segments) (length plan.now.layout.repeaters) r.1.items) }
 {
@@ -82,10 +80,8 @@ fn run_boxed<
     repeater: &H,
 ) -> Result<(Vec<S>, Vec<R>), OutOfMemory>
     requires boxed { Some plan.now ≡ P.plan }
-    requires may_segment { MayMake (length plan.now.layout.segments) (F.pre segment.now) }
-    requires segments { MakesParts S.plan S.number S.at plan.now 0 (F.post segment.now) }
-    requires may_repeater { MayMake (length plan.now.layout.repeaters) (H.pre repeater.now) }
-    requires repeaters { MakesParts R.plan R.number R.at plan.now (length plan.now.layout.segments) (H.post repeater.now) }
+    requires segments { MakesSegments S.plan S.number S.at plan.now (F.pre segment.now) (F.post segment.now) }
+    requires repeaters { MakesRepeaters R.plan R.number R.at plan.now (H.pre repeater.now) (H.post repeater.now) }
     ensures segments { IfOk result (λ r. AreFinished S.plan S.number S.at plan.now 0 (length plan.now.layout.segments) r.0.items) }
     ensures repeaters { IfOk result (λ r. AreFinished R.plan R.number R.at plan.now (length plan.now.layout.segments) (length plan.now.layout.repeaters) r.1.items) }
 {
@@ -111,10 +107,8 @@ fn run_alone<
     H: Fn(u32) -> Result<R, OutOfMemory>,
 >(alloc: Global, plan: &Plan, segment: &F, repeater: &H) -> Result<Vec<Kit<P, S, R>>, OutOfMemory>
     requires boxed { Some plan.now ≡ P.plan }
-    requires may_segment { MayMake (length plan.now.layout.segments) (F.pre segment.now) }
-    requires segments { MakesParts S.plan S.number S.at plan.now 0 (F.post segment.now) }
-    requires may_repeater { MayMake (length plan.now.layout.repeaters) (H.pre repeater.now) }
-    requires repeaters { MakesParts R.plan R.number R.at plan.now (length plan.now.layout.segments) (H.post repeater.now) }
+    requires segments { MakesSegments S.plan S.number S.at plan.now (F.pre segment.now) (F.post segment.now) }
+    requires repeaters { MakesRepeaters R.plan R.number R.at plan.now (H.pre repeater.now) (H.post repeater.now) }
 {
     let mut kits = make_kits::<P, S, R, F, H>(alloc, plan, 1, segment, repeater)?;
     for i in 0..kits.len() {

@@ -1,5 +1,5 @@
 //! How parts are dealt over workers.
-use crate::dealing::{outlets_of_repeater, outlets_of_segment, owners};
+use crate::dealing::{other_end, owners};
 use layout::Layout;
 use layout_file::read_layout;
 use lists::OutOfMemory;
@@ -42,12 +42,10 @@ fn two_segments_are_apart(rt: HostRuntime) -> Result<(), Fail> {
     let layout = layout_of(alloc, TWO_SEGMENTS)?;
     let owners = owners(alloc, &layout, 2)?;
     assert!(rt; owners.len() == 3 && owners[0] == 0 && owners[1] == 1);
-    let outlets = outlets_of_segment(alloc, &layout, owners.as_slice(), 1)?;
-    assert!(rt; outlets.len() == 1 && outlets[0].edge == 1 && outlets[0].worker == owners[2]);
-    let outlets = outlets_of_repeater(alloc, &layout, owners.as_slice(), 0)?;
-    assert!(rt; outlets.len() == 2);
-    assert!(rt; outlets[0].edge == 0 && outlets[0].worker == 0);
-    assert!(rt; outlets[1].edge == 1 && outlets[1].worker == 1);
+    assert_eq!(rt; other_end(&layout, 0, 0), 2);
+    assert_eq!(rt; other_end(&layout, 1, 1), 2);
+    assert_eq!(rt; other_end(&layout, 2, 0), 0);
+    assert_eq!(rt; other_end(&layout, 2, 1), 1);
     Ok(())
 }
 

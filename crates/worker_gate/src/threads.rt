@@ -1,7 +1,7 @@
 //! Workers in threads of their own, and the caller among them.
 ghost use Rattle.std.specs.Prelude.{◌≡◌, ◌<◌, ◌+◌, Some, length};
 ghost use denote.Param.Send.{IsSend};
-ghost use Rattle.worker_gate.specs.PartMakers.{MayMake, MakesParts};
+ghost use Rattle.worker_gate.specs.PartMakers.{MakesSegments, MakesRepeaters};
 
 use crate::crew::make_kits;
 use crate::dealing::count_edges;
@@ -30,6 +30,38 @@ fn start<'s, E, P: Planned + Send + 's, S: Part + 's, R: Part + 's, X: Wait + Sy
     }
 }
 
+/// Starts a worker for each of these ports, numbered from 1 on, until no more threads can be made. Answers how many workers
+/// there are with the caller.
+fn start_all<'s, E, P: Planned + Send + 's, S: Part + 's, R: Part + 's, X: Wait + Sync>(
+    scope: &Scope<'s, E>,
+    rt: &'s X,
+    rows: Vec<Ports<P, S, R>>,
+    handles: &mut Vec<JoinHandle<Option<Kit<P, S, R>>>>,
+) -> u32 {
+    let mut count = 1u32;
+    for row in rows {
+        let Some(handle) = start(scope, rt, row, count) else {
+            break;
+        };
+        let _ = handles.push(handle);
+        count = count.saturating_add(1);
+    }
+    count
+}
+
+/// Waits for the workers, and puts their kits to the others.
+fn join_all<P: Planned + Send, S: Part, R: Part, X: Threads + Wait>(
+    rt: &X,
+    handles: Vec<JoinHandle<Option<Kit<P, S, R>>>>,
+    kits: &mut Vec<Kit<P, S, R>>,
+) {
+    for handle in handles {
+        if let Some(kit) = handle.join(rt) {
+            let _ = kits.push(kit);
+        }
+    }
+}
+
 /// Makes a kit for each of so many workers, then sends them, and works on the caller's own. Where memory is short, each worker
 /// gets a kit with which it ends.
 fn lead<
@@ -49,10 +81,8 @@ fn lead<
     repeater: &H,
 ) -> Result<Kit<P, S, R>, OutOfMemory>
     requires boxed { Some plan.now ≡ P.plan }
-    requires may_segment { MayMake (length plan.now.layout.segments) (F.pre segment.now) }
-    requires segments { MakesParts S.plan S.number S.at plan.now 0 (F.post segment.now) }
-    requires may_repeater { MayMake (length plan.now.layout.repeaters) (H.pre repeater.now) }
-    requires repeaters { MakesParts R.plan R.number R.at plan.now (length plan.now.layout.segments) (H.post repeater.now) }
+    requires segments { MakesSegments S.plan S.number S.at plan.now (F.pre segment.now) (F.post segment.now) }
+    requires repeaters { MakesRepeaters R.plan R.number R.at plan.now (H.pre repeater.now) (H.post repeater.now) }
 {
     match make_kits::<P, S, R, F, H>(alloc, plan, workers, segment, repeater) {
         Ok(kits) => {
@@ -119,12 +149,10 @@ pub fn run_threads<
     repeater: &H,
 ) -> Result<Vec<Kit<P, S, R>>, OutOfMemory>
     requires boxed { Some plan.now ≡ P.plan }
-    requires may_segment { MayMake (length plan.now.layout.segments) (F.pre segment.now) }
-    requires segments { MakesParts S.plan S.number S.at plan.now 0 (F.post segment.now) }
-    requires may_repeater { MayMake (length plan.now.layout.repeaters) (H.pre repeater.now) }
-    requires repeaters { MakesParts R.plan R.number R.at plan.now (length plan.now.layout.segments) (H.post repeater.now) }
+    requires segments { MakesSegments S.plan S.number S.at plan.now (F.pre segment.now) (F.post segment.now) }
+    requires repeaters { MakesRepeaters R.plan R.number R.at plan.now (H.pre repeater.now) (H.post repeater.now) }
 {
-    let Some(room) = count_edges(&plan.layout).checked_add(1) else {
+    let Some(room) = count_edges(plan).checked_add(1) else {
         return Err(OutOfMemory);
     };
     let mut rows = make_ports::<P, Kit<P, S, R>>(alloc, workers, room)?;
@@ -140,30 +168,17 @@ pub fn run_threads<
         |scope| -> Result<Vec<Kit<P, S, R>>, OutOfMemory>
             requires crossing { IsSend P.row × IsSend S.row × IsSend R.row }
             requires boxed { Some plan.now ≡ P.plan }
-            requires may_segment { MayMake (length plan.now.layout.segments) (F.pre segment.now) }
-            requires segments { MakesParts S.plan S.number S.at plan.now 0 (F.post segment.now) }
-            requires may_repeater { MayMake (length plan.now.layout.repeaters) (H.pre repeater.now) }
-            requires repeaters { MakesParts R.plan R.number R.at plan.now (length plan.now.layout.segments) (H.post repeater.now) }
+            requires segments { MakesSegments S.plan S.number S.at plan.now (F.pre segment.now) (F.post segment.now) }
+            requires repeaters { MakesRepeaters R.plan R.number R.at plan.now (H.pre repeater.now) (H.post repeater.now) }
         {
             let mut mine = mine;
             let mut handles = handles;
             let mut kits = kits;
-            let mut count = 1u32;
-            for row in rows {
-                let Some(handle) = start(scope, rt, row, count) else {
-                    break;
-                };
-                let _ = handles.push(handle);
-                count = count.saturating_add(1);
-            }
+            let count = start_all(scope, rt, rows, &mut handles);
             let own = lead::<P, S, R, F, H, X>(
                 rt, alloc, plan, &mut mine, count, segment, repeater,
             );
-            for handle in handles {
-                if let Some(kit) = handle.join(rt) {
-                    let _ = kits.push(kit);
-                }
-            }
+            join_all(rt, handles, &mut kits);
             kits.push(own?)?;
             Ok(kits)
         },

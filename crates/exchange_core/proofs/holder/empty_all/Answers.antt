@@ -1,4 +1,4 @@
-use Rattle.std.proofs.Common.{◌≡◌, ap, ◌∙◌, sym, length, ◌<◌, arith, set}
+use Rattle.std.proofs.Common.{ap, ◌∙◌, length, ◌<◌, arith, set}
 use Rattle.std.proofs.lemmas.List.Edits.{map_over_more}
 use Rattle.std.proofs.Math.ListN.{length-set}
 use Rattle.net_parts.specs.declared.parcel.Parcel.{Parcel}

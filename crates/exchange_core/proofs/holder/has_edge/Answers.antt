@@ -1,5 +1,4 @@
-use Rattle.std.proofs.Common.{◌≡◌, true, ap, sym, ◌∙◌, arith}
-use Rattle.net_parts.specs.declared.parcel.Parcel.{Parcel}
+use Rattle.std.proofs.Common.{sym, arith}
 use Rattle.exchange_core.proofs.EdgePlaces.{place_found, none_found}
 use Rattle.exchange_core.proofs.holder.has_edge.Goals as goal
 

@@ -1,5 +1,4 @@
-use Rattle.std.proofs.Common.{◌≡◌, true, ap, sym, ◌∙◌, true≢false, arith}
-use Rattle.net_parts.specs.declared.parcel.Parcel.{Parcel}
+use Rattle.std.proofs.Common.{sym, ◌∙◌, true≢false, arith}
 use Rattle.exchange_core.proofs.EdgePlaces.{place_found, none_found}
 use Rattle.exchange_core.proofs.holder.place_in.Goals as goal
 

@@ -1,4 +1,4 @@
-use Rattle.std.proofs.Common.{◌≡◌, ◌≤◌, ◌<◌, ◌+◌, true, ap, ◌∙◌, sym, arith, List, ◌++◌, ◌∷◌, []}
+use Rattle.std.proofs.Common.{◌≡◌, ◌≤◌, ◌+◌, true, ap, ◌∙◌, sym, arith, ◌++◌, ◌∷◌, []}
 use Rattle.std.specs.Prelude.{None, vec_len, vec_capacity, is_ok, if◌then◌else◌}
 use Rattle.exchange_core.specs.Shares.{widened}
 use Rattle.exchange_core.proofs.HandedParts.{answered, widened_more}

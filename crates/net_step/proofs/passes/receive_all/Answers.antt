@@ -5,7 +5,7 @@ use Rattle.manchester_line.specs.Line.{is_signal}
 use Rattle.mac_receive.specs.Receiver.{Receiving, new_receiving, receiver_step}
 use Rattle.mac_receive.specs.KeptReceiver.{Kept, Hears}
 use Rattle.net_step.specs.KeptNet.{Gives}
-use Rattle.net_step.proofs.ChangedElements.{All-take-set, All-drop-set, All-drop-first, get_or-rest, rest-set}
+use Rattle.net_step.proofs.ChangedElements.{changed_one, get_or-rest, rest-set}
 use Rattle.net_step.proofs.KeptReceivers.{length-AllHear, AllHear-at, AllGive-next, Lends-from}
 use Rattle.net_step.proofs.passes.receive_all.Goals as goal
 
@@ -15,13 +15,15 @@ loop-k-preserved c =
     let t = c.args.t in
     let e = c.index-receivers-k.result in
     let d : Receiving = new_receiving 0 0 in
-    let now : (get_or c.loop-k.receivers k e).steps ≡ t = All-drop-first (λ (s : Kept). s.steps ≡ t) c.loop-k.receivers k e (omega arith) c.loop-k.invariant.waiting in
+    let all =
+    changed_one (λ (s : Kept). s.steps ≡ t) (λ (s : Kept). s.steps ≡ t + 1) c.loop-k.receivers k c.step.new.self e (omega arith)
+    c.loop-k.invariant.stepped c.loop-k.invariant.waiting (λ now. c.step.ensures.steps ∙ ap (λ n. n + 1) now) in
     let same : get_or c.loop-k.receivers k e ≡ get_or c.args.receivers.now k e = get_or-rest c.loop-k.receivers c.args.receivers.now k e c.loop-k.invariant.rest in
     record {
       len = search rules;
       len_received = search rules;
-      stepped = All-take-set (λ (s : Kept). s.steps ≡ t + 1) c.loop-k.receivers k c.step.new.self (omega arith) c.loop-k.invariant.stepped (c.step.ensures.steps ∙ ap (λ n. n + 1) now);
-      waiting = All-drop-set (λ (s : Kept). s.steps ≡ t) c.loop-k.receivers k c.step.new.self c.loop-k.invariant.waiting;
+      stepped = all.0;
+      waiting = all.1;
       rest = rest-set c.loop-k.receivers c.args.receivers.now k c.step.new.self c.loop-k.invariant.rest;
       given = λ rs h.
           let r = get_or rs k d in

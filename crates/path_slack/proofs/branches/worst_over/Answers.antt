@@ -2,7 +2,7 @@ use Rattle.std.proofs.Common.{subst, sym, get_or, ◌-◌, arith}
 use Rattle.layout.specs.declared.ways.Tap.TheVariants.{Station}
 use Rattle.std.proofs.Common.{None}
 use Rattle.path_slack.specs.declared.branches.Branch.{Branch}
-use Rattle.path_slack.specs.Parts.{AreBranchesOf}
+use Rattle.path_slack.specs.Branches.{AreBranchesOf}
 use Rattle.path_slack.proofs.SidesOfGaps.{Below, Above, side_none, below_more, below_skip, above_more, above_skip, branch_fits, at_fits, below_low, above_low, worst_over_gap}
 use Rattle.path_slack.proofs.branches.worst_over.Goals as goal
 
@@ -12,8 +12,8 @@ nowhere = record { tap = Station 0; far = None }
 pub loop-k-init : goal.loop-k-init
 loop-k-init c = record { below = side_none c.args.layout.now (Below c.args.layout.now c.args.high); above = side_none c.args.layout.now (Above c.args.layout.now c.args.high) }
 
-pub reach_after-requires : goal.reach_after-requires
-reach_after-requires c = λ f is.
+pub lengthened-requires : goal.lengthened-requires
+lengthened-requires c = λ f is.
     let of : AreBranchesOf c.args.layout.now c.args.branches.now.segment c.as_slice-list.result.now = subst (AreBranchesOf c.args.layout.now c.args.branches.now.segment) (sym c.as_slice-list.ensures) c.requires.branches in
     branch_fits c.args.layout.now c.args.branches.now.segment c.args.high c.as_slice-list.result.now c.requires.sound of c.loop-k.k nowhere (c.args.high - c.at_of-at.result) c.loop-k-test.true (omega (arith, c.requires.high)) f is
 
@@ -21,12 +21,12 @@ pub loop-k-preserved-then-at-high : goal.loop-k-preserved-then-at-high
 loop-k-preserved-then-at-high c =
     let of : AreBranchesOf c.args.layout.now c.args.branches.now.segment c.as_slice-list.result.now = subst (AreBranchesOf c.args.layout.now c.args.branches.now.segment) (sym c.as_slice-list.ensures) c.requires.branches in
     record {
-      below = below_more c.args.layout.now c.args.branches.now.segment c.args.high c.as_slice-list.result.now c.requires.sound of c.loop-k.k nowhere c.at_of-at.result c.loop-k.below c.reach_after.result c.farther-below.result c.loop-k-test.true c.at_of-at.ensures c.if-at-high.true c.loop-k.invariant.below c.reach_after.ensures c.farther-below.ensures;
+      below = below_more c.args.layout.now c.args.branches.now.segment c.args.high c.as_slice-list.result.now c.requires.sound of c.loop-k.k nowhere c.at_of-at.result c.loop-k.below c.lengthened.result c.farther-below.result c.loop-k-test.true c.at_of-at.ensures c.if-at-high.true c.loop-k.invariant.below c.lengthened.ensures c.farther-below.ensures;
       above = above_skip c.args.layout.now c.args.branches.now.segment c.args.high c.as_slice-list.result.now c.requires.sound of c.loop-k.k nowhere c.at_of-at.result c.loop-k.above c.loop-k-test.true c.at_of-at.ensures c.if-at-high.true c.loop-k.invariant.above;
     }
 
-pub reach_after-requires-in-loop-k : goal.reach_after-requires-in-loop-k
-reach_after-requires-in-loop-k c = λ f is.
+pub lengthened-requires-in-loop-k : goal.lengthened-requires-in-loop-k
+lengthened-requires-in-loop-k c = λ f is.
     let of : AreBranchesOf c.args.layout.now c.args.branches.now.segment c.as_slice-list.result.now = subst (AreBranchesOf c.args.layout.now c.args.branches.now.segment) (sym c.as_slice-list.ensures) c.requires.branches in
     branch_fits c.args.layout.now c.args.branches.now.segment c.args.high c.as_slice-list.result.now c.requires.sound of c.loop-k.k nowhere (c.at_of-at.result - c.args.high) c.loop-k-test.true (rw c.at_of-at.ensures (omega (arith, at_fits c.args.layout.now c.args.branches.now.segment c.args.high c.as_slice-list.result.now c.requires.sound of (get_or c.as_slice-list.result.now c.loop-k.k nowhere).tap))) f is
 
@@ -35,7 +35,7 @@ loop-k-preserved c =
     let of : AreBranchesOf c.args.layout.now c.args.branches.now.segment c.as_slice-list.result.now = subst (AreBranchesOf c.args.layout.now c.args.branches.now.segment) (sym c.as_slice-list.ensures) c.requires.branches in
     record {
       below = below_skip c.args.layout.now c.args.branches.now.segment c.args.high c.as_slice-list.result.now c.requires.sound of c.loop-k.k nowhere c.at_of-at.result c.loop-k.below c.loop-k-test.true c.at_of-at.ensures c.if-at-high.false c.loop-k.invariant.below;
-      above = above_more c.args.layout.now c.args.branches.now.segment c.args.high c.as_slice-list.result.now c.requires.sound of c.loop-k.k nowhere c.at_of-at.result c.loop-k.above c.reach_after-in-loop-k.result c.farther-above.result c.loop-k-test.true c.at_of-at.ensures c.if-at-high.false c.loop-k.invariant.above c.reach_after-in-loop-k.ensures c.farther-above.ensures;
+      above = above_more c.args.layout.now c.args.branches.now.segment c.args.high c.as_slice-list.result.now c.requires.sound of c.loop-k.k nowhere c.at_of-at.result c.loop-k.above c.lengthened-in-loop-k.result c.farther-above.result c.loop-k-test.true c.at_of-at.ensures c.if-at-high.false c.loop-k.invariant.above c.lengthened-in-loop-k.ensures c.farther-above.ensures;
     }
 
 pub pair_over-requires-clause-near : goal.pair_over-requires-clause-near

@@ -1,10 +1,10 @@
 use Rattle.std.proofs.Common.{take}
-use Rattle.path_slack.specs.Reaches.{IsFarthestReach}
+use Rattle.path_checker.specs.Far.{IsFarthest}
 use Rattle.path_slack.proofs.SidesOfGaps.{IsFromSide, Below, Above}
 use Rattle.path_slack.proofs.branches.worst_over.Given as goal
 
 abbrev pub invariant-loop-k : goal.invariant-loop-k
 invariant-loop-k l = record {
-  below : IsFarthestReach (IsFromSide l.layout (Below l.layout l.high) (take l.k l.list)) l.below;
-  above : IsFarthestReach (IsFromSide l.layout (Above l.layout l.high) (take l.k l.list)) l.above;
+  below : IsFarthest (IsFromSide l.layout (Below l.layout l.high) (take l.k l.list)) l.below;
+  above : IsFarthest (IsFromSide l.layout (Above l.layout l.high) (take l.k l.list)) l.above;
 }

@@ -11,11 +11,11 @@ use Rattle.path_slack.proofs.slack.delay_slack.Goals as goal
 pub reckoned-requires : goal.reckoned-requires
 reckoned-requires c = λ w is.
     worst_short c.args.layout.now way.Repeater c.args.repeater (ThroughRepeater c.args.layout.now c.args.repeater) (lengthened_delay c.args.layout.now c.args.repeater) c.requires.sound (λ x. delay_growth c.args.layout.now c.args.repeater x c.get.result.now c.get.ensures)
-    (λ over. false≢true (sym c.if-over.false ∙ c.requires.over.1 over)) c.worst_through.result w c.worst_through.ensures is
+    (λ over. false≢true (sym c.if-over.false ∙ c.requires.over.1 over)) c.worst_through.result w c.worst_through.ensures.worst is
 
-pub returns : goal.returns
-returns c =
+pub returns-clause-slack : goal.returns-clause-slack
+returns-clause-slack c =
     is_slack c.args.layout.now way.Repeater c.args.repeater (ThroughRepeater c.args.layout.now c.args.repeater) (lengthened_delay c.args.layout.now c.args.repeater) c.requires.sound (λ x. delay_growth c.args.layout.now c.args.repeater x c.get.result.now c.get.ensures)
     (λ over. false≢true (sym c.if-over.false ∙ c.requires.over.1 over)) (greatest_delay - c.get.result.now.delay)
     (λ x. delay_bound c.args.layout.now c.args.repeater x c.get.result.now c.get.ensures c.requires.sound)
-    c.worst_through.result c.reckoned.result c.worst_through.ensures c.reckoned.ensures
+    c.worst_through.result c.reckoned.result c.worst_through.ensures.worst c.reckoned.ensures

@@ -1,4 +1,4 @@
-use Rattle.std.proofs.Common.{◌≡◌, ◌+◌, ◌<◌, length, map, take, drop, set, get_or, sym, ap, ◌∙◌, arith}
+use Rattle.std.proofs.Common.{◌≡◌, ◌+◌, ◌<◌, length, map, take, set, get_or, sym, ap, ◌∙◌, arith}
 use Rattle.manchester_line.specs.declared.Sym.TheVariants.{Idle}
 use Rattle.manchester_line.specs.Line.{is_signal}
 use Rattle.repeater_core.specs.Steady.{texted}
@@ -17,8 +17,7 @@ loop-k-preserved c =
     let long : length ds ≡ length flags = texted_length flags c.args.text in
     let l : k < length flags = omega arith in
     let value : c.text_at.result ≡ get_or ds k Idle = c.text_at.ensures ∙ sym (text_put k flags c.args.text _ l) in
-    let more : h + (k + 1) ≡ h + k + 1 = omega arith in
     record {
       before = ap (λ v. take (h + (k + 1)) (set new (h + k) v)) value ∙ put_one h k old new ds (omega arith) (omega arith) i.before;
-      behind = ap (λ n. drop n (set new (h + k) c.text_at.result)) more ∙ leave_rest (h + k) old new c.text_at.result i.behind ∙ sym (ap (λ n. drop n old) more);
+      behind = leave_rest h k old new c.text_at.result i.behind;
     }

@@ -25,9 +25,8 @@ loop-k-preserved c =
     let ds = c.args.decided.now in
     let es = c.loop-k.emits in
     let i = c.loop-k.invariant in
-    let more : h + (k + 1) ≡ h + k + 1 = omega arith in
     record {
       before = put_one h k old new ds (omega arith) (omega arith) i.before;
-      behind = ap (λ n. drop n (set new (h + k) (get_or ds k Idle))) more ∙ leave_rest (h + k) old new (get_or ds k Idle) i.behind ∙ sym (ap (λ n. drop n old) more);
+      behind = leave_rest h k old new (get_or ds k Idle) i.behind;
       out = take_one h k old new es (omega arith) (omega arith) i.behind i.out;
     }

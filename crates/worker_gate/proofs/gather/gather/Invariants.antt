@@ -1,4 +1,3 @@
-use Rattle.std.proofs.Common.{◌≡◌, ◌<◌, ℕ, length}
 use Rattle.worker_gate.specs.FinishedParts.{AreFinished}
 use Rattle.worker_gate.proofs.gather.gather.Given as goal
 

@@ -1,4 +1,4 @@
-use Rattle.std.proofs.Common.{◌≡◌, ℕ, All, length}
+use Rattle.std.proofs.Common.{◌≡◌, All}
 use Rattle.std.specs.Prelude.{Some, vec_len}
 use Rattle.worker_gate.proofs.gather.put_parts.Given as goal
 

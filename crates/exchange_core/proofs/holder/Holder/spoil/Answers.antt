@@ -1,4 +1,4 @@
-use Rattle.std.proofs.Common.{◌≡◌, true, false, ap, sym, ◌∙◌}
+use Rattle.std.proofs.Common.{◌≡◌, ap, sym, ◌∙◌}
 use Rattle.net_parts.specs.Parts.{is_segment_part}
 use Rattle.net_parts.specs.Parcels.{next_stamp}
 use Rattle.exchange_core.specs.Holders.{held_as}

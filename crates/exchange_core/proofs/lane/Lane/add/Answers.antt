@@ -1,4 +1,4 @@
-use Rattle.std.proofs.Common.{◌≡◌, ◌≤◌, ◌<◌, ◌+◌, ◌++◌, ◌∷◌, [], true, ap, ◌∙◌, sym, arith, set, List, ℕ}
+use Rattle.std.proofs.Common.{◌≡◌, ◌≤◌, ◌+◌, ◌++◌, ◌∷◌, [], true, ap, ◌∙◌, arith, set}
 use Rattle.std.specs.Prelude.{Some, vec_len, vec_capacity, is_ok, if◌then◌else◌}
 use Rattle.exchange_core.specs.Shares.{rack, widened, add_on}
 use Rattle.exchange_core.proofs.HandedParts.{answered}

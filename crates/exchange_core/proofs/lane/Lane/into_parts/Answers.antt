@@ -1,28 +1,34 @@
-use Rattle.std.proofs.Common.{◌≡◌, ◌≤◌, ◌<◌, ◌+◌, ◌++◌, ◌∷◌, [], true, false, ap, ◌∙◌, sym, subst, arith, length, map, get_or, List}
+use Rattle.std.proofs.Common.{◌≡◌, ◌≤◌, ◌<◌, ◌+◌, ◌++◌, ◌∷◌, [], true, ap, ◌∙◌, sym, subst, arith, length, map, get_or}
 use Rattle.std.specs.Prelude.{None, vec_len, vec_capacity, is_ok, if◌then◌else◌}
 use Rattle.std.proofs.lemmas.List.{take_all}
-use Rattle.exchange_core.specs.Shares.{Rack, rack, handed, handed_as, handed_out, IsAddedInOrder}
+use Rattle.exchange_core.specs.Shares.{rack, handed, handed_as, handed_out, IsAddedInOrder}
 use Rattle.exchange_core.proofs.HandedParts.{answered, owned_now, rest_next, told_next}
+use Rattle.exchange_core.proofs.lane.Lane.into_parts.Given.{Over}
+use Rattle.exchange_core.proofs.lane.Lane.into_parts.Goals.{After-index}
 use Rattle.exchange_core.proofs.lane.Lane.into_parts.Goals as goal
+
+added : (g : Over) (c : After-index g) → IsAddedInOrder (rack c.self.inside.places.items c.self.inside.order.items)
+added g c = subst IsAddedInOrder (sym c.self.view_is) (record { owned = c.requires.owned; apart = c.requires.apart })
+
+in_it : (g : Over) (c : After-index g) → c.loop-i.i < length c.self.inside.order.items
+in_it g c = let below = c.loop-i-test.true in let many = c.len-i-end.ensures in omega (arith, below, many)
 
 pub take_out-requires-after_bounds : goal.take_out-requires-after_bounds
 take_out-requires-after_bounds g c κs within =
     let s = c.self.inside in
     let l = c.loop-i in
-    let o : IsAddedInOrder (rack s.places.items s.order.items) = subst IsAddedInOrder (sym c.self.view_is) (record { owned = c.requires.owned; apart = c.requires.apart }) in
-    let below = c.loop-i-test.true in
-    let many = c.len-i-end.ensures in
-    let in-order : l.i < length s.order.items = omega (arith, below, many) in
-    owned_now s.places.items s.order.items o l.places.items l.i c.index.result.now in-order l.invariant.rest c.index.ensures
+    let at = (goal.at.take_out-requires-after_bounds g c).After-index in
+    owned_now s.places.items s.order.items (added g at) l.places.items l.i c.index.result.now (in_it g at) l.invariant.rest c.index.ensures
 
 pub loop-i-preserved : goal.loop-i-preserved
 loop-i-preserved g c =
     let s = c.self.inside in
     let l = c.loop-i in
-    let o : IsAddedInOrder (rack s.places.items s.order.items) = subst IsAddedInOrder (sym c.self.view_is) (record { owned = c.requires.owned; apart = c.requires.apart }) in
+    let at = (goal.at.loop-i-preserved g c).After-index in
+    let o = added g at in
+    let in-order = in_it g at in
     let below = c.loop-i-test.true in
     let many = c.len-i-end.ensures in
-    let in-order : l.i < length s.order.items = omega (arith, below, many) in
     let f = λ (p : g.row.P.Denot). handed_as (g.P.Part.plan p) (g.P.Part.number p) (g.P.Part.at p) in
     let x = c.index.result.now in
     let room = l.invariant.room in

@@ -1,67 +1,39 @@
 use Rattle.std.proofs.Common.{◌≡◌, true, false, ap, sym, subst, ◌∙◌}
 use Rattle.net_parts.specs.Parts.{edges_of_part}
-use Rattle.exchange_core.specs.Holdings.{IsSoundHolding, added_segment}
+use Rattle.exchange_core.specs.Holdings.{added_segment}
 use Rattle.exchange_core.specs.Shares.{Held, share_of, owns, add_on, IsOfPlan, HasNoneOf, IsWholeShare}
 use Rattle.exchange_core.proofs.EitherAnswer.{on_either}
 use Rattle.exchange_core.proofs.SoundHoldings.{new_segment_sound}
-use Rattle.exchange_core.proofs.GrownShares.{none_at_new, segment_learnt, segment_added}
+use Rattle.exchange_core.proofs.GrownShares.{MayAdd, learnt_whole, added_whole, none_elsewhere}
+use Rattle.exchange_core.proofs.share.Share.add_segment.Given.{Over}
+use Rattle.exchange_core.proofs.share.Share.add_segment.Goals.{After-learn}
 use Rattle.exchange_core.proofs.share.Share.add_segment.Goals as goal
 
-pub invariant_of-self : goal.invariant_of-self
-invariant_of-self g c =
-    let s = c.self.inside in
-    let so = s.segment_of.items in
-    let ro = s.repeater_of.items in
-    let a = s.segments in
-    let b = s.repeaters in
-    let plan = g.S.Part.plan c.args.part in
-    let u = g.S.Part.number c.args.part in
-    let at = g.S.Part.at c.args.part in
-    let h = added_segment plan u at c.args.parcels in
+may : (g : Over) (c : After-learn g) → MayAdd true (share_of c.self.inside.segments c.self.inside.repeaters) (added_segment (g.S.Part.plan c.args.part) (g.S.Part.number c.args.part) (g.S.Part.at c.args.part) c.args.parcels)
+may g c =
     let laws = g.met.S.Part g.world.𝓛 g.world.𝓜 g.world.𝓡 ((λ s x. x), (λ x. x), (λ x. x), λ x. x) in
-    let sound : IsSoundHolding h = new_segment_sound plan u at c.args.parcels (laws.within c.args.part) c.requires.parcels in
-    let of : IsOfPlan plan (share_of a b) = subst (IsOfPlan plan) (sym c.self.view_is) c.requires.plan in
-    let fresh : owns u (share_of a b) ≡ false = subst (λ (v : Held). owns u v ≡ false) (sym c.self.view_is) c.requires.fresh in
-    let learnt = segment_learnt so ro a b c.self.invariant h sound of fresh c.edges.result.now c.learn.new.owners.items c.edges.ensures c.requires.kind c.learn.ensures.others in
-    learnt
+    record {
+      sound = new_segment_sound (g.S.Part.plan c.args.part) (g.S.Part.number c.args.part) (g.S.Part.at c.args.part) c.args.parcels (laws.within c.args.part) c.requires.parcels;
+      kind_is = c.requires.kind;
+      plan = subst (IsOfPlan (g.S.Part.plan c.args.part)) (sym c.self.view_is) c.requires.plan;
+      fresh = subst (λ (v : Held). owns (g.S.Part.number c.args.part) v ≡ false) (sym c.self.view_is) c.requires.fresh;
+    }
+
+learnt : (g : Over) (c : After-learn g) → IsWholeShare c.learn.new.owners.items c.self.inside.repeater_of.items (share_of c.self.inside.segments c.self.inside.repeaters)
+learnt g c = learnt_whole true _ _ _ _ c.self.invariant _ (may g c) c.edges.result.now c.learn.new.owners.items c.edges.ensures c.learn.ensures.others
+
+pub invariant_of-self : goal.invariant_of-self
+invariant_of-self g c = learnt g (goal.at.invariant_of-self g c).After-learn
 
 pub invariant_of-self-in_err-holder : goal.invariant_of-self-in_err-holder
-invariant_of-self-in_err-holder g c =
-    let s = c.self.inside in
-    let so = s.segment_of.items in
-    let ro = s.repeater_of.items in
-    let a = s.segments in
-    let b = s.repeaters in
-    let plan = g.S.Part.plan c.args.part in
-    let u = g.S.Part.number c.args.part in
-    let at = g.S.Part.at c.args.part in
-    let h = added_segment plan u at c.args.parcels in
-    let laws = g.met.S.Part g.world.𝓛 g.world.𝓜 g.world.𝓡 ((λ s x. x), (λ x. x), (λ x. x), λ x. x) in
-    let sound : IsSoundHolding h = new_segment_sound plan u at c.args.parcels (laws.within c.args.part) c.requires.parcels in
-    let of : IsOfPlan plan (share_of a b) = subst (IsOfPlan plan) (sym c.self.view_is) c.requires.plan in
-    let fresh : owns u (share_of a b) ≡ false = subst (λ (v : Held). owns u v ≡ false) (sym c.self.view_is) c.requires.fresh in
-    let learnt = segment_learnt so ro a b c.self.invariant h sound of fresh c.edges.result.now c.learn.new.owners.items c.edges.ensures c.requires.kind c.learn.ensures.others in
-    learnt
+invariant_of-self-in_err-holder g c = learnt g (goal.at.invariant_of-self-in_err-holder g c).After-learn
 
 pub invariant_of-self-2 : goal.invariant_of-self-2
 invariant_of-self-2 g c =
-    let s = c.self.inside in
-    let so = s.segment_of.items in
-    let ro = s.repeater_of.items in
-    let a = s.segments in
-    let b = s.repeaters in
-    let plan = g.S.Part.plan c.args.part in
-    let u = g.S.Part.number c.args.part in
-    let at = g.S.Part.at c.args.part in
-    let h = added_segment plan u at c.args.parcels in
-    let laws = g.met.S.Part g.world.𝓛 g.world.𝓜 g.world.𝓡 ((λ s x. x), (λ x. x), (λ x. x), λ x. x) in
-    let sound : IsSoundHolding h = new_segment_sound plan u at c.args.parcels (laws.within c.args.part) c.requires.parcels in
-    let of : IsOfPlan plan (share_of a b) = subst (IsOfPlan plan) (sym c.self.view_is) c.requires.plan in
-    let fresh : owns u (share_of a b) ≡ false = subst (λ (v : Held). owns u v ≡ false) (sym c.self.view_is) c.requires.fresh in
-    let learnt = segment_learnt so ro a b c.self.invariant h sound of fresh c.edges.result.now c.learn.new.owners.items c.edges.ensures c.requires.kind c.learn.ensures.others in
     let new = c.add.new.self in
-    let added = segment_added so ro a b c.self.invariant h sound of fresh c.edges.result.now c.learn.new.owners.items c.edges.ensures c.requires.kind c.learn.ensures.others
-    (λ k in'. c.in_ok-learn.ensures.mine k in' ∙ c.part.ensures) (subst (HasNoneOf (edges_of_part plan u)) (sym c.self.view_is) c.requires.once) in
-    on_either c.add.result (new ≡ add_on c.in_ok-holder.holder a) (new ≡ a) (IsWholeShare c.learn.new.owners.items ro (share_of new b)) c.add.ensures.ok c.add.ensures.err
-    (λ q. added new (q ∙ ap (λ x. add_on x a) c.in_ok-holder.ensures))
-    (λ q. subst (λ x. IsWholeShare c.learn.new.owners.items ro (share_of x b)) (sym q) learnt)
+    let p = may g (goal.at.invariant_of-self-2 g c).After-learn in
+    let added = added_whole true _ _ _ _ c.self.invariant _ p c.edges.result.now c.learn.new.owners.items c.edges.ensures c.learn.ensures.others
+    (λ k in'. c.in_ok-learn.ensures.mine k in' ∙ c.part.ensures) (none_elsewhere (added_segment (g.S.Part.plan c.args.part) (g.S.Part.number c.args.part) (g.S.Part.at c.args.part) c.args.parcels) (share_of c.self.inside.segments c.self.inside.repeaters) p.sound (subst (HasNoneOf (edges_of_part (g.S.Part.plan c.args.part) (g.S.Part.number c.args.part))) (sym c.self.view_is) c.requires.once)) in
+    on_either c.add.result (new ≡ add_on c.in_ok-holder.holder c.self.inside.segments) (new ≡ c.self.inside.segments) (IsWholeShare c.learn.new.owners.items c.self.inside.repeater_of.items (share_of new c.self.inside.repeaters)) c.add.ensures.ok c.add.ensures.err
+    (λ q. added new (q ∙ ap (λ x. add_on x c.self.inside.segments) c.in_ok-holder.ensures))
+    (λ q. subst (λ new. IsWholeShare c.learn.new.owners.items c.self.inside.repeater_of.items (share_of new c.self.inside.repeaters)) (sym q) (learnt g (goal.at.invariant_of-self-2 g c).After-learn))

@@ -17,61 +17,50 @@ use Rattle.net_step.specs.Wires.{Wire, heard_at_place, carried}
 use Rattle.net_step.specs.KeptNet.{KeptNet, stations_hear_kept, ports_hear_kept, all_told, IsNextKept}
 use Rattle.net_step.proofs.KeptReceivers.{given-alike}
 use Rattle.net_step.proofs.StandsForNet.{goes_on}
-use Rattle.net_step.proofs.WholeNet.{whole_next}
+use Rattle.net_step.proofs.WholeNet.{kept_of, whole_next}
 use Rattle.net_step.proofs.plain.PlainNet.go_on.Goals as goal
 
 pub invariant_of-self : goal.invariant_of-self
 invariant_of-self c =
     let q = c.self.inside in
-    let heard = with_items_is q.heard c.hear_all.new.heard (search rules) in
-    let senders = with_items_is q.senders c.step_stations.new.senders (search rules) in
-    let emitted = with_items_is q.emitted c.step_stations.new.emitted (search rules) in
-    let sent = with_items_is q.sent c.step_stations.new.sent (search rules) in
-    let receivers = with_items_is q.receivers c.step_stations.new.receivers (search rules) in
-    let received = with_items_is q.received c.step_stations.new.received (search rules) in
-    let relays = with_items_is q.relays c.relay_all.new.relays (search rules) in
-    let port_emitted = with_items_is q.port_emitted c.relay_all.new.emitted (search rules) in
-    let events = with_items_is q.events c.relay_all.new.events (search rules) in
-    let row = with_items_is q.row c.join.new.row (search rules) in
-    let segments = with_items_is q.segments c.carry_all.new.segments (search rules) in
-    let k : KeptNet = record { t = q.t; senders = q.senders.items; receivers = q.receivers.items; repeaters = q.relays.items; wires = q.segments.items; places = q.places.items; rows = q.rows; captures = q.captures.items } in
-    let wires : (with_items q.segments c.carry_all.new.segments).items ≡ map (carried c.deref-6.result.now) q.segments.items = segments ∙ c.carry_all.ensures ∙ ap (map (carried c.deref-6.result.now)) c.deref_mut-11.ensures.value in
+    let wires : (with_items q.segments c.carry_all.new.segments).items ≡ map (carried c.deref-6.result.now) q.segments.items =
+    with_items_is q.segments c.carry_all.new.segments (search rules) ∙ c.carry_all.ensures ∙ ap (map (carried c.deref-6.result.now)) c.deref_mut-11.ensures.value in
     let guards : map (λ (x : State). length x.guards) (with_items q.relays c.relay_all.new.relays).items ≡ map (λ (x : State). length x.guards) q.relays.items =
-    ap (map (λ (x : State). length x.guards)) relays ∙ c.relay_all.ensures.ports ∙ ap (map (λ (x : State). length x.guards)) c.deref_mut-7.ensures.value in
-    let times : All (λ (s : Sender). s.t ≡ q.t + 1) (with_items q.senders c.step_stations.new.senders).items = subst (All (λ (s : Sender). s.t ≡ q.t + 1)) (sym senders) c.step_stations.ensures.times in
-    let steps : All (λ (r : Kept). r.steps ≡ q.t + 1) (with_items q.receivers c.step_stations.new.receivers).items = subst (All (λ (r : Kept). r.steps ≡ q.t + 1)) (sym receivers) c.step_stations.ensures.steps in
-    whole_next k _ c.deref-6.result.now _ _ _ _ _ _ _ _ _ _ _ _ _ _ c.self.invariant refl wires
-    (ap length senders ∙ c.step_stations.auto.senders ∙ ap length c.deref_mut-2.ensures.value) (ap length receivers ∙ c.step_stations.auto.receivers ∙ ap length c.deref_mut-3.ensures.value) refl guards
-    (ap length heard ∙ c.hear_all.auto.heard ∙ ap length c.deref_mut.ensures.value) (ap length emitted ∙ c.step_stations.auto.emitted ∙ ap length c.deref_mut-4.ensures.value) (ap length port_emitted ∙ c.relay_all.auto.emitted ∙ ap length c.deref_mut-8.ensures.value)
-    (ap length row ∙ c.join.auto.row ∙ ap length c.deref_mut-10.ensures.value) (ap length sent ∙ c.step_stations.auto.sent ∙ ap length c.deref_mut-5.ensures.value) (ap length received ∙ c.step_stations.auto.received ∙ ap length c.deref_mut-6.ensures.value)
-    (ap length events ∙ c.relay_all.auto.events ∙ ap length c.deref_mut-9.ensures.value) times steps
+    kept_of (map (λ (x : State). length x.guards)) (with_items_is q.relays c.relay_all.new.relays (search rules)) c.relay_all.ensures.ports c.deref_mut-7.ensures.value in
+    whole_next _ _ c.deref-6.result.now _ _ _ _ _ _ _ _ _ _ _ _ _ _ c.self.invariant refl wires
+    (kept_of length (with_items_is q.senders c.step_stations.new.senders (search rules)) c.step_stations.auto.senders c.deref_mut-2.ensures.value)
+    (kept_of length (with_items_is q.receivers c.step_stations.new.receivers (search rules)) c.step_stations.auto.receivers c.deref_mut-3.ensures.value)
+    refl guards
+    (kept_of length (with_items_is q.heard c.hear_all.new.heard (search rules)) c.hear_all.auto.heard c.deref_mut.ensures.value)
+    (kept_of length (with_items_is q.emitted c.step_stations.new.emitted (search rules)) c.step_stations.auto.emitted c.deref_mut-4.ensures.value)
+    (kept_of length (with_items_is q.port_emitted c.relay_all.new.emitted (search rules)) c.relay_all.auto.emitted c.deref_mut-8.ensures.value)
+    (kept_of length (with_items_is q.row c.join.new.row (search rules)) c.join.auto.row c.deref_mut-10.ensures.value)
+    (kept_of length (with_items_is q.sent c.step_stations.new.sent (search rules)) c.step_stations.auto.sent c.deref_mut-5.ensures.value)
+    (kept_of length (with_items_is q.received c.step_stations.new.received (search rules)) c.step_stations.auto.received c.deref_mut-6.ensures.value)
+    (kept_of length (with_items_is q.events c.relay_all.new.events (search rules)) c.relay_all.auto.events c.deref_mut-9.ensures.value)
+    (subst (All (λ (s : Sender). s.t ≡ q.t + 1)) (sym (with_items_is q.senders c.step_stations.new.senders (search rules))) c.step_stations.ensures.times)
+    (subst (All (λ (r : Kept). r.steps ≡ q.t + 1)) (sym (with_items_is q.receivers c.step_stations.new.receivers (search rules))) c.step_stations.ensures.steps)
 
 pub invariant_of-self-2 : goal.invariant_of-self-2
 invariant_of-self-2 c =
     let q = c.self.inside in
-    let heard = with_items_is q.heard c.hear_all.new.heard (search rules) in
-    let senders = with_items_is q.senders c.step_stations.new.senders (search rules) in
-    let emitted = with_items_is q.emitted c.step_stations.new.emitted (search rules) in
-    let sent = with_items_is q.sent c.step_stations.new.sent (search rules) in
-    let receivers = with_items_is q.receivers c.step_stations.new.receivers (search rules) in
-    let received = with_items_is q.received c.step_stations.new.received (search rules) in
-    let relays = with_items_is q.relays c.relay_all.new.relays (search rules) in
-    let port_emitted = with_items_is q.port_emitted c.relay_all.new.emitted (search rules) in
-    let events = with_items_is q.events c.relay_all.new.events (search rules) in
-    let row = with_items_is q.row c.join.new.row (search rules) in
-    let segments = with_items_is q.segments c.carry_all.new.segments (search rules) in
-    let captures = with_items_is q.captures c.capture_all.new.captures (search rules) in
-    let k : KeptNet = record { t = q.t; senders = q.senders.items; receivers = q.receivers.items; repeaters = q.relays.items; wires = q.segments.items; places = q.places.items; rows = q.rows; captures = q.captures.items } in
-    let wires : (with_items q.segments c.carry_all.new.segments).items ≡ map (carried c.deref-6.result.now) q.segments.items = segments ∙ c.carry_all.ensures ∙ ap (map (carried c.deref-6.result.now)) c.deref_mut-11.ensures.value in
+    let wires : (with_items q.segments c.carry_all.new.segments).items ≡ map (carried c.deref-6.result.now) q.segments.items =
+    with_items_is q.segments c.carry_all.new.segments (search rules) ∙ c.carry_all.ensures ∙ ap (map (carried c.deref-6.result.now)) c.deref_mut-11.ensures.value in
     let guards : map (λ (x : State). length x.guards) (with_items q.relays c.relay_all.new.relays).items ≡ map (λ (x : State). length x.guards) q.relays.items =
-    ap (map (λ (x : State). length x.guards)) relays ∙ c.relay_all.ensures.ports ∙ ap (map (λ (x : State). length x.guards)) c.deref_mut-7.ensures.value in
-    let times : All (λ (s : Sender). s.t ≡ q.t + 1) (with_items q.senders c.step_stations.new.senders).items = subst (All (λ (s : Sender). s.t ≡ q.t + 1)) (sym senders) c.step_stations.ensures.times in
-    let steps : All (λ (r : Kept). r.steps ≡ q.t + 1) (with_items q.receivers c.step_stations.new.receivers).items = subst (All (λ (r : Kept). r.steps ≡ q.t + 1)) (sym receivers) c.step_stations.ensures.steps in
-    whole_next k _ c.deref-6.result.now _ _ _ _ _ _ _ _ _ _ _ _ _ _ c.self.invariant refl wires
-    (ap length senders ∙ c.step_stations.auto.senders ∙ ap length c.deref_mut-2.ensures.value) (ap length receivers ∙ c.step_stations.auto.receivers ∙ ap length c.deref_mut-3.ensures.value) (ap length captures ∙ c.capture_all.auto.captures ∙ ap length c.deref_mut-12.ensures.value) guards
-    (ap length heard ∙ c.hear_all.auto.heard ∙ ap length c.deref_mut.ensures.value) (ap length emitted ∙ c.step_stations.auto.emitted ∙ ap length c.deref_mut-4.ensures.value) (ap length port_emitted ∙ c.relay_all.auto.emitted ∙ ap length c.deref_mut-8.ensures.value)
-    (ap length row ∙ c.join.auto.row ∙ ap length c.deref_mut-10.ensures.value) (ap length sent ∙ c.step_stations.auto.sent ∙ ap length c.deref_mut-5.ensures.value) (ap length received ∙ c.step_stations.auto.received ∙ ap length c.deref_mut-6.ensures.value)
-    (ap length events ∙ c.relay_all.auto.events ∙ ap length c.deref_mut-9.ensures.value) times steps
+    kept_of (map (λ (x : State). length x.guards)) (with_items_is q.relays c.relay_all.new.relays (search rules)) c.relay_all.ensures.ports c.deref_mut-7.ensures.value in
+    whole_next _ _ c.deref-6.result.now _ _ _ _ _ _ _ _ _ _ _ _ _ _ c.self.invariant refl wires
+    (kept_of length (with_items_is q.senders c.step_stations.new.senders (search rules)) c.step_stations.auto.senders c.deref_mut-2.ensures.value)
+    (kept_of length (with_items_is q.receivers c.step_stations.new.receivers (search rules)) c.step_stations.auto.receivers c.deref_mut-3.ensures.value)
+    (kept_of length (with_items_is q.captures c.capture_all.new.captures (search rules)) c.capture_all.auto.captures c.deref_mut-12.ensures.value) guards
+    (kept_of length (with_items_is q.heard c.hear_all.new.heard (search rules)) c.hear_all.auto.heard c.deref_mut.ensures.value)
+    (kept_of length (with_items_is q.emitted c.step_stations.new.emitted (search rules)) c.step_stations.auto.emitted c.deref_mut-4.ensures.value)
+    (kept_of length (with_items_is q.port_emitted c.relay_all.new.emitted (search rules)) c.relay_all.auto.emitted c.deref_mut-8.ensures.value)
+    (kept_of length (with_items_is q.row c.join.new.row (search rules)) c.join.auto.row c.deref_mut-10.ensures.value)
+    (kept_of length (with_items_is q.sent c.step_stations.new.sent (search rules)) c.step_stations.auto.sent c.deref_mut-5.ensures.value)
+    (kept_of length (with_items_is q.received c.step_stations.new.received (search rules)) c.step_stations.auto.received c.deref_mut-6.ensures.value)
+    (kept_of length (with_items_is q.events c.relay_all.new.events (search rules)) c.relay_all.auto.events c.deref_mut-9.ensures.value)
+    (subst (All (λ (s : Sender). s.t ≡ q.t + 1)) (sym (with_items_is q.senders c.step_stations.new.senders (search rules))) c.step_stations.ensures.times)
+    (subst (All (λ (r : Kept). r.steps ≡ q.t + 1)) (sym (with_items_is q.receivers c.step_stations.new.receivers (search rules))) c.step_stations.ensures.steps)
 
 pub returns : goal.returns
 returns c =

@@ -1,4 +1,4 @@
-use Rattle.std.proofs.Common.{◌≡◌, [], ap, sym, ◌∙◌}
+use Rattle.std.proofs.Common.{◌≡◌, [], ap, ◌∙◌}
 use Rattle.std.specs.Prelude.{Some}
 use Rattle.load_plan.specs.declared.plan.Plan.{Plan}
 use Rattle.exchange_core.specs.Holdings.{added_segment}
