@@ -74,7 +74,7 @@ module _ (plan : Plan) (s t : ℕ) where
     receivers_next : map (λ (r : Reception). r.state) (receptions_by hs ss now.receivers) ≡ later.receivers
     receivers_next = outcomes_so (λ a b. map (λ (r : Reception). r.state) (receptions_by a b now.receivers)) ∙ ap (λ (x : SegmentState). x.receivers) truth
 
-    rows_next : now.rows ++ rows_heard t w.stations hs ss now.receivers ≡ later.rows
+    pub rows_next : now.rows ++ rows_heard t w.stations hs ss now.receivers ≡ later.rows
     rows_next = outcomes_so (λ a b. now.rows ++ rows_heard t w.stations a b now.receivers) ∙ ap (λ (x : SegmentState). x.rows) truth
 
     captures_next : captures_heard t hs ss now.receivers now.captures ≡ later.captures
@@ -104,27 +104,20 @@ module _ (plan : Plan) (s t : ℕ) where
       } in
       subst P one all
 
--- the lines
-module _ (plan : Plan) (w : Wiring) (L t front : ℕ) (ls ls' : List TapLine) (es : List Sym) (are : AreLinesAt plan w L t front ls)
-    (emits : es ≡ map (λ k. emitted plan k t) w.stations) (len : length ls' ≡ length ls)
-    (room : (r : ℕ) → r < length w.stations → 1 ≤ (get_or ls r no_line).room)
-    (told : (r : ℕ) (d : TapLine) → r < length es → get_or ls' r d ≡ line_extended (get_or ls r d) (get_or es r Idle ∷ []))
-    (others : (r : ℕ) (d : TapLine) → length es ≤ r → get_or ls' r d ≡ get_or ls r d) where
-  size : length es ≡ length w.stations
-  size = ap length emits ∙ length-map w.stations (λ k. emitted plan k t)
-
-  -- the line of a station, and that of another tap
-  of_station : (r : ℕ) → r < length w.stations → get_or ls' r no_line ≡ line_extended (get_or ls r no_line) (get_or es r Idle ∷ [])
-  of_station r h = told r no_line (omega (arith, h, size))
-
-  of_port : (r : ℕ) → length w.stations ≤ r → get_or ls' r no_line ≡ get_or ls r no_line
-  of_port r h = others r no_line (omega (arith, h, size))
+-- the lines after c half bits, in which each station emits a piece
+module _ (plan : Plan) (w : Wiring) (L t c front : ℕ) (ls ls' : List TapLine) (piece : ℕ → List Sym) (are : AreLinesAt plan w L t front ls)
+    (emits : (r : ℕ) → r < length w.stations → piece r ≡ span (emitted plan (get_or w.stations r 0)) t c) (len : length ls' ≡ length ls)
+    (room : (r : ℕ) → r < length w.stations → c ≤ (get_or ls r no_line).room)
+    (told : (r : ℕ) → r < length w.stations → get_or ls' r no_line ≡ line_extended (get_or ls r no_line) (piece r))
+    (others : (r : ℕ) → length w.stations ≤ r → get_or ls' r no_line ≡ get_or ls r no_line) where
+  piece_size : (r : ℕ) → r < length w.stations → length (piece r) ≡ c
+  piece_size r h = ap length (emits r h) ∙ length-span (emitted plan (get_or w.stations r 0)) t c
 
   -- what stays of each
   stays : (f : TapLine → ℕ) → ((l : TapLine) (xs : List Sym) → f (line_extended l xs) ≡ f l) → (r : ℕ) → f (get_or ls' r no_line) ≡ f (get_or ls r no_line)
   stays f same r = elim (cases_lt r (length w.stations)) [
-    | inl station ↦ ap f (of_station r station) ∙ same (get_or ls r no_line) (get_or es r Idle ∷ [])
-    | inr port ↦ ap f (of_port r port)
+    | inl station ↦ ap f (told r station) ∙ same (get_or ls r no_line) (piece r)
+    | inr port ↦ ap f (others r port)
   ]
 
   same_places : map (λ (l : TapLine). l.at) ls' ≡ map (λ (l : TapLine). l.at) ls
@@ -136,51 +129,67 @@ module _ (plan : Plan) (w : Wiring) (L t front : ℕ) (ls ls' : List TapLine) (e
       ∙ stays (λ (l : TapLine). l.at) (λ l xs. refl) k
       ∙ sym (get_or-map (λ (l : TapLine). l.at) ls k no_line 0 (omega (arith, h, n', len))))
 
-  emits_at : (r : ℕ) → r < length w.stations → get_or es r Idle ≡ emitted plan (get_or w.stations r 0) t
-  emits_at r h = ap (λ xs. get_or xs r Idle) emits ∙ get_or-map (λ k. emitted plan k t) w.stations r 0 Idle h
-
-  one_more : (r : ℕ) → r < length w.stations → IsLineOf (emitted plan (get_or w.stations r 0)) (t + 1) (t + 1) (get_or ls' r no_line)
-  one_more r h =
+  of_station : (r : ℕ) → r < length w.stations → IsLineOf (emitted plan (get_or w.stations r 0)) (t + c) (t + c) (get_or ls' r no_line)
+  of_station r h =
       let f = emitted plan (get_or w.stations r 0) in
       let l = get_or ls r no_line in
-      let piece = get_or es r Idle ∷ [] in
-      let more : IsLineOf f (t + 1) t (line_extended l piece) = line_more f t t l (are.emissions r h) piece 1 (ap (λ x. x ∷ []) (emits_at r h)) in
-      subst (IsLineOf f (t + 1) (t + 1)) (sym (of_station r h)) (line_later f (t + 1) t (line_extended l piece) more (t + 1) (omega arith))
+      let more : IsLineOf f (t + c) t (line_extended l (piece r)) = line_more f t t l (are.emissions r h) (piece r) c (emits r h) in
+      subst (IsLineOf f (t + c) (t + c)) (sym (told r h)) (line_later f (t + c) t (line_extended l (piece r)) more (t + c) (omega arith))
 
-  still_there : (p : ℕ) → p < length w.edges → IsLineOf (arrives plan L (get_or w.edges p 0)) front (t + 1) (get_or ls' (length w.stations + p) no_line)
+  still_there : (p : ℕ) → p < length w.edges → IsLineOf (arrives plan L (get_or w.edges p 0)) front (t + c) (get_or ls' (length w.stations + p) no_line)
   still_there p h =
       let f = arrives plan L (get_or w.edges p 0) in
       let r = length w.stations + p in
-      subst (IsLineOf f front (t + 1)) (sym (of_port r (omega arith))) (line_later f front t (get_or ls r no_line) (are.arrivals p h) (t + 1) (omega arith))
+      subst (IsLineOf f front (t + c)) (sym (others r (omega arith))) (line_later f front t (get_or ls r no_line) (are.arrivals p h) (t + c) (omega arith))
 
   same_size : (r : ℕ) → r < length ls' → reach + L ≤ length (get_or ls' r no_line).symbols + (get_or ls' r no_line).room
   same_size r h = elim (cases_lt r (length w.stations)) [
     | inl station ↦
         let l = get_or ls r no_line in
-        let piece = get_or es r Idle ∷ [] in
         let big = are.size r (omega (arith, h, len)) in
         let some = room r station in
-        let sum = length-append l.symbols piece in
-        let enough : reach + L ≤ length (l.symbols ++ piece) + (l.room - 1) = omega (arith, big, some, sum) in
-        subst (λ (x : TapLine). reach + L ≤ length x.symbols + x.room) (sym (of_station r station)) enough
-    | inr port ↦ subst (λ (x : TapLine). reach + L ≤ length x.symbols + x.room) (sym (of_port r port)) (are.size r (omega (arith, h, len)))
+        let size = piece_size r station in
+        let sum = length-append l.symbols (piece r) in
+        let enough : reach + L ≤ length (l.symbols ++ piece r) + (l.room - length (piece r)) = omega (arith, big, some, sum, size) in
+        subst (λ (x : TapLine). reach + L ≤ length x.symbols + x.room) (sym (told r station)) enough
+    | inr port ↦ subst (λ (x : TapLine). reach + L ≤ length x.symbols + x.room) (sym (others r port)) (are.size r (omega (arith, h, len)))
   ]
 
-  pub lines_next : AreLinesAt plan w L (t + 1) front ls'
-  lines_next = record {
+  pub lines_later : AreLinesAt plan w L (t + c) front ls'
+  lines_later = record {
     many = len ∙ are.many;
     places = same_places ∙ are.places;
     no_delays = λ r h. stays (λ (l : TapLine). l.delay) (λ l xs. refl) r ∙ are.no_delays r h;
     delays = λ p h. stays (λ (l : TapLine). l.delay) (λ l xs. refl) (length w.stations + p) ∙ are.delays p h;
-    emissions = one_more;
+    emissions = of_station;
     arrivals = still_there;
     size = same_size;
   }
 
   -- the room of a station's line
+  pub lines_room_later : (n r : ℕ) → r < length w.stations → n + c ≤ (get_or ls r no_line).room → n ≤ (get_or ls' r no_line).room
+  lines_room_later n r h enough =
+      subst (λ (x : TapLine). n ≤ x.room) (sym (told r h)) (let l = (get_or ls r no_line).room in let size = piece_size r h in let e : n ≤ l - length (piece r) = omega (arith, enough, size) in e)
+
+-- the lines after one half bit
+module _ (plan : Plan) (w : Wiring) (L t front : ℕ) (ls ls' : List TapLine) (es : List Sym) (are : AreLinesAt plan w L t front ls)
+    (emits : es ≡ map (λ k. emitted plan k t) w.stations) (len : length ls' ≡ length ls)
+    (room : (r : ℕ) → r < length w.stations → 1 ≤ (get_or ls r no_line).room)
+    (told : (r : ℕ) (d : TapLine) → r < length es → get_or ls' r d ≡ line_extended (get_or ls r d) (get_or es r Idle ∷ []))
+    (others : (r : ℕ) (d : TapLine) → length es ≤ r → get_or ls' r d ≡ get_or ls r d) where
+  size : length es ≡ length w.stations
+  size = ap length emits ∙ length-map w.stations (λ k. emitted plan k t)
+
+  emits_one : (r : ℕ) → r < length w.stations → get_or es r Idle ∷ [] ≡ span (emitted plan (get_or w.stations r 0)) t 1
+  emits_one r h = ap (λ x. x ∷ []) (ap (λ xs. get_or xs r Idle) emits ∙ get_or-map (λ k. emitted plan k t) w.stations r 0 Idle h)
+
+  pub lines_next : AreLinesAt plan w L (t + 1) front ls'
+  lines_next = lines_later plan w L t 1 front ls ls' (λ r. get_or es r Idle ∷ []) are emits_one len room (λ r h. told r no_line (omega (arith, h, size))) (λ r h. others r no_line (omega (arith, h, size)))
+
   pub lines_room_next : (n r : ℕ) → r < length w.stations → suc n ≤ (get_or ls r no_line).room → n ≤ (get_or ls' r no_line).room
   lines_room_next n r h enough =
-      subst (λ (x : TapLine). n ≤ x.room) (sym (of_station r h)) (let l = (get_or ls r no_line).room in let e : n ≤ l - 1 = omega (arith, enough) in e)
+      lines_room_later plan w L t 1 front ls ls' (λ r. get_or es r Idle ∷ []) are emits_one len room (λ r h. told r no_line (omega (arith, h, size))) (λ r h. others r no_line (omega (arith, h, size)))
+      n r h (omega (arith, enough))
 
 -- the parcels
 filled_more : (a b : ℕ → Sym) (u k L : ℕ) (x : Sym) → k < L → x ≡ a (u + k) → set (span a u k ++ span b (u + k) (L - k)) k x ≡ span a u (k + 1) ++ span b (u + (k + 1)) (L - (k + 1))

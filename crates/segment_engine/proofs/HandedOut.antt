@@ -42,6 +42,7 @@ standing_room plan s front a r rows captures is = record {
   logged = rows ∙ is.logged;
   kept = captures ∙ is.kept;
   lines = is.lines;
+  reach = is.reach;
   hearing = is.hearing;
   emitting = is.emitting;
 }

@@ -1,13 +1,12 @@
 -- Lines go on standing for what they hold.
-use Rattle.std.proofs.Common.{◌≡◌, ℕ, ◌+◌, ◌-◌, ◌<◌, ◌≤◌, true, false, ltb, inl, inr, List, [], ◌++◌, drop, length, length-append, get_or, sym, ap, ap₂, ◌∙◌, arith, append_assoc}
+use Rattle.std.proofs.Common.{◌≡◌, ℕ, zero, suc, min, ◌+◌, ◌-◌, ◌<◌, ◌≤◌, true, false, ltb, inl, inr, List, [], ◌∷◌, ◌++◌, replicate, drop, length, length-append, get_or, sym, ap, ap₂, ◌∙◌, arith, append_assoc}
 use Rattle.std.proofs.lemmas.Bool.{cases_lt}
-use Rattle.std.proofs.lemmas.List.{append-nil}
+use Rattle.std.proofs.lemmas.List.{append-nil, length-replicate, drop-replicate}
 use Rattle.std.proofs.lemmas.Bool.Decides.{nat_tests}
 use Rattle.manchester_line.specs.declared.Sym.{Sym}
 use Rattle.manchester_line.specs.declared.Sym.TheVariants.{Idle}
-use Rattle.network.specs.Times.{earlier}
 use Rattle.net_parts.specs.Machines.{span}
-use Rattle.net_parts.proofs.LateRows.{if_true, if_false}
+use Rattle.net_parts.proofs.LateRows.{if_true}
 use Rattle.net_parts.proofs.RepeaterSteps.{length-span, get_or-span}
 use Rattle.segment_engine.specs.TapLines.{TapLine, reach, symbol_on, line_extended, dropped_from, slid}
 use Rattle.segment_engine.specs.PartStates.{IsLineOf}
@@ -27,6 +26,33 @@ extended_none l =
     let room : l.room - 0 ≡ l.room = omega arith in
     λ i. record { at = l.at; delay = l.delay; base = l.base; symbols = symbols i; room = room i }
 
+-- what is dropped of symbols with Idle behind them
+drop_both : (k : ℕ) (xs ys : List Sym) → drop k (xs ++ ys) ≡ drop k xs ++ drop (k - length xs) ys
+drop_both zero xs ys = let e : 0 ≡ 0 - length xs = omega arith in ap (λ n. xs ++ drop n ys) e
+drop_both (suc k) [] ys = let e : suc k ≡ suc k - 0 = omega arith in ap (λ n. drop n ys) e
+drop_both (suc k) (x ∷ xs) ys = let e : k - length xs ≡ suc k - suc (length xs) = omega arith in drop_both k xs ys ∙ ap (λ n. drop k xs ++ drop n ys) e
+
+-- a line whose Idle at its end isn't written, after it has slid
+pub slid_unwritten : (at delay base room n q q' gone : ℕ) (xs xs' : List Sym) → room < n → gone ≡ length xs + q - reach →
+    xs' ≡ drop gone xs → q' ≡ q - (gone - min gone (length xs)) → (room' : ℕ) → room' ≡ room + gone →
+    ◌≡◌ {A = TapLine} (record { at = at; delay = delay; base = base + gone; symbols = xs' ++ replicate q' Idle; room = room' })
+    (slid n (record { at = at; delay = delay; base = base; symbols = xs ++ replicate q Idle; room = room }))
+slid_unwritten at delay base room n q q' gone xs xs' less all rest left room' more =
+    let size : length (xs ++ replicate q Idle) ≡ length xs + q = length-append xs (replicate q Idle) ∙ ap (λ m. length xs + m) (length-replicate q Idle) in
+    let k = length (xs ++ replicate q Idle) - reach in
+    let same : gone ≡ k = omega (arith, all, size) in
+    let few : q - (gone - length xs) ≡ q' = omega (arith, left) in
+    let symbols : xs' ++ replicate q' Idle ≡ drop k (xs ++ replicate q Idle) =
+    ap (λ ys. ys ++ replicate q' Idle) rest
+    ∙ ap (λ m. drop gone xs ++ replicate m Idle) (sym few)
+    ∙ ap (λ ys. drop gone xs ++ ys) (sym (drop-replicate (gone - length xs) q Idle))
+    ∙ sym (drop_both gone xs (replicate q Idle))
+    ∙ ap (λ m. drop m (xs ++ replicate q Idle)) same in
+    let test : ltb room n ≡ true = grind (arith, nat_tests) in
+    let base_is : base + gone ≡ base + k = ap (λ m. base + m) same in
+    let room_is : room' ≡ room + k = more ∙ ap (λ m. room + m) same in
+    rw test (λ i. record { at = at; delay = delay; base = base_is i; symbols = symbols i; room = room_is i })
+
 module _ (f : ℕ → Sym) (front t : ℕ) (l : TapLine) (is : IsLineOf f front t l) where
   -- how many symbols it has
   pub line_size : length l.symbols ≡ front - l.base
@@ -40,17 +66,6 @@ module _ (f : ℕ → Sym) (front t : ℕ) (l : TapLine) (is : IsLineOf f front 
       ∙ ap (λ xs. get_or xs (u - l.base) Idle) is.holds
       ∙ get_or-span f l.base (front - l.base) (u - l.base) Idle (omega arith)
       ∙ ap f place
-
-  -- what it had so many half bits before
-  pub line_before : (back : ℕ) → back ≤ reach → (back ≤ t → t - back < front) → earlier (symbol_on l) t back ≡ earlier f t back
-  line_before back near below = elim (cases_lt t back) [
-    | inl early ↦ if_false {m = back} {n = t} _ _ early ∙ sym (if_false {m = back} {n = t} _ _ early)
-    | inr there ↦
-        let begins = is.begins in
-        if_true {m = back} {n = t} _ _ there
-        ∙ line_at (t - back) (omega (arith, begins)) (below there)
-        ∙ sym (if_true {m = back} {n = t} _ _ there)
-  ]
 
   -- a piece more
   pub line_more : (piece : List Sym) (n : ℕ) → piece ≡ span f front n → IsLineOf f (front + n) t (line_extended l piece)

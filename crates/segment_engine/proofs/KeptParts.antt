@@ -51,7 +51,7 @@ kept_of plan s wd front a below at is =
     })
 
 -- receivers one by one, and all of them
-hear_each : (f : ℕ → Receiving) (ks : List ℕ) (rs : List Kept) → length rs ≡ length ks → ((i : ℕ) (d : Kept) → i < length rs → Hears (f (get_or ks i 0)) (get_or rs i d)) → AllHear (map f ks) rs
+pub hear_each : (f : ℕ → Receiving) (ks : List ℕ) (rs : List Kept) → length rs ≡ length ks → ((i : ℕ) (d : Kept) → i < length rs → Hears (f (get_or ks i 0)) (get_or rs i d)) → AllHear (map f ks) rs
 hear_each f [] [] l h = tt
 hear_each f [] (r ∷ rs) l h = absurd (omega (arith, l))
 hear_each f (k ∷ ks) [] l h = absurd (omega (arith, l))
@@ -68,6 +68,7 @@ running_of plan s front a is = record {
     kept = is.kept;
   };
   lines = is.lines;
+  reach = is.reach;
   hearing = is.hearing;
   emitting = is.emitting;
 }
@@ -89,6 +90,7 @@ standing_of plan s front a is =
       logged = st.logged;
       kept = st.kept;
       lines = is.lines;
+      reach = is.reach;
       hearing = is.hearing;
       emitting = is.emitting;
     }
@@ -114,7 +116,7 @@ most_if : (b : Bool) (x y : Reception) (m : ℕ) → x.state.most ≡ m → y.st
 most_if true x y m a c = a
 most_if false x y m a c = c
 
-most_step : (r : Receiving) (heard : Sym) (sending : Bool) → (receiver_step r heard sending).state.most ≡ r.most
+pub most_step : (r : Receiving) (heard : Sym) (sending : Bool) → (receiver_step r heard sending).state.most ≡ r.most
 most_step r heard true = refl
 most_step r Idle false = most_if r.deaf (quiet (record r { deaf = false; halves = [] })) (reception_ended r r.halves) r.most refl (most_ended r r.halves)
 most_step r Hi false = most_if r.deaf (quiet r) (extended r Hi) r.most refl refl

@@ -7,6 +7,12 @@ pub mod HalfBits
 pub mod TapsNear
 pub mod WindowLines
 pub mod WindowParcels
+pub mod SegmentWindows
 pub mod Beginnings
 pub mod KeptParts
 pub mod HandedOut
+pub mod StationsLater
+pub mod QuietStations
+pub mod QuietRoom
+pub mod PiecesAhead
+pub mod QuietHalfBits

@@ -1,5 +1,5 @@
 -- What a segment's taps hear by its lines is what they hear in the network.
-use Rattle.std.proofs.Common.{◌≡◌, ℕ, suc, ◌+◌, ◌-◌, ◌<◌, ◌≤◌, cond, eqb, leb, ltb, inl, inr, List, [], ◌∷◌, map, drop, take, length, get_or, refl, sym, ap, ap₂, ◌∙◌, arith}
+use Rattle.std.proofs.Common.{◌≡◌, ℕ, suc, ◌+◌, ◌-◌, ◌<◌, ◌≤◌, cond, eqb, leb, ltb, inl, inr, List, [], ◌∷◌, map, drop, take, length, get_or, refl, sym, subst, ap, ap₂, ◌∙◌, arith}
 use Rattle.std.proofs.lemmas.List.{get_or-map, length-map}
 use Rattle.std.proofs.lemmas.Bool.{cases_lt}
 use Rattle.std.proofs.lemmas.Bool.Decides.{nat_tests}
@@ -19,10 +19,10 @@ use Rattle.net_parts.specs.PartLaws.{IsLead}
 use Rattle.net_parts.proofs.NetworkFacts.{StationFacts}
 use Rattle.net_parts.proofs.LateRows.{if_true, if_false, span_of}
 use Rattle.net_parts.proofs.SegmentHearing.{station_hears, port_hears_so}
-use Rattle.segment_engine.specs.TapLines.{TapLine, no_line, reach, symbol_on, half_bits_back, heard_of_lines, heard_by_lines}
+use Rattle.segment_engine.specs.TapLines.{TapLine, no_line, reach, symbol_on, half_bits_back, heard_of_lines, heard_by_lines, IsReachOf}
 use Rattle.segment_engine.specs.PartStates.{AreLinesAt}
 use Rattle.segment_engine.proofs.Spans.{take-span, drop-span}
-use Rattle.segment_engine.proofs.HeldLines.{line_before}
+use Rattle.segment_engine.proofs.HeldLines.{line_at}
 
 test_true : {X : Type 0} (a b : ℕ) (x y : X) → a < b → cond (ltb a b) x y ≡ x
 test_true a b x y h = grind (arith, nat_tests)
@@ -49,8 +49,73 @@ mixed_alike L t p at q told (l ∷ ls) same =
     (ap (λ s. cond (eqb q p) Idle s) (same 0 q (omega arith) (omega arith)))
     (mixed_alike L t p at (q + 1) told ls (λ i r h e. same (suc i) r (omega arith) (omega (arith, e))))
 
+-- the lines of a segment in half bit t say what each station emitted below it, and what comes in for each port below `front`
+pub record KnowLines (plan : Plan) (w : Wiring) (L t front : ℕ) (ls : List TapLine) : Type 0 where
+  pub many : length ls ≡ length w.stations + length w.edges
+  pub places : map (λ l. l.at) ls ≡ w.positions
+  pub no_delays : (r : ℕ) → r < length w.stations → (get_or ls r no_line).delay ≡ L
+  pub delays : (p : ℕ) → p < length w.edges → (get_or ls (length w.stations + p) no_line).delay ≡ get_or w.delays p 0
+  pub begins : (r : ℕ) → r < length ls → (get_or ls r no_line).base ≤ t - reach
+  pub emissions : (r u : ℕ) → r < length w.stations → (get_or ls r no_line).base ≤ u → u < t → symbol_on (get_or ls r no_line) u ≡ emitted plan (get_or w.stations r 0) u
+  pub arrivals : (p u : ℕ) → p < length w.edges → (get_or ls (length w.stations + p) no_line).base ≤ u → u < front →
+      symbol_on (get_or ls (length w.stations + p) no_line) u ≡ arrives plan L (get_or w.edges p 0) u
+
+pub begins_all : (plan : Plan) (w : Wiring) (L t front : ℕ) (ls : List TapLine) → AreLinesAt plan w L t front ls → (r : ℕ) → r < length ls → (get_or ls r no_line).base ≤ t - reach
+begins_all plan w L t front ls are r h = elim (cases_lt r (length w.stations)) [
+  | inl station ↦ (are.emissions r station).begins
+  | inr port ↦
+      let p = r - length w.stations in
+      let same : length w.stations + p ≡ r = omega arith in
+      let many = are.many in
+      subst (λ i. (get_or ls i no_line).base ≤ t - reach) same (are.arrivals p (omega (arith, h, many))).begins
+]
+
+pub known : (plan : Plan) (w : Wiring) (L t front : ℕ) (ls : List TapLine) → AreLinesAt plan w L t front ls → KnowLines plan w L t front ls
+known plan w L t front ls are = record {
+  many = are.many;
+  places = are.places;
+  no_delays = are.no_delays;
+  delays = are.delays;
+  begins = begins_all plan w L t front ls are;
+  emissions = λ r u h low high. line_at (emitted plan (get_or w.stations r 0)) t t (get_or ls r no_line) (are.emissions r h) u low high;
+  arrivals = λ p u h low high. line_at (arrives plan L (get_or w.edges p 0)) front t (get_or ls (length w.stations + p) no_line) (are.arrivals p h) u low high;
+}
+
+-- lines of the same taps reach as far
+line_place : (plan : Plan) (w : Wiring) (L t front : ℕ) (ls : List TapLine) → AreLinesAt plan w L t front ls → (i : ℕ) → i < length ls → (get_or ls i no_line).at ≡ get_or w.positions i 0
+line_place plan w L t front ls are i h = sym (get_or-map (λ (l : TapLine). l.at) ls i no_line 0 h) ∙ ap (λ xs. get_or xs i 0) are.places
+
+line_delay : (plan : Plan) (w : Wiring) (L t front t' front' : ℕ) (ls ls' : List TapLine) → AreLinesAt plan w L t front ls → AreLinesAt plan w L t' front' ls' → (i : ℕ) → i < length ls → (get_or ls' i no_line).delay ≡ (get_or ls i no_line).delay
+line_delay plan w L t front t' front' ls ls' are are' i h = elim (cases_lt i (length w.stations)) [
+  | inl station ↦ are'.no_delays i station ∙ sym (are.no_delays i station)
+  | inr port ↦
+      let p = i - length w.stations in
+      let same : length w.stations + p ≡ i = omega arith in
+      let many = are.many in
+      let in_it : p < length w.edges = omega (arith, h, many) in
+      subst (λ k. (get_or ls' k no_line).delay ≡ (get_or ls k no_line).delay) same (are'.delays p in_it ∙ sym (are.delays p in_it))
+]
+
+pub same_reach : (plan : Plan) (w : Wiring) (L t front t' front' far : ℕ) (ls ls' : List TapLine) → AreLinesAt plan w L t front ls → AreLinesAt plan w L t' front' ls' → IsReachOf far L ls → IsReachOf far L ls'
+same_reach plan w L t front t' front' far ls ls' are are' within = λ p r hp hr.
+    let many = are.many in
+    let many' = are'.many in
+    let lp : p < length ls = omega (arith, hp, many, many') in
+    let lr : r < length ls = omega (arith, hr, many, many') in
+    let a = line_place plan w L t' front' ls' are' p hp ∙ sym (line_place plan w L t front ls are p lp) in
+    let b = line_place plan w L t' front' ls' are' r hr ∙ sym (line_place plan w L t front ls are r lr) in
+    let d = line_delay plan w L t front t' front' ls ls' are are' r lr in
+    subst (λ x. x ≤ far) (sym (ap₂ (λ x y. x + y - L) (ap₂ distance a b) d)) (within p r lp lr)
+
+-- what a line says of so many half bits before
+said_before : (f : ℕ → Sym) (l : TapLine) (t back end : ℕ) → l.base ≤ t - reach → ((u : ℕ) → l.base ≤ u → u < end → symbol_on l u ≡ f u) → back ≤ reach → (back ≤ t → t - back < end) → earlier (symbol_on l) t back ≡ earlier f t back
+said_before f l t back end begins says near below = elim (cases_lt t back) [
+  | inl early ↦ if_false {m = back} {n = t} _ _ early ∙ sym (if_false {m = back} {n = t} _ _ early)
+  | inr there ↦ if_true {m = back} {n = t} _ _ there ∙ says (t - back) (omega (arith, begins, near)) (below there) ∙ sym (if_true {m = back} {n = t} _ _ there)
+]
+
 module _ (plan : Plan) (facts : StationFacts plan) (L s t front : ℕ) (lead : IsLead plan.layout L) (ls : List TapLine)
-    (are : AreLinesAt plan (wiring plan.layout s) L t front ls) (front_ahead : t < front)
+    (are : KnowLines plan (wiring plan.layout s) L t front ls) (front_ahead : t < front)
     (near : (r : ℕ) → r < length (wiring plan.layout s).positions → get_or (wiring plan.layout s).positions r 0 ≤ greatest_place)
     (short : (p : ℕ) → p < length (wiring plan.layout s).edges → get_or (wiring plan.layout s).delays p 0 ≤ greatest_delay) where
   abbrev w : Wiring
@@ -78,7 +143,7 @@ module _ (plan : Plan) (facts : StationFacts plan) (L s t front : ℕ) (lead : I
         if_true {m = back} {n = greatest_place} _ _ close
         ∙ ap (λ d. earlier (symbol_on (get_or ls r no_line)) t (back + d - L)) (are.no_delays r h)
         ∙ ap (earlier (symbol_on (get_or ls r no_line)) t) e
-        ∙ line_before (emitted plan (get_or w.stations r 0)) t t (get_or ls r no_line) (are.emissions r h) back (omega (arith, close)) (λ there. omega (arith, some, there))
+        ∙ said_before (emitted plan (get_or w.stations r 0)) (get_or ls r no_line) t back t (are.begins r (let m = are.many in omega (arith, h, m))) (λ u low high. are.emissions r u h low high) (omega (arith, close)) (λ there. omega (arith, some, there))
   ]
 
   ports_told : (p back : ℕ) → p < length w.edges → L ≤ back + get_or w.delays p 0 →
@@ -97,7 +162,7 @@ module _ (plan : Plan) (facts : StationFacts plan) (L s t front : ℕ) (lead : I
         let in_reach : back + d - L ≤ reach = omega (arith, close, small) in
         if_true {m = back} {n = greatest_place} _ _ close
         ∙ ap (λ x. earlier (symbol_on (get_or ls (n + p) no_line)) t (back + x - L)) (are.delays p h)
-        ∙ line_before (arrives plan L (get_or w.edges p 0)) front t (get_or ls (n + p) no_line) (are.arrivals p h) (back + d - L) in_reach (λ there. omega (arith, front_ahead))
+        ∙ said_before (arrives plan L (get_or w.edges p 0)) (get_or ls (n + p) no_line) t (back + d - L) front (are.begins (n + p) (let m = are.many in omega (arith, h, m))) (λ u low high. are.arrivals p u h low high) in_reach (λ there. omega (arith, front_ahead))
         ∙ earlier_more (arrives plan L (get_or w.edges p 0)) t (back + d - L)
         ∙ ap (earlier (arrives plan L (get_or w.edges p 0)) (suc t)) e
   ]
@@ -138,3 +203,14 @@ module _ (plan : Plan) (facts : StationFacts plan) (L s t front : ℕ) (lead : I
       ∙ ap₂ (λ a b. span (heard_by_lines L t ls) a b) first rest
       ∙ span_of (heard_by_lines L t ls) (λ e. port_hears plan e t) n w.edges (λ p m h e.
       by_bus m (omega (arith, many, h, e)) ∙ port_hears_so plan facts L s t lead told stations_told ports_told p m h e)
+
+  -- and each of them
+  pub station_by_lines : (r : ℕ) → r < n → heard plan (get_or w.stations r 0) t ≡ heard_by_lines L t ls r
+  station_by_lines r h =
+      let many = are.many in
+      sym (by_bus r (omega (arith, many, h)) ∙ station_hears plan facts L s t lead told stations_told ports_told r r h (omega arith))
+
+  pub port_by_lines : (p : ℕ) → p < length w.edges → port_hears plan (get_or w.edges p 0) t ≡ heard_by_lines L t ls (n + p)
+  port_by_lines p h =
+      let many = are.many in
+      sym (by_bus (n + p) (omega (arith, many, h)) ∙ port_hears_so plan facts L s t lead told stations_told ports_told p (n + p) h (omega arith))

@@ -1,7 +1,7 @@
 -- Taps are near and delays are short in each plan.
-use Rattle.std.proofs.Common.{◌≡◌, ℕ, zero, suc, ◌-◌, ◌<◌, ◌≤◌, All, inl, inr, List, [], ◌∷◌, ◌++◌, replicate, length, get_or, sym, subst, ◌∙◌, arith}
+use Rattle.std.proofs.Common.{◌≡◌, ℕ, zero, suc, ◌<◌, ◌≤◌, All, inl, inr, List, [], ◌∷◌, replicate, length, get_or, sym, subst, arith}
 use Rattle.std.specs.List.{flat_map}
-use Rattle.std.proofs.lemmas.List.{get_or-map, length-replicate, get_or_append_left, get_or-append_right, get_or-replicate}
+use Rattle.std.proofs.lemmas.List.{get_or-map, get_or_past}
 use Rattle.std.proofs.lemmas.Bool.{cases_lt, cases_eq}
 use Rattle.layout.specs.declared.lines.PortLine.{PortLine}
 use Rattle.layout.specs.declared.lines.RepeaterLine.{RepeaterLine}
@@ -14,6 +14,7 @@ use Rattle.network.proofs.RunnablePlans.{runnable_plan}
 use Rattle.network.proofs.TapsOnSegments.{positions-here, positions-there}
 use Rattle.net_step.proofs.StandsForNet.{taps_near}
 use Rattle.net_parts.specs.SegmentParts.{wiring}
+use Rattle.net_parts.proofs.NetworkFacts.{delays_hold}
 
 first_near : (x : ℕ) (xs : List ℕ) → x ≤ greatest_place → ((i : ℕ) → i < length xs → get_or xs i 0 ≤ greatest_place) → (i : ℕ) → i < length (x ∷ xs) → get_or (x ∷ xs) i 0 ≤ greatest_place
 first_near x xs h rest zero l = h
@@ -32,21 +33,11 @@ places_near s (x ∷ xs) all r h = elim (cases_eq x.segment s) [
 ]
 
 delays_short : (rs : List RepeaterLine) → All (λ r. r.delay ≤ greatest_delay) rs → (e : ℕ) → get_or (flat_map (λ (r : RepeaterLine). replicate (length r.ports) r.delay) rs) e 0 ≤ greatest_delay
-delays_short [] all e = omega arith
-delays_short (r ∷ rs) all e =
-    let n = length r.ports in
-    let here = replicate n r.delay in
-    let rest = flat_map (λ (x : RepeaterLine). replicate (length x.ports) x.delay) rs in
-    let size : length here ≡ n = length-replicate n r.delay in
-    let first : r.delay ≤ greatest_delay = all 0 r (omega arith) in
-    elim (cases_lt e n) [
-      | inl own ↦
-          let is : get_or (here ++ rest) e 0 ≡ r.delay = get_or_append_left here rest 0 e (omega (arith, own, size)) ∙ get_or-replicate n e r.delay 0 own in
-          omega (arith, is, first)
-      | inr other ↦
-          let is : get_or (here ++ rest) e 0 ≡ get_or rest (e - n) 0 = get_or-append_right here rest n e 0 size other in
-          let there = delays_short rs (λ i d l. all (suc i) d (omega (arith, l))) (e - n) in
-          omega (arith, is, there)
+delays_short rs all e =
+    let delays = flat_map (λ (r : RepeaterLine). replicate (length r.ports) r.delay) rs in
+    elim (cases_lt e (length delays)) [
+      | inl port ↦ delays_hold (λ d. d ≤ greatest_delay) rs all e port
+      | inr past ↦ let none : get_or delays e 0 ≡ 0 = get_or_past delays e 0 past in omega (arith, none)
     ]
 
 module _ (plan : Plan) (s : ℕ) where

@@ -6,7 +6,6 @@ use Rattle.load_plan.specs.declared.plan.Plan.{Plan}
 use Rattle.mac_transmit.specs.Sender.{Sender}
 use Rattle.mac_receive.specs.KeptReceiver.{Kept}
 use Rattle.network.specs.Outputs.{half_bits}
-use Rattle.network.proofs.RunnablePlans.{runnable_plan}
 use Rattle.net_parts.specs.declared.parcel.Parcel.{Parcel}
 use Rattle.net_parts.specs.Windows.{lookahead, windows, time}
 use Rattle.net_parts.specs.Machines.{span}
@@ -15,9 +14,8 @@ use Rattle.net_parts.specs.Standing.{arrives, port_hears}
 use Rattle.net_parts.specs.Parts.{is_segment_part}
 use Rattle.net_parts.specs.Parcels.{true_symbols, true_parcel, arrived, refilled}
 use Rattle.net_parts.proofs.LateRows.{map-map}
-use Rattle.net_parts.proofs.LookaheadLeads.{some_lookahead}
 use Rattle.net_parts.proofs.RepeaterSteps.{length-span}
-use Rattle.net_parts.proofs.WindowCuts.{begins_before}
+use Rattle.net_parts.proofs.WindowTimes.{some_lead, begins_in_run}
 use Rattle.window_room.specs.NeededRoom.{Covers, IsDemandWithin, sender_demand, receiver_demand, stations_demand}
 use Rattle.window_room.specs.Rooms.{Room}
 use Rattle.segment_engine.specs.PartStates.{half_filled, turned_to_repeater}
@@ -30,10 +28,10 @@ module _ (plan : Plan) (wd : ℕ) (some : wd < windows plan) where
   H = half_bits plan
 
   pub lead_some : 1 ≤ L
-  lead_some = some_lookahead plan.layout (runnable_plan plan).some_delay
+  lead_some = some_lead plan
 
   pub window_begins : wd * L < H
-  window_begins = begins_before H L wd (let s = lead_some in omega (arith, s)) some
+  window_begins = begins_in_run plan wd some
 
   pub window_starts : time plan wd ≡ wd * L
   window_starts = let b = window_begins in omega (arith, b)

@@ -9,6 +9,7 @@ use Rattle.net_parts.specs.Standing.{receiver_at, captures_at, rows_of_devices}
 use Rattle.net_parts.specs.Parts.{PartState, OfSegment, OfRepeater}
 use Rattle.net_parts.specs.SegmentParts.{SegmentState, wiring}
 use Rattle.segment_engine.specs.declared.running.Running.{Running}
+use Rattle.segment_engine.specs.TapLines.{IsReachOf}
 use Rattle.segment_engine.specs.PartStates.{AreLinesAt}
 
 -- Whether the state is a segment's (profile).
@@ -46,5 +47,6 @@ pub record StandsInNetwork (plan : Plan) (s front : ℕ) (a : Running) : Type 0 
   pub logged : a.room.rows ≡ rows_of_devices plan (wiring plan.layout s).stations a.t
   pub kept : a.room.captures ≡ map (λ k. captures_at plan k a.t) (wiring plan.layout s).stations
   pub lines : AreLinesAt plan (wiring plan.layout s) (lookahead plan.layout) a.t front a.lines.items
+  pub reach : IsReachOf a.far (lookahead plan.layout) a.lines.items
   pub hearing : length a.heard.items ≡ length a.lines.items
   pub emitting : length a.emitted.items ≡ length (wiring plan.layout s).stations

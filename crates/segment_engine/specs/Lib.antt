@@ -4,3 +4,4 @@ pub mod StationPasses
 pub mod PartStates
 pub mod RunningStates
 pub mod KeptParts
+pub mod QuietHalfBits

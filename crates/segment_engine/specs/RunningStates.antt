@@ -4,7 +4,7 @@ use Rattle.load_plan.specs.declared.plan.Plan.{Plan}
 use Rattle.net_parts.specs.Windows.{lookahead}
 use Rattle.net_parts.specs.SegmentParts.{wiring}
 use Rattle.segment_engine.specs.declared.running.Running.{Running}
-use Rattle.segment_engine.specs.TapLines.{TapLine, no_line}
+use Rattle.segment_engine.specs.TapLines.{TapLine, no_line, IsReachOf}
 use Rattle.segment_engine.specs.PartStates.{AreLinesAt, AreStationsAt}
 
 -- Segment s of a plan stands in the network before half bit t, and what comes in for its ports is known for the half
@@ -14,6 +14,7 @@ pub record IsRunningAt (plan : Plan) (s front : ℕ) (a : Running) : Type 0 wher
       AreStationsAt plan (wiring plan.layout s).stations a.t a.senders.items a.receivers.items
       a.room.rows a.room.captures
   pub lines : AreLinesAt plan (wiring plan.layout s) (lookahead plan.layout) a.t front a.lines.items
+  pub reach : IsReachOf a.far (lookahead plan.layout) a.lines.items
   pub hearing : length a.heard.items ≡ length a.lines.items
   pub emitting : length a.emitted.items ≡ length (wiring plan.layout s).stations
 

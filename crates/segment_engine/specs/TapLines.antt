@@ -1,6 +1,6 @@
 -- The lines of a segment's taps, and what the taps hear by them (profile). The taps of a segment are numbered from 0:
 -- those of its stations in their order, then those of its ports in the order of edges. Half bits count from 0.
-use Rattle.std.specs.Prelude.{ℕ, ◌+◌, ◌-◌, ◌==◌, nat_le, nat_lt, if◌then◌else◌, List, [], ◌∷◌, ◌++◌, length, drop, slice_index_or}
+use Rattle.std.specs.Prelude.{ℕ, ◌+◌, ◌-◌, ◌==◌, ◌<◌, ◌≤◌, nat_le, nat_lt, if◌then◌else◌, List, [], ◌∷◌, ◌++◌, length, drop, slice_index_or}
 use Rattle.mac_parameters.specs.Distances.{distance}
 use Rattle.mac_parameters.specs.Parameters.{greatest_place, greatest_delay}
 use Rattle.manchester_line.specs.declared.Sym.{Sym}
@@ -47,6 +47,12 @@ heard_of_lines L t p at q (l ∷ ls) =
 -- What tap p hears in half bit t by the lines of all taps (clause 8, profile).
 abbrev pub heard_by_lines : ℕ → ℕ → List TapLine → ℕ → Sym
 heard_by_lines L t ls p = heard_of_lines L t p (slice_index_or ls p no_line).at 0 ls
+
+-- What is further back on a line than `far` half bits reaches no other of the taps with these lines, where a window has
+-- L half bits (profile).
+abbrev pub IsReachOf : ℕ → ℕ → List TapLine → Type 0
+IsReachOf far L ls = (p r : ℕ) → p < length ls → r < length ls →
+    half_bits_back L (slice_index_or ls p no_line).at (slice_index_or ls r no_line) ≤ far
 
 -- A line with these symbols at its end (profile).
 abbrev pub line_extended : TapLine → List Sym → TapLine

@@ -1,16 +1,19 @@
-//! A segment of a network as a part that goes on a window at a time, half bit by half bit over a line of symbols for each
-//! of its taps.
+//! A segment of a network as a part that goes on a window at a time, over a line of symbols for each of its taps: at once
+//! over half bits in which nothing happens, and else half bit by half bit.
 #![tactic(auto)]
 
 mod line;
 mod lines;
 mod parcels;
 mod part;
+mod quiet;
 mod running;
 mod segment;
 mod start;
 mod stations;
 mod taps;
+#[cfg(test)]
+mod tests;
 mod window;
 
 pub use part::SegmentPart;

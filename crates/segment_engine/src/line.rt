@@ -1,5 +1,6 @@
 //! The line of a tap: the symbols of half bits one after another, the latest of which still reach other taps.
-ghost use Rattle.std.specs.Prelude.{◌≡◌, ◌<◌, ◌≤◌, ◌+◌, ◌^◌, [], ◌∷◌, length, IfOk};
+ghost use Rattle.std.specs.Prelude.{◌≡◌, ◌<◌, ◌≤◌, ◌+◌, ◌++◌, ◌^◌, ℕ, [], ◌∷◌, length, drop, min, replicate, vec_len, vec_capacity, true, IfOk};
+ghost use Rattle.manchester_line.specs.declared.Sym.TheVariants.{Idle};
 ghost use Rattle.network.specs.Times.{earlier};
 ghost use Rattle.segment_engine.specs.TapLines.{TapLine, symbol_on, half_bits_back, line_extended, slid};
 
@@ -13,17 +14,20 @@ use std::marker::Model;
 pub const REACH: usize = GREATEST_PLACE as usize + GREATEST_DELAY as usize;
 
 /// A line, from half bit `base` on, of a tap at a place in half bits from its segment's end. What stands on it for a half
-/// bit is emitted `delay` half bits later, less the half bits of a window.
+/// bit is emitted `delay` half bits later, less the half bits of a window. The Idle at its end, `quiet` half bits, isn't
+/// written.
 #[derive(Drop)]
 pub struct Line {
     at: u32,
     delay: u32,
     base: u64,
     symbols: Vec<Sym>,
+    quiet: usize,
 }
 
 impl Model for Line {
-    ghost use Rattle.std.specs.Prelude.{◌-◌, vec_len, vec_capacity};
+    ghost use Rattle.std.specs.Prelude.{◌+◌, ◌-◌, ◌≤◌, ◌++◌, replicate, vec_len, vec_capacity};
+    ghost use Rattle.manchester_line.specs.declared.Sym.TheVariants.{Idle};
     ghost use Rattle.segment_engine.specs.TapLines.{TapLine};
 
     ghost Value = { TapLine };
@@ -32,9 +36,34 @@ impl Model for Line {
       at = s.at;
       delay = s.delay;
       base = s.base;
-      symbols = s.symbols.items;
-      room = vec_capacity s.symbols - vec_len s.symbols;
+      symbols = s.symbols.items ++ replicate s.quiet Idle;
+      room = vec_capacity s.symbols - (vec_len s.symbols + s.quiet);
     } };
+
+    ghost invariant = { λ s. vec_len s.symbols + s.quiet ≤ vec_capacity s.symbols };
+}
+
+/// Puts so many times Idle behind symbols, for which there is room.
+fn put_idle(symbols: &mut Vec<Sym>, count: usize)
+    requires { vec_len symbols.old + count ≤ vec_capacity symbols.old }
+    ensures items { symbols.new.items ≡ symbols.old.items ++ replicate count Idle }
+    ensures len { vec_len symbols.new ≡ vec_len symbols.old + count }
+    ensures capacity { vec_capacity symbols.new ≡ vec_capacity symbols.old }
+{
+    for _half_bit in 0..count {
+        symbols.push_reserved(Sym::Idle);
+    }
+}
+
+/// Drops the first symbols, so many at most, and answers how many they were.
+fn drop_first(symbols: &mut Vec<Sym>, count: usize) -> usize
+    ensures number { result ≡ min count (length symbols.old.items) }
+    ensures items { symbols.new.items ≡ drop count symbols.old.items }
+    ensures capacity { vec_capacity symbols.new ≡ vec_capacity symbols.old }
+{
+    let gone = count.min(symbols.len());
+    symbols.drain(..gone);
+    gone
 }
 
 impl Line {
@@ -51,6 +80,7 @@ impl Line {
             delay,
             base: 0,
             symbols: Vec::with_capacity(alloc, room)?,
+            quiet: 0,
         })
     }
 
@@ -59,6 +89,13 @@ impl Line {
         ensures { result ≡ self.now.at }
     {
         self.at
+    }
+
+    /// How many half bits later its tap emits what stands on it, less those of a window.
+    pub fn delay(&self) -> u32
+        ensures { result ≡ self.now.delay }
+    {
+        self.delay
     }
 
     /// What stands on it for a half bit.
@@ -89,11 +126,24 @@ impl Line {
         }
     }
 
+    /// Whether nothing but Idle stands on it from half bit `u` on.
+    pub fn is_quiet_from(&self, u: u64) -> bool
+        ensures { result ≡ true → (v : ℕ) → u ≤ v → symbol_on self.now v ≡ Idle }
+    {
+        self.base <= u && self.symbols.len() as u64 <= u - self.base
+    }
+
     /// Puts the next symbol on it.
     pub fn push(&mut self, s: Sym)
         requires { 0 < self.old.room }
         ensures { self.new ≡ line_extended self.old (s ∷ []) }
     {
+        if s == Sym::Idle {
+            self.quiet += 1;
+            return;
+        }
+        put_idle(&mut self.symbols, self.quiet);
+        self.quiet = 0;
         self.symbols.push_reserved(s);
     }
 
@@ -107,15 +157,23 @@ impl Line {
         }
     }
 
+    /// Puts so many times Idle on it.
+    pub fn rest(&mut self, count: usize)
+        requires { count ≤ self.old.room }
+        ensures { self.new ≡ line_extended self.old (replicate count Idle) }
+    {
+        self.quiet += count;
+    }
+
     /// Makes room for so many symbols: where there is less, it drops those that reach no other tap any more.
     pub fn slide(&mut self, room: usize)
         requires { self.old.base + length self.old.symbols < 2 ^ 64 }
         ensures { self.new ≡ slid room self.old }
     {
-        let len = self.symbols.len();
+        let len = self.symbols.len() + self.quiet;
         if self.symbols.capacity() - len < room {
             let gone = len.saturating_sub(REACH);
-            self.symbols.drain(..gone);
+            self.quiet -= gone - drop_first(&mut self.symbols, gone);
             self.base += gone as u64;
         }
     }

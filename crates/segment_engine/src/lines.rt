@@ -1,10 +1,11 @@
 //! Passes over the lines of a segment's taps.
-ghost use Rattle.std.specs.Prelude.{◌≡◌, ◌<◌, ◌≤◌, ◌+◌, ◌^◌, ◌==◌, ℕ, if◌then◌else◌, [], ◌∷◌, All, length, slice_index_or};
+ghost use Rattle.std.specs.Prelude.{◌≡◌, ◌<◌, ◌≤◌, ◌+◌, ◌^◌, ◌==◌, ℕ, if◌then◌else◌, true, [], ◌∷◌, All, length, replicate, slice_index_or};
 ghost use Rattle.manchester_line.specs.declared.Sym.TheVariants.{Idle};
 ghost use Rattle.net_parts.specs.Machines.{span};
 ghost use Rattle.net_parts.specs.declared.parcel.Parcel.{Parcel};
 ghost use Rattle.network.specs.Times.{earlier};
-ghost use Rattle.segment_engine.specs.TapLines.{TapLine, heard_by_lines, heard_of_lines, no_line, symbol_on, half_bits_back, line_extended, slid};
+ghost use Rattle.segment_engine.specs.QuietHalfBits.{AreIdleFrom};
+ghost use Rattle.segment_engine.specs.TapLines.{TapLine, heard_by_lines, heard_of_lines, no_line, symbol_on, half_bits_back, IsReachOf, line_extended, slid};
 
 use crate::line::Line;
 use manchester_line::{Sym, mix};
@@ -34,6 +35,22 @@ fn hear(lines: &[Line], p: usize, lookahead: u32, t: u64) -> Sym
     sound
 }
 
+/// How far back on a line, in half bits, anything that reaches another tap is at most.
+pub fn farthest(lines: &[Line], lookahead: u32) -> u64
+    ensures { IsReachOf result lookahead lines.now }
+{
+    let mut low = u32::MAX;
+    let mut high = 0;
+    let mut longest = 0;
+    for r in 0..lines.len() {
+        low = low.min(lines[r].place());
+        high = high.max(lines[r].place());
+        longest = longest.max(lines[r].delay());
+    }
+    let way = u64::from(high.saturating_sub(low)) + u64::from(longest);
+    way.saturating_sub(u64::from(lookahead))
+}
+
 /// What each tap hears in half bit `t`.
 pub fn hear_all(lines: &[Line], lookahead: u32, t: u64, heard: &mut [Sym])
     requires { length heard.old ≡ length lines.now }
@@ -56,6 +73,32 @@ pub fn tell(lines: &mut [Line], emitted: &[Sym])
     for r in 0..emitted.len() {
         lines[r].push(emitted[r]);
     }
+}
+
+/// Puts so many times Idle on the line of each station: so many lines come first.
+pub fn rest_all(lines: &mut [Line], stations: usize, count: usize)
+    requires few { stations ≤ length lines.old }
+    requires room { (r : ℕ) (d : TapLine) → r < stations → count ≤ (slice_index_or lines.old r d).room }
+    ensures told { (r : ℕ) (d : TapLine) → r < stations →
+        slice_index_or lines.new r d ≡ line_extended (slice_index_or lines.old r d) (replicate count Idle) }
+    ensures others { (r : ℕ) (d : TapLine) → stations ≤ r →
+        slice_index_or lines.new r d ≡ slice_index_or lines.old r d }
+{
+    for r in 0..stations {
+        lines[r].rest(count);
+    }
+}
+
+/// Whether nothing but Idle stands on any line from half bit `u` on.
+pub fn are_idle_from(lines: &[Line], u: u64) -> bool
+    ensures { result ≡ true → AreIdleFrom u lines.now }
+{
+    for r in 0..lines.len() {
+        if !lines[r].is_quiet_from(u) {
+            return false;
+        }
+    }
+    true
 }
 
 /// Makes room for so many symbols on each line.

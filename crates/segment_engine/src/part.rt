@@ -3,7 +3,6 @@ ghost use Rattle.std.specs.Prelude.{◌≡◌, ◌<◌, ◌≤◌, ◌+◌, ◌*
 ghost use Rattle.mac_parameters.specs.Parameters.{most_octets as most_octets_of};
 ghost use Rattle.net_parts.specs.OutputsOfParts.{cut_rows_on, rows_of_part, captures_of_part};
 ghost use Rattle.net_parts.specs.Parts.{part_at};
-ghost use Rattle.network.specs.Rows.{row_of};
 ghost use Rattle.net_parts.specs.Windows.{time as time_of, windows as windows_of};
 ghost use Rattle.segment_engine.specs.KeptParts.{KeepsSegment, StandsInNetwork};
 ghost use Rattle.window_room.specs.NeededRoom.{Covers, stations_demand};
@@ -12,16 +11,17 @@ use crate::running::Running;
 use crate::segment::Segment;
 use crate::start::start;
 use crate::window::run;
-use collision_log::{Body, Row, Rows};
+use collision_log::Rows;
 use lists::OutOfMemory;
 use load_plan::Plan;
 use mac_parameters::most_octets;
 use mac_transmit::Transmitter;
 use net_parts::{Parcel, Part, PartOutputs};
+use net_step::push_row;
 use std::alloc::Global;
 use window_room::reserve_stations;
 
-/// A segment with its stations, half bit by half bit over a line of symbols for each of its taps.
+/// A segment with its stations, over a line of symbols for each of its taps.
 #[derive(Drop)]
 pub struct SegmentPart {
     segment: Segment,
@@ -34,16 +34,6 @@ pub struct SegmentPart {
     ghost octets: { most ≡ most_octets_of (segment.plan.value.layout.format == 2) },
     ghost room: { reserved ≡ true → Covers (stations_demand segment.lookahead state.senders.items state.receivers.items) state.room },
     ghost kept: { KeepsSegment state (part_at segment.plan.value segment.number window) },
-}
-
-/// Writes the row of an event, if there is one.
-fn push_row(rows: &mut Rows, t: u64, device: u32, event: Option<Body>) -> Result<(), OutOfMemory>
-    ensures { OnOk result (rows.new ≡ rows.old ++ row_of t device event) }
-{
-    match event {
-        Some(body) => rows.push(Row { t, device, body }),
-        None => Ok(()),
-    }
 }
 
 /// Writes the rows of the sendings that are under way at the end `t` of a run.
@@ -101,6 +91,7 @@ impl SegmentPart {
             senders,
             receivers: _,
             lines: _,
+            far: _,
             heard: _,
             emitted: _,
             mut room,

@@ -17,13 +17,14 @@ use net_parts::Parcel;
 use window_room::RowRoom;
 
 /// A segment before half bit `t`: its stations, the lines of its taps, and what was logged and captured. `heard` has a symbol
-/// for each tap, `emitted` one for each station.
+/// for each tap, `emitted` one for each station. What is further back on a line than `far` half bits reaches no other tap.
 #[derive(Drop)]
 pub struct Running {
     pub t: u64,
     pub senders: Vec<Transmitter>,
     pub receivers: Vec<Receiver>,
     pub lines: Vec<Line>,
+    pub far: u64,
     pub heard: Vec<Sym>,
     pub emitted: Vec<Sym>,
     pub room: RowRoom,

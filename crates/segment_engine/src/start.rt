@@ -7,9 +7,10 @@ ghost use Rattle.segment_engine.specs.NewLines.{AreNewLines, IsNewLine, new_dela
 ghost use Rattle.segment_engine.specs.RunningStates.{IsRunningAt};
 
 use crate::line::{Line, REACH};
+use crate::lines::farthest;
 use crate::running::Running;
 use crate::segment::Segment;
-use crate::taps::{delays_of, places_on, taps_of};
+use crate::taps::{delays_of, places_on};
 use backoff_draw::Draws;
 use lists::OutOfMemory;
 use load_plan::Plan;
@@ -17,6 +18,7 @@ use mac_parameters::most_octets;
 use mac_receive::Receiver;
 use mac_transmit::Transmitter;
 use manchester_line::Sym;
+use net_step::taps_of;
 use std::alloc::Global;
 use window_room::RowRoom;
 
@@ -99,11 +101,13 @@ pub fn start(alloc: Global, of: &Segment, plan: &Plan) -> Result<Running, OutOfM
     let senders = senders_of(alloc, plan, &of.stations)?;
     let receivers = receivers_of(alloc, plan, &of.stations)?;
     let lines = lines_of(alloc, &places, stations, of.lookahead, edges, &delays)?;
+    let far = farthest(&lines, of.lookahead);
     Ok(Running {
         t: 0,
         senders,
         receivers,
         lines,
+        far,
         heard: vec![in alloc; Sym::Idle; places.len()]?,
         emitted: vec![in alloc; Sym::Idle; stations]?,
         room: RowRoom::new(alloc, stations)?,

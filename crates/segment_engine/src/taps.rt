@@ -1,29 +1,11 @@
 //! The lines of a segment's taps before half bit 0.
 ghost use Rattle.std.specs.Prelude.{◌≡◌, ◌<◌, ◌≤◌, ◌+◌, ◌++◌, length, map, replicate, flat_map, slice_index, IfOk, OnOk};
-ghost use Rattle.layout.specs.Taps.{taps_of as all_taps};
 ghost use Rattle.network.specs.Times.{port_delays as delays_of_ports};
 ghost use Rattle.network.specs.TapsOnSegments.{positions_on as places_on};
 
-use layout::{Layout, PortLine, RepeaterLine};
+use layout::{PortLine, RepeaterLine};
 use lists::OutOfMemory;
 use std::alloc::Global;
-
-/// The taps of a layout: those of the stations, then those of the repeaters' ports.
-pub fn taps_of(alloc: Global, layout: &Layout) -> Result<Vec<PortLine>, OutOfMemory>
-    ensures { IfOk result (λ taps. taps.items ≡ all_taps layout.now) }
-{
-    let mut taps = Vec::new(alloc);
-    for station in layout.stations.as_slice() {
-        taps.push(PortLine {
-            segment: station.segment,
-            at: station.at,
-        })?;
-    }
-    for repeater in layout.repeaters.as_slice() {
-        taps.extend_from_slice(repeater.ports.as_slice())?;
-    }
-    Ok(taps)
-}
 
 /// The places of those of these taps that are on a segment.
 pub fn places_on(alloc: Global, taps: &[PortLine], segment: u32) -> Result<Vec<u32>, OutOfMemory>

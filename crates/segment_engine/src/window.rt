@@ -1,5 +1,5 @@
 //! A window of a segment.
-ghost use Rattle.std.specs.Prelude.{◌≡◌, ◌<◌, ◌≤◌, ◌+◌, ◌*◌, map};
+ghost use Rattle.std.specs.Prelude.{◌≡◌, ◌<◌, ◌≤◌, ◌+◌, ◌*◌, ℕ, map};
 ghost use Rattle.net_parts.specs.Windows.{time};
 ghost use Rattle.net_parts.specs.SegmentParts.{wiring};
 ghost use Rattle.net_parts.specs.Parcels.{arrived, refilled};
@@ -9,6 +9,7 @@ ghost use Rattle.window_room.specs.NeededRoom.{Covers, stations_demand};
 
 use crate::lines::{slide_all, take_in};
 use crate::parcels::turn;
+use crate::quiet::{leap_quiet, quiet_half_bits};
 use crate::running::{Running, half_bit};
 use crate::segment::Segment;
 use net_parts::Parcel;
@@ -31,6 +32,46 @@ fn begin(of: &Segment, window: u64, state: &mut Running, parcels: &[Parcel])
     take_in(&mut state.lines, of.stations.len(), parcels);
 }
 
+/// Half bits of a window of a segment from half bit `k` on, from 0, at least one and at most `most`: as many as nothing
+/// happens in, and else one. It answers how many.
+fn go_on(
+    of: &Segment,
+    window: u64,
+    k: u32,
+    most: u32,
+    state: &mut Running,
+    parcels: &mut [Parcel],
+) -> u32
+    requires at { IsRunningAt of.now.plan.value of.now.number ((window + 1) * of.now.lookahead) state.old }
+    requires time { state.old.t ≡ window * of.now.lookahead + k }
+    requires some { 0 < most }
+    requires within { k + most ≤ of.now.lookahead }
+    requires in_time { state.old.t + most ≤ 2000000000 }
+    requires parcels { parcels.old
+        ≡ map (half_filled of.now.plan.value of.now.lookahead window k) (wiring of.now.plan.value.layout of.now.number).edges }
+    requires room { Covers (stations_demand most state.old.senders.items state.old.receivers.items) state.old.room }
+    requires lines { HaveLinesRoom of.now.plan.value of.now.number most state.old.lines.items }
+    ensures some { 0 < result }
+    ensures within { result ≤ most }
+    ensures at { IsRunningAt of.now.plan.value of.now.number ((window + 1) * of.now.lookahead) state.new }
+    ensures time { state.new.t ≡ state.old.t + result }
+    ensures parcels { parcels.new
+        ≡ map (half_filled of.now.plan.value of.now.lookahead window (k + result)) (wiring of.now.plan.value.layout of.now.number).edges }
+    ensures room { (n : ℕ) →
+        Covers (stations_demand (n + result) state.old.senders.items state.old.receivers.items) state.old.room →
+        Covers (stations_demand n state.new.senders.items state.new.receivers.items) state.new.room }
+    ensures lines { (n : ℕ) → HaveLinesRoom of.now.plan.value of.now.number (n + result) state.old.lines.items →
+        HaveLinesRoom of.now.plan.value of.now.number n state.new.lines.items }
+{
+    let quiet = quiet_half_bits(state, most);
+    if quiet > 0 {
+        leap_quiet(of, window, quiet, state);
+        return quiet;
+    }
+    half_bit(of, window, k, state, parcels);
+    1
+}
+
 /// A window of a segment, which refills the parcels and turns them.
 pub fn run(of: &Segment, window: u64, state: &mut Running, parcels: &mut [Parcel])
     requires at { IsRunningAt of.now.plan.value of.now.number (window * of.now.lookahead) state.old }
@@ -44,8 +85,9 @@ pub fn run(of: &Segment, window: u64, state: &mut Running, parcels: &mut [Parcel
 {
     begin(of, window, state, parcels);
     let count = u64::from(of.lookahead).min(of.half_bits - state.t) as u32;
-    for k in 0..count {
-        half_bit(of, window, k, state, parcels);
+    let mut k = 0;
+    while k < count {
+        k += go_on(of, window, k, count - k, state, parcels);
     }
     turn(parcels, count as usize);
 }

@@ -16,10 +16,10 @@ use Rattle.net_parts.specs.SegmentParts.{Wiring, wiring}
 use Rattle.net_parts.specs.Standing.{port_hears, receiver_at}
 use Rattle.net_parts.proofs.NetworkFacts.{station_facts}
 use Rattle.net_parts.proofs.LookaheadLeads.{leads}
-use Rattle.segment_engine.specs.TapLines.{TapLine, no_line, heard_by_lines}
+use Rattle.segment_engine.specs.TapLines.{TapLine, no_line, heard_by_lines, IsReachOf}
 use Rattle.segment_engine.specs.StationPasses.{rows_heard}
 use Rattle.segment_engine.specs.PartStates.{AreLinesAt, AreStationsAt}
-use Rattle.segment_engine.proofs.LinesHear.{stations_by_lines, ports_by_lines}
+use Rattle.segment_engine.proofs.LinesHear.{known, same_reach, stations_by_lines, ports_by_lines}
 use Rattle.segment_engine.proofs.HalfBits.{emissions_next, stations_next, lines_next, lines_room_next, parcels_next, parcels_long}
 use Rattle.segment_engine.proofs.TapsNear.{near, short}
 use Rattle.segment_engine.proofs.running.half_bit.Goals as goal
@@ -94,13 +94,13 @@ module _ (c : After-state-6-1) where
   stations_hear =
       c.split_at.ensures.front
       ∙ ap₂ take many all_hear
-      ∙ stations_by_lines plan (station_facts plan) L s t front (leads plan.layout) ls c.requires.at.lines ahead (near plan s) (short plan s)
+      ∙ stations_by_lines plan (station_facts plan) L s t front (leads plan.layout) ls (known plan w L t front ls c.requires.at.lines) ahead (near plan s) (short plan s)
 
   ports_hear : c.split_at.result.1.now ≡ map (λ e. port_hears plan e t) w.edges
   ports_hear =
       c.split_at.ensures.back
       ∙ ap₂ drop many all_hear
-      ∙ ports_by_lines plan (station_facts plan) L s t front (leads plan.layout) ls c.requires.at.lines ahead (near plan s) (short plan s)
+      ∙ ports_by_lines plan (station_facts plan) L s t front (leads plan.layout) ls (known plan w L t front ls c.requires.at.lines) ahead (near plan s) (short plan s)
 
   -- what the stations emit
   senders_stand : c.deref_mut-2.result.now ≡ map (λ k. sender_at plan k t) w.stations
@@ -155,6 +155,8 @@ returns-clause-at c =
     record {
       stations = subst Q (sym receivers) (subst P (sym senders) (stations_after c));
       lines = subst (AreLinesAt (plan c) (w c) (L c) (t c + 1) (front c)) (sym lines) (lines_after c);
+      reach = subst (IsReachOf a.far (L c)) (sym lines)
+          (same_reach (plan c) (w c) (L c) (t c) (front c) (t c + 1) (front c) a.far (ls c) c.tell.new.lines c.requires.at.lines (lines_after c) c.requires.at.reach);
       hearing = ap length heard ∙ c.hear_all.auto.heard ∙ ap length c.deref_mut.ensures.value ∙ c.requires.at.hearing ∙ sym (ap length lines ∙ c.tell.auto.lines ∙ ap length c.deref_mut-5.ensures.value);
       emitting = ap length emitted ∙ ap length (emissions_are c) ∙ length-map (w c).stations (λ k. emitted_at (plan c) k (t c));
     }

@@ -9,23 +9,22 @@ use Rattle.network.specs.Times.{port_delays}
 use Rattle.network.specs.TapsOnSegments.{positions_on}
 use Rattle.net_parts.specs.Windows.{lookahead}
 use Rattle.net_parts.specs.SegmentParts.{wiring}
+use Rattle.segment_engine.specs.TapLines.{TapLine, IsReachOf}
+use Rattle.segment_engine.specs.declared.segment.Segment.{Segment}
 use Rattle.segment_engine.specs.NewLines.{AreNewLines}
 use Rattle.segment_engine.proofs.Beginnings.{stations_within, edges_within, taps_many, stations_begin, lines_new}
 use Rattle.segment_engine.proofs.start.start.Goals as goal
 
+-- the numbers of the segment's stations are those of stations of the plan
+all_stations : (g : Segment) (plan : Plan) (ks : List ℕ) → g.plan.value ≡ plan → ks ≡ g.stations.items → All (λ k. k < length plan.layout.stations) ks
+all_stations g plan ks same is =
+    subst (All (λ k. k < length plan.layout.stations)) (sym (is ∙ g.station_numbers ∙ ap (λ (p : Plan). (wiring p.layout g.number).stations) same)) (stations_within plan g.number)
+
 pub senders_of-requires : goal.senders_of-requires
-senders_of-requires c =
-    let plan = c.args.plan.now in
-    let s = c.args.of.now.number in
-    let is : c.deref-2.result.now ≡ (wiring plan.layout s).stations = c.deref-2.ensures.value ∙ c.args.of.now.station_numbers ∙ ap (λ (p : Plan). (wiring p.layout s).stations) c.requires in
-    subst (All (λ k. k < length plan.layout.stations)) (sym is) (stations_within plan s)
+senders_of-requires c = all_stations c.args.of.now c.args.plan.now c.deref-2.result.now c.requires c.deref-2.ensures.value
 
 pub receivers_of-requires : goal.receivers_of-requires
-receivers_of-requires c =
-    let plan = c.args.plan.now in
-    let s = c.args.of.now.number in
-    let is : c.deref-3.result.now ≡ (wiring plan.layout s).stations = c.deref-3.ensures.value ∙ c.args.of.now.station_numbers ∙ ap (λ (p : Plan). (wiring p.layout s).stations) c.requires in
-    subst (All (λ k. k < length plan.layout.stations)) (sym is) (stations_within plan s)
+receivers_of-requires c = all_stations c.args.of.now c.args.plan.now c.deref-3.result.now c.requires c.deref-3.ensures.value
 
 pub lines_of-requires-clause-many : goal.lines_of-requires-clause-many
 lines_of-requires-clause-many c =
@@ -77,6 +76,7 @@ returns-clause-at c =
           c.in_ok-receivers.ensures.steps
           (room.captures ∙ ap (λ n. replicate n []) count));
       lines = lines_new plan s c.in_ok-lines.lines.items c.len-stations.result c.as_slice-edges.result.now c.deref-5.result.now c.deref-4.result.now count edges delays places new;
+      reach = subst (λ (xs : List TapLine). IsReachOf c.farthest-far.result (lookahead plan.layout) xs) c.deref-6.ensures.value (subst (λ n. IsReachOf c.farthest-far.result n c.deref-6.result.now) long c.farthest-far.ensures);
       hearing = heard_len ∙ sym (new.count ∙ ap length c.deref-4.ensures.value);
       emitting = emitted_len ∙ count;
     }

@@ -4,8 +4,9 @@ use Rattle.std.proofs.lemmas.List.{with_items_is, get_or_default}
 use Rattle.load_plan.specs.declared.plan.Plan.{Plan}
 use Rattle.net_parts.specs.Windows.{lookahead}
 use Rattle.net_parts.specs.SegmentParts.{Wiring, wiring}
-use Rattle.segment_engine.specs.TapLines.{TapLine, no_line, slid, line_extended}
+use Rattle.segment_engine.specs.TapLines.{TapLine, no_line, slid, line_extended, IsReachOf}
 use Rattle.segment_engine.specs.PartStates.{AreLinesAt}
+use Rattle.segment_engine.proofs.LinesHear.{same_reach}
 use Rattle.segment_engine.proofs.WindowLines.{ends, lines_begin, room_begin, room_for_parcels}
 use Rattle.segment_engine.proofs.window.begin.Goals as goal
 use Rattle.segment_engine.proofs.window.begin.Goals.{After-state-2-1}
@@ -107,6 +108,12 @@ pub returns-clause-at : goal.returns-clause-at
 returns-clause-at c = record {
   stations = c.requires.at.stations;
   lines = subst (λ xs. AreLinesAt (plan c) (w c) (lookahead (plan c).layout) (t c) ((c.args.window + 1) * L c) xs) (sym (new_is c)) (subst (λ n. AreLinesAt (plan c) (w c) n (t c) ((c.args.window + 1) * L c) c.take_in.new.lines) c.args.of.now.window_length (lines_after c));
+  reach =
+      let a = c.args.state.now in
+      let front = (c.args.window + 1) * L c in
+      let long = c.args.of.now.window_length in
+      subst (IsReachOf a.far (lookahead (plan c).layout)) (sym (new_is c)) (subst (λ n. IsReachOf a.far n c.take_in.new.lines) long
+      (same_reach (plan c) (w c) (L c) (t c) (t c) (t c) front a.far (ls c) c.take_in.new.lines (are c) (lines_after c) (subst (λ n. IsReachOf a.far n (ls c)) (sym long) c.requires.at.reach)));
   hearing = c.requires.at.hearing ∙ sym (ap length (new_is c) ∙ new_len c ∙ mid_len c);
   emitting = c.requires.at.emitting;
 }

@@ -1,0 +1,48 @@
+-- When the windows of a segment begin, and how many half bits they have.
+use Rattle.std.proofs.Common.{◌≡◌, ◌<◌, ◌≤◌, ◌+◌, ◌-◌, ◌*◌, ℕ, min, sym, ap, ap₂, ◌∙◌, arith}
+use Rattle.load_plan.specs.declared.plan.Plan.{Plan}
+use Rattle.network.specs.Outputs.{half_bits}
+use Rattle.network.proofs.RunnablePlans.{runnable_plan}
+use Rattle.net_parts.specs.Windows.{lookahead, windows, time}
+use Rattle.segment_engine.specs.declared.segment.Segment.{Segment}
+use Rattle.segment_engine.proofs.WindowParcels.{window_begins, window_starts, window_ends}
+
+module _ (g : Segment) (wd t : ℕ) (below : wd < g.windows) (at : t ≡ time g.plan.value wd) where
+  abbrev plan : Plan
+  plan = g.plan.value
+
+  abbrev L : ℕ
+  L = lookahead plan.layout
+
+  pub is_window : wd < windows plan
+  is_window = let w = g.window_count in omega (arith, below, w)
+
+  pub product : wd * g.lookahead ≡ wd * L
+  product = ap (λ n. wd * n) g.window_length
+
+  pub begins : t ≡ wd * g.lookahead
+  begins = at ∙ window_starts plan wd is_window ∙ sym product
+
+  module _ (from count now : ℕ) (all : from ≡ g.lookahead) (same : now ≡ t) (least : count ≡ min from (g.half_bits - now)) where
+    pub half_bits_are : count ≡ min L (half_bits plan - wd * L)
+    half_bits_are =
+        let starts = begins in
+        let p = product in
+        let run = g.run_length in
+        let long = g.window_length in
+        omega (arith, least, all, same, starts, p, run, long)
+
+    pub within_window : count ≤ g.lookahead
+    within_window = omega (arith, least, all)
+
+    pub within_run : (u k : ℕ) → u ≡ wd * g.lookahead + k → k ≤ count → u + (count - k) ≤ 2000000000
+    within_run u k is h =
+        let b = window_begins plan wd is_window in
+        let n = half_bits_are in
+        let p = product in
+        let short = (runnable_plan plan).short in
+        let few : half_bits plan ≤ 2000000000 = omega (arith, short) in
+        omega (arith, is, h, b, n, p, few)
+
+    pub ends : (u k : ℕ) → u ≡ wd * g.lookahead + k → k ≡ count → u ≡ time plan (wd + 1)
+    ends u k is h = is ∙ ap₂ ◌+◌ product (h ∙ half_bits_are) ∙ window_ends plan wd is_window

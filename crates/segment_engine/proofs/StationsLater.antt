@@ -1,0 +1,155 @@
+-- Stations several half bits later, where none of them writes a row.
+use Rattle.std.proofs.Common.{◌≡◌, ℕ, zero, suc, ◌+◌, ◌<◌, ◌≤◌, Bool, true, false, List, [], ◌∷◌, ◌++◌, map, length, replicate, get_or, Option, Some, None, refl, sym, ap, ap₂, ◌∙◌, arith}
+use Rattle.std.specs.Prelude.{if◌then◌else◌}
+use Rattle.std.proofs.lemmas.List.{append-nil}
+use Rattle.manchester_line.specs.declared.Sym.{Sym}
+use Rattle.manchester_line.specs.declared.Sym.TheVariants.{Idle}
+use Rattle.manchester_line.specs.Line.{is_signal}
+use Rattle.collision_log.specs.declared.row.Body.{Body}
+use Rattle.load_plan.specs.declared.plan.Plan.{Plan}
+use Rattle.mac_transmit.specs.Sender.{Sender, SendOutcome, sender_step}
+use Rattle.mac_transmit.specs.Calm.{after_all, AreCalm}
+use Rattle.mac_receive.specs.KeptReceiver.{Kept, Hears}
+use Rattle.mac_receive.specs.Receiver.{Receiving, Reception, quiet, reception_ended, receiver_step, receiver_after, receiver_bodies, with_event}
+use Rattle.network.specs.Attempts.{sender_at}
+use Rattle.network.specs.Captures.{taken_by}
+use Rattle.network.specs.Net.{sendings, receptions}
+use Rattle.network.specs.Times.{heard, emitted}
+use Rattle.net_parts.specs.Windows.{lookahead}
+use Rattle.net_parts.specs.Machines.{span}
+use Rattle.net_parts.specs.SegmentParts.{Wiring, wiring, rows_on}
+use Rattle.net_parts.specs.Standing.{receiver_at, captures_at, rows_of_devices}
+use Rattle.net_parts.proofs.NetworkFacts.{station_facts}
+use Rattle.net_parts.proofs.LookaheadLeads.{leads}
+use Rattle.net_parts.proofs.LateRows.{map-map, map_alike}
+use Rattle.net_parts.proofs.DeviceSteps.{sendings_of, receptions_of, receiver_next, capture_next}
+use Rattle.net_parts.proofs.SegmentSteps.{below}
+use Rattle.segment_engine.specs.StationPasses.{receptions_by}
+use Rattle.segment_engine.proofs.HalfBits.{rows_next, emissions_next}
+
+-- a sender calm over half bits gives no event in the last of them
+pub last_calm : (s : Sender) (hs : List Sym) (h : Sym) → AreCalm s (hs ++ h ∷ []) → (sender_step (after_all s hs) h).event ≡ None
+last_calm s [] h c = c.0.no_event
+last_calm s (x ∷ hs) h c = last_calm (sender_step s x).state hs h c.1
+
+with_none : (e : Option Body) (bodies : List Body) → with_event e bodies ≡ [] → (e ≡ None) × (bodies ≡ [])
+with_none None bodies h = (refl, h)
+with_none (Some body) bodies h = absurd (let n = ap length h in omega (arith, n))
+
+-- nor does a receiver without rows over half bits
+pub last_still : (r : Receiving) (hs : List Sym) (h : Sym) (sending : Bool) → receiver_bodies r (hs ++ h ∷ []) sending ≡ [] → (receiver_step (receiver_after r hs sending) h sending).event ≡ None
+last_still r [] h sending none = (with_none (receiver_step r h sending).event [] none).0
+last_still r (x ∷ hs) h sending none =
+    last_still (receiver_step r x sending).state hs h sending (with_none (receiver_step r x sending).event (receiver_bodies (receiver_step r x sending).state (hs ++ h ∷ []) sending) none).1
+
+-- nor one at rest that hears Idle
+idle_step : (r : Receiving) (deaf : Bool) (hs : List Sym) → r.halves ≡ [] → hs ≡ [] →
+    let one = (if deaf then quiet (record r { deaf = false; halves = [] }) else reception_ended r hs) in
+    (one.event ≡ None) × (one.state.halves ≡ [])
+idle_step r true hs h e = (refl, refl)
+idle_step r false [] h e = (refl, h)
+idle_step r false (x ∷ hs) h e = absurd (let n = ap length e in omega (arith, n))
+
+pub no_bodies : (n : ℕ) (r : Receiving) → r.halves ≡ [] → receiver_bodies r (replicate n Idle) false ≡ []
+no_bodies zero r h = refl
+no_bodies (suc n) r h =
+    let one = idle_step r r.deaf r.halves h h in
+    ap₂ with_event one.0 (no_bodies n (receiver_step r Idle false).state one.1)
+
+nothing : (xs : List Sym) → length xs ≡ 0 → xs ≡ []
+nothing [] h = refl
+nothing (x ∷ xs) h = absurd (omega (arith, h))
+
+pub no_halves : (r : Receiving) (k : Kept) → k.halves ≡ 0 → Hears r k → r.halves ≡ []
+no_halves r k rest h = nothing r.halves (sym h.count ∙ rest)
+
+-- no rows
+no_rows : (t : ℕ) (ks : List ℕ) (f g : ℕ → Option Body) → ((i : ℕ) → i < length ks → f (get_or ks i 0) ≡ None) → ((i : ℕ) → i < length ks → g (get_or ks i 0) ≡ None) → rows_on t ks (map f ks) (map g ks) ≡ []
+no_rows t [] f g a b = refl
+no_rows t (k ∷ ks) f g a b =
+    rw (a 0 (omega arith), b 0 (omega arith)) (no_rows t ks f g (λ i h. a (suc i) (omega (arith, h))) (λ i h. b (suc i) (omega (arith, h))))
+
+no_capture : (t : ℕ) (e : Option Body) (os : List ℕ) → e ≡ None → taken_by t e os ≡ []
+no_capture t e os is = ap (λ x. taken_by t x os) is
+
+module _ (plan : Plan) (k : ℕ) (station : k < length plan.layout.stations) where
+  -- a sender after several half bits
+  pub sender_runs : (j t : ℕ) → sender_at plan k (t + j) ≡ after_all (sender_at plan k t) (span (heard plan k) t j)
+  sender_runs zero t = let e : t + 0 ≡ t = omega arith in ap (sender_at plan k) e
+  sender_runs (suc j) t =
+      let e : t + suc j ≡ suc t + j = omega arith in
+      ap (sender_at plan k) e ∙ sender_runs j (suc t) ∙ ap (λ x. after_all x (span (heard plan k) (suc t) j)) ((station_facts plan).steps k t station)
+
+  -- and a receiver, where its station sends in all of them or in none
+  pub receiver_runs : (sending : Bool) (j t : ℕ) → ((i : ℕ) → i < j → is_signal (emitted plan k (t + i)) ≡ sending) → receiver_at plan k (t + j) ≡ receiver_after (receiver_at plan k t) (span (heard plan k) t j) sending
+  receiver_runs sending zero t same = let e : t + 0 ≡ t = omega arith in ap (receiver_at plan k) e
+  receiver_runs sending (suc j) t same =
+      let e : t + suc j ≡ suc t + j = omega arith in
+      let now : is_signal (emitted plan k t) ≡ sending = (let z : t ≡ t + 0 = omega arith in ap (λ u. is_signal (emitted plan k u)) z) ∙ same 0 (omega arith) in
+      ap (receiver_at plan k) e
+      ∙ receiver_runs sending j (suc t) (λ i h. (let z : suc t + i ≡ t + suc i = omega arith in ap (λ u. is_signal (emitted plan k u)) z) ∙ same (suc i) (omega arith))
+      ∙ ap (λ x. receiver_after x (span (heard plan k) (suc t) j) sending) (receiver_next plan (station_facts plan) k t station ∙ ap (λ b. (receiver_step (receiver_at plan k t) (heard plan k t) b).state) now)
+
+module _ (plan : Plan) (s : ℕ) where
+  abbrev w : Wiring
+  w = wiring plan.layout s
+
+  abbrev ks : List ℕ
+  ks = w.stations
+
+  sent : ℕ → ℕ → Option Body
+  sent u k = (sender_step (sender_at plan k u) (heard plan k u)).event
+
+  received : ℕ → ℕ → Option Body
+  received u k = (receiver_step (receiver_at plan k u) (heard plan k u) (is_signal (emitted plan k u))).event
+
+  pub station : (r : ℕ) → r < length ks → get_or ks r 0 < length plan.layout.stations
+  station r h = below plan (station_facts plan) (lookahead plan.layout) s 0 (leads plan.layout) r h
+
+  -- a half bit without an event
+  quiet_row : (u : ℕ) → ((r : ℕ) → r < length ks → (sent u (get_or ks r 0) ≡ None) × (received u (get_or ks r 0) ≡ None)) → rows_of_devices plan ks (suc u) ≡ rows_of_devices plan ks u
+  unfolding sent received
+  quiet_row u none =
+      let hs = map (λ k. heard plan k u) ks in
+      let ss = map (λ k. sender_at plan k u) ks in
+      let rs = map (λ k. receiver_at plan k u) ks in
+      let es = map (λ k. emitted plan k u) ks in
+      let sends : map (λ (o : SendOutcome). o.event) (sendings hs ss) ≡ map (sent u) ks =
+      ap (map (λ (o : SendOutcome). o.event)) (sendings_of (λ k. heard plan k u) (λ k. sender_at plan k u) ks) ∙ map-map (λ (o : SendOutcome). o.event) (λ k. sender_step (sender_at plan k u) (heard plan k u)) ks in
+      let receives : map (λ (r : Reception). r.event) (receptions_by hs ss rs) ≡ map (received u) ks =
+      ap (λ xs. map (λ (r : Reception). r.event) (receptions hs xs rs)) (emissions_next plan s u hs ss refl refl)
+      ∙ ap (map (λ (r : Reception). r.event)) (receptions_of (λ k. heard plan k u) (λ k. emitted plan k u) (λ k. receiver_at plan k u) ks)
+      ∙ map-map (λ (r : Reception). r.event) (λ k. receiver_step (receiver_at plan k u) (heard plan k u) (is_signal (emitted plan k u))) ks in
+      sym (rows_next plan s u hs ss refl refl)
+      ∙ ap₂ (λ a b. rows_of_devices plan ks u ++ rows_on u ks a b) sends receives
+      ∙ ap (λ xs. rows_of_devices plan ks u ++ xs) (no_rows u ks (sent u) (received u) (λ i h. (none i h).0) (λ i h. (none i h).1))
+      ∙ append-nil (rows_of_devices plan ks u)
+
+  module _ (t m : ℕ)
+      (none : (r j : ℕ) → r < length ks → j < m → ((sender_step (sender_at plan (get_or ks r 0) (t + j)) (heard plan (get_or ks r 0) (t + j))).event ≡ None)
+      × ((receiver_step (receiver_at plan (get_or ks r 0) (t + j)) (heard plan (get_or ks r 0) (t + j)) (is_signal (emitted plan (get_or ks r 0) (t + j)))).event ≡ None)) where
+    rows_to : (j : ℕ) → j ≤ m → rows_of_devices plan ks (t + j) ≡ rows_of_devices plan ks t
+    unfolding sent received
+    rows_to zero h = let e : t + 0 ≡ t = omega arith in ap (rows_of_devices plan ks) e
+    rows_to (suc j) h =
+        let e : t + suc j ≡ suc (t + j) = omega arith in
+        ap (rows_of_devices plan ks) e ∙ quiet_row (t + j) (λ r l. none r j l (omega arith)) ∙ rows_to j (omega arith)
+
+    pub rows_stay : rows_of_devices plan ks (t + m) ≡ rows_of_devices plan ks t
+    rows_stay = rows_to m (omega arith)
+
+    captures_to : (r j : ℕ) → r < length ks → j ≤ m → captures_at plan (get_or ks r 0) (t + j) ≡ captures_at plan (get_or ks r 0) t
+    captures_to r zero l h = let e : t + 0 ≡ t = omega arith in ap (captures_at plan (get_or ks r 0)) e
+    captures_to r (suc j) l h =
+        let k = get_or ks r 0 in
+        let u = t + j in
+        let e : t + suc j ≡ suc u = omega arith in
+        let one = receiver_step (receiver_at plan k u) (heard plan k u) (is_signal (emitted plan k u)) in
+        ap (captures_at plan k) e
+        ∙ capture_next plan (station_facts plan) k u (station r l)
+        ∙ ap (λ xs. captures_at plan k u ++ xs) (no_capture u one.event one.octets (none r j l (omega arith)).1)
+        ∙ append-nil (captures_at plan k u)
+        ∙ captures_to r j l (omega arith)
+
+    pub captures_stay : map (λ k. captures_at plan k (t + m)) ks ≡ map (λ k. captures_at plan k t) ks
+    captures_stay = map_alike (λ k. captures_at plan k (t + m)) (λ k. captures_at plan k t) ks (λ r h. captures_to r m h (omega arith))
