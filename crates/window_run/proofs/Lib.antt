@@ -1,0 +1,3 @@
+pub mod StationCaptures
+pub mod HandedOutParts
+pub mod Crossings

@@ -1,0 +1,17 @@
+//! The run of a plan by workers, window by window. Its rows and captures are those of the whole network.
+#![tactic(auto)]
+
+mod captures;
+mod gathered;
+mod kind;
+mod parts;
+mod run;
+
+pub use run::run_by_windows;
+
+#[cfg(test)]
+mod samples;
+#[cfg(test)]
+mod tests;
+#[cfg(test)]
+mod turnstile;

@@ -1,0 +1,87 @@
+//! The run of a plan by windows.
+ghost use Rattle.std.specs.Prelude.{◌≡◌, ◌<◌, ◌≤◌, ◌+◌, IfOk, length};
+ghost use Rattle.network.specs.Outputs.{captures, rows};
+
+use crate::gathered::gathered;
+use crate::kind::Kind;
+use crate::parts::collect_parts;
+use collision_log::RowsList;
+use lists::OutOfMemory;
+use load_plan::Plan;
+use network::Outputs;
+use outside::Gate;
+use repeater_engine::RepeaterPart;
+use segment_engine::SegmentPart;
+use std::alloc::Global;
+use std::sync::Wait;
+use std::thread::Threads;
+use worker_gate::{Gated, run_planned};
+
+/// Runs a plan to its end by 1 to 64 workers, the caller being one of them. Each part passes the gate at the beginning of each
+/// of its windows. It may wait.
+pub fn run_by_windows<G: Gate, X: Threads + Wait + Sync>(
+    rt: &X,
+    alloc: Global,
+    plan: &Plan,
+    workers: u32,
+    gate: &G,
+) -> Result<Outputs, OutOfMemory>
+    requires least { 1 ≤ workers }
+    requires most { workers ≤ 64 }
+    ensures rows { IfOk result (λ outputs. outputs.rows ≡ rows plan.now) }
+    ensures captures { IfOk result (λ outputs. outputs.captures ≡ captures plan.now) }
+{
+    run_parts::<SegmentPart, RepeaterPart, G, X>(rt, alloc, plan, workers, gate)
+}
+
+/// The same on segments and repeaters of these kinds.
+fn run_parts<S: Kind, R: Kind, G: Gate, X: Threads + Wait + Sync>(
+    rt: &X,
+    alloc: Global,
+    plan: &Plan,
+    workers: u32,
+    gate: &G,
+) -> Result<Outputs, OutOfMemory>
+    requires least { 1 ≤ workers }
+    requires most { workers ≤ 64 }
+    requires segments { S.many plan.now ≡ length plan.now.layout.segments }
+    requires first_segment { S.first plan.now ≡ 0 }
+    requires repeaters { R.many plan.now ≡ length plan.now.layout.repeaters }
+    requires first_repeater { R.first plan.now ≡ length plan.now.layout.segments }
+    ensures rows { IfOk result (λ outputs. outputs.rows ≡ rows plan.now) }
+    ensures captures { IfOk result (λ outputs. outputs.captures ≡ captures plan.now) }
+{
+    let (segments, repeaters) = run_planned(
+        rt,
+        alloc,
+        plan,
+        workers,
+        gate,
+        &|i| -> Result<Gated<'_, S, G>, OutOfMemory>
+            requires { i < S.many plan.now }
+        { gated(alloc, plan, i, gate) },
+        &|i| -> Result<Gated<'_, R, G>, OutOfMemory>
+            requires { i < R.many plan.now }
+        { gated(alloc, plan, i, gate) },
+    )?;
+    let mut logs = RowsList::new(alloc);
+    let mut of_parts = Vec::new(alloc);
+    collect_parts(segments, &mut logs, &mut of_parts)?;
+    collect_parts(repeaters, &mut logs, &mut of_parts)?;
+    gathered(alloc, plan, logs, of_parts)
+}
+
+/// A part of a kind behind the gate.
+fn gated<'g, K: Kind, G: Gate>(
+    alloc: Global,
+    plan: &Plan,
+    number: u32,
+    gate: &'g G,
+) -> Result<Gated<'g, K, G>, OutOfMemory>
+    requires { number < K.many plan.now }
+    ensures plan { IfOk result (λ gated. K.plan gated.part ≡ plan.now) }
+    ensures number { IfOk result (λ gated. K.number gated.part ≡ K.first plan.now + number) }
+    ensures at { IfOk result (λ gated. K.at gated.part ≡ 0) }
+{
+    Ok(Gated::new(K::make(alloc, plan, number)?, gate))
+}
