@@ -20,7 +20,7 @@ use Rattle.netsim.specs.LogLaws.{HasCollision, IsEmptyLogRefused, IsInfixRefused
 use Rattle.netsim.specs.Moments.{Moment}
 use Rattle.netsim.specs.Requests.{asked}
 use Rattle.netsim.specs.Runs.{IsPlanOf, IsSummary, log, run_files}
-use Rattle.netsim.specs.Statuses.{IfPlain, IsRunDone}
+use Rattle.netsim.specs.Statuses.{IfFiles, IsRunDone}
 use Rattle.netsim.specs.Texts.{name_of_log}
 use Rattle.netsim.specs.Verdicts.{line_of_verdict}
 use Rattle.netsim.specs.Writing.{added, put_all}
@@ -59,10 +59,10 @@ log_told layout prefix (Some old) (Some files) written after network other plan 
     record { octets = log ran; held = log_held prefix ran old files (sym put); logged = subst (λ p. AreLogged p (log ran)) same (are_logged ran (are_detected (Some old) network within ran again)) }
 
 -- status 0 of a run
-pub collisions_are_told : (words : List (List ℕ)) (entry exit : Moment) (status : ℕ) → IsAnswer words entry exit status → status ≡ 0 → IfPlain (asked words) (λ layout prefix. AreCollisionsLogged layout prefix entry exit)
+pub collisions_are_told : (words : List (List ℕ)) (entry exit : Moment) (status : ℕ) → IsAnswer words entry exit status → status ≡ 0 → IfFiles (asked words) (λ layout prefix. AreCollisionsLogged layout prefix entry exit)
 collisions_are_told words entry exit status answer zero layout prefix is network judged said plan planned =
     let run : IsRunDone layout prefix entry exit = done words entry exit status answer zero layout prefix is in
-    log_told layout prefix entry.held exit.held entry.written exit.written network run.network plan run.plan run.summary judged run.judged planned run.planned run.files run.summed run.written said
+    log_told layout prefix entry.held exit.held entry.written exit.written network run.planned.network plan run.plan run.summary judged run.planned.judged planned run.planned.is run.files run.summed run.written said
 
 -- what is told of the first attempt
 told_first : (layout prefix octets : List ℕ) (entry exit : Moment) (plan : Plan) (files : Files) (c : HasCollision layout entry exit plan files) → file_of (name_of_log prefix) files ≡ Some octets

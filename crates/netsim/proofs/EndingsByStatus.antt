@@ -1,14 +1,15 @@
 -- The ending of an answer, by its status and by its words.
-use Rattle.std.proofs.Common.{◌≡◌, ℕ, zero, suc, List, Option, Some, refl, sym, ap, subst, ◌∙◌}
+use Rattle.std.proofs.Common.{◌≡◌, ℕ, zero, suc, List, Option, Some, refl, sym, ap, subst, ◌∙◌, inl, inr}
 use Rattle.layout.specs.declared.lines.Layout.{Layout}
 use Rattle.netsim.specs.declared.endings.Ending.{Ending}
 use Rattle.netsim.specs.declared.endings.Ending.TheVariants as ending
 use Rattle.netsim.specs.declared.texts.TheConstants.{HELP, VERSION}
-use Rattle.netsim.specs.Endings.{IsAnswer, IsCheckEnd, IsEndOf, IsPlainEnd, IsSlackEnd, IsTellingEnd, IsTextEnd, status_of}
+use Rattle.netsim.specs.Endings.{IsAnswer, IsCheckEnd, IsDemoEnd, IsEarly, IsEndOf, IsLoadEnd, IsPlainEnd, IsRun, IsSlackEnd, IsText, IsTellingEnd, IsTextEnd, IsUnrun, status_of}
+use Rattle.netsim.specs.Demos.{IsDemoText}
 use Rattle.netsim.specs.Moments.{Moment}
-use Rattle.netsim.specs.Requests.{Asked, asked, Check, Plain, Slack}
+use Rattle.netsim.specs.Requests.{Asked, asked, Check, Demo, Slack}
 use Rattle.netsim.specs.SlackTexts.{IsSlackText}
-use Rattle.netsim.specs.Statuses.{IfTelling, IfText}
+use Rattle.netsim.specs.Statuses.{AskForFiles, IfTelling, IfText}
 use Rattle.netsim.specs.Verdicts.{IsVerdictLine}
 
 -- the ending of a status
@@ -41,8 +42,27 @@ check_end o layout entry exit e is end = subst (λ a. IsEndOf a entry exit e) is
 pub slack_end : (o : Option Asked) (layout : List ℕ) (entry exit : Moment) (e : Ending) → o ≡ Some (Slack layout) → IsEndOf o entry exit e → IsSlackEnd layout entry exit e
 slack_end o layout entry exit e is end = subst (λ a. IsEndOf a entry exit e) is end
 
-pub plain_end : (o : Option Asked) (layout prefix : List ℕ) (entry exit : Moment) (e : Ending) → o ≡ Some (Plain layout prefix) → IsEndOf o entry exit e → IsPlainEnd layout prefix entry exit e
-plain_end o layout prefix entry exit e is end = subst (λ a. IsEndOf a entry exit e) is end
+-- the end of a form that writes the files of a run
+pub files_end : (o : Option Asked) (layout prefix : List ℕ) (entry exit : Moment) (e : Ending) → AskForFiles o layout prefix → IsEndOf o entry exit e → IsPlainEnd layout prefix entry exit e
+files_end o layout prefix entry exit e asks end =
+    elim asks [ inl plain ↦ subst (λ a. IsEndOf a entry exit e) plain end | inr run ↦ subst (λ a. IsEndOf a entry exit e) run.1 end ]
+
+pub demo_end : (o : Option Asked) (number workers : ℕ) (entry exit : Moment) (e : Ending) → o ≡ Some (Demo number workers) → IsEndOf o entry exit e → IsDemoEnd number entry exit e
+demo_end o number workers entry exit e is end = subst (λ a. IsEndOf a entry exit e) is end
+
+-- what comes of each of the four ways in which a form that writes the files of a run ends comes of its end
+pub by_way : (X : Type 0) (layout prefix : List ℕ) (before after : Moment) (e : Ending) → (IsEarly layout before after e → X) → (IsLoadEnd layout before after e → X) → (IsUnrun before after e → X) → (IsRun layout prefix before after e → X)
+    → IsPlainEnd layout prefix before after e → X
+by_way X layout prefix before after e early unloaded unrun run h =
+    elim h [
+      | inl none ↦ elim none [ inl one ↦ early one.0 | inr later ↦ elim later [ inl two ↦ unloaded two.0 | inr three ↦ unrun three ] ]
+      | inr ran ↦ run ran
+    ]
+
+-- what comes of each of the two ways in which demo ends comes of its end
+pub by_demo : (X : Type 0) (number : ℕ) (before after : Moment) (e : Ending) → (e ≡ ending.Memory → after.written ≡ before.written → X)
+    → ((text : List ℕ) → IsDemoText number text → IsText text before.written after.written before.faults after.faults e → X) → IsDemoEnd number before after e → X
+by_demo X number before after e none told h = elim h.0 [ inl unmade ↦ none unmade.0 unmade.1 | inr made ↦ told made.0 made.1 made.2 ]
 
 -- what holds of the end of every form that only tells of a layout
 pub of_tellings : (o : Option Asked) (entry exit : Moment) (e : Ending) (P : (Layout → List ℕ → Type 0) → List ℕ → Type 0)

@@ -4,14 +4,28 @@ use Rattle.outside.specs.Files.{Rose}
 use Rattle.load_plan.specs.declared.plan.Plan.{Plan}
 use Rattle.netsim.specs.declared.endings.Ending.{Ending}
 use Rattle.netsim.specs.declared.endings.Ending.TheVariants as ending
-use Rattle.netsim.specs.Endings.{IsAnswer, IsEndOf, IsFiledEnd, IsPlainEnd, status_of}
+use Rattle.netsim.specs.Endings.{IsAnswer, IsDemoEnd, IsEndOf, IsFiledEnd, IsPlainEnd, status_of}
 use Rattle.netsim.specs.Moments.{Moment}
-use Rattle.netsim.specs.Requests.{Asked, asked, Check, Slack, Plain, Help, Version}
+use Rattle.netsim.specs.Requests.{Asked, asked, Check, Slack, Plain, Run, Demo, Help, Version}
 use Rattle.netsim.specs.Statuses.{IsRefusal}
-use Rattle.netsim.proofs.EndingsByStatus.{end_at}
+use Rattle.netsim.proofs.EndingsByStatus.{by_demo, by_way, end_at}
 
 words_done : ending.Write ≡ ending.Words → ⊥
 words_done e = cc
+
+words_unrun : ending.Words ≡ ending.Memory → ⊥
+words_unrun e = cc
+
+write_unrun : ending.Write ≡ ending.Memory → ⊥
+write_unrun e = cc
+
+-- no form ends as words of no form do
+pub never_words : (layout prefix : List ℕ) (entry exit : Moment) → IsPlainEnd layout prefix entry exit ending.Words → ⊥
+never_words layout prefix entry exit h =
+    by_way ⊥ layout prefix entry exit ending.Words (λ early. early) (λ unloaded. unloaded.said) (λ unrun. words_unrun unrun.0) (λ run. elim run.filed [ inl all ↦ all.1.2 | inr some ↦ some ]) h
+
+pub never_demo : (number : ℕ) (entry exit : Moment) → IsDemoEnd number entry exit ending.Words → ⊥
+never_demo number entry exit h = by_demo ⊥ number entry exit ending.Words (λ is written. words_unrun is) (λ text right written. written) h
 
 -- words of no form
 none_of : (o : Option Asked) (entry exit : Moment) → IsEndOf o entry exit ending.Words → o ≡ None
@@ -20,17 +34,9 @@ none_of (Some Help) entry exit h = absurd h.0
 none_of (Some Version) entry exit h = absurd h.0
 none_of (Some (Check layout)) entry exit h = elim h.1 [ inl early ↦ absurd early | inr checked ↦ absurd checked.written ]
 none_of (Some (Slack layout)) entry exit h = elim h.1 [ inl early ↦ absurd early | inr checked ↦ absurd checked.written ]
-none_of (Some (Plain layout prefix)) entry exit h =
-    elim h [
-      | inl early ↦ absurd early.0
-      | inr later ↦ elim later [
-        | inl unloaded ↦ absurd unloaded.0.said
-        | inr on ↦ elim on [ inl unrun ↦ absurd (words_unrun unrun.0) | inr run ↦ elim run.filed [ inl all ↦ absurd all.1.2 | inr some ↦ absurd some ] ]
-      ]
-    ]
-  where
-    words_unrun : ending.Words ≡ ending.Memory → ⊥
-    words_unrun e = cc
+none_of (Some (Plain layout prefix)) entry exit h = absurd (never_words layout prefix entry exit h)
+none_of (Some (Run layout prefix workers)) entry exit h = absurd (never_words layout prefix entry exit h)
+none_of (Some (Demo number workers)) entry exit h = absurd (never_demo number entry exit h)
 
 one_of : (o : Option Asked) (entry exit : Moment) (e : Ending) → o ≡ None → IsEndOf o entry exit e → status_of e ≡ 1
 one_of o entry exit e none end = let h : IsEndOf None entry exit e = subst (λ a. IsEndOf a entry exit e) none end in ap status_of h.0
@@ -56,11 +62,8 @@ filed_no_refusal prefix plan entry exit ending.Memory filed r = not_refusal 6 (�
 plain_kept : (layout prefix : List ℕ) (entry exit : Moment) (e : Ending) → IsPlainEnd layout prefix entry exit e → IsRefusal (status_of e) → exit.held ≡ entry.held
 plain_kept layout prefix entry exit e h r =
     elim h [
-      | inl early ↦ early.1
-      | inr later ↦ elim later [
-        | inl unloaded ↦ unloaded.1
-        | inr on ↦ elim on [ inl unrun ↦ unrun.1 | inr run ↦ absurd (filed_no_refusal prefix run.plan entry exit e run.filed r) ]
-      ]
+      | inl none ↦ elim none [ inl early ↦ early.1 | inr later ↦ elim later [ inl unloaded ↦ unloaded.1 | inr unrun ↦ unrun.1 ] ]
+      | inr run ↦ absurd (filed_no_refusal prefix run.plan entry exit e run.filed r)
     ]
 
 kept_of : (o : Option Asked) (entry exit : Moment) (e : Ending) → IsEndOf o entry exit e → IsRefusal (status_of e) → exit.held ≡ entry.held
@@ -70,10 +73,21 @@ kept_of (Some Version) entry exit e h r = h.1
 kept_of (Some (Check layout)) entry exit e h r = h.0
 kept_of (Some (Slack layout)) entry exit e h r = h.0
 kept_of (Some (Plain layout prefix)) entry exit e h r = plain_kept layout prefix entry exit e h r
+kept_of (Some (Run layout prefix workers)) entry exit e h r = plain_kept layout prefix entry exit e h r
+kept_of (Some (Demo number workers)) entry exit e h r = h.1
 
 -- the statuses 1 to 4 leave every file as at entry
 pub refused : (words : List (List ℕ)) (entry exit : Moment) (status : ℕ) → IsAnswer words entry exit status → IsRefusal status → exit.held ≡ entry.held
 refused words entry exit status answer r = kept_of (asked words) entry exit answer.by answer.allowed (subst (λ n. IsRefusal n) answer.is r)
+
+plain_failed : (layout prefix : List ℕ) (entry exit : Moment) → IsPlainEnd layout prefix entry exit ending.Write → Rose entry.writes exit.writes ⊎ Rose entry.faults exit.faults
+plain_failed layout prefix entry exit h =
+    by_way (Rose entry.writes exit.writes ⊎ Rose entry.faults exit.faults) layout prefix entry exit ending.Write (λ early. absurd early) (λ unloaded. absurd unloaded.said) (λ unrun. absurd (write_unrun unrun.0))
+    (λ run. elim run.filed [ inl all ↦ inr all.1.2.1 | inr some ↦ inl some.1 ]) h
+
+demo_failed : (number : ℕ) (entry exit : Moment) → IsDemoEnd number entry exit ending.Write → Rose entry.writes exit.writes ⊎ Rose entry.faults exit.faults
+demo_failed number entry exit h =
+    by_demo (Rose entry.writes exit.writes ⊎ Rose entry.faults exit.faults) number entry exit ending.Write (λ is written. absurd (write_unrun is)) (λ text right written. inr written.1) h
 
 failed_of : (o : Option Asked) (entry exit : Moment) → IsEndOf o entry exit ending.Write → Rose entry.writes exit.writes ⊎ Rose entry.faults exit.faults
 failed_of None entry exit h = absurd (words_done h.0)
@@ -81,17 +95,9 @@ failed_of (Some Help) entry exit h = inr h.0.1
 failed_of (Some Version) entry exit h = inr h.0.1
 failed_of (Some (Check layout)) entry exit h = elim h.1 [ inl early ↦ absurd early | inr checked ↦ inr checked.written.1 ]
 failed_of (Some (Slack layout)) entry exit h = elim h.1 [ inl early ↦ absurd early | inr checked ↦ inr checked.written.1 ]
-failed_of (Some (Plain layout prefix)) entry exit h =
-    elim h [
-      | inl early ↦ absurd early.0
-      | inr later ↦ elim later [
-        | inl unloaded ↦ absurd unloaded.0.said
-        | inr on ↦ elim on [ inl unrun ↦ absurd (write_unrun unrun.0) | inr run ↦ elim run.filed [ inl all ↦ inr all.1.2.1 | inr some ↦ inl some.1 ] ]
-      ]
-    ]
-  where
-    write_unrun : ending.Write ≡ ending.Memory → ⊥
-    write_unrun e = cc
+failed_of (Some (Plain layout prefix)) entry exit h = plain_failed layout prefix entry exit h
+failed_of (Some (Run layout prefix workers)) entry exit h = plain_failed layout prefix entry exit h
+failed_of (Some (Demo number workers)) entry exit h = demo_failed number entry exit h
 
 -- status 5 comes of a failed write
 pub failed : (words : List (List ℕ)) (entry exit : Moment) (status : ℕ) → IsAnswer words entry exit status → status ≡ 5 → Rose entry.writes exit.writes ⊎ Rose entry.faults exit.faults

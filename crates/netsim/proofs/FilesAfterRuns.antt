@@ -1,34 +1,25 @@
 -- What a call leaves of files and of the sink, by how it ended.
-use Rattle.std.proofs.Common.{◌≡◌, ◌⊎◌, ℕ, Option, None, Some, List, refl, inl, inr}
+use Rattle.std.proofs.Common.{◌≡◌, ◌⊎◌, ℕ, Option, None, Some, List, refl, ap, inl, inr}
 use Rattle.outside.specs.Files.{Rose}
 use Rattle.layout.specs.declared.lines.Layout.{Layout}
 use Rattle.netsim.specs.declared.endings.Ending.{Ending}
 use Rattle.netsim.specs.declared.endings.Ending.TheVariants as ending
-use Rattle.netsim.specs.Endings.{IsAnswer, IsEarly, IsEndOf, IsPlainEnd, IsRun, IsTellingEnd, IsText, IsTold, IsUnloadedSaid, IsUnrun, Says, status_of}
+use Rattle.netsim.specs.Endings.{IsAnswer, IsDemoEnd, IsEarly, IsEndOf, IsPlainEnd, IsRun, IsTellingEnd, IsText, IsTold, IsUnloadedSaid, Says, status_of}
 use Rattle.netsim.specs.Moments.{Moment}
-use Rattle.netsim.specs.Requests.{Asked, asked, Check, Slack, Plain, Help, Version}
-use Rattle.netsim.specs.Statuses.{AreSlacksDone, IfCheck, IfPlain, IfSlack, IfTelling, IsCheckDone, IsRunBroken, IsRunDone, IsRunRefused, IsSummaryCut, IsTellingCut, IsTellingDone}
-use Rattle.netsim.specs.StatusLaws.{AreFailuresSilent, AreFilesWhole, AreTellingsCutShort, AreTellingsRefused, AreTextsCutShort, AreTextsFailed, AreTextsWritten, AreWordsSaid, DoTellingsKeepFiles, DoTextsKeepFiles}
+use Rattle.netsim.specs.Requests.{Asked, asked, Check, Slack, Plain, Run, Demo, Help, Version}
+use Rattle.netsim.specs.Statuses.{AreSlacksDone, AskForFiles, IfCheck, IfDemo, IfFiles, IfSlack, IfTelling, IsCheckDone, IsDemoCut, IsDemoDone, IsDemoStatus, IsRunBroken, IsRunDone, IsRunRefused, IsSummaryCut, IsTellingCut, IsTellingDone}
+use Rattle.netsim.specs.StatusLaws.{AreDemosCutShort, AreDemosRefused, AreFailuresSilent, AreFilesWhole, AreTellingsCutShort, AreTellingsRefused, AreTextsCutShort, AreTextsFailed, AreTextsWritten, AreWordsSaid, DoDemosKeepFiles, DoTellingsKeepFiles, DoTextsKeepFiles, HaveDemosStatuses}
 use Rattle.netsim.specs.Texts.{line_of_words_fault}
 use Rattle.netsim.specs.Runs.{run_files}
 use Rattle.netsim.specs.Writing.{added, IsBrokenAmong, IsCutShort}
-use Rattle.netsim.proofs.EndingsByStatus.{end_at, of_tellings, of_texts, plain_end}
-
--- an ending that isn't want of memory is no end before a run
-never_unrun : (X : Type 0) (before after : Moment) (e : Ending) → (e ≡ ending.Memory → ⊥) → IsUnrun before after e → X
-never_unrun X before after e never unrun = absurd (never unrun.0)
+use Rattle.netsim.proofs.EndingsByStatus.{by_demo, by_way, demo_end, end_at, files_end, of_tellings, of_texts}
+use Rattle.netsim.proofs.EveryForm.{never_demo, never_words}
 
 -- an ending that comes neither early nor of want of memory is that of a run
 run_of : (layout prefix : List ℕ) (before after : Moment) (e : Ending) → (IsEarly layout before after e → ⊥) → ((network : Layout) → IsUnloadedSaid network before after e → ⊥) → (e ≡ ending.Memory → ⊥)
     → IsPlainEnd layout prefix before after e → IsRun layout prefix before after e
 run_of layout prefix before after e early unloaded memory h =
-    elim h [
-      | inl one ↦ absurd (early one.0)
-      | inr later ↦ elim later [
-        | inl two ↦ absurd (unloaded two.0.network two.0.said)
-        | inr on ↦ elim on [ inl unrun ↦ absurd (memory unrun.0) | inr run ↦ run ]
-      ]
-    ]
+    by_way (IsRun layout prefix before after e) layout prefix before after e (λ one. absurd (early one)) (λ two. absurd (unloaded two.network two.said)) (λ unrun. absurd (memory unrun.0)) (λ run. run) h
 
 -- a run was done
 run_done : (layout prefix : List ℕ) (before after : Moment) → IsPlainEnd layout prefix before after ending.Done → IsRun layout prefix before after ending.Done
@@ -40,38 +31,38 @@ run_written layout prefix before after h = run_of layout prefix before after end
 held_of : (layout prefix : List ℕ) (before after : Moment) → IsRun layout prefix before after ending.Done → IsRunDone layout prefix before after
 held_of layout prefix before after run =
     elim run.filed [
-      | inl all ↦ record { network = run.network; judged = run.judged; plan = run.plan; planned = run.planned; files = all.0; summary = all.1.0; summed = all.1.1; written = all.1.2 }
+      | inl all ↦ record { plan = run.plan; planned = run.planned; files = all.0; summary = all.1.0; summed = all.1.1; written = all.1.2 }
       | inr some ↦ absurd some
     ]
 
 -- status 0 of a run
-pub done : (words : List (List ℕ)) (entry exit : Moment) (status : ℕ) → IsAnswer words entry exit status → status ≡ 0 → IfPlain (asked words) (λ layout prefix. IsRunDone layout prefix entry exit)
+pub done : (words : List (List ℕ)) (entry exit : Moment) (status : ℕ) → IsAnswer words entry exit status → status ≡ 0 → IfFiles (asked words) (λ layout prefix. IsRunDone layout prefix entry exit)
 done words entry exit status answer zero layout prefix is =
-    held_of layout prefix entry exit (run_done layout prefix entry exit (plain_end (asked words) layout prefix entry exit ending.Done is (end_at words entry exit status 0 answer zero)))
+    held_of layout prefix entry exit (run_done layout prefix entry exit (files_end (asked words) layout prefix entry exit ending.Done is (end_at words entry exit status 0 answer zero)))
 
 -- a run that left some of its files, or a front of its summary
 run_left : (layout prefix : List ℕ) (before after : Moment) (e : Ending) (run : IsRun layout prefix before after e)
     → (IsBrokenAmong (run_files prefix run.plan) before.held after.held × (after.written ≡ before.written)) ⊎ IsSummaryCut prefix run.plan before after → IsRunBroken layout prefix before after
-run_left layout prefix before after e run left = record { network = run.network; judged = run.judged; plan = run.plan; planned = run.planned; left = left }
+run_left layout prefix before after e run left = record { plan = run.plan; planned = run.planned; left = left }
 
 broken_of : (layout prefix : List ℕ) (before after : Moment) → IsRun layout prefix before after ending.Write → IsRunBroken layout prefix before after
 broken_of layout prefix before after run =
     run_left layout prefix before after ending.Write run
     (elim run.filed [ inl all ↦ inr (record { files = all.0; summary = all.1.0; summed = all.1.1; cut = all.1.2.0 }) | inr some ↦ inl (some.0, some.2) ])
 
-written_at : (words : List (List ℕ)) (entry exit : Moment) (status : ℕ) (layout prefix : List ℕ) → IsAnswer words entry exit status → status ≡ 5 → asked words ≡ Some (Plain layout prefix) → IsRun layout prefix entry exit ending.Write
+written_at : (words : List (List ℕ)) (entry exit : Moment) (status : ℕ) (layout prefix : List ℕ) → IsAnswer words entry exit status → status ≡ 5 → AskForFiles (asked words) layout prefix → IsRun layout prefix entry exit ending.Write
 written_at words entry exit status layout prefix answer five is =
-    run_written layout prefix entry exit (plain_end (asked words) layout prefix entry exit ending.Write is (end_at words entry exit status 5 answer five))
+    run_written layout prefix entry exit (files_end (asked words) layout prefix entry exit ending.Write is (end_at words entry exit status 5 answer five))
 
 -- status 5 of a run
-pub broken : (words : List (List ℕ)) (entry exit : Moment) (status : ℕ) → IsAnswer words entry exit status → status ≡ 5 → IfPlain (asked words) (λ layout prefix. IsRunBroken layout prefix entry exit)
+pub broken : (words : List (List ℕ)) (entry exit : Moment) (status : ℕ) → IsAnswer words entry exit status → status ≡ 5 → IfFiles (asked words) (λ layout prefix. IsRunBroken layout prefix entry exit)
 broken words entry exit status answer five layout prefix is = broken_of layout prefix entry exit (written_at words entry exit status layout prefix answer five is)
 
 pub files_are_whole : AreFilesWhole
 files_are_whole words entry exit status answer five never layout prefix is =
     let run : IsRun layout prefix entry exit ending.Write = written_at words entry exit status layout prefix answer five is in
     elim run.filed [
-      | inl all ↦ record { network = run.network; judged = run.judged; plan = run.plan; planned = run.planned; files = all.0 }
+      | inl all ↦ record { plan = run.plan; planned = run.planned; files = all.0 }
       | inr some ↦ absurd (never some.1)
     ]
 
@@ -88,18 +79,15 @@ refused_of layout prefix before after run =
 memory_of : (layout prefix : List ℕ) (before after : Moment) → IsPlainEnd layout prefix before after ending.Memory → IsRunRefused layout prefix before after
 memory_of layout prefix before after h =
     elim h [
-      | inl early ↦ inl (early.1, early.0)
-      | inr later ↦ elim later [
-        | inl unloaded ↦ inl (unloaded.1, unloaded.0.said)
-        | inr on ↦ elim on [ inl unrun ↦ inl (unrun.1, unrun.2) | inr run ↦ inr (refused_of layout prefix before after run) ]
-      ]
+      | inl none ↦ elim none [ inl early ↦ inl (early.1, early.0) | inr later ↦ elim later [ inl unloaded ↦ inl (unloaded.1, unloaded.0.said) | inr unrun ↦ inl (unrun.1, unrun.2) ] ]
+      | inr run ↦ inr (refused_of layout prefix before after run)
     ]
 
 -- status 6 of a run
 pub memory : (words : List (List ℕ)) (entry exit : Moment) (status : ℕ) → IsAnswer words entry exit status → status ≡ 6
-    → IfPlain (asked words) (λ layout prefix. IsRunRefused layout prefix entry exit)
+    → IfFiles (asked words) (λ layout prefix. IsRunRefused layout prefix entry exit)
 memory words entry exit status answer six layout prefix is =
-    memory_of layout prefix entry exit (plain_end (asked words) layout prefix entry exit ending.Memory is (end_at words entry exit status 6 answer six))
+    memory_of layout prefix entry exit (files_end (asked words) layout prefix entry exit ending.Memory is (end_at words entry exit status 6 answer six))
 
 telling_done : (Tells : Layout → List ℕ → Type 0) (layout : List ℕ) (before after : Moment) → IsTellingEnd Tells layout before after ending.Done → IsTellingDone Tells layout before after
 telling_done Tells layout before after h =
@@ -141,6 +129,46 @@ tellings_are_refused words entry exit status answer six =
 pub tellings_keep_files : DoTellingsKeepFiles
 tellings_keep_files words entry exit status answer = of_tellings (asked words) entry exit answer.by (λ Tells layout. exit.held ≡ entry.held) (λ Tells layout end. end.0) answer.allowed
 
+-- an ending of demo, at each status
+done_unmade : ending.Done ≡ ending.Memory → ⊥
+done_unmade e = cc
+
+write_unmade : ending.Write ≡ ending.Memory → ⊥
+write_unmade e = cc
+
+-- status 0 of demo
+pub demonstrated : (words : List (List ℕ)) (entry exit : Moment) (status : ℕ) → IsAnswer words entry exit status → status ≡ 0 → IfDemo (asked words) (λ number. IsDemoDone number entry exit)
+demonstrated words entry exit status answer zero number workers is =
+    let end : IsDemoEnd number entry exit ending.Done = demo_end (asked words) number workers entry exit ending.Done is (end_at words entry exit status 0 answer zero) in
+    by_demo (IsDemoDone number entry exit) number entry exit ending.Done (λ memory written. absurd (done_unmade memory)) (λ text right written. record { text = text; right = right; written = written; held = end.1 }) end
+
+pub demos_are_cut_short : AreDemosCutShort
+demos_are_cut_short words entry exit status answer five number workers is =
+    by_demo (Rose entry.faults exit.faults × IsDemoCut number entry exit) number entry exit ending.Write (λ memory written. absurd (write_unmade memory))
+    (λ text right written. (written.1, record { text = text; right = right; cut = written.0 })) (demo_end (asked words) number workers entry exit ending.Write is (end_at words entry exit status 5 answer five))
+
+pub demos_are_refused : AreDemosRefused
+demos_are_refused words entry exit status answer six number workers is =
+    by_demo ((exit.written ≡ entry.written) ⊎ IsDemoCut number entry exit) number entry exit ending.Memory (λ memory written. inl written) (λ text right written. inr (record { text = text; right = right; cut = written }))
+    (demo_end (asked words) number workers entry exit ending.Memory is (end_at words entry exit status 6 answer six))
+
+pub demos_keep_files : DoDemosKeepFiles
+demos_keep_files words entry exit status answer number workers is = (demo_end (asked words) number workers entry exit answer.by is answer.allowed).1
+
+text_status : (text : List ℕ) (before after : Moment) (e : Ending) → IsText text before.written after.written before.faults after.faults e → IsDemoStatus (status_of e)
+text_status text before after ending.Done written = inl refl
+text_status text before after ending.Words written = absurd written
+text_status text before after ending.Layout written = absurd written
+text_status text before after ending.Load written = absurd written
+text_status text before after ending.Read written = absurd written
+text_status text before after ending.Write written = inr (inl refl)
+text_status text before after ending.Memory written = inr (inr refl)
+
+pub demos_have_statuses : HaveDemosStatuses
+demos_have_statuses words entry exit status answer number workers is =
+    rw answer.is (by_demo (IsDemoStatus (status_of answer.by)) number entry exit answer.by (λ memory written. inr (inr (ap status_of memory))) (λ text right written. text_status text entry exit answer.by written)
+    (demo_end (asked words) number workers entry exit answer.by is answer.allowed))
+
 pub texts_are_written : AreTextsWritten
 texts_are_written words entry exit status answer zero =
     of_texts (asked words) entry exit ending.Done (λ text. exit.written ≡ added text entry.written) (λ text end. end.0) (end_at words entry exit status 0 answer zero)
@@ -171,14 +199,9 @@ words_said_of (Some Help) entry exit h = absurd h.0
 words_said_of (Some Version) entry exit h = absurd h.0
 words_said_of (Some (Check layout)) entry exit h = elim h.1 [ inl early ↦ absurd early | inr checked ↦ absurd checked.written ]
 words_said_of (Some (Slack layout)) entry exit h = elim h.1 [ inl early ↦ absurd early | inr checked ↦ absurd checked.written ]
-words_said_of (Some (Plain layout prefix)) entry exit h =
-    elim h [
-      | inl early ↦ absurd early.0
-      | inr later ↦ elim later [
-        | inl unloaded ↦ absurd unloaded.0.said
-        | inr on ↦ elim on [ inl unrun ↦ never_unrun _ entry exit ending.Words (λ e. cc) unrun | inr run ↦ elim run.filed [ inl all ↦ absurd all.1.2 | inr some ↦ absurd some ] ]
-      ]
-    ]
+words_said_of (Some (Plain layout prefix)) entry exit h = absurd (never_words layout prefix entry exit h)
+words_said_of (Some (Run layout prefix workers)) entry exit h = absurd (never_words layout prefix entry exit h)
+words_said_of (Some (Demo number workers)) entry exit h = absurd (never_demo number entry exit h)
 
 pub words_are_said : AreWordsSaid
 words_are_said words entry exit status answer one = words_said_of (asked words) entry exit (end_at words entry exit status 1 answer one)

@@ -7,12 +7,12 @@ use Rattle.layout_file.specs.declared.fault.LayoutFault.{LayoutFault}
 use Rattle.netsim.specs.declared.endings.Ending.{Ending}
 use Rattle.netsim.specs.declared.endings.Ending.TheVariants as ending
 use Rattle.netsim.specs.Moments.{Moment}
-use Rattle.netsim.specs.Endings.{IsEndOf, IsPlainEnd, IsTellingEnd, IsJudged, HasFault, IsEarly, IsFaultSaid, IsUnrun, status_of}
+use Rattle.netsim.specs.Endings.{IsDemoEnd, IsEndOf, IsPlainEnd, IsTellingEnd, IsJudged, HasFault, IsEarly, IsFaultSaid, IsUnrun, status_of}
 use Rattle.netsim.specs.Reading.{front_of}
-use Rattle.netsim.specs.Requests.{Asked, asked, Check, Slack, Plain, Help, Version}
+use Rattle.netsim.specs.Requests.{Asked, asked, Check, Slack, Plain, Run, Demo, Help, Version}
 use Rattle.netsim.specs.Statuses.{IsFaultStatus, IsLayoutWith, IsUnreadOrMemory}
 use Rattle.netsim.specs.StatusLaws.{AreLayoutFaultsSaid, DoAbsentLayoutsDecide, DoLayoutFaultsDecide}
-use Rattle.netsim.proofs.EndingsByStatus.{end_at, of_tellings, plain_end}
+use Rattle.netsim.proofs.EndingsByStatus.{by_demo, by_way, end_at, files_end, of_tellings}
 
 pub absent_unjudged : (name : List ℕ) (held : Option Files) (verdict : Result Layout LayoutFault) → IsAbsent name held → IsJudged name held verdict → ⊥
 unfolding front_of
@@ -79,16 +79,10 @@ telling_faulty Tells layout before after e h =
 plain_faulty : (layout prefix : List ℕ) (before after : Moment) (e : Ending) → IsPlainEnd layout prefix before after e
     → IfSome before.held (λ files. HasFault layout (Some files) → IsFaultStatus 2 (status_of e) before.reads after.reads)
 plain_faulty layout prefix before after e h =
-    elim h [
-      | inl early ↦ early_faulty layout before after e early.0
-      | inr later ↦ elim later [
-        | inl unloaded ↦ no_fault_of (IsFaultStatus 2 (status_of e) before.reads after.reads) layout before.held unloaded.0.network unloaded.0.judged
-        | inr on ↦ elim on [
-          | inl unrun ↦ unrun_faulty 2 (λ files. HasFault layout (Some files)) before after e unrun
-          | inr run ↦ no_fault_of (IsFaultStatus 2 (status_of e) before.reads after.reads) layout before.held run.network run.judged
-        ]
-      ]
-    ]
+    by_way (IfSome before.held (λ files. HasFault layout (Some files) → IsFaultStatus 2 (status_of e) before.reads after.reads)) layout prefix before after e (λ early. early_faulty layout before after e early)
+    (λ unloaded. no_fault_of (IsFaultStatus 2 (status_of e) before.reads after.reads) layout before.held unloaded.network unloaded.judged)
+    (λ unrun. unrun_faulty 2 (λ files. HasFault layout (Some files)) before after e unrun)
+    (λ run. no_fault_of (IsFaultStatus 2 (status_of e) before.reads after.reads) layout before.held run.planned.network run.planned.judged) h
 
 -- status 2 where the layout has a fault
 pub layout_faults_decide : DoLayoutFaultsDecide
@@ -96,7 +90,7 @@ layout_faults_decide words entry exit status answer =
     rw answer.is (
       of_tellings (asked words) entry exit answer.by (λ Tells layout. IfSome entry.held (λ files. HasFault layout (Some files) → IsFaultStatus 2 (status_of answer.by) entry.reads exit.reads))
           (λ Tells layout end. telling_faulty Tells layout entry exit answer.by end) answer.allowed,
-      λ layout prefix is. plain_faulty layout prefix entry exit answer.by (plain_end (asked words) layout prefix entry exit answer.by is answer.allowed),
+      λ layout prefix is. plain_faulty layout prefix entry exit answer.by (files_end (asked words) layout prefix entry exit answer.by is answer.allowed),
     )
 
 telling_absent : (Tells : Layout → List ℕ → Type 0) (layout : List ℕ) (before after : Moment) (e : Ending) → IsTellingEnd Tells layout before after e → IsAbsent layout before.held → IsUnreadOrMemory (status_of e)
@@ -105,16 +99,9 @@ telling_absent Tells layout before after e h absent =
 
 plain_absent : (layout prefix : List ℕ) (before after : Moment) (e : Ending) → IsPlainEnd layout prefix before after e → IsAbsent layout before.held → IsUnreadOrMemory (status_of e)
 plain_absent layout prefix before after e h absent =
-    elim h [
-      | inl early ↦ early_absent layout before after e absent early.0
-      | inr later ↦ elim later [
-        | inl unloaded ↦ absurd (absent_unjudged layout before.held (Ok unloaded.0.network) absent unloaded.0.judged)
-        | inr on ↦ elim on [
-          | inl unrun ↦ inr (ap status_of unrun.0)
-          | inr run ↦ absurd (absent_unjudged layout before.held (Ok run.network) absent run.judged)
-        ]
-      ]
-    ]
+    by_way (IsUnreadOrMemory (status_of e)) layout prefix before after e (λ early. early_absent layout before after e absent early)
+    (λ unloaded. absurd (absent_unjudged layout before.held (Ok unloaded.network) absent unloaded.judged)) (λ unrun. inr (ap status_of unrun.0))
+    (λ run. absurd (absent_unjudged layout before.held (Ok run.planned.network) absent run.planned.judged)) h
 
 -- a layout that isn't held is not judged
 pub absent_layouts_decide : DoAbsentLayoutsDecide
@@ -122,7 +109,7 @@ absent_layouts_decide words entry exit status answer =
     rw answer.is (
       of_tellings (asked words) entry exit answer.by (λ Tells layout. IsAbsent layout entry.held → IsUnreadOrMemory (status_of answer.by))
           (λ Tells layout end. telling_absent Tells layout entry exit answer.by end) answer.allowed,
-      λ layout prefix is. plain_absent layout prefix entry exit answer.by (plain_end (asked words) layout prefix entry exit answer.by is answer.allowed),
+      λ layout prefix is. plain_absent layout prefix entry exit answer.by (files_end (asked words) layout prefix entry exit answer.by is answer.allowed),
     )
 
 layout_unrun : ending.Layout ≡ ending.Memory → ⊥
@@ -131,6 +118,14 @@ layout_unrun e = cc
 words_layout : ending.Layout ≡ ending.Words → ⊥
 words_layout e = cc
 
+plain_said : (layout prefix : List ℕ) (entry exit : Moment) → IsPlainEnd layout prefix entry exit ending.Layout → IsFaultSaid layout entry exit
+plain_said layout prefix entry exit h =
+    by_way (IsFaultSaid layout entry exit) layout prefix entry exit ending.Layout (λ early. early) (λ unloaded. absurd unloaded.said) (λ unrun. absurd (layout_unrun unrun.0))
+    (λ run. elim run.filed [ inl all ↦ absurd all.1.2 | inr some ↦ absurd some ]) h
+
+demo_said : (number : ℕ) (entry exit : Moment) → IsDemoEnd number entry exit ending.Layout → ⊥
+demo_said number entry exit h = by_demo ⊥ number entry exit ending.Layout (λ is written. layout_unrun is) (λ text right written. written) h
+
 -- status 2 comes of a layout with a fault
 faulty_of : (o : Option Asked) (entry exit : Moment) → IsEndOf o entry exit ending.Layout → IsLayoutWith o (λ layout. IsFaultSaid layout entry exit)
 faulty_of None entry exit h = absurd (words_layout h.0)
@@ -138,14 +133,9 @@ faulty_of (Some Help) entry exit h = absurd h.0
 faulty_of (Some Version) entry exit h = absurd h.0
 faulty_of (Some (Check layout)) entry exit h = elim h.1 [ inl early ↦ early | inr checked ↦ absurd checked.written ]
 faulty_of (Some (Slack layout)) entry exit h = elim h.1 [ inl early ↦ early | inr checked ↦ absurd checked.written ]
-faulty_of (Some (Plain layout prefix)) entry exit h =
-    elim h [
-      | inl early ↦ early.0
-      | inr later ↦ elim later [
-        | inl unloaded ↦ absurd unloaded.0.said
-        | inr on ↦ elim on [ inl unrun ↦ absurd (layout_unrun unrun.0) | inr run ↦ elim run.filed [ inl all ↦ absurd all.1.2 | inr some ↦ absurd some ] ]
-      ]
-    ]
+faulty_of (Some (Plain layout prefix)) entry exit h = plain_said layout prefix entry exit h
+faulty_of (Some (Run layout prefix workers)) entry exit h = plain_said layout prefix entry exit h
+faulty_of (Some (Demo number workers)) entry exit h = demo_said number entry exit h
 
 pub layout_faults_are_said : AreLayoutFaultsSaid
 layout_faults_are_said words entry exit status answer is = faulty_of (asked words) entry exit (end_at words entry exit status 2 answer is)

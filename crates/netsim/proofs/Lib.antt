@@ -8,6 +8,8 @@ pub mod LoadsDecideStatus
 pub mod FilesAfterRuns
 pub mod FilesInTurn
 pub mod RunEnds
+pub mod NumbersInWords
+pub mod DemoTexts
 pub mod DetectionFoundations
 pub mod OctetsOfNames
 pub mod LinesOfRows

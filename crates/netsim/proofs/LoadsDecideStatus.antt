@@ -11,11 +11,11 @@ use Rattle.load_plan.specs.declared.plan.Plan.{Plan}
 use Rattle.netsim.specs.declared.endings.Ending.{Ending}
 use Rattle.netsim.specs.declared.endings.Ending.TheVariants as ending
 use Rattle.netsim.specs.Moments.{Moment}
-use Rattle.netsim.specs.Endings.{IsAnswer, IsEndOf, IsPlainEnd, IsTellingEnd, IsJudged, IsEarly, IsLoadFaultSaid, IsUnloadedSaid, IsUnrun, IsFiledEnd, IsText, status_of}
-use Rattle.netsim.specs.Requests.{Asked, asked, Check, Slack, Plain, Help, Version}
-use Rattle.netsim.specs.Statuses.{HasAbsentLoad, HasLoadFault, IsDoneOrMemory, IsFaultStatus, IsNetworkWith, IsPlainWith, IsReadFaultSaid, IsUnhindered, IsUnreadOrMemory}
-use Rattle.netsim.specs.StatusLaws.{AreLoadFaultsSaid, AreReadFaultsSaid, AreTellingsComplete, AreTextsComplete, DoAbsentLoadsDecide, DoLoadFaultsDecide}
-use Rattle.netsim.proofs.EndingsByStatus.{end_at, of_tellings, of_texts, plain_end}
+use Rattle.netsim.specs.Endings.{IsAnswer, IsDemoEnd, IsEndOf, IsPlainEnd, IsTellingEnd, IsJudged, IsEarly, IsLoadFaultSaid, IsUnloadedSaid, IsUnrun, IsFiledEnd, IsText, status_of}
+use Rattle.netsim.specs.Requests.{Asked, asked, Check, Slack, Plain, Run, Demo, Help, Version}
+use Rattle.netsim.specs.Statuses.{HasAbsentLoad, HasLoadFault, IsDoneOrMemory, IsFaultStatus, IsFilesWith, IsInputFaultSaid, IsNetworkWith, IsReadFaultSaid, IsUnhindered, IsUnreadOrMemory}
+use Rattle.netsim.specs.StatusLaws.{AreDemosComplete, AreLoadFaultsSaid, AreReadFaultsSaid, AreTellingsComplete, AreTextsComplete, DoAbsentLoadsDecide, DoLoadFaultsDecide}
+use Rattle.netsim.proofs.EndingsByStatus.{by_demo, by_way, demo_end, end_at, files_end, of_tellings, of_texts}
 use Rattle.netsim.proofs.LayoutDecidesStatus.{absent_unjudged, good_or_faulty, same_network}
 
 -- some network was judged good, and its loads are these
@@ -94,16 +94,9 @@ plain_known : (X : ℕ → Loaded → Type 0) (layout prefix : List ℕ) (before
     → ((loads : List (List Record)) (plan : Plan) → IsFiledEnd prefix plan before after e → X (status_of e) (Whole loads)) → IsPlainEnd layout prefix before after e
     → IfKnown layout before.held (X (status_of e))
 plain_known X layout prefix before after e says ran h =
-    elim h [
-      | inl early ↦ early_known X layout before after says e early.0
-      | inr later ↦ elim later [
-        | inl unloaded ↦ unloaded_known X layout before after says unloaded.0.network e unloaded.0.judged unloaded.0.said
-        | inr on ↦ elim on [
-          | inl unrun ↦ unrun_known X layout before after says e unrun
-          | inr run ↦ known_loads layout before.held run.network (Whole run.planned.loads) (X (status_of e)) run.judged run.planned.loaded (ran run.planned.loads run.plan run.filed)
-        ]
-      ]
-    ]
+    by_way (IfKnown layout before.held (X (status_of e))) layout prefix before after e (λ early. early_known X layout before after says e early)
+    (λ unloaded. unloaded_known X layout before after says unloaded.network e unloaded.judged unloaded.said) (λ unrun. unrun_known X layout before after says e unrun)
+    (λ run. known_loads layout before.held run.planned.network (Whole run.planned.is.loads) (X (status_of e)) run.planned.judged run.planned.is.loaded (ran run.planned.is.loads run.plan run.filed)) h
 
 -- a fault of a load has its status
 abbrev FaultSays : ℕ → ℕ → ℕ → Loaded → Type 0
@@ -132,7 +125,7 @@ pub load_faults_decide : DoLoadFaultsDecide
 load_faults_decide words entry exit status answer =
     rw answer.is (λ layout prefix is. known_fault layout entry.held (status_of answer.by) entry.reads exit.reads
     (plain_known (FaultSays entry.reads exit.reads) layout prefix entry exit answer.by (fault_says entry.reads exit.reads) (λ loads plan filed station f w. whole_or _ loads station f w)
-    (plain_end (asked words) layout prefix entry exit answer.by is answer.allowed)))
+    (files_end (asked words) layout prefix entry exit answer.by is answer.allowed)))
 
 -- a load that isn't held has its status
 abbrev AbsentSays : ℕ → Loaded → Type 0
@@ -159,7 +152,7 @@ pub absent_loads_decide : DoAbsentLoadsDecide
 absent_loads_decide words entry exit status answer =
     rw answer.is (λ layout prefix is. known_missing layout entry.held (status_of answer.by)
     (plain_known AbsentSays layout prefix entry exit answer.by (absent_says entry.reads exit.reads) (λ loads plan filed name w. whole_absent _ loads name w)
-    (plain_end (asked words) layout prefix entry exit answer.by is answer.allowed)))
+    (files_end (asked words) layout prefix entry exit answer.by is answer.allowed)))
 
 -- whole loads, and no fault of the outside
 abbrev WholeSays : ℕ → ℕ → ℕ → ℕ → ℕ → ℕ → ℕ → Loaded → Type 0
@@ -194,7 +187,7 @@ complete words entry exit status answer free =
     rw answer.is (known_whole free.layout entry.held (WholeSays entry.reads exit.reads entry.writes exit.writes entry.faults exit.faults (status_of answer.by)) free.files free.network free.loads free.told free.judged free.loaded
     (plain_known (WholeSays entry.reads exit.reads entry.writes exit.writes entry.faults exit.faults) free.layout free.prefix entry exit answer.by (whole_says entry.reads exit.reads entry.writes exit.writes entry.faults exit.faults)
     (λ loads plan filed again is r w f. filed_whole free.prefix plan entry exit answer.by filed w f)
-    (plain_end (asked words) free.layout free.prefix entry exit answer.by free.asks answer.allowed)) free.loads refl free.reads free.writes free.faults)
+    (files_end (asked words) free.layout free.prefix entry exit answer.by free.asks answer.allowed)) free.loads refl free.reads free.writes free.faults)
 
 abbrev TellingSays : ℕ → ℕ → ℕ → ℕ → ℕ → Loaded → Type 0
 TellingSays reads read faults faulted n l = ¬ Rose reads read → ¬ Rose faults faulted → IsDoneOrMemory n
@@ -242,6 +235,12 @@ pub texts_are_complete : AreTextsComplete
 texts_are_complete words entry exit status answer =
     rw answer.is (of_texts (asked words) entry exit answer.by (λ text. ¬ Rose entry.faults exit.faults → IsDoneOrMemory (status_of answer.by)) (λ text end never. text_whole text entry exit answer.by end.0 never) answer.allowed)
 
+-- demo is done where nothing hinders it
+pub demos_are_complete : AreDemosComplete
+demos_are_complete words entry exit status answer number workers is never =
+    rw answer.is (by_demo (IsDoneOrMemory (status_of answer.by)) number entry exit answer.by (λ memory written. inr (ap status_of memory)) (λ text right written. text_whole text entry exit answer.by written never)
+    (demo_end (asked words) number workers entry exit answer.by is answer.allowed))
+
 words_load : ending.Load ≡ ending.Words → ⊥
 words_load e = cc
 
@@ -254,24 +253,35 @@ words_read e = cc
 read_unrun : ending.Read ≡ ending.Memory → ⊥
 read_unrun e = cc
 
-load_faulty_of : (o : Option Asked) (entry exit : Moment) → IsEndOf o entry exit ending.Load → IsPlainWith o (λ layout prefix. IsNetworkWith layout entry.held (λ network. IsLoadFaultSaid network entry exit))
+load_said : (layout prefix : List ℕ) (entry exit : Moment) → IsPlainEnd layout prefix entry exit ending.Load → IsNetworkWith layout entry.held (λ network. IsLoadFaultSaid network entry exit)
+load_said layout prefix entry exit h =
+    by_way (IsNetworkWith layout entry.held (λ network. IsLoadFaultSaid network entry exit)) layout prefix entry exit ending.Load (λ early. absurd early) (λ unloaded. (unloaded.network, unloaded.judged, unloaded.said))
+    (λ unrun. absurd (load_unrun unrun.0)) (λ run. elim run.filed [ inl all ↦ absurd all.1.2 | inr some ↦ absurd some ]) h
+
+load_demo : (number : ℕ) (entry exit : Moment) → IsDemoEnd number entry exit ending.Load → ⊥
+load_demo number entry exit h = by_demo ⊥ number entry exit ending.Load (λ is written. load_unrun is) (λ text right written. written) h
+
+load_faulty_of : (o : Option Asked) (entry exit : Moment) → IsEndOf o entry exit ending.Load → IsFilesWith o (λ layout prefix. IsNetworkWith layout entry.held (λ network. IsLoadFaultSaid network entry exit))
 load_faulty_of None entry exit h = absurd (words_load h.0)
 load_faulty_of (Some Help) entry exit h = absurd h.0
 load_faulty_of (Some Version) entry exit h = absurd h.0
 load_faulty_of (Some (Check layout)) entry exit h = elim h.1 [ inl early ↦ absurd early | inr checked ↦ absurd checked.written ]
 load_faulty_of (Some (Slack layout)) entry exit h = elim h.1 [ inl early ↦ absurd early | inr checked ↦ absurd checked.written ]
-load_faulty_of (Some (Plain layout prefix)) entry exit h =
-    elim h [
-      | inl early ↦ absurd early.0
-      | inr later ↦ elim later [
-        | inl unloaded ↦ (unloaded.0.network, unloaded.0.judged, unloaded.0.said)
-        | inr on ↦ elim on [ inl unrun ↦ absurd (load_unrun unrun.0) | inr run ↦ elim run.filed [ inl all ↦ absurd all.1.2 | inr some ↦ absurd some ] ]
-      ]
-    ]
+load_faulty_of (Some (Plain layout prefix)) entry exit h = (layout, prefix, inl refl, load_said layout prefix entry exit h)
+load_faulty_of (Some (Run layout prefix workers)) entry exit h = (layout, prefix, inr (workers, refl), load_said layout prefix entry exit h)
+load_faulty_of (Some (Demo number workers)) entry exit h = absurd (load_demo number entry exit h)
 
 -- status 3 comes of a load with a fault
 pub load_faults_are_said : AreLoadFaultsSaid
 load_faults_are_said words entry exit status answer is = load_faulty_of (asked words) entry exit (end_at words entry exit status 3 answer is)
+
+unread_said : (layout prefix : List ℕ) (entry exit : Moment) → IsPlainEnd layout prefix entry exit ending.Read → IsInputFaultSaid layout entry exit
+unread_said layout prefix entry exit h =
+    by_way (IsInputFaultSaid layout entry exit) layout prefix entry exit ending.Read (λ early. inl early) (λ unloaded. inr (unloaded.network, unloaded.judged, unloaded.said)) (λ unrun. absurd (read_unrun unrun.0))
+    (λ run. elim run.filed [ inl all ↦ absurd all.1.2 | inr some ↦ absurd some ]) h
+
+unread_demo : (number : ℕ) (entry exit : Moment) → IsDemoEnd number entry exit ending.Read → ⊥
+unread_demo number entry exit h = by_demo ⊥ number entry exit ending.Read (λ is written. read_unrun is) (λ text right written. written) h
 
 unread_of : (o : Option Asked) (entry exit : Moment) → IsEndOf o entry exit ending.Read → IsReadFaultSaid o entry exit
 unread_of None entry exit h = absurd (words_read h.0)
@@ -279,14 +289,9 @@ unread_of (Some Help) entry exit h = absurd h.0
 unread_of (Some Version) entry exit h = absurd h.0
 unread_of (Some (Check layout)) entry exit h = elim h.1 [ inl early ↦ early | inr checked ↦ absurd checked.written ]
 unread_of (Some (Slack layout)) entry exit h = elim h.1 [ inl early ↦ early | inr checked ↦ absurd checked.written ]
-unread_of (Some (Plain layout prefix)) entry exit h =
-    elim h [
-      | inl early ↦ inl early.0
-      | inr later ↦ elim later [
-        | inl unloaded ↦ inr (unloaded.0.network, unloaded.0.judged, unloaded.0.said)
-        | inr on ↦ elim on [ inl unrun ↦ absurd (read_unrun unrun.0) | inr run ↦ elim run.filed [ inl all ↦ absurd all.1.2 | inr some ↦ absurd some ] ]
-      ]
-    ]
+unread_of (Some (Plain layout prefix)) entry exit h = unread_said layout prefix entry exit h
+unread_of (Some (Run layout prefix workers)) entry exit h = unread_said layout prefix entry exit h
+unread_of (Some (Demo number workers)) entry exit h = unread_demo number entry exit h
 
 -- status 4 comes of a file that isn't held or of a failed read
 pub read_faults_are_said : AreReadFaultsSaid

@@ -1,5 +1,5 @@
 -- The end of a run, from what was read and what was written.
-use Rattle.std.proofs.Common.{◌≡◌, ℕ, ◌≤◌, Option, Ok, List, inl, inr, arith}
+use Rattle.std.proofs.Common.{◌≡◌, ℕ, ◌≤◌, Option, Ok, List, refl, inl, inr, arith}
 use Rattle.capture_file.specs.declared.entries.Record.{Record}
 use Rattle.layout.specs.declared.lines.Layout.{Layout}
 use Rattle.load_files.specs.Loaded.{IsLoaded, Whole}
@@ -8,14 +8,14 @@ use Rattle.outside.specs.Files.{Files, Rose}
 use Rattle.netsim.specs.declared.endings.Ending.{Ending}
 use Rattle.netsim.specs.declared.endings.Ending.TheVariants as ending
 use Rattle.netsim.specs.Moments.{Moment}
-use Rattle.netsim.specs.Endings.{IsJudged, IsFiledEnd, IsFileEnd, IsPlainEnd, IsRunEnd, IsText, IsUnloadedSaid, IsUnfiled}
+use Rattle.netsim.specs.Endings.{IsBeforeRun, IsJudged, IsFiledEnd, IsFileEnd, IsPlainEnd, IsPlanned, HasOnlyRead, IsRunEnd, IsText, IsUnloadedSaid, IsUnfiled}
 use Rattle.netsim.specs.Writing.{put_all, IsBrokenAmong, IsSaid}
-use Rattle.netsim.specs.Runs.{IsMadeOf, IsSummary, run_files}
+use Rattle.netsim.specs.Runs.{IsSummary, run_files}
 
 -- the files are whole, and the summary was written
-pub run-filed : (network : Layout) (loads : List (List Record)) (prefix : List ℕ) (plan : Plan) (before after : Moment) (e : Ending) (summary text : List ℕ) → IsMadeOf network loads plan
-    → after.held ≡ put_all (run_files prefix plan) before.held → IsSummary plan summary → text ≡ summary → IsText text before.written after.written before.faults after.faults e → IsRunEnd network loads prefix before after e
-run-filed network loads prefix plan before after e summary text made held right is written = inr (plan, made, inl (held, (summary, right, rw is at written)))
+pub run-filed : (plan : Plan) (prefix : List ℕ) (before after : Moment) (e : Ending) (summary text : List ℕ) → after.held ≡ put_all (run_files prefix plan) before.held → IsSummary plan summary → text ≡ summary
+    → IsText text before.written after.written before.faults after.faults e → IsRunEnd plan prefix before after e
+run-filed plan prefix before after e summary text held right is written = inr (inl (held, (summary, right, rw is at written)))
 
 unfiled_by : (prefix : List ℕ) (plan : Plan) (before after : Moment) (e : Ending) → IsBrokenAmong (run_files prefix plan) before.held after.held → IsFileEnd before.writes after.writes e → after.written ≡ before.written → IsUnfiled prefix plan before after e
 unfiled_by prefix plan before after ending.Done broken end silent = absurd end
@@ -27,23 +27,14 @@ unfiled_by prefix plan before after ending.Write broken end silent = (broken, en
 unfiled_by prefix plan before after ending.Memory broken end silent = (broken, silent)
 
 -- a file could not be written
-pub run-unfiled : (network : Layout) (loads : List (List Record)) (prefix : List ℕ) (plan : Plan) (before after : Moment) (e : Ending) → IsMadeOf network loads plan
-    → IsBrokenAmong (run_files prefix plan) before.held after.held → IsFileEnd before.writes after.writes e → after.written ≡ before.written → IsRunEnd network loads prefix before after e
-run-unfiled network loads prefix plan before after e made broken end silent = inr (plan, made, inr (unfiled_by prefix plan before after e broken end silent))
-
--- reading changed nothing but the counts of the store
-pub record IsRead (before mid : Moment) : Type 0 where
-  pub held : mid.held ≡ before.held
-  pub reads : before.reads ≤ mid.reads
-  pub writes : before.writes ≤ mid.writes
-  pub written : mid.written ≡ before.written
-  pub faults : mid.faults ≡ before.faults
-  pub refused : mid.refused ≡ before.refused
+pub run-unfiled : (plan : Plan) (prefix : List ℕ) (before after : Moment) (e : Ending) → IsBrokenAmong (run_files prefix plan) before.held after.held → IsFileEnd before.writes after.writes e → after.written ≡ before.written
+    → IsRunEnd plan prefix before after e
+run-unfiled plan prefix before after e broken end silent = inr (inr (unfiled_by prefix plan before after e broken end silent))
 
 rose-before : (a b c : ℕ) → a ≤ b → Rose b c → Rose a c
 rose-before a b c le rose = omega (arith, le, rose)
 
-unfiled_before : (prefix : List ℕ) (plan : Plan) (before mid after : Moment) (e : Ending) → IsRead before mid → IsUnfiled prefix plan mid after e → IsUnfiled prefix plan before after e
+unfiled_before : (prefix : List ℕ) (plan : Plan) (before mid after : Moment) (e : Ending) → HasOnlyRead before mid → IsUnfiled prefix plan mid after e → IsUnfiled prefix plan before after e
 unfiled_before prefix plan before mid after ending.Done read un = un
 unfiled_before prefix plan before mid after ending.Words read un = un
 unfiled_before prefix plan before mid after ending.Layout read un = un
@@ -53,26 +44,25 @@ unfiled_before prefix plan before mid after ending.Write read un =
     (rw read.held at un.0, rose-before before.writes mid.writes after.writes read.writes un.1, rw read.written at un.2)
 unfiled_before prefix plan before mid after ending.Memory read un = (rw read.held at un.0, rw read.written at un.1)
 
--- the run of a layout that was read with its loads
-pub plain-ran : (layout prefix : List ℕ) (network : Layout) (loads : List (List Record)) (before mid after : Moment) (e : Ending) → IsRead before mid → IsJudged layout before.held (Ok network)
-    → IsLoaded before.held network.stations (Whole loads) → IsRunEnd network loads prefix mid after e → IsPlainEnd layout prefix before after e
-plain-ran layout prefix network loads before mid after e read judged loaded end =
-    elim end [
-      | inl unrun ↦ inr (inr (inl (unrun.0, rw read.held at unrun.1, rw read.written at unrun.2)))
-      | inr ran ↦ (
-          let made : IsMadeOf network loads ran.0 = ran.1 in
-          let filed : IsFiledEnd prefix ran.0 before after e = elim ran.2 [
-            | inl all ↦ inl (rw read.held at all.0, (all.1.0, all.1.1, rw (read.written, read.faults) at all.1.2))
-            | inr un ↦ inr (unfiled_before prefix ran.0 before mid after e read un)
-          ] in
-          inr (inr (inr (record { network = network; judged = judged; plan = ran.0; planned = record { layout = made.layout; loads = loads; loaded = loaded; queues = made.queues; skips = made.skips }; filed = filed })))
-          )
+filed_before : (prefix : List ℕ) (plan : Plan) (before mid after : Moment) (e : Ending) → HasOnlyRead before mid → IsFiledEnd prefix plan mid after e → IsFiledEnd prefix plan before after e
+filed_before prefix plan before mid after e read filed =
+    elim filed [
+      | inl all ↦ inl (rw read.held at all.0, (all.1.0, all.1.1, rw (read.written, read.faults) at all.1.2))
+      | inr un ↦ inr (unfiled_before prefix plan before mid after e read un)
     ]
 
-said_before : (line : List ℕ) (before mid after : Moment) → IsRead before mid → IsSaid line mid.written after.written mid.refused after.refused → IsSaid line before.written after.written before.refused after.refused
+-- the run of the plan of a layout that was read with its loads
+pub plain-ran : (layout prefix : List ℕ) (plan : Plan) (before mid after : Moment) (e : Ending) → HasOnlyRead before mid → IsPlanned layout before.held plan → IsRunEnd plan prefix mid after e → IsPlainEnd layout prefix before after e
+plain-ran layout prefix plan before mid after e read planned end =
+    elim end [
+      | inl unrun ↦ inl (inr (inr (unrun.0, rw read.held at unrun.1, rw read.written at unrun.2)))
+      | inr filed ↦ inr (record { plan = plan; planned = planned; filed = filed_before prefix plan before mid after e read filed })
+    ]
+
+said_before : (line : List ℕ) (before mid after : Moment) → HasOnlyRead before mid → IsSaid line mid.written after.written mid.refused after.refused → IsSaid line before.written after.written before.refused after.refused
 said_before line before mid after read said = rw (read.written, read.refused) at said
 
-unloaded_before : (network : Layout) (before mid after : Moment) (e : Ending) → IsRead before mid → IsUnloadedSaid network mid after e → IsUnloadedSaid network before after e
+unloaded_before : (network : Layout) (before mid after : Moment) (e : Ending) → HasOnlyRead before mid → IsUnloadedSaid network mid after e → IsUnloadedSaid network before after e
 unloaded_before network before mid after ending.Done read said = said
 unloaded_before network before mid after ending.Words read said = said
 unloaded_before network before mid after ending.Layout read said = said
@@ -90,10 +80,14 @@ unloaded_before network before mid after ending.Write read said = said
 unloaded_before network before mid after ending.Memory read said = rw read.written at said
 
 -- the loads of a layout could not be read
-pub plain-unloaded : (layout prefix : List ℕ) (network : Layout) (before mid after : Moment) (e : Ending) → IsRead before mid → IsJudged layout before.held (Ok network) → after.held ≡ mid.held
-    → IsUnloadedSaid network mid after e → IsPlainEnd layout prefix before after e
-plain-unloaded layout prefix network before mid after e read judged held said =
+pub plan-unloaded : (layout : List ℕ) (network : Layout) (before mid after : Moment) (e : Ending) → HasOnlyRead before mid → IsJudged layout before.held (Ok network) → after.held ≡ mid.held → IsUnloadedSaid network mid after e
+    → IsBeforeRun layout before after e
+plan-unloaded layout network before mid after e read judged held said =
     inr (inl (record { network = network; judged = judged; said = unloaded_before network before mid after e read said }, rw read.held at held))
+
+-- there was no memory for the plan
+pub plan-unmade : (layout : List ℕ) (before after : Moment) → HasOnlyRead before after → IsBeforeRun layout before after ending.Memory
+plan-unmade layout before after read = inr (inr (refl, read.held, read.written))
 
 -- the loads that were read are those that were held
 pub loaded-before : (held mid : Option Files) (network : Layout) (loads : List (List Record)) → mid ≡ held → IsLoaded mid network.stations (Whole loads) → IsLoaded held network.stations (Whole loads)

@@ -1,6 +1,5 @@
 -- How a call ends (profile).
-use Rattle.std.specs.Prelude.{◌≡◌, ◌⊎◌, ℕ, List, Option, None, Some, option_map, slice_get, Result, Ok, Err}
-use Rattle.capture_file.specs.declared.entries.Record.{Record}
+use Rattle.std.specs.Prelude.{◌≡◌, ◌≤◌, ◌⊎◌, ℕ, List, Option, None, Some, option_map, slice_get, Result, Ok, Err}
 use Rattle.capture_file.specs.declared.fault.CaptureFault.{CaptureFault}
 use Rattle.outside.specs.Files.{Files, IsAbsent, Rose}
 use Rattle.layout_file.specs.Faults.{judged}
@@ -13,13 +12,16 @@ use Rattle.netsim.specs.FileLimits.{most_layout}
 use Rattle.netsim.specs.Reading.{front_of}
 use Rattle.netsim.specs.Writing.{put_all, added, IsBrokenAmong, IsSaid, IsCutShort}
 use Rattle.netsim.specs.Moments.{Moment}
-use Rattle.netsim.specs.Requests.{Asked, asked, Check, Slack, Plain, Help, Version}
-use Rattle.netsim.specs.Runs.{IsMadeOf, IsPlanOf, run_files, IsSummary}
+use Rattle.netsim.specs.Demos.{IsDemoText}
+use Rattle.netsim.specs.Requests.{Asked, asked, Check, Slack, Plain, Run, Demo, Help, Version}
+use Rattle.netsim.specs.Runs.{IsPlanOf, run_files, IsSummary}
 use Rattle.netsim.specs.SlackTexts.{IsSlackText}
 use Rattle.netsim.specs.Texts.{line_of_words_fault, line_of_fault, line_of_load_fault, line_of_read_fault}
 use Rattle.netsim.specs.Verdicts.{IsVerdictLine}
 use Rattle.netsim.specs.declared.endings.Ending.{Ending}
 use Rattle.netsim.specs.declared.endings.Ending.TheVariants as ending
+use Rattle.netsim.specs.declared.tell.Telling.{Telling}
+use Rattle.netsim.specs.declared.tell.Telling.TheVariants as telling
 use Rattle.netsim.specs.declared.texts.TheConstants.{HELP, VERSION}
 
 -- where the store tells its files, the layout was there and was judged so, whole or at one octet past the most that
@@ -147,30 +149,45 @@ IsFileEnd writes risen _ = ⊥
 abbrev pub IsUnrun : Moment → Moment → Ending → Type 0
 IsUnrun before after e = (e ≡ ending.Memory) × (after.held ≡ before.held) × (after.written ≡ before.written)
 
+-- reading changed nothing but the counts of failed reads and writes of the store, which don't fall
+pub record HasOnlyRead (before after : Moment) : Type 0 where
+  pub held : after.held ≡ before.held
+  pub reads : before.reads ≤ after.reads
+  pub writes : before.writes ≤ after.writes
+  pub written : after.written ≡ before.written
+  pub faults : after.faults ≡ before.faults
+  pub refused : after.refused ≡ before.refused
+
+-- the layout held under this name has no fault, and this is its plan with the loads held
+pub record IsPlanned (layout : List ℕ) (held : Option Files) (plan : Plan) : Type 0 where
+  pub network : Layout
+  pub judged : IsJudged layout held (Ok network)
+  pub is : IsPlanOf held network plan
+
 -- the files of a plan's run were written, or some of them were
 abbrev pub IsFiledEnd : List ℕ → Plan → Moment → Moment → Ending → Type 0
 IsFiledEnd prefix plan before after e = AreFiled prefix plan before after e ⊎ IsUnfiled prefix plan before after e
 
--- the end of the run of a network with these loads
-abbrev pub IsRunEnd : Layout → List (List Record) → List ℕ → Moment → Moment → Ending → Type 0
-IsRunEnd network loads prefix before after e =
-    IsUnrun before after e ⊎ ((plan : Plan) × IsMadeOf network loads plan × IsFiledEnd prefix plan before after e)
+-- the end of a plan's run
+abbrev pub IsRunEnd : Plan → List ℕ → Moment → Moment → Ending → Type 0
+IsRunEnd plan prefix before after e = IsUnrun before after e ⊎ IsFiledEnd prefix plan before after e
 
 -- the layout and its loads have no fault, and its network was run
 pub record IsRun (layout prefix : List ℕ) (before after : Moment) (e : Ending) : Type 0 where
-  pub network : Layout
-  pub judged : IsJudged layout before.held (Ok network)
   pub plan : Plan
-  pub planned : IsPlanOf before.held network plan
+  pub planned : IsPlanned layout before.held plan
   pub filed : IsFiledEnd prefix plan before after e
 
--- the end of the form plain LAYOUT PREFIX
-abbrev pub IsPlainEnd : List ℕ → List ℕ → Moment → Moment → Ending → Type 0
-IsPlainEnd layout prefix before after e =
+-- the call ended before the network of a layout was run
+abbrev pub IsBeforeRun : List ℕ → Moment → Moment → Ending → Type 0
+IsBeforeRun layout before after e =
     (IsEarly layout before after e × (after.held ≡ before.held))
     ⊎ (IsLoadEnd layout before after e × (after.held ≡ before.held))
     ⊎ IsUnrun before after e
-    ⊎ IsRun layout prefix before after e
+
+-- the end of the form plain LAYOUT PREFIX, and of run LAYOUT PREFIX WORKERS for any number of workers
+abbrev pub IsPlainEnd : List ℕ → List ℕ → Moment → Moment → Ending → Type 0
+IsPlainEnd layout prefix before after e = IsBeforeRun layout before after e ⊎ IsRun layout prefix before after e
 
 -- the layout has no fault, and a text that tells this of its network was written, or a front of it
 pub record IsTold (Tells : Layout → List ℕ → Type 0) (layout : List ℕ) (before after : Moment)
@@ -180,6 +197,11 @@ pub record IsTold (Tells : Layout → List ℕ → Type 0) (layout : List ℕ) (
   pub text : List ℕ
   pub right : Tells network text
   pub written : IsText text before.written after.written before.faults after.faults e
+
+-- what the text of a telling tells of a layout's network: the line of its path verdict, or its slacks
+abbrev pub told_by : Telling → Layout → List ℕ → Type 0
+told_by telling.Verdict = IsVerdictLine
+told_by telling.Slacks = IsSlackText
 
 -- the end of a form whose text tells this of a layout's network; it reads no loads
 abbrev pub IsTellingEnd : (Layout → List ℕ → Type 0) → List ℕ → Moment → Moment → Ending → Type 0
@@ -199,12 +221,26 @@ abbrev pub IsTextEnd : List ℕ → Moment → Moment → Ending → Type 0
 IsTextEnd text before after e =
     IsText text before.written after.written before.faults after.faults e × (after.held ≡ before.held)
 
+-- the text of demo of a number was written, or a front of it, or there was no memory for it; the last two numbers count
+-- the failed writes
+abbrev pub IsDemoTold : ℕ → Option (List ℕ) → Option (List ℕ) → ℕ → ℕ → Ending → Type 0
+IsDemoTold number written now faults risen e =
+    ((e ≡ ending.Memory) × (now ≡ written))
+    ⊎ ((text : List ℕ) × IsDemoText number text × IsText text written now faults risen e)
+
+-- the end of the form demo NUMBER WORKERS: its text; it reads and writes no file
+abbrev pub IsDemoEnd : ℕ → Moment → Moment → Ending → Type 0
+IsDemoEnd number before after e =
+    IsDemoTold number before.written after.written before.faults after.faults e × (after.held ≡ before.held)
+
 -- the end of words that ask for this; the words are none of the forms where they ask for nothing
 abbrev pub IsEndOf : Option Asked → Moment → Moment → Ending → Type 0
 IsEndOf None before after e = (e ≡ ending.Words) × (after.held ≡ before.held) × Says line_of_words_fault before after
 IsEndOf (Some (Check layout)) before after e = IsCheckEnd layout before after e
 IsEndOf (Some (Slack layout)) before after e = IsSlackEnd layout before after e
 IsEndOf (Some (Plain layout prefix)) before after e = IsPlainEnd layout prefix before after e
+IsEndOf (Some (Run layout prefix workers)) before after e = IsPlainEnd layout prefix before after e
+IsEndOf (Some (Demo number workers)) before after e = IsDemoEnd number before after e
 IsEndOf (Some Help) before after e = IsTextEnd HELP.now before after e
 IsEndOf (Some Version) before after e = IsTextEnd VERSION.now before after e
 

@@ -1,4 +1,4 @@
--- The limits of what the program reads (profile).
+-- The limits of what the program reads, and of its workers (profile).
 use Rattle.std.specs.Prelude.{ℕ}
 
 -- the most octets of a file's name or of a prefix
@@ -12,3 +12,7 @@ most_layout = 1048576
 -- the most records of a load without a fault
 abbrev pub most_load_records : ℕ
 most_load_records = 4194304
+
+-- the most workers of a run
+abbrev pub most_workers : ℕ
+most_workers = 64

@@ -7,6 +7,7 @@ pub mod Texts
 pub mod Verdicts
 pub mod SlackTexts
 pub mod Runs
+pub mod Demos
 pub mod Endings
 pub mod Statuses
 pub mod StatusLaws

@@ -1,21 +1,29 @@
 -- What the words of the command line ask for (profile).
-use Rattle.std.specs.Prelude.{ℕ, List, [], ◌∷◌, length, Bool, ◌&&◌, nat_le, Option, None, Some, if◌then◌else◌, bytes_eq, codes}
-use Rattle.netsim.specs.FileLimits.{most_name}
+use Rattle.std.specs.Prelude.{◌≤◌, ℕ, List, [], ◌∷◌, length, Bool, ◌&&◌, nat_le, Option, None, Some, option_map, find, decimal, if◌then◌else◌, bytes_eq, codes}
+use Rattle.std.specs.List.{range_with_len}
+use Rattle.layout.specs.Limits.{most_repeaters}
+use Rattle.netsim.specs.FileLimits.{most_name, most_workers}
 use Rattle.netsim.specs.declared.words.Request.{Request}
 use Rattle.netsim.specs.declared.words.Request.TheVariants as request
 
--- the path verdict of a layout, its slacks, a run by half bits with the names of the layout and of what is written, or
--- a fixed text
+-- the path verdict of a layout, its slacks, a run by half bits with the names of the layout and of what is written, the
+-- same by windows on so many workers, a run of the layout of demo of a number on so many, or a fixed text
 pub data Asked : Type 0 where
   Check : (layout : List ℕ) → Asked
   Slack : (layout : List ℕ) → Asked
   Plain : (layout prefix : List ℕ) → Asked
+  Run : (layout prefix : List ℕ) (workers : ℕ) → Asked
+  Demo : (number workers : ℕ) → Asked
   Help : Asked
   Version : Asked
 
 -- a name of a file has 1 to 200 octets
 abbrev pub is_file_name : List ℕ → Bool
 is_file_name word = nat_le 1 (length word) && nat_le (length word) most_name
+
+-- the number from 1 to this one that is written so in decimal, without a sign or a leading zero
+unfoldable pub number_up_to : ℕ → List ℕ → Option ℕ
+number_up_to most word = find (λ n. bytes_eq word (decimal n)) (range_with_len 1 most)
 
 -- what one word asks for: --help or --version
 abbrev pub asked_text : List ℕ → Option Asked
@@ -31,15 +39,38 @@ asked_layout word layout =
     else if bytes_eq word (codes "slack") && is_file_name layout then Some (Slack layout)
     else None
 
--- what three words ask for: plain LAYOUT PREFIX
-abbrev pub asked_plain : List ℕ → List ℕ → List ℕ → Option Asked
-asked_plain word layout prefix =
-    if bytes_eq word (codes "plain") && is_file_name layout && is_file_name prefix then Some (Plain layout prefix)
+-- what the words after plain ask for: LAYOUT PREFIX
+abbrev pub asked_plain : List ℕ → List ℕ → Option Asked
+asked_plain layout prefix = if is_file_name layout && is_file_name prefix then Some (Plain layout prefix) else None
+
+-- what is asked for by these two numbers, if they are there
+abbrev pub asked_numbers : Option ℕ → Option ℕ → Option Asked
+asked_numbers (Some number) (Some workers) = Some (Demo number workers)
+asked_numbers (Some number) None = None
+asked_numbers None workers = None
+
+-- what the words after demo ask for: NUMBER WORKERS
+abbrev pub asked_demo : List ℕ → List ℕ → Option Asked
+asked_demo number workers = asked_numbers (number_up_to most_repeaters number) (number_up_to most_workers workers)
+
+-- what three words ask for: plain LAYOUT PREFIX or demo NUMBER WORKERS
+abbrev pub asked_three : List ℕ → List ℕ → List ℕ → Option Asked
+asked_three word first second =
+    if bytes_eq word (codes "plain") then asked_plain first second
+    else if bytes_eq word (codes "demo") then asked_demo first second
+    else None
+
+-- what four words ask for: run LAYOUT PREFIX WORKERS
+abbrev pub asked_run : List ℕ → List ℕ → List ℕ → List ℕ → Option Asked
+asked_run word layout prefix workers =
+    if bytes_eq word (codes "run") && is_file_name layout && is_file_name prefix
+    then option_map (Run layout prefix) (number_up_to most_workers workers)
     else None
 
 -- what the words of the command line ask for, without the program's own name
 abbrev pub asked : List (List ℕ) → Option Asked
-asked (word ∷ layout ∷ prefix ∷ []) = asked_plain word layout prefix
+asked (word ∷ layout ∷ prefix ∷ workers ∷ []) = asked_run word layout prefix workers
+asked (word ∷ first ∷ second ∷ []) = asked_three word first second
 asked (word ∷ layout ∷ []) = asked_layout word layout
 asked (word ∷ []) = asked_text word
 asked words = None
@@ -49,5 +80,18 @@ abbrev pub asked_of : Request → Asked
 asked_of (request.Check layout) = Check layout.now
 asked_of (request.Slack layout) = Slack layout.now
 asked_of (request.Plain layout prefix) = Plain layout.now prefix.now
+asked_of (request.Run layout prefix workers) = Run layout.now prefix.now workers
+asked_of (request.Demo number workers) = Demo number workers
 asked_of request.Help = Help
 asked_of request.Version = Version
+
+-- the numbers of a request are in their ranges
+abbrev pub HasNumbersInRange : Request → Type 0
+HasNumbersInRange (request.Check layout) = Unit {0}
+HasNumbersInRange (request.Slack layout) = Unit {0}
+HasNumbersInRange (request.Plain layout prefix) = Unit {0}
+HasNumbersInRange (request.Run layout prefix workers) = (1 ≤ workers) × (workers ≤ most_workers)
+HasNumbersInRange (request.Demo number workers) =
+    (1 ≤ number) × (number ≤ most_repeaters) × (1 ≤ workers) × (workers ≤ most_workers)
+HasNumbersInRange request.Help = Unit {0}
+HasNumbersInRange request.Version = Unit {0}

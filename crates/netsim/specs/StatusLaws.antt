@@ -6,7 +6,7 @@ use Rattle.layout.specs.declared.lines.Layout.{Layout}
 use Rattle.netsim.specs.Endings.{HasFault, IsAnswer, IsFaultSaid, IsJudged, IsLoadFaultSaid, Says}
 use Rattle.netsim.specs.Moments.{Moment}
 use Rattle.netsim.specs.Requests.{asked}
-use Rattle.netsim.specs.Statuses.{AreRunFilesHeld, HasAbsentLoad, HasLoadFault, IfLayout, IfPlain, IfTelling, IfText, IsDoneOrMemory, IsFaultStatus, IsLayoutWith, IsNetworkWith, IsPlainWith, IsReadFaultSaid, IsTellingCut, IsUnreadOrMemory}
+use Rattle.netsim.specs.Statuses.{AreRunFilesHeld, HasAbsentLoad, HasLoadFault, IfDemo, IfFiles, IfLayout, IfTelling, IfText, IsDemoCut, IsDemoStatus, IsDoneOrMemory, IsFaultStatus, IsLayoutWith, IsNetworkWith, IsFilesWith, IsReadFaultSaid, IsTellingCut, IsUnreadOrMemory}
 use Rattle.netsim.specs.Texts.{line_of_words_fault}
 use Rattle.netsim.specs.Writing.{added, IsCutShort}
 
@@ -45,7 +45,7 @@ abbrev pub AreLoadFaultsSaid : Type 0
 AreLoadFaultsSaid =
     OfAnswers (λ words entry exit status.
     status ≡ 3
-    → IsPlainWith (asked words) (λ layout prefix.
+    → IsFilesWith (asked words) (λ layout prefix.
     IsNetworkWith layout entry.held (λ network. IsLoadFaultSaid network entry exit)))
 
 -- where a load of a layout without fault is the first with a fault the status is 3, but for a failed read and want of
@@ -53,7 +53,7 @@ AreLoadFaultsSaid =
 abbrev pub DoLoadFaultsDecide : Type 0
 DoLoadFaultsDecide =
     OfAnswers (λ words entry exit status.
-    IfPlain (asked words) (λ layout prefix.
+    IfFiles (asked words) (λ layout prefix.
     IfSome entry.held (λ files.
     (station : ℕ) (f : CaptureFault) → HasLoadFault layout (Some files) station f
     → IsFaultStatus 3 status entry.reads exit.reads)))
@@ -62,7 +62,7 @@ DoLoadFaultsDecide =
 abbrev pub DoAbsentLoadsDecide : Type 0
 DoAbsentLoadsDecide =
     OfAnswers (λ words entry exit status.
-    IfPlain (asked words) (λ layout prefix.
+    IfFiles (asked words) (λ layout prefix.
     IfSome entry.held (λ files. (name : List ℕ) → HasAbsentLoad layout (Some files) name → IsUnreadOrMemory status)))
 
 -- with status 4 a file to be read isn't held, or a read failed, and its name was said
@@ -75,14 +75,14 @@ abbrev pub AreFilesWhole : Type 0
 AreFilesWhole =
     OfAnswers (λ words entry exit status.
     status ≡ 5 → ¬ Rose entry.writes exit.writes
-    → IfPlain (asked words) (λ layout prefix. AreRunFilesHeld layout prefix entry exit))
+    → IfFiles (asked words) (λ layout prefix. AreRunFilesHeld layout prefix entry exit))
 
 -- with status 5 of a run the sink is as at entry where no write to it failed
 abbrev pub AreFailuresSilent : Type 0
 AreFailuresSilent =
     OfAnswers (λ words entry exit status.
     status ≡ 5 → ¬ Rose entry.faults exit.faults
-    → IfPlain (asked words) (λ layout prefix. exit.written ≡ entry.written))
+    → IfFiles (asked words) (λ layout prefix. exit.written ≡ entry.written))
 
 -- with status 5 of a form that only tells of a layout a write to the sink failed, which got a front of the text
 abbrev pub AreTellingsCutShort : Type 0
@@ -114,6 +114,35 @@ AreTellingsComplete =
     IfSome entry.held (λ files.
     (network : Layout) → IsJudged layout (Some files) (Ok network)
     → ¬ Rose entry.reads exit.reads → ¬ Rose entry.faults exit.faults → IsDoneOrMemory status)))
+
+-- demo has the status 0, 5 or 6
+abbrev pub HaveDemosStatuses : Type 0
+HaveDemosStatuses = OfAnswers (λ words entry exit status. IfDemo (asked words) (λ number. IsDemoStatus status))
+
+-- with status 5 of demo a write to the sink failed, which got a front of the text
+abbrev pub AreDemosCutShort : Type 0
+AreDemosCutShort =
+    OfAnswers (λ words entry exit status.
+    status ≡ 5
+    → IfDemo (asked words) (λ number. Rose entry.faults exit.faults × IsDemoCut number entry exit))
+
+-- with status 6 of demo the sink is as at entry, or got a front of the text
+abbrev pub AreDemosRefused : Type 0
+AreDemosRefused =
+    OfAnswers (λ words entry exit status.
+    status ≡ 6
+    → IfDemo (asked words) (λ number. (exit.written ≡ entry.written) ⊎ IsDemoCut number entry exit))
+
+-- demo leaves every file as at entry
+abbrev pub DoDemosKeepFiles : Type 0
+DoDemosKeepFiles =
+    OfAnswers (λ words entry exit status. IfDemo (asked words) (λ number. exit.held ≡ entry.held))
+
+-- demo has the status 0 or 6 where no write to the sink failed
+abbrev pub AreDemosComplete : Type 0
+AreDemosComplete =
+    OfAnswers (λ words entry exit status.
+    IfDemo (asked words) (λ number. ¬ Rose entry.faults exit.faults → IsDoneOrMemory status))
 
 -- with status 0 of a form with a fixed text the sink got it
 abbrev pub AreTextsWritten : Type 0

@@ -6,10 +6,11 @@ use Rattle.outside.specs.Files.{Files, Rose}
 use Rattle.layout.specs.declared.lines.Layout.{Layout}
 use Rattle.load_files.specs.Loaded.{IsLoaded, IsFirstAbsent, Faulty, Whole}
 use Rattle.load_plan.specs.declared.plan.Plan.{Plan}
-use Rattle.netsim.specs.Endings.{IsJudged, IsLoadUnreadSaid, IsUnreadSaid}
+use Rattle.netsim.specs.Demos.{IsDemoText}
+use Rattle.netsim.specs.Endings.{IsJudged, IsLoadUnreadSaid, IsPlanned, IsUnreadSaid}
 use Rattle.netsim.specs.Moments.{Moment}
-use Rattle.netsim.specs.Requests.{Asked, asked, Check, Slack, Plain, Help, Version}
-use Rattle.netsim.specs.Runs.{IsPlanOf, run_files, IsSummary}
+use Rattle.netsim.specs.Requests.{Asked, asked, Check, Slack, Plain, Run, Demo, Help, Version}
+use Rattle.netsim.specs.Runs.{run_files, IsSummary}
 use Rattle.netsim.specs.SlackTexts.{IsSlackText}
 use Rattle.netsim.specs.Verdicts.{IsVerdictLine}
 use Rattle.netsim.specs.Writing.{put_all, added, IsBrokenAmong, IsCutShort}
@@ -27,13 +28,23 @@ IfSlack o P = (layout : List ℕ) → o ≡ Some (Slack layout) → P layout
 abbrev pub IfTelling : Option Asked → ((Layout → List ℕ → Type 0) → List ℕ → Type 0) → Type 0
 IfTelling o P = IfCheck o (P IsVerdictLine) × IfSlack o (P IsSlackText)
 
--- if the words are plain LAYOUT PREFIX, this holds of the two names
-abbrev pub IfPlain : Option Asked → (List ℕ → List ℕ → Type 0) → Type 0
-IfPlain o P = (layout prefix : List ℕ) → o ≡ Some (Plain layout prefix) → P layout prefix
+-- the words are of a form that writes the files of a run, plain LAYOUT PREFIX or run LAYOUT PREFIX WORKERS, with these
+-- two names
+abbrev pub AskForFiles : Option Asked → List ℕ → List ℕ → Type 0
+AskForFiles o layout prefix =
+    (o ≡ Some (Plain layout prefix)) ⊎ ((workers : ℕ) × (o ≡ Some (Run layout prefix workers)))
+
+-- if the words are of a form that writes the files of a run, this holds of the two names
+abbrev pub IfFiles : Option Asked → (List ℕ → List ℕ → Type 0) → Type 0
+IfFiles o P = (layout prefix : List ℕ) → AskForFiles o layout prefix → P layout prefix
+
+-- if the words are demo NUMBER WORKERS, this holds of the number
+abbrev pub IfDemo : Option Asked → (ℕ → Type 0) → Type 0
+IfDemo o P = (number workers : ℕ) → o ≡ Some (Demo number workers) → P number
 
 -- if the words are of a form with a layout, this holds of its name
 abbrev pub IfLayout : Option Asked → (List ℕ → Type 0) → Type 0
-IfLayout o P = IfTelling o (λ Tells layout. P layout) × IfPlain o (λ layout prefix. P layout)
+IfLayout o P = IfTelling o (λ Tells layout. P layout) × IfFiles o (λ layout prefix. P layout)
 
 -- if the words ask for a fixed text, this holds of it
 abbrev pub IfText : Option Asked → (List ℕ → Type 0) → Type 0
@@ -44,18 +55,15 @@ abbrev pub IsLayoutWith : Option Asked → (List ℕ → Type 0) → Type 0
 IsLayoutWith (Some (Check layout)) P = P layout
 IsLayoutWith (Some (Slack layout)) P = P layout
 IsLayoutWith (Some (Plain layout prefix)) P = P layout
+IsLayoutWith (Some (Run layout prefix workers)) P = P layout
+IsLayoutWith (Some (Demo number workers)) P = ⊥
 IsLayoutWith (Some Help) P = ⊥
 IsLayoutWith (Some Version) P = ⊥
 IsLayoutWith None P = ⊥
 
--- the words are plain LAYOUT PREFIX, and this holds of the two names
-abbrev pub IsPlainWith : Option Asked → (List ℕ → List ℕ → Type 0) → Type 0
-IsPlainWith (Some (Check layout)) P = ⊥
-IsPlainWith (Some (Slack layout)) P = ⊥
-IsPlainWith (Some (Plain layout prefix)) P = P layout prefix
-IsPlainWith (Some Help) P = ⊥
-IsPlainWith (Some Version) P = ⊥
-IsPlainWith None P = ⊥
+-- the words are of a form that writes the files of a run, and this holds of the two names
+abbrev pub IsFilesWith : Option Asked → (List ℕ → List ℕ → Type 0) → Type 0
+IsFilesWith o P = (layout : List ℕ) × (prefix : List ℕ) × AskForFiles o layout prefix × P layout prefix
 
 -- the statuses of a call that begins no file and writes its line alone
 abbrev pub IsRefusal : ℕ → Type 0
@@ -87,14 +95,20 @@ HasLoadFault layout held station fault =
 abbrev pub HasAbsentLoad : List ℕ → Option Files → List ℕ → Type 0
 HasAbsentLoad layout held name = IsNetworkWith layout held (λ network. IsFirstAbsent held network.stations name)
 
+-- the layout or one of its loads isn't held or a read failed, and its name was said
+abbrev pub IsInputFaultSaid : List ℕ → Moment → Moment → Type 0
+IsInputFaultSaid layout entry exit =
+    IsUnreadSaid layout entry exit
+    ⊎ IsNetworkWith layout entry.held (λ network. IsLoadUnreadSaid network entry exit)
+
 -- a file to be read, which is the layout or, for a run, one of its loads, isn't held or a read failed, and its name
 -- was said
 abbrev pub IsReadFaultSaid : Option Asked → Moment → Moment → Type 0
 IsReadFaultSaid (Some (Check layout)) entry exit = IsUnreadSaid layout entry exit
 IsReadFaultSaid (Some (Slack layout)) entry exit = IsUnreadSaid layout entry exit
-IsReadFaultSaid (Some (Plain layout prefix)) entry exit =
-    IsUnreadSaid layout entry exit
-    ⊎ IsNetworkWith layout entry.held (λ network. IsLoadUnreadSaid network entry exit)
+IsReadFaultSaid (Some (Plain layout prefix)) entry exit = IsInputFaultSaid layout entry exit
+IsReadFaultSaid (Some (Run layout prefix workers)) entry exit = IsInputFaultSaid layout entry exit
+IsReadFaultSaid (Some (Demo number workers)) entry exit = ⊥
 IsReadFaultSaid (Some Help) entry exit = ⊥
 IsReadFaultSaid (Some Version) entry exit = ⊥
 IsReadFaultSaid None entry exit = ⊥
@@ -102,10 +116,8 @@ IsReadFaultSaid None entry exit = ⊥
 -- a run is done: the layout and the loads held at entry have no fault, the files of their run are whole, every other
 -- file is as at entry, and the sink got the run's summary
 pub record IsRunDone (layout prefix : List ℕ) (entry exit : Moment) : Type 0 where
-  pub network : Layout
-  pub judged : IsJudged layout entry.held (Ok network)
   pub plan : Plan
-  pub planned : IsPlanOf entry.held network plan
+  pub planned : IsPlanned layout entry.held plan
   pub files : exit.held ≡ put_all (run_files prefix plan) entry.held
   pub summary : List ℕ
   pub summed : IsSummary plan summary
@@ -122,20 +134,16 @@ pub record IsSummaryCut (prefix : List ℕ) (plan : Plan) (entry exit : Moment) 
 -- are whole, that one is as it was or a front of its text, every other file is as at entry, and nothing was said; or
 -- all are whole, and the sink got a front of the summary
 pub record IsRunBroken (layout prefix : List ℕ) (entry exit : Moment) : Type 0 where
-  pub network : Layout
-  pub judged : IsJudged layout entry.held (Ok network)
   pub plan : Plan
-  pub planned : IsPlanOf entry.held network plan
+  pub planned : IsPlanned layout entry.held plan
   pub left :
       (IsBrokenAmong (run_files prefix plan) entry.held exit.held × (exit.written ≡ entry.written))
       ⊎ IsSummaryCut prefix plan entry exit
 
 -- the layout and the loads held at entry have no fault, and all files of their run are whole
 pub record AreRunFilesHeld (layout prefix : List ℕ) (entry exit : Moment) : Type 0 where
-  pub network : Layout
-  pub judged : IsJudged layout entry.held (Ok network)
   pub plan : Plan
-  pub planned : IsPlanOf entry.held network plan
+  pub planned : IsPlanned layout entry.held plan
   pub files : exit.held ≡ put_all (run_files prefix plan) entry.held
 
 -- nothing was begun: every file and the sink are as at entry
@@ -172,12 +180,29 @@ IsCheckDone layout entry exit = IsTellingDone IsVerdictLine layout entry exit
 abbrev pub AreSlacksDone : List ℕ → Moment → Moment → Type 0
 AreSlacksDone layout entry exit = IsTellingDone IsSlackText layout entry exit
 
--- a run that nothing hinders: the words are plain LAYOUT PREFIX, the store tells its files, the layout and the loads
--- are held without fault, and no count of faults has risen
+-- a demo is done: the sink got the text of demo of its number, and every file is as at entry
+pub record IsDemoDone (number : ℕ) (entry exit : Moment) : Type 0 where
+  pub text : List ℕ
+  pub right : IsDemoText number text
+  pub written : exit.written ≡ added text entry.written
+  pub held : exit.held ≡ entry.held
+
+-- the sink got a front of the text of demo of a number
+pub record IsDemoCut (number : ℕ) (entry exit : Moment) : Type 0 where
+  pub text : List ℕ
+  pub right : IsDemoText number text
+  pub cut : IsCutShort text entry.written exit.written
+
+-- the statuses of demo: done, a failed write, or want of memory
+abbrev pub IsDemoStatus : ℕ → Type 0
+IsDemoStatus status = (status ≡ 0) ⊎ (status ≡ 5) ⊎ (status ≡ 6)
+
+-- a run that nothing hinders: the words are of a form that writes the files of a run, the store tells its files, the
+-- layout and the loads are held without fault, and no count of faults has risen
 pub record IsUnhindered (words : List (List ℕ)) (entry exit : Moment) : Type 0 where
   pub layout : List ℕ
   pub prefix : List ℕ
-  pub asks : asked words ≡ Some (Plain layout prefix)
+  pub asks : AskForFiles (asked words) layout prefix
   pub files : Files
   pub told : entry.held ≡ Some files
   pub network : Layout

@@ -1,6 +1,6 @@
 //! What each status says beyond the clauses of the top call: laws of every answer, each a call without a body.
 ghost use Rattle.netsim.specs.LogLaws.{AreRunCollisionsDetected, IsEmptyLogRefused, IsInfixRefused, IsLateHitRefused};
-ghost use Rattle.netsim.specs.StatusLaws.{AreFailuresSilent, AreFilesWhole, AreLayoutFaultsSaid, AreLoadFaultsSaid, AreReadFaultsSaid, AreTellingsComplete, AreTellingsCutShort, AreTellingsRefused, AreTextsComplete, AreTextsCutShort, AreTextsFailed, AreTextsWritten, AreWordsSaid, DoAbsentLayoutsDecide, DoAbsentLoadsDecide, DoLayoutFaultsDecide, DoLoadFaultsDecide, DoTellingsKeepFiles, DoTextsKeepFiles};
+ghost use Rattle.netsim.specs.StatusLaws.{AreDemosComplete, AreDemosCutShort, AreDemosRefused, AreFailuresSilent, AreFilesWhole, AreLayoutFaultsSaid, AreLoadFaultsSaid, AreReadFaultsSaid, AreTellingsComplete, AreTellingsCutShort, AreTellingsRefused, AreTextsComplete, AreTextsCutShort, AreTextsFailed, AreTextsWritten, AreWordsSaid, DoAbsentLayoutsDecide, DoAbsentLoadsDecide, DoDemosKeepFiles, DoLayoutFaultsDecide, DoLoadFaultsDecide, DoTellingsKeepFiles, DoTextsKeepFiles, HaveDemosStatuses};
 
 /// Words of no form have their line on the sink, or a front of it where the sink refuses.
 pub fn words_are_said()
@@ -43,6 +43,16 @@ pub fn layouts_are_told()
     ensures refused { AreTellingsRefused }
     ensures held { DoTellingsKeepFiles }
     ensures complete { AreTellingsComplete }
+{}
+
+/// `demo` has the status 0, 5 or 6; where it isn't done it leaves a front of its text on the sink; with 5 a write to the sink
+/// failed, and without such a failure the status is 0 or 6. It leaves every file as at entry.
+pub fn demos_are_told()
+    ensures statuses { HaveDemosStatuses }
+    ensures failed { AreDemosCutShort }
+    ensures refused { AreDemosRefused }
+    ensures held { DoDemosKeepFiles }
+    ensures complete { AreDemosComplete }
 {}
 
 /// A form with a fixed text writes it, or a front of it, and leaves every file as at entry; with 5 a write to the sink

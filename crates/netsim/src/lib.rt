@@ -1,17 +1,18 @@
 //! The top call: what the program does with its words, over a store, a sink and a gate.
 #![tactic(auto)]
 
-mod check;
+mod demo;
 mod endings;
 mod files;
 mod judge;
 pub mod laws;
 mod loads;
 mod outputs;
-mod plain;
+mod plans;
+mod runs;
 mod sink_texts;
-mod slack;
 mod slack_texts;
+mod tell;
 mod texts;
 mod top_call;
 mod verdict;
@@ -22,6 +23,10 @@ pub use top_call::{netsim, run_words};
 pub use words::Words;
 
 #[cfg(test)]
+mod cases;
+#[cfg(test)]
 mod load_tests;
+#[cfg(test)]
+mod run_tests;
 #[cfg(test)]
 mod tests;

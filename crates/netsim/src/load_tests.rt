@@ -1,6 +1,7 @@
 //! Runs of layouts whose stations have loads.
+use crate::cases::{RUNS, words_of};
 use crate::{Words, netsim};
-use lists::{OutOfMemory, Text};
+use lists::OutOfMemory;
 use outside::{MemorySink, MemoryStore, OpenGate};
 use std::sync::Wait;
 use std::thread::Threads;
@@ -125,15 +126,26 @@ fn layout_of<R: AllocGlobal>(rt: &R, case: &Case<'_>) -> Result<String, OutOfMem
     Ok(layout)
 }
 
-/// Whether a run of the words `plain l.toml out` gives the case's status, says what it must and leaves the case's log.
+/// Whether a run, by half bits and by windows, gives the case's status, says what it must and leaves the case's log.
 fn is_right<R: Threads + Wait + Sync + AllocGlobal>(
     rt: &R,
     case: &Case<'_>,
 ) -> Result<bool, OutOfMemory> {
-    let mut words = Words::new(rt.alloc());
-    words.push(Text::new(rt.alloc(), "plain")?)?;
-    words.push(Text::new(rt.alloc(), "l.toml")?)?;
-    words.push(Text::new(rt.alloc(), "out")?)?;
+    for line in RUNS {
+        let words = words_of(rt, line)?;
+        if !is_right_by(rt, case, &words)? {
+            return Ok(false);
+        }
+    }
+    Ok(true)
+}
+
+/// The same of these words.
+fn is_right_by<R: Threads + Wait + Sync + AllocGlobal>(
+    rt: &R,
+    case: &Case<'_>,
+    words: &Words,
+) -> Result<bool, OutOfMemory> {
     let mut store = MemoryStore::new(rt.alloc());
     store.put("l.toml", layout_of(rt, case)?.as_bytes())?;
     let octets = octets_of(rt, &case.load)?;
@@ -141,7 +153,7 @@ fn is_right<R: Threads + Wait + Sync + AllocGlobal>(
     store.put("out.a.pcap", octets.as_slice())?;
     store.put("none.pcap", b"no capture")?;
     let mut sink = MemorySink::new(rt.alloc());
-    let status = netsim(rt, rt.alloc(), &words, &mut store, &mut sink, &OpenGate);
+    let status = netsim(rt, rt.alloc(), words, &mut store, &mut sink, &OpenGate);
     let logged = match store.get("out.log") {
         Some(held) => held == case.log.as_bytes(),
         None => case.log.is_empty(),

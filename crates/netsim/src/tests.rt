@@ -1,31 +1,20 @@
 //! Calls over stores and sinks in memory, some of whose calls fail. Logs, summaries and octets are worked out by hand or by
 //! another program.
+use crate::cases::{
+    BLOCK, Case, HOP, ONE_FRAME, RUN, SEND_A, SEND_B_LATER, TWO, holds, is_log, is_refusal,
+    is_right, store_of,
+};
 use crate::files::{read_file, write_file};
-use crate::{Words, netsim};
-use lists::{OutOfMemory, Text};
-use outside::{MemorySink, MemoryStore, OpenGate};
-use std::sync::Wait;
-use std::thread::Threads;
+use lists::OutOfMemory;
+use outside::MemoryStore;
 
-/// One segment with a station a at 0 and a station b at 10.
-const TWO: &str =
-    "format = 1\nseed = 1\n[[segment]]\nname = \"x\"\n[[station]]\nname = \"a\"\nsegment = \"x\"\nat = 0\n[[station]]\nname = \"b\"\nsegment = \"x\"\nat = 10\n";
-
-/// Two segments of 20 and 30, joined by a repeater, with a at one end and b at the other.
-const HOP: &str =
-    "format = 1\nseed = 1\n[[segment]]\nname = \"x\"\n[[segment]]\nname = \"y\"\n[[station]]\nname = \"a\"\nsegment = \"x\"\nat = 0\n[[station]]\nname = \"b\"\nsegment = \"y\"\nat = 30\n[[repeater]]\nname = \"r\"\ndelay = 16\n[[repeater.port]]\nsegment = \"x\"\nat = 20\n[[repeater.port]]\nsegment = \"y\"\nat = 0\n";
-
-/// The same without b.
+/// Two segments of 20 and 30, joined by a repeater, with a alone at one end.
 const ALONE: &str =
     "format = 1\nseed = 1\n[[segment]]\nname = \"x\"\n[[segment]]\nname = \"y\"\n[[station]]\nname = \"a\"\nsegment = \"x\"\nat = 0\n[[repeater]]\nname = \"r\"\ndelay = 16\n[[repeater.port]]\nsegment = \"x\"\nat = 20\n[[repeater.port]]\nsegment = \"y\"\nat = 0\n";
 
 /// One segment with a station a at 0 and a station b at 416.
 const OVER: &str =
     "format = 1\nseed = 1\n[[segment]]\nname = \"x\"\n[[station]]\nname = \"a\"\nsegment = \"x\"\nat = 0\n[[station]]\nname = \"b\"\nsegment = \"x\"\nat = 416\n";
-
-/// The layout of two segments of 1 and 1, with the least delay.
-const SHORT_HOP: &str =
-    "format = 1\nseed = 1\n[[segment]]\nname = \"x\"\n[[segment]]\nname = \"y\"\n[[station]]\nname = \"a\"\nsegment = \"x\"\nat = 0\n[[station]]\nname = \"b\"\nsegment = \"y\"\nat = 1\n[[repeater]]\nname = \"r\"\ndelay = 1\n[[repeater.port]]\nsegment = \"x\"\nat = 1\n[[repeater.port]]\nsegment = \"y\"\nat = 0\n";
 
 /// A third station c at 20 of the one segment.
 const THIRD: &str = "[[station]]\nname = \"c\"\nsegment = \"x\"\nat = 20\n";
@@ -41,124 +30,36 @@ const SEND_B_JUST_BEFORE: &str =
 const SEND_B_AND_C: &str =
     "[[send]]\nstation = \"b\"\nat = 221\noctets = \"ffffffffffff0200000000010800\"\n[[send]]\nstation = \"c\"\nat = 221\noctets = \"ffffffffffff0200000000010800\"\n";
 
-/// A frame of 14 octets that a sends at 0, and the same by b at 0 and at 65.
-const SEND_A: &str =
-    "[[send]]\nstation = \"a\"\nat = 0\noctets = \"ffffffffffff0200000000010800\"\n";
-
 const SEND_B: &str =
     "[[send]]\nstation = \"b\"\nat = 0\noctets = \"ffffffffffff0200000000010800\"\n";
 
-const SEND_B_LATER: &str =
-    "[[send]]\nstation = \"b\"\nat = 65\noctets = \"ffffffffffff0200000000010800\"\n";
-
-const ONE_FRAME: &str =
-    "1152 station a sent frame 1 start 0 attempt 1\n1162 station b received octets 64\n";
-
-const ONE_FRAME_SUMMARY: &str =
-    "within 212 a b\nhalf_bits 1400\nsent 1 collided 0 late 0 given_up 0 cut 0 left 0 received 1 dropped 0 clash 0 closed 0 opened 0\n";
-
-const ONE_FRAME_COUNTERS: &str =
-    "station a queued 1 short 0 long 0 snapped 0 sent 1 collided 0 late 0 given_up 0 cut 0 left 0 received 0 fragment 0 too_long 0 fcs 0 align 0 damaged 0\nstation b queued 0 short 0 long 0 snapped 0 sent 0 collided 0 late 0 given_up 0 cut 0 left 0 received 1 fragment 0 too_long 0 fcs 0 align 0 damaged 0\n";
-
-/// A capture in nanoseconds without records, and the header of one record of 60 octets at 58,100 ns.
-const CAPTURE_HEADER: [u8; 24] = [
-    0x4d, 0x3c, 0xb2, 0xa1, 2, 0, 4, 0, 0, 0, 0, 0, 0, 0, 0, 0, 0, 0, 4, 0, 1, 0, 0, 0,
-];
-
-const RECORD_HEADER: [u8; 16] = [0, 0, 0, 0, 0xf4, 0xe2, 0, 0, 60, 0, 0, 0, 60, 0, 0, 0];
-
-/// The most octets that are read or appended at once.
-const BLOCK: u64 = 65_536;
-
-/// A run of a layout of which no call fails: the layout is half bits and tables.
-const RUN: Case<'static> = Case {
-    words: &["plain", "l.toml", "out"],
-    until_bits: 700,
-    tables: [TWO, SEND_A, ""],
-    reads: &[],
-    starts: &[],
-    appends: &[],
-    writes: &[],
-    status: 0,
-    said: ONE_FRAME_SUMMARY,
-};
-
-/// A call over a layout and over a store and a sink some of whose calls fail, with its status and what it says.
-#[derive(Clone, Copy)]
-pub struct Case<'a> {
-    words: &'a [&'static str],
-    until_bits: u32,
-    tables: [&'a str; 3],
-    reads: &'a [u32],
-    starts: &'a [u32],
-    appends: &'a [u32],
-    writes: &'a [u32],
-    status: u8,
-    said: &'a str,
-}
-
-fn words_of<R: AllocGlobal>(rt: &R, line: &[&str]) -> Result<Words, OutOfMemory> {
-    let mut words = Words::new(rt.alloc());
-    for word in line {
-        words.push(Text::new(rt.alloc(), word)?)?;
-    }
-    Ok(words)
-}
-
-fn store_of<R: AllocGlobal>(rt: &R, case: &Case<'_>) -> Result<MemoryStore, OutOfMemory> {
-    let [one, two, three] = case.tables;
-    let layout = format!(in rt.alloc(); "until_bits = {}\n{one}{two}{three}", case.until_bits)?;
-    let mut store = MemoryStore::with_failing(rt.alloc(), case.reads, case.starts, case.appends)?;
-    store.put("l.toml", layout.as_bytes())?;
-    Ok(store)
-}
-
-/// Whether the call gives the case's status and says what it must, by blocks that are no larger than promised.
-fn is_right<R: Threads + Wait + Sync + AllocGlobal>(
-    rt: &R,
-    case: &Case<'_>,
-    store: &mut MemoryStore,
-) -> Result<bool, OutOfMemory> {
-    let words = words_of(rt, case.words)?;
-    let mut sink = MemorySink::with_failing(rt.alloc(), case.writes)?;
-    let status = netsim(rt, rt.alloc(), &words, store, &mut sink, &OpenGate);
-    Ok(status == case.status && sink.bytes() == case.said.as_bytes() && store.largest() <= BLOCK)
-}
-
-/// Whether a file holds this text, or isn't there where the text is none.
-fn holds(store: &MemoryStore, name: &str, text: Option<&str>) -> bool {
-    match (store.get(name), text) {
-        (Some(held), Some(text)) => held == text.as_bytes(),
-        (None, None) => true,
-        _ => false,
-    }
-}
-
-/// Whether a run says this summary and leaves this log.
-fn is_log<R: Threads + Wait + Sync + AllocGlobal>(
-    rt: &R,
-    case: &Case<'_>,
-    log: &str,
-) -> Result<bool, OutOfMemory> {
-    let mut store = store_of(rt, case)?;
-    let right = is_right(rt, case, &mut store)?;
-    Ok(right && holds(&store, "out.log", Some(log)))
-}
-
-/// Whether a call says what it must and begins no file.
-fn is_refusal<R: Threads + Wait + Sync + AllocGlobal>(
-    rt: &R,
-    case: &Case<'_>,
-) -> Result<bool, OutOfMemory> {
-    let mut store = store_of(rt, case)?;
-    let right = is_right(rt, case, &mut store)?;
-    Ok(right && holds(&store, "out.log", None))
-}
-
 #[test]
 fn words_alone(rt: HostRuntime) -> Result<(), OutOfMemory> {
-    let lines: [&[&'static str]; 7] = [
+    let lines: [&[&'static str]; 30] = [
         &["run", "l.toml", "out", "0"],
+        &["run", "l.toml", "out", "01"],
+        &["run", "l.toml", "out", "65"],
+        &["run", "l.toml", "out", "+1"],
+        &["run", "l.toml", "out", "-1"],
+        &["run", "l.toml", "out", " 1"],
+        &["run", "l.toml", "out", "1.0"],
+        &["run", "l.toml", "out", "0x1"],
+        &["run", "l.toml", "out", ""],
+        &["run", "l.toml", "out", "18446744073709551617"],
+        &["run", "l.toml", "out"],
+        &["run", "l.toml", "", "1"],
+        &["run", "", "out", "1"],
+        &["run", "l.toml", "out", "1", "1"],
+        &["plain", "l.toml", "out", "1"],
+        &["demo", "0", "1"],
+        &["demo", "129", "1"],
+        &["demo", "01", "1"],
+        &["demo", "+1", "1"],
+        &["demo", "1", "0"],
+        &["demo", "1", "65"],
+        &["demo", "1", "01"],
+        &["demo", "1"],
+        &["demo", "1", "1", "1"],
         &["check"],
         &["check", "l.toml", "out"],
         &["slack"],
@@ -182,7 +83,7 @@ fn words_alone(rt: HostRuntime) -> Result<(), OutOfMemory> {
 fn fixed_texts(rt: HostRuntime) -> Result<(), OutOfMemory> {
     let help = Case {
         words: &["--help"],
-        said: "netsim check LAYOUT: writes whether the worst round trip of LAYOUT is within the slot time\nnetsim slack LAYOUT: writes that, and how far each gap between neighbouring taps and each repeater's delay can grow\nnetsim plain LAYOUT PREFIX: runs the network of LAYOUT by half bits and writes PREFIX.log, PREFIX.counters and a capture PREFIX.STATION.pcap for each station\nnetsim --help: writes this text\nnetsim --version: writes the name and the version\n",
+        said: "netsim check LAYOUT: writes whether the worst round trip of LAYOUT is within the slot time\nnetsim slack LAYOUT: writes that, and how far each gap between neighbouring taps and each repeater's delay can grow\nnetsim plain LAYOUT PREFIX: runs the network of LAYOUT by half bits and writes PREFIX.log, PREFIX.counters and a capture PREFIX.STATION.pcap for each station\nnetsim run LAYOUT PREFIX WORKERS: does the same by windows on 1 to 64 workers\nnetsim demo NUMBER WORKERS: runs a made network of 1 to 128 repeaters by windows on 1 to 64 workers and writes no file\nnetsim --help: writes this text\nnetsim --version: writes the name and the version\n",
         ..RUN
     };
     let version = Case {
@@ -274,24 +175,6 @@ fn slacks(rt: HostRuntime) -> Result<(), OutOfMemory> {
     Ok(())
 }
 
-/// All files of one frame's run.
-#[test]
-fn one_frame(rt: HostRuntime) -> Result<(), OutOfMemory> {
-    let mut store = store_of(&rt, &RUN)?;
-    assert!(rt; is_right(&rt, &RUN, &mut store)?);
-    assert!(rt; holds(&store, "out.log", Some(ONE_FRAME)));
-    assert!(rt; holds(&store, "out.counters", Some(ONE_FRAME_COUNTERS)));
-    assert!(rt; store.get("out.a.pcap") == Some(&CAPTURE_HEADER));
-    let Some(capture) = store.get("out.b.pcap") else {
-        return Err(OutOfMemory);
-    };
-    assert_eq!(rt; capture.len(), 100);
-    assert!(rt; capture.starts_with(&CAPTURE_HEADER));
-    assert!(rt; capture[24..].starts_with(&RECORD_HEADER));
-    assert!(rt; capture[40..].starts_with(b"\xff\xff\xff\xff\xff\xff\x02\0\0\0\0\x01\x08\0\0\0"));
-    Ok(())
-}
-
 #[test]
 fn sends_and_ends(rt: HostRuntime) -> Result<(), OutOfMemory> {
     let twice = Case {
@@ -364,19 +247,6 @@ fn collisions(rt: HostRuntime) -> Result<(), OutOfMemory> {
             &rt,
             &hop,
             "95 repeater r clash\n196 station a collided frame 1 start 0 attempt 1 hit 131 draw 1\n257 station b collided frame 1 start 65 attempt 1 hit 1 draw 0\n"
-        )?
-    );
-    let short = Case {
-        until_bits: 600,
-        tables: [SHORT_HOP, SEND_A, ""],
-        said: "within 198 a b\nhalf_bits 1200\nsent 1 collided 0 late 0 given_up 0 cut 0 left 0 received 1 dropped 0 clash 0 closed 0 opened 0\n",
-        ..RUN
-    };
-    assert!(rt;
-        is_log(
-            &rt,
-            &short,
-            "1152 station a sent frame 1 start 0 attempt 1\n1155 station b received octets 64\n"
         )?
     );
     Ok(())
@@ -455,79 +325,6 @@ fn layouts_that_are_refused(rt: HostRuntime) -> Result<(), OutOfMemory> {
     for case in [color, bits, silent, missing, unread, later] {
         assert!(rt; is_refusal(&rt, &case)?);
     }
-    Ok(())
-}
-
-/// Whether a run whose k-th append fails, of the four that it makes, leaves the files before whole and later ones untouched.
-fn is_broken_at<R: Threads + Wait + Sync + AllocGlobal>(
-    rt: &R,
-    k: u32,
-) -> Result<bool, OutOfMemory> {
-    let case = Case {
-        appends: &[k],
-        status: 5,
-        said: "",
-        ..RUN
-    };
-    let mut store = store_of(rt, &case)?;
-    let right = is_right(rt, &case, &mut store)?;
-    let log = if k > 1 { ONE_FRAME } else { "" };
-    let counters = match k {
-        1 => None,
-        2 => Some(""),
-        _ => Some(ONE_FRAME_COUNTERS),
-    };
-    let first = if k > 2 { Some(k > 3) } else { None };
-    let whole = match (store.get("out.a.pcap"), first) {
-        (Some(held), Some(whole)) => held.is_empty() != whole,
-        (None, None) => true,
-        _ => false,
-    };
-    Ok(
-        right
-            && holds(&store, "out.log", Some(log))
-            && holds(&store, "out.counters", counters)
-            && whole,
-    )
-}
-
-#[test]
-fn appends_that_fail(rt: HostRuntime) -> Result<(), OutOfMemory> {
-    assert!(rt; is_broken_at(&rt, 1)?);
-    assert!(rt; is_broken_at(&rt, 2)?);
-    assert!(rt; is_broken_at(&rt, 3)?);
-    assert!(rt; is_broken_at(&rt, 4)?);
-    let all = Case {
-        appends: &[5],
-        ..RUN
-    };
-    assert!(rt; is_log(&rt, &all, ONE_FRAME)?);
-    Ok(())
-}
-
-#[test]
-fn starts_and_writes_that_fail(rt: HostRuntime) -> Result<(), OutOfMemory> {
-    let first = Case {
-        starts: &[1],
-        status: 5,
-        said: "",
-        ..RUN
-    };
-    assert!(rt; is_refusal(&rt, &first)?);
-    let second = Case {
-        starts: &[2],
-        ..first
-    };
-    let mut store = store_of(&rt, &second)?;
-    assert!(rt; is_right(&rt, &second, &mut store)?);
-    assert!(rt; holds(&store, "out.log", Some(ONE_FRAME)));
-    assert!(rt; holds(&store, "out.counters", None));
-    let silent = Case {
-        starts: &[],
-        writes: &[1],
-        ..first
-    };
-    assert!(rt; is_log(&rt, &silent, ONE_FRAME)?);
     Ok(())
 }
 

@@ -12,7 +12,7 @@ pub const WORDS_FAULT: &str = "words fault\n";
 
 /// What the program is called with.
 pub const HELP: &str =
-    "netsim check LAYOUT: writes whether the worst round trip of LAYOUT is within the slot time\nnetsim slack LAYOUT: writes that, and how far each gap between neighbouring taps and each repeater's delay can grow\nnetsim plain LAYOUT PREFIX: runs the network of LAYOUT by half bits and writes PREFIX.log, PREFIX.counters and a capture PREFIX.STATION.pcap for each station\nnetsim --help: writes this text\nnetsim --version: writes the name and the version\n";
+    "netsim check LAYOUT: writes whether the worst round trip of LAYOUT is within the slot time\nnetsim slack LAYOUT: writes that, and how far each gap between neighbouring taps and each repeater's delay can grow\nnetsim plain LAYOUT PREFIX: runs the network of LAYOUT by half bits and writes PREFIX.log, PREFIX.counters and a capture PREFIX.STATION.pcap for each station\nnetsim run LAYOUT PREFIX WORKERS: does the same by windows on 1 to 64 workers\nnetsim demo NUMBER WORKERS: runs a made network of 1 to 128 repeaters by windows on 1 to 64 workers and writes no file\nnetsim --help: writes this text\nnetsim --version: writes the name and the version\n";
 
 /// The program's name and version.
 pub const VERSION: &str = "netsim 0.1.0\n";
@@ -22,6 +22,13 @@ pub(crate) fn add_number(line: &mut List<u8>, number: u32) -> Result<(), OutOfMe
     ensures ok { OnOk result (line.new ≡ line.old ++ decimal number) }
 {
     line.extend(itoa::Buffer::new().format(number).as_bytes())
+}
+
+/// Puts a count in decimal at the end of a line.
+pub(crate) fn add_count(line: &mut List<u8>, count: usize) -> Result<(), OutOfMemory>
+    ensures ok { OnOk result (line.new ≡ line.old ++ decimal count) }
+{
+    line.extend(itoa::Buffer::new().format(count).as_bytes())
 }
 
 /// Puts the place of a fault at the end of its line.

@@ -5,13 +5,13 @@ ghost use Rattle.netsim.specs.LoggedCollisions.{AreCollisionsLogged};
 ghost use Rattle.netsim.specs.Endings.{IsAnswer, IsEnd};
 ghost use Rattle.netsim.specs.Moments.{moment};
 ghost use Rattle.netsim.specs.Requests.{asked};
-ghost use Rattle.netsim.specs.Statuses.{AreSlacksDone, IfCheck, IfPlain, IfSlack, IsCheckDone, IsDoneOrMemory, IsRefusal, IsRunBroken, IsRunDone, IsRunRefused, IsUnhindered};
+ghost use Rattle.netsim.specs.Statuses.{AreSlacksDone, IfCheck, IfDemo, IfFiles, IfSlack, IsCheckDone, IsDemoDone, IsDoneOrMemory, IsRefusal, IsRunBroken, IsRunDone, IsRunRefused, IsUnhindered};
 
-use crate::check::check;
+use crate::demo::demo;
 use crate::endings::Ending;
-use crate::plain::plain;
+use crate::runs::{plain, run};
 use crate::sink_texts::{say, write_line};
-use crate::slack::slack;
+use crate::tell::{Telling, tell};
 use crate::texts::{HELP, VERSION, WORDS_FAULT};
 use crate::words::{Request, Words, read_words};
 use outside::{Gate, Sink, Store};
@@ -19,12 +19,15 @@ use std::alloc::Global;
 use std::sync::Wait;
 use std::thread::Threads;
 
-/// What the words ask for, without a thread: this always returns.
-pub fn run_words<S: Store, K: Sink>(
+/// Does what the words ask for. The forms `run` and `demo` may wait for other workers. The others are done by calls that take
+/// no runtime, and so return; words of no form too.
+pub fn run_words<X: Threads + Wait + Sync, S: Store, K: Sink, G: Gate>(
+    rt: &X,
     alloc: Global,
     words: &Words,
     store: &mut S,
     out: &mut K,
+    gate: &G,
 ) -> Ending
     ensures { IsEnd words.now
         (moment S.held S.read_faults S.write_faults K.written K.faults K.refused store.old out.old)
@@ -32,9 +35,17 @@ pub fn run_words<S: Store, K: Sink>(
         result }
 {
     match read_words(words) {
-        Some(Request::Check { layout }) => check(alloc, layout, store, out),
-        Some(Request::Slack { layout }) => slack(alloc, layout, store, out),
+        Some(Request::Check { layout }) => tell(alloc, Telling::Verdict, layout, store, out),
+        Some(Request::Slack { layout }) => tell(alloc, Telling::Slacks, layout, store, out),
         Some(Request::Plain { layout, prefix }) => plain(alloc, layout, prefix, store, out),
+        Some(
+            Request::Run {
+                layout,
+                prefix,
+                workers,
+            },
+        ) => run(rt, alloc, layout, prefix, workers, gate, store, out),
+        Some(Request::Demo { number, workers }) => demo(rt, alloc, number, workers, gate, out),
         Some(Request::Help) => write_line(out, HELP.as_bytes()),
         Some(Request::Version) => write_line(out, VERSION.as_bytes()),
         None => {
@@ -49,17 +60,19 @@ pub fn run_words<S: Store, K: Sink>(
 /// `check LAYOUT` writes the path verdict of the layout to the sink, and `slack LAYOUT` that and how far each gap between
 /// neighbouring taps and each repeater's delay can grow. `plain LAYOUT PREFIX` runs the network of the layout with its
 /// loads by half bits, writes PREFIX.log, PREFIX.counters and a capture PREFIX.STATION.pcap for each station, and then
-/// the summary to the sink. `--help` and `--version` write a fixed text to the sink.
+/// the summary to the sink. `run LAYOUT PREFIX WORKERS` does the same by windows, on 1 to 64 workers, and
+/// `demo NUMBER WORKERS` runs the layout of demo of 1 to 128 so, and writes its size and the summary to the sink.
+/// `--help` and `--version` write a fixed text to the sink.
 /// LAYOUT and PREFIX have 1 to 200 octets. The statuses are 0 for done, 1 for words of no form, 2 for a layout with
 /// a fault, 3 for a load with a fault, 4 for a layout or a load that can't be read, 5 for a failed write and 6 for
-/// want of memory, which alone is free.
-pub fn netsim<R: Threads + Wait + Sync, S: Store, K: Sink, G: Gate>(
-    _rt: &R,
+/// want of memory, which alone is free. The forms `run` and `demo` may wait.
+pub fn netsim<X: Threads + Wait + Sync, S: Store, K: Sink, G: Gate>(
+    rt: &X,
     alloc: Global,
     words: &Words,
     store: &mut S,
     out: &mut K,
-    _gate: &G,
+    gate: &G,
 ) -> u8
     // The status is that of an ending which the words allow between entry and exit. Module `laws` says what else each
     // tells.
@@ -71,15 +84,15 @@ pub fn netsim<R: Threads + Wait + Sync, S: Store, K: Sink, G: Gate>(
     // Status 1 exactly where the words are none of the forms.
     ensures words { (result ≡ 1) ↔ (asked words.now ≡ None) }
 
-    // A run is done: the store holds the files of the run of the layout and the loads held at entry, nothing else is
-    // changed, and the sink got the summary.
-    ensures done { result ≡ 0 → IfPlain (asked words.now) (λ layout prefix. IsRunDone layout prefix
+    // A run, by half bits or by windows on any number of workers, is done: the store holds the files of the run of the
+    // layout and the loads held at entry, nothing else is changed, and the sink got the summary.
+    ensures done { result ≡ 0 → IfFiles (asked words.now) (λ layout prefix. IsRunDone layout prefix
         (moment S.held S.read_faults S.write_faults K.written K.faults K.refused store.old out.old)
         (moment S.held S.read_faults S.write_faults K.written K.faults K.refused store.new out.new)) }
 
     // Where the sink got the verdict within: of two attempts of different stations that overlap over an open path each
     // that ends within the run has a whole line in PREFIX.log as the store holds it, with a hit before the 512th bit.
-    ensures detected { result ≡ 0 → IfPlain (asked words.now) (λ layout prefix. AreCollisionsLogged layout prefix
+    ensures detected { result ≡ 0 → IfFiles (asked words.now) (λ layout prefix. AreCollisionsLogged layout prefix
         (moment S.held S.read_faults S.write_faults K.written K.faults K.refused store.old out.old)
         (moment S.held S.read_faults S.write_faults K.written K.faults K.refused store.new out.new)) }
 
@@ -94,6 +107,12 @@ pub fn netsim<R: Threads + Wait + Sync, S: Store, K: Sink, G: Gate>(
         (moment S.held S.read_faults S.write_faults K.written K.faults K.refused store.old out.old)
         (moment S.held S.read_faults S.write_faults K.written K.faults K.refused store.new out.new)) }
 
+    // A demo is done: the sink got the size of the layout of that number and the summary of its run, and nothing else is
+    // changed.
+    ensures demonstrated { result ≡ 0 → IfDemo (asked words.now) (λ number. IsDemoDone number
+        (moment S.held S.read_faults S.write_faults K.written K.faults K.refused store.old out.old)
+        (moment S.held S.read_faults S.write_faults K.written K.faults K.refused store.new out.new)) }
+
     // With the statuses 1 to 4 every file is as at entry.
     ensures refused { IsRefusal result → S.held store.new ≡ S.held store.old }
 
@@ -104,12 +123,12 @@ pub fn netsim<R: Threads + Wait + Sync, S: Store, K: Sink, G: Gate>(
     // After a failed write the files of a run before one of them are whole, that one is as it was or a front of its
     // text, later ones are as at entry, and the sink got nothing; or all are whole, and the sink got a front of the
     // summary.
-    ensures broken { result ≡ 5 → IfPlain (asked words.now) (λ layout prefix. IsRunBroken layout prefix
+    ensures broken { result ≡ 5 → IfFiles (asked words.now) (λ layout prefix. IsRunBroken layout prefix
         (moment S.held S.read_faults S.write_faults K.written K.faults K.refused store.old out.old)
         (moment S.held S.read_faults S.write_faults K.written K.faults K.refused store.new out.new)) }
 
     // So too where memory was wanting, or nothing was begun.
-    ensures memory { result ≡ 6 → IfPlain (asked words.now) (λ layout prefix. IsRunRefused layout prefix
+    ensures memory { result ≡ 6 → IfFiles (asked words.now) (λ layout prefix. IsRunRefused layout prefix
         (moment S.held S.read_faults S.write_faults K.written K.faults K.refused store.old out.old)
         (moment S.held S.read_faults S.write_faults K.written K.faults K.refused store.new out.new)) }
 
@@ -119,5 +138,5 @@ pub fn netsim<R: Threads + Wait + Sync, S: Store, K: Sink, G: Gate>(
         (moment S.held S.read_faults S.write_faults K.written K.faults K.refused store.new out.new)
         → IsDoneOrMemory result }
 {
-    run_words(alloc, words, store, out).status()
+    run_words(rt, alloc, words, store, out, gate).status()
 }

@@ -1,5 +1,5 @@
 use Rattle.netsim.proofs.EveryForm.{words_of_none, refused, failed}
-use Rattle.netsim.proofs.FilesAfterRuns.{done, checked, slacks_done, broken, memory}
+use Rattle.netsim.proofs.FilesAfterRuns.{done, checked, slacks_done, demonstrated, broken, memory}
 use Rattle.netsim.proofs.LoadsDecideStatus.{complete}
 use Rattle.netsim.proofs.CollisionsAreTold.{collisions_are_told}
 use Rattle.netsim.proofs.top_call.netsim.Goals as goal
@@ -18,6 +18,9 @@ returns-clause-checked g c = checked c.args.words.now _ _ _ (record { by = c.run
 
 pub returns-clause-slacks : goal.returns-clause-slacks
 returns-clause-slacks g c = slacks_done c.args.words.now _ _ _ (record { by = c.run_words.result; is = c.status.ensures; allowed = c.run_words.ensures })
+
+pub returns-clause-demonstrated : goal.returns-clause-demonstrated
+returns-clause-demonstrated g c = demonstrated c.args.words.now _ _ _ (record { by = c.run_words.result; is = c.status.ensures; allowed = c.run_words.ensures })
 
 pub returns-clause-refused : goal.returns-clause-refused
 returns-clause-refused g c = refused c.args.words.now _ _ _ (record { by = c.run_words.result; is = c.status.ensures; allowed = c.run_words.ensures })

@@ -1,0 +1,82 @@
+//! The form that runs the layout of demo of a number.
+ghost use Rattle.std.specs.Prelude.{◌≡◌, ◌≤◌, IfOk};
+ghost use Rattle.layout.specs.Limits.{most_repeaters};
+ghost use Rattle.netsim.specs.Demos.{IsDemoText, line_of_demo};
+ghost use Rattle.netsim.specs.Endings.{IsDemoTold};
+ghost use Rattle.netsim.specs.FileLimits.{most_workers};
+
+use crate::endings::Ending;
+use crate::plans::empty_loads;
+use crate::runs::summary_of;
+use crate::sink_texts::write_line;
+use crate::texts::add_count;
+use demo_layout::demo as demo_layout_of;
+use layout::Layout;
+use lists::{List, OutOfMemory};
+use load_plan::make_plan;
+use outside::{Gate, Sink};
+use std::alloc::Global;
+use std::sync::Wait;
+use std::thread::Threads;
+use window_run::run_by_windows;
+
+/// The line that says how large the layout of demo of a number is.
+fn line_of_demo(alloc: Global, number: u32, network: &Layout) -> Result<List<u8>, OutOfMemory>
+    ensures { IfOk result (λ line. line ≡ line_of_demo number network.now) }
+{
+    let mut line = List::new(alloc);
+    line.extend(b"demo ")?;
+    add_count(&mut line, number as usize)?;
+    line.extend(b" segments ")?;
+    add_count(&mut line, network.segments.len())?;
+    line.extend(b" repeaters ")?;
+    add_count(&mut line, network.repeaters.len())?;
+    line.extend(b" stations ")?;
+    add_count(&mut line, network.stations.len())?;
+    line.extend(b"\n")?;
+    Ok(line)
+}
+
+/// That line, and the summary of the layout's run by windows, on 1 to 64 workers. It may wait.
+fn text_of_demo<X: Threads + Wait + Sync, G: Gate>(
+    rt: &X,
+    alloc: Global,
+    number: u32,
+    workers: u32,
+    gate: &G,
+) -> Result<List<u8>, OutOfMemory>
+    requires least { 1 ≤ number }
+    requires most { number ≤ most_repeaters }
+    requires least_workers { 1 ≤ workers }
+    requires most_workers { workers ≤ most_workers }
+    ensures { IfOk result (λ text. IsDemoText number text) }
+{
+    let network = demo_layout_of(alloc, number)?;
+    let loads = empty_loads(alloc, network.stations.len())?;
+    let plan = make_plan(alloc, network, loads)?;
+    let outputs = run_by_windows(rt, alloc, &plan, workers, gate)?;
+    let mut text = line_of_demo(alloc, number, &plan.layout)?;
+    text.extend(summary_of(alloc, &plan, &outputs)?.as_slice())?;
+    Ok(text)
+}
+
+/// Runs the layout of demo of a number by windows, on 1 to 64 workers, and says its size and the summary. It may wait.
+pub(crate) fn demo<X: Threads + Wait + Sync, G: Gate, K: Sink>(
+    rt: &X,
+    alloc: Global,
+    number: u32,
+    workers: u32,
+    gate: &G,
+    out: &mut K,
+) -> Ending
+    requires least { 1 ≤ number }
+    requires most { number ≤ most_repeaters }
+    requires least_workers { 1 ≤ workers }
+    requires most_workers { workers ≤ most_workers }
+    ensures { IsDemoTold number (K.written out.old) (K.written out.new) (K.faults out.old) (K.faults out.new) result }
+{
+    match text_of_demo(rt, alloc, number, workers, gate) {
+        Ok(text) => write_line(out, text.as_slice()),
+        Err(OutOfMemory) => Ending::Memory,
+    }
+}

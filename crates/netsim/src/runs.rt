@@ -1,0 +1,121 @@
+//! The forms that run the network of a layout file and write what came of it.
+ghost use Rattle.std.specs.Prelude.{◌≡◌, ◌≤◌, IfOk};
+ghost use Rattle.layout.specs.Sound.{IsSound};
+ghost use Rattle.network.specs.Outputs.{captures, rows};
+ghost use Rattle.netsim.specs.Endings.{IsPlainEnd, IsRunEnd};
+ghost use Rattle.netsim.specs.FileLimits.{most_workers};
+ghost use Rattle.netsim.specs.Moments.{moment};
+ghost use Rattle.netsim.specs.Runs.{IsSummary};
+
+use crate::endings::Ending;
+use crate::outputs::file_outputs;
+use crate::plans::read_plan;
+use crate::sink_texts::write_line;
+use crate::verdict::verdict_line;
+use lists::{List, OutOfMemory};
+use load_plan::Plan;
+use net_step::run_plain;
+use network::Outputs;
+use outside::{Gate, Sink, Store};
+use run_texts::laws::{captures_are_short, frames_are_left};
+use run_texts::totals_of_rows;
+use std::alloc::Global;
+use std::sync::Wait;
+use std::thread::Threads;
+use window_run::run_by_windows;
+
+/// The summary of a plan's run.
+pub(crate) fn summary_of(
+    alloc: Global,
+    plan: &Plan,
+    outputs: &Outputs,
+) -> Result<List<u8>, OutOfMemory>
+    requires sound { IsSound plan.now.layout }
+    requires rows { outputs.now.rows ≡ rows plan.now }
+    ensures { IfOk result (λ text. IsSummary plan.now text) }
+{
+    let mut text = verdict_line(alloc, &plan.layout)?;
+    let totals = totals_of_rows(alloc, plan, outputs.rows.as_slice())?;
+    text.extend(totals.as_slice())?;
+    Ok(text)
+}
+
+/// Writes the files of a prefix by what a plan's run gave, if it gave something, and then the summary.
+fn file_run<S: Store, K: Sink>(
+    alloc: Global,
+    plan: &Plan,
+    outputs: Result<Outputs, OutOfMemory>,
+    prefix: &str,
+    store: &mut S,
+    out: &mut K,
+) -> Ending
+    requires sound { IsSound plan.now.layout }
+    requires rows { IfOk outputs (λ outputs. outputs.rows ≡ rows plan.now) }
+    requires captures { IfOk outputs (λ outputs. outputs.captures ≡ captures plan.now) }
+    ensures { IsRunEnd plan.now prefix.now
+        (moment S.held S.read_faults S.write_faults K.written K.faults K.refused store.old out.old)
+        (moment S.held S.read_faults S.write_faults K.written K.faults K.refused store.new out.new)
+        result }
+{
+    let outputs = match outputs {
+        Ok(outputs) => outputs,
+        Err(OutOfMemory) => return Ending::Memory,
+    };
+    let summary = match summary_of(alloc, plan, &outputs) {
+        Ok(summary) => summary,
+        Err(OutOfMemory) => return Ending::Memory,
+    };
+    frames_are_left(plan);
+    captures_are_short(plan);
+    match file_outputs(alloc, plan, &outputs, prefix, store) {
+        Ok(()) => write_line(out, summary.as_slice()),
+        Err(ended) => ended,
+    }
+}
+
+/// Runs the network of a layout file and its loads by half bits, writes the files of a prefix, and says the summary.
+pub(crate) fn plain<S: Store, K: Sink>(
+    alloc: Global,
+    layout: &str,
+    prefix: &str,
+    store: &mut S,
+    out: &mut K,
+) -> Ending
+    ensures { IsPlainEnd layout.now prefix.now
+        (moment S.held S.read_faults S.write_faults K.written K.faults K.refused store.old out.old)
+        (moment S.held S.read_faults S.write_faults K.written K.faults K.refused store.new out.new)
+        result }
+{
+    let plan = match read_plan(alloc, layout, store, out) {
+        Ok(plan) => plan,
+        Err(ended) => return ended,
+    };
+    let outputs = run_plain(alloc, &plan);
+    file_run(alloc, &plan, outputs, prefix, store, out)
+}
+
+/// The same by windows, on 1 to 64 workers. It may wait.
+pub(crate) fn run<X: Threads + Wait + Sync, G: Gate, S: Store, K: Sink>(
+    rt: &X,
+    alloc: Global,
+    layout: &str,
+    prefix: &str,
+    workers: u32,
+    gate: &G,
+    store: &mut S,
+    out: &mut K,
+) -> Ending
+    requires least { 1 ≤ workers }
+    requires most { workers ≤ most_workers }
+    ensures { IsPlainEnd layout.now prefix.now
+        (moment S.held S.read_faults S.write_faults K.written K.faults K.refused store.old out.old)
+        (moment S.held S.read_faults S.write_faults K.written K.faults K.refused store.new out.new)
+        result }
+{
+    let plan = match read_plan(alloc, layout, store, out) {
+        Ok(plan) => plan,
+        Err(ended) => return ended,
+    };
+    let outputs = run_by_windows(rt, alloc, &plan, workers, gate);
+    file_run(alloc, &plan, outputs, prefix, store, out)
+}
