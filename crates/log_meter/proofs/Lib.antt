@@ -8,3 +8,8 @@ pub mod WholeLines
 pub mod LinesRead
 pub mod LinesApart
 pub mod RowsRead
+pub mod TallySteps
+pub mod NamesListed
+pub mod RowsOfStations
+pub mod RowsOfRepeaters
+pub mod PlannedRows

@@ -1,6 +1,9 @@
 pub mod Entries
 pub mod Faults
+pub mod Figures
+pub mod FigureTexts
 pub mod Lines
 pub mod LoggedRows
 pub mod Logs
 pub mod Reading
+pub mod Tallies

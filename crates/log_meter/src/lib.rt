@@ -2,16 +2,24 @@
 #![tactic(auto)]
 
 mod bodies;
+mod device_figures;
 mod entry;
 mod fault;
 mod fields;
 mod line;
 mod log;
+mod metering;
+mod tallies;
+mod tally;
+mod texts;
 
+pub use device_figures::{Figures, RepeaterFigures, RepeaterList, StationFigures, StationList};
 pub use fault::{LineFault, LogFault};
 pub use line::{LogLine, LogLines, read_line};
 pub use lists::OutOfMemory;
 pub use log::{MOST_LOG_OCTETS, read_log};
+pub use metering::figures;
+pub use texts::{figures_text, log_fault_text};
 
 #[cfg(test)]
 mod tests;

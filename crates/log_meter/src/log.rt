@@ -10,6 +10,8 @@ ghost use Rattle.log_meter.specs.Logs.{HasNoLine, IsBadAt, IsFallingAt, IsJudged
 ghost use Rattle.log_meter.specs.declared.fault.LogFault.{LogFault};
 ghost use Rattle.log_meter.specs.declared.fault.LogFault.TheVariants.{BadLine, OutOfMemory, Order, TooLarge};
 ghost use Rattle.log_meter.specs.declared.line.LogLine.{LogLine};
+ghost use Rattle.load_plan.specs.declared.plan.Plan.{Plan};
+ghost use Rattle.network.specs.Outputs.{rows};
 ghost use Rattle.run_texts.specs.Texts.{log_of_rows};
 
 use crate::entry::{Entry, entry_at};
@@ -72,6 +74,8 @@ pub fn read_log(alloc: Global, bytes: &[u8]) -> Result<LogLines, LogFault>
     ensures rows { (layout : Layout) (rows : List Row) → IsSound layout → AreLoggable layout rows →
         bytes.now ≡ log_of_rows layout rows → length bytes.now ≤ most_log_octets →
         IsUnlessMemory result (Ok (logged_lines layout rows)) }
+    ensures plans { (plan : Plan) → bytes.now ≡ log_of_rows plan.layout (rows plan) → length bytes.now ≤ most_log_octets →
+        IsUnlessMemory result (Ok (logged_lines plan.layout (rows plan))) }
 {
     if bytes.len() > MOST_LOG_OCTETS {
         return Err(LogFault::TooLarge);

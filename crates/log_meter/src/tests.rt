@@ -1,4 +1,6 @@
-use crate::{LineFault, LogFault, LogLines, read_line, read_log};
+use crate::{
+    LineFault, LogFault, LogLines, figures, figures_text, log_fault_text, read_line, read_log,
+};
 use collision_log::{Body, Why};
 use std::alloc::Global;
 
@@ -199,4 +201,67 @@ fn a_fault_is_named(rt: HostRuntime) {
     }
     assert_eq!(rt; LineFault::Bad.code(), 1);
     assert_eq!(rt; LineFault::OutOfMemory.code(), 2);
+}
+
+/// The log of a collision of two stations, one on each side of a repeater.
+const COLLISION: &[u8] =
+    b"192 station b collided frame 1 start 0 attempt 1 hit 128 draw 0\n196 station a collided frame 1 start 0 attempt 1 hit 132 draw 1\n200 repeater r clash\n";
+
+/// A log in which a station has the name of a repeater, frames are given up and cut, and b sends between frames of a.
+const MIXED: &[u8] =
+    b"10 station a sent frame 1 start 0 attempt 1\n11 repeater a clash\n12 repeater a closed port 1\n13 repeater a opened port 1\n14 repeater a halted port 2\n20 station a sent frame 2 start 10 attempt 1\n25 station c received octets 64\n30 station b sent frame 1 start 20 attempt 2\n40 station a sent frame 3 start 30 attempt 1\n50 station a collided frame 4 start 45 attempt 1 hit 0 draw 1\n60 station a given_up frame 4 start 53 hit 3\n61 station c dropped fcs halves 12\n70 station c cut frame 1 start 66 attempt 1 hit none\n";
+
+/// Logs with the texts of their figures.
+const METERED: [(&[u8], &[u8]); 4] = [
+    (b"", b"rows 0 sending 0\n"),
+    (
+        TWO_SENDS,
+        b"rows 4 sending 2304\nstation a sent 2 collided 0 given_up 0 cut 0 received 0 dropped 0 half_bits 2304 share 0 longest 2\nstation b sent 0 collided 0 given_up 0 cut 0 received 2 dropped 0 half_bits 0 share 0 longest 0\n",
+    ),
+    (
+        COLLISION,
+        b"rows 3 sending 388\nstation a sent 0 collided 1 given_up 0 cut 0 received 0 dropped 0 half_bits 196 share 1000 longest 0\nstation b sent 0 collided 1 given_up 0 cut 0 received 0 dropped 0 half_bits 192 share 1000 longest 0\nrepeater r clash 1 closed 0 opened 0 halted 0\n",
+    ),
+    (
+        MIXED,
+        b"rows 13 sending 56\nstation a sent 3 collided 1 given_up 1 cut 0 received 0 dropped 0 half_bits 42 share 400 longest 2\nstation b sent 1 collided 0 given_up 0 cut 0 received 0 dropped 0 half_bits 10 share 0 longest 1\nstation c sent 0 collided 0 given_up 0 cut 1 received 1 dropped 1 half_bits 4 share 0 longest 0\nrepeater a clash 1 closed 1 opened 1 halted 1\n",
+    ),
+];
+
+#[test]
+fn figures_are_told(rt: HostRuntime) -> Result<(), LogFault> {
+    for (log, text) in METERED {
+        let told = figures_text(rt.alloc(), log)?;
+        assert_eq!(rt; told.as_slice(), text);
+    }
+    Ok(())
+}
+
+#[test]
+fn figures_have_their_devices(rt: HostRuntime) -> Result<(), LogFault> {
+    let lines = read_log(rt.alloc(), COLLISION)?;
+    let figures = figures(rt.alloc(), &lines)?;
+    assert_eq!(rt; figures.stations.len(), 2);
+    assert_eq!(rt; figures.stations.get(0).share, 1000);
+    assert_eq!(rt; figures.repeaters.len(), 1);
+    assert_eq!(rt; figures.repeaters.get(0).clash, 1);
+    Ok(())
+}
+
+#[test]
+fn a_fault_of_a_log_is_told(rt: HostRuntime) -> Result<(), LogFault> {
+    let swapped =
+        b"1162 station b received octets 64\n1152 station a sent frame 1 start 0 attempt 1\n";
+    let faults: [(&[u8], &[u8]); 2] = [
+        (swapped.as_slice(), b"log fault 3 Order line 2\n"),
+        (&TWO_SENDS[..163], b"log fault 2 BadLine line 4\n"),
+    ];
+    for (log, text) in faults {
+        let Err(fault) = figures_text(rt.alloc(), log) else {
+            continue;
+        };
+        let line = log_fault_text(rt.alloc(), &fault)?;
+        assert_eq!(rt; line.as_slice(), text);
+    }
+    Ok(())
 }

@@ -1,0 +1,4 @@
+pub mod Taps
+pub mod Runs
+pub mod Heard
+pub mod RunTexts
