@@ -2,7 +2,9 @@
 //! with a name it runs that one and prints its rate.
 #![tactic(auto)]
 
+mod exchange;
 mod measures;
+mod parts;
 mod segment;
 
 use measures::{Measure, run};
@@ -28,7 +30,7 @@ fn print_names(rt: &HostRuntime) -> io::Result<()> {
 
 fn print_rate(rt: &HostRuntime, measure: Measure) -> io::Result<()> {
     let start = rt.thread_cpu_time()?;
-    let Ok(done) = run(rt.alloc(), measure) else {
+    let Ok(done) = run(rt, measure) else {
         return println!(rt; "{}: want of memory", measure.name());
     };
     let end = rt.thread_cpu_time()?;

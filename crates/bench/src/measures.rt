@@ -2,6 +2,8 @@
 ghost use Rattle.std.specs.Prelude.{◌≡◌, ◌≢◌, ◌≤◌, ◌+◌, ◌*◌, All, length, IfOk};
 ghost use Rattle.manchester_line.specs.declared.Sym.TheVariants.{Idle};
 
+use crate::exchange::moves;
+use crate::parts::quiet_segment;
 use crate::segment::{leaps, segments};
 use capture_file::{CaptureFault, CaptureReader, CaptureWriter};
 use frame_layout::fcs;
@@ -10,7 +12,7 @@ use mac_parameters::{HALF_BITS_AN_OCTET, MOST_OCTETS_TAGGED, PREAMBLE};
 use mac_receive::Receiver;
 use manchester_line::{Decoder, Sym, encode_into, half_of};
 use netsim::{Words, run_words};
-use outside::{MemorySink, MemoryStore};
+use outside::{MemorySink, MemoryStore, OpenGate};
 use repeater_core::Repeater;
 use std::alloc::Global;
 
@@ -37,8 +39,12 @@ pub enum Measure {
     FourStations,
     /// The same with 32 taps.
     ManyStations,
+    /// A segment on which hardly anything happens, by its part alone.
+    QuietSegment,
     /// A sender that waits for its frame, by leaps.
     SenderLeaps,
+    /// Parcels that are posted and taken in one share.
+    ExchangeMoves,
     /// A capture of about 64 MB that comes in pieces of 65,536 octets.
     CaptureRead,
     /// A capture of about 64 MB.
@@ -48,7 +54,7 @@ pub enum Measure {
 }
 
 impl Measure {
-    pub const ALL: [Measure; 14] = [
+    pub const ALL: [Measure; 16] = [
         Measure::Encode,
         Measure::Decode,
         Measure::ReceiveIdle,
@@ -59,7 +65,9 @@ impl Measure {
         Measure::RepeatQuiet,
         Measure::FourStations,
         Measure::ManyStations,
+        Measure::QuietSegment,
         Measure::SenderLeaps,
+        Measure::ExchangeMoves,
         Measure::CaptureRead,
         Measure::CaptureWrite,
         Measure::Plain,
@@ -78,7 +86,9 @@ impl Measure {
             Measure::RepeatQuiet => "repeat-quiet",
             Measure::FourStations => "segment-4",
             Measure::ManyStations => "segment-32",
+            Measure::QuietSegment => "quiet-segment",
             Measure::SenderLeaps => "sender-leap",
+            Measure::ExchangeMoves => "exchange-moves",
             Measure::CaptureRead => "capture-read",
             Measure::CaptureWrite => "capture-write",
             Measure::Plain => "plain",
@@ -93,6 +103,7 @@ impl Measure {
                 "port half bits",
             Measure::FourStations | Measure::ManyStations => "station half bits",
             Measure::SenderLeaps => "leaps",
+            Measure::ExchangeMoves => "moves",
             Measure::Plain => "device half bits",
             _ => "half bits",
         }
@@ -130,7 +141,8 @@ const LAYOUT: &str =
 const DEVICE_HALF_BITS: u64 = 2 * 2 * 5_000_000;
 
 /// Runs a measurement and answers how many units it did.
-pub fn run(alloc: Global, measure: Measure) -> Result<u64, OutOfMemory> {
+pub fn run(rt: &HostRuntime, measure: Measure) -> Result<u64, OutOfMemory> {
+    let alloc = rt.alloc();
     match measure {
         Measure::Encode => encode(alloc),
         Measure::Decode => Ok(decode(piece(alloc)?.as_slice())),
@@ -142,10 +154,12 @@ pub fn run(alloc: Global, measure: Measure) -> Result<u64, OutOfMemory> {
         Measure::RepeatQuiet => repeat(alloc, 2, Sym::Idle),
         Measure::FourStations => segments(alloc, 4, 100),
         Measure::ManyStations => segments(alloc, 32, 10),
+        Measure::QuietSegment => quiet_segment(alloc),
         Measure::SenderLeaps => leaps(alloc, 100),
+        Measure::ExchangeMoves => moves(alloc),
         Measure::CaptureRead => read_often(alloc, capture(alloc)?.bytes()),
         Measure::CaptureWrite => Ok(capture(alloc)?.bytes().len() as u64),
-        Measure::Plain => plain(alloc),
+        Measure::Plain => plain(rt),
     }
 }
 
@@ -265,7 +279,8 @@ fn repeat(alloc: Global, ports: u32, heard: Sym) -> Result<u64, OutOfMemory>
     Ok(u64::from(REPEATED) * u64::from(ports) + u64::from(clashes % 2))
 }
 
-fn plain(alloc: Global) -> Result<u64, OutOfMemory> {
+fn plain(rt: &HostRuntime) -> Result<u64, OutOfMemory> {
+    let alloc = rt.alloc();
     let mut store = MemoryStore::new(alloc);
     store.put("l.toml", LAYOUT.as_bytes())?;
     let mut words = Words::new(alloc);
@@ -273,7 +288,7 @@ fn plain(alloc: Global) -> Result<u64, OutOfMemory> {
         words.push(Text::new(alloc, word)?)?;
     }
     let mut out = MemorySink::new(alloc);
-    run_words(alloc, &words, &mut store, &mut out);
+    run_words(rt, alloc, &words, &mut store, &mut out, &OpenGate);
     Ok(DEVICE_HALF_BITS)
 }
 
