@@ -30,7 +30,7 @@ fn print_names(rt: &HostRuntime) -> io::Result<()> {
 
 fn print_rate(rt: &HostRuntime, measure: Measure) -> io::Result<()> {
     let start = rt.thread_cpu_time()?;
-    let Ok(done) = run(rt, measure) else {
+    let Ok(done) = run(rt.alloc(), measure) else {
         return println!(rt; "{}: want of memory", measure.name());
     };
     let end = rt.thread_cpu_time()?;

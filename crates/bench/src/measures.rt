@@ -3,16 +3,15 @@ ghost use Rattle.std.specs.Prelude.{◌≡◌, ◌≢◌, ◌≤◌, ◌+◌, �
 ghost use Rattle.manchester_line.specs.declared.Sym.TheVariants.{Idle};
 
 use crate::exchange::moves;
-use crate::parts::quiet_segment;
+use crate::parts::{plan_of, quiet_segment};
 use crate::segment::{leaps, segments};
 use capture_file::{CaptureFault, CaptureReader, CaptureWriter};
 use frame_layout::fcs;
-use lists::{OutOfMemory, Text};
+use lists::OutOfMemory;
 use mac_parameters::{HALF_BITS_AN_OCTET, MOST_OCTETS_TAGGED, PREAMBLE};
 use mac_receive::Receiver;
 use manchester_line::{Decoder, Sym, encode_into, half_of};
-use netsim::{Words, run_words};
-use outside::{MemorySink, MemoryStore, OpenGate};
+use net_step::run_plain;
 use repeater_core::Repeater;
 use std::alloc::Global;
 
@@ -141,8 +140,7 @@ const LAYOUT: &str =
 const DEVICE_HALF_BITS: u64 = 2 * 2 * 5_000_000;
 
 /// Runs a measurement and answers how many units it did.
-pub fn run(rt: &HostRuntime, measure: Measure) -> Result<u64, OutOfMemory> {
-    let alloc = rt.alloc();
+pub fn run(alloc: Global, measure: Measure) -> Result<u64, OutOfMemory> {
     match measure {
         Measure::Encode => encode(alloc),
         Measure::Decode => Ok(decode(piece(alloc)?.as_slice())),
@@ -159,7 +157,7 @@ pub fn run(rt: &HostRuntime, measure: Measure) -> Result<u64, OutOfMemory> {
         Measure::ExchangeMoves => moves(alloc),
         Measure::CaptureRead => read_often(alloc, capture(alloc)?.bytes()),
         Measure::CaptureWrite => Ok(capture(alloc)?.bytes().len() as u64),
-        Measure::Plain => plain(rt),
+        Measure::Plain => plain(alloc),
     }
 }
 
@@ -279,17 +277,10 @@ fn repeat(alloc: Global, ports: u32, heard: Sym) -> Result<u64, OutOfMemory>
     Ok(u64::from(REPEATED) * u64::from(ports) + u64::from(clashes % 2))
 }
 
-fn plain(rt: &HostRuntime) -> Result<u64, OutOfMemory> {
-    let alloc = rt.alloc();
-    let mut store = MemoryStore::new(alloc);
-    store.put("l.toml", LAYOUT.as_bytes())?;
-    let mut words = Words::new(alloc);
-    for word in ["plain", "l.toml", "out"] {
-        words.push(Text::new(alloc, word)?)?;
-    }
-    let mut out = MemorySink::new(alloc);
-    run_words(rt, alloc, &words, &mut store, &mut out, &OpenGate);
-    Ok(DEVICE_HALF_BITS)
+fn plain(alloc: Global) -> Result<u64, OutOfMemory> {
+    let plan = plan_of(alloc, LAYOUT)?;
+    let outputs = run_plain(alloc, &plan)?;
+    Ok(DEVICE_HALF_BITS + (outputs.rows.len() % 2) as u64)
 }
 
 fn capture(alloc: Global) -> Result<CaptureWriter, OutOfMemory> {
