@@ -48,7 +48,7 @@ pub enum Measure {
     CaptureRead,
     /// A capture of about 64 MB.
     CaptureWrite,
-    /// The program on a segment of two stations, from the layout to the log.
+    /// The run of a segment of two stations by half bits.
     Plain,
 }
 
