@@ -4,6 +4,3 @@
 mod draws;
 
 pub use draws::Draws;
-
-#[cfg(test)]
-mod tests;

@@ -133,6 +133,3 @@ impl Cable {
         );
     }
 }
-
-#[cfg(test)]
-mod tests;

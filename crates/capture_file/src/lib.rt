@@ -14,6 +14,3 @@ pub use fault::CaptureFault;
 pub use lists::OutOfMemory;
 pub use reader::{CaptureReader, read_capture};
 pub use writer::CaptureWriter;
-
-#[cfg(test)]
-mod tests;

@@ -11,6 +11,3 @@ pub use counters::{Counters, counters_text};
 pub use merged::merge;
 pub use row::{Body, Row, Rows, RowsList, Why};
 pub use texts::row_text;
-
-#[cfg(test)]
-mod tests;

@@ -7,6 +7,3 @@ mod rows;
 mod sent_frames;
 
 pub use making::demo;
-
-#[cfg(test)]
-mod tests;

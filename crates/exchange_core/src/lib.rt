@@ -8,8 +8,3 @@ mod share;
 
 pub use holder::Holder;
 pub use share::{PartList, Share};
-
-#[cfg(test)]
-mod fake_part;
-#[cfg(test)]
-mod tests;

@@ -4,6 +4,3 @@
 mod pieces;
 
 pub use pieces::{Taker, read_pieces};
-
-#[cfg(test)]
-mod tests;

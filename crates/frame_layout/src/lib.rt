@@ -11,6 +11,3 @@ pub use check_sequence::fcs;
 pub use frame::{Frame, FrameFault, build, build_up_to};
 pub use queue::{Queue, Ready};
 pub use verdict::{Verdict, judge, judge_up_to};
-
-#[cfg(test)]
-mod tests;

@@ -15,8 +15,3 @@ mod tree;
 pub use fault::{Key, LayoutCode, LayoutFault, Place, Table};
 pub use lists::{OutOfMemory, Text};
 pub use reader::read_layout;
-
-#[cfg(test)]
-mod refusals;
-#[cfg(test)]
-mod tests;

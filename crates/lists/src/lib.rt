@@ -8,6 +8,3 @@ mod text;
 pub use list::List;
 pub use memory::OutOfMemory;
 pub use text::Text;
-
-#[cfg(test)]
-mod tests;

@@ -7,6 +7,3 @@ mod stop;
 
 pub use loads::read_loads;
 pub use stop::LoadStop;
-
-#[cfg(test)]
-mod tests;

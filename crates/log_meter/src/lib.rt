@@ -20,6 +20,3 @@ pub use lists::OutOfMemory;
 pub use log::{MOST_LOG_OCTETS, read_log};
 pub use metering::figures;
 pub use texts::{figures_text, log_fault_text};
-
-#[cfg(test)]
-mod tests;

@@ -117,6 +117,3 @@ pub fn most_octets(tagged: bool) -> u32
         MOST_OCTETS_UNTAGGED
     }
 }
-
-#[cfg(test)]
-mod tests;

@@ -4,6 +4,3 @@
 mod receiver;
 
 pub use receiver::Receiver;
-
-#[cfg(test)]
-mod tests;

@@ -17,6 +17,3 @@ pub use laws::{
 pub use phase::Phase;
 pub use state::SenderState;
 pub use transmitter::{SendStep, Transmitter};
-
-#[cfg(test)]
-mod tests;

@@ -48,6 +48,3 @@ pub fn half_of(bit: bool, second: bool) -> Sym
 {
     if bit == second { Sym::Hi } else { Sym::Lo }
 }
-
-#[cfg(test)]
-mod tests;

@@ -11,6 +11,3 @@ pub use edges::{edges_of, opening};
 pub use parcel::{Parcel, ParcelList, Symbols};
 pub use part::{Part, PartOutputs};
 pub use timing::{lookahead, windows};
-
-#[cfg(test)]
-mod tests;

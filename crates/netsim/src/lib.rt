@@ -21,12 +21,3 @@ mod words;
 pub use endings::Ending;
 pub use top_call::{netsim, run_words};
 pub use words::Words;
-
-#[cfg(test)]
-mod cases;
-#[cfg(test)]
-mod load_tests;
-#[cfg(test)]
-mod run_tests;
-#[cfg(test)]
-mod tests;

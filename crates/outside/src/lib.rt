@@ -11,6 +11,3 @@ pub use folder::{FolderStore, OutSink};
 pub use memory::{File, MemoryStore};
 pub use sink::MemorySink;
 pub use store::{Gate, OpenGate, Sink, SinkFail, Store, StoreFail};
-
-#[cfg(test)]
-mod tests;

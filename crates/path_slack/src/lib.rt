@@ -10,6 +10,3 @@ mod worst;
 pub use lengthen::{delay_fits, gap_fits, lengthen_delay, lengthen_gap};
 pub use lists::OutOfMemory;
 pub use slack::{DelayList, DelaySlack, GapList, GapSlack, Limit, Slacks, path_slack};
-
-#[cfg(test)]
-mod tests;

@@ -5,6 +5,3 @@
 mod guard;
 
 pub use guard::{FOREVER, GuardEvent, PortGuard};
-
-#[cfg(test)]
-mod tests;

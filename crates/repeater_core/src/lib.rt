@@ -15,8 +15,3 @@ mod steady;
 pub use laws::signals_are_repeated;
 pub use modes::Mode;
 pub use repeater::{Repeater, RepeaterEvents, behind_first, has_first};
-
-#[cfg(test)]
-mod class_tests;
-#[cfg(test)]
-mod tests;

@@ -12,8 +12,6 @@ mod segment;
 mod start;
 mod stations;
 mod taps;
-#[cfg(test)]
-mod tests;
 mod window;
 
 pub use part::SegmentPart;

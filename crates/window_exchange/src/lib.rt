@@ -11,6 +11,3 @@ mod rule;
 pub use mail::{Lists, Mail, Name, Named};
 pub use mailbox::{MailPass, Mailbox};
 pub use planned::Planned;
-
-#[cfg(test)]
-mod tests;

@@ -11,6 +11,3 @@ pub use receive::{
     keep_reception, log_event, receive_one, receive_window, reserve_repeater, reserve_stations,
 };
 pub use room::RowRoom;
-
-#[cfg(test)]
-mod tests;

@@ -8,10 +8,3 @@ mod parts;
 mod run;
 
 pub use run::run_by_windows;
-
-#[cfg(test)]
-mod samples;
-#[cfg(test)]
-mod tests;
-#[cfg(test)]
-mod turnstile;

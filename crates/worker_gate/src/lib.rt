@@ -13,8 +13,6 @@ mod run;
 mod threads;
 mod worker;
 
+pub use dealing::owners;
 pub use gated::Gated;
 pub use run::run_planned;
-
-#[cfg(test)]
-mod tests;

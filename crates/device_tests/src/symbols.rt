@@ -1,0 +1,130 @@
+use manchester_line::{
+    Decoder, Heard, Sym, encode_into, half_of, header_sym, jam_sym, line_sym, mix,
+};
+
+/// The seven octets of the preamble and the start frame delimiter (clause 3).
+const PREAMBLE: [u8; 8] = [0x55, 0x55, 0x55, 0x55, 0x55, 0x55, 0x55, 0xD5];
+
+#[test]
+fn the_preamble_ends_with_the_delimiter(rt: HostRuntime) {
+    let mut out = [Sym::Idle; 256];
+    let length = encode_into(&PREAMBLE, &mut out);
+    assert_eq!(rt; length, 256);
+    for i in 0..128 {
+        assert_eq!(rt; out[i + 128], header_sym(i as u32));
+        assert_eq!(rt; out[i + 128], line_sym(&PREAMBLE, i as u32 + 128));
+    }
+    assert_eq!(rt; line_sym(&PREAMBLE, 256), Sym::Idle);
+}
+
+#[test]
+fn halves_jam_and_mixes(rt: HostRuntime) {
+    assert_eq!(rt;
+        [half_of(true, false), half_of(true, true)],
+        [Sym::Lo, Sym::Hi]
+    );
+    assert_eq!(rt;
+        [jam_sym(4), jam_sym(1), jam_sym(2), jam_sym(3)],
+        [Sym::Lo, Sym::Hi, Sym::Hi, Sym::Lo]
+    );
+    assert_eq!(rt;
+        [
+            mix(Sym::Hi, Sym::Hi),
+            mix(Sym::Idle, Sym::Lo),
+            mix(Sym::Idle, Sym::Idle)
+        ],
+        [Sym::Clash, Sym::Lo, Sym::Idle]
+    );
+}
+
+#[test]
+fn a_decoder_reads_octets_and_spare_bits(rt: HostRuntime) {
+    let mut decoder = Decoder::new();
+    // The bits 1, 1, then 0x31 from its least bit on, and then 1.
+    for bit in [
+        true, true, true, false, false, false, true, true, false, false, true,
+    ] {
+        decoder.push(half_of(bit, false));
+        decoder.push(half_of(bit, true));
+    }
+    let heard = Heard {
+        octets: 1,
+        spare: 1,
+        spoiled: false,
+        halves: 22,
+    };
+    assert_eq!(rt; decoder.heard(), heard);
+    assert_eq!(rt; decoder.octets(), [0x31].as_slice());
+    decoder.push(Sym::Clash);
+    assert_eq!(rt; decoder.heard().spoiled, true);
+    decoder.clear();
+    assert_eq!(rt; decoder.heard().halves, 0);
+}
+
+/// The bits 1, 1, then 0x31 and 0xC4 from the least bit on, and then 1.
+const RECEPTION: [Sym; 38] = [
+    Sym::Lo,
+    Sym::Hi,
+    Sym::Lo,
+    Sym::Hi,
+    Sym::Lo,
+    Sym::Hi,
+    Sym::Hi,
+    Sym::Lo,
+    Sym::Hi,
+    Sym::Lo,
+    Sym::Hi,
+    Sym::Lo,
+    Sym::Lo,
+    Sym::Hi,
+    Sym::Lo,
+    Sym::Hi,
+    Sym::Hi,
+    Sym::Lo,
+    Sym::Hi,
+    Sym::Lo,
+    Sym::Hi,
+    Sym::Lo,
+    Sym::Hi,
+    Sym::Lo,
+    Sym::Lo,
+    Sym::Hi,
+    Sym::Hi,
+    Sym::Lo,
+    Sym::Hi,
+    Sym::Lo,
+    Sym::Hi,
+    Sym::Lo,
+    Sym::Lo,
+    Sym::Hi,
+    Sym::Lo,
+    Sym::Hi,
+    Sym::Lo,
+    Sym::Hi,
+];
+
+#[test]
+fn a_piece_is_read_as_its_half_bits(rt: HostRuntime) {
+    let heard = Heard {
+        octets: 2,
+        spare: 1,
+        spoiled: false,
+        halves: 38,
+    };
+    let mut decoder = Decoder::new();
+    decoder.push_all(&RECEPTION);
+    assert_eq!(rt; decoder.heard(), heard);
+    assert_eq!(rt; decoder.octets(), [0x31, 0xC4].as_slice());
+    // A piece that begins within a bit, and one that begins within an octet.
+    decoder.clear();
+    decoder.push_all(&RECEPTION[..5]);
+    decoder.push_all(&RECEPTION[5..23]);
+    decoder.push_all(&RECEPTION[23..]);
+    assert_eq!(rt; decoder.heard(), heard);
+    assert_eq!(rt; decoder.octets(), [0x31, 0xC4].as_slice());
+    // What comes after a pair that is no bit is still read.
+    decoder.push_all(&[Sym::Clash, Sym::Clash]);
+    decoder.push_all(&RECEPTION[4..20]);
+    assert_eq!(rt; decoder.heard().spoiled, true);
+    assert_eq!(rt; decoder.heard().octets, 3);
+}

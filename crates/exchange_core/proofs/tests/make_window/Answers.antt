@@ -1,5 +1,0 @@
-use Rattle.exchange_core.proofs.ShareLaws.{reserved_has_room}
-use Rattle.exchange_core.proofs.tests.make_window.Goals as goal
-
-pub run-requires-clause-room : goal.run-requires-clause-room
-run-requires-clause-room c κs = reserved_has_room c.args.part c.args.share.now c.reserve.new.self c.in_ok-reserve.ensures.ok

@@ -1,0 +1,62 @@
+//! Files of a store in memory, read by pieces.
+use file_pieces::read_pieces;
+use lists::{List, OutOfMemory};
+use outside::{MemoryStore, StoreFail};
+
+/// A file, by a room of so many octets and up to one octet past a limit.
+#[derive(Clone, Copy)]
+struct Case<'a> {
+    name: &'a str,
+    room: usize,
+    limit: usize,
+    answer: Result<usize, StoreFail>,
+    octets: &'a [u8],
+}
+
+#[test]
+fn files_by_pieces(rt: HostRuntime) -> Result<(), OutOfMemory> {
+    let mut store = MemoryStore::new(rt.alloc());
+    store.put("ten", b"0123456789")?;
+    store.put("none", b"")?;
+    let whole = Case {
+        name: "ten",
+        room: 4,
+        limit: 100,
+        answer: Ok(10),
+        octets: b"0123456789",
+    };
+    let exact = Case { limit: 10, ..whole };
+    let past = Case {
+        limit: 5,
+        answer: Ok(6),
+        octets: b"012345",
+        ..whole
+    };
+    let first = Case {
+        room: 16,
+        limit: 0,
+        answer: Ok(1),
+        octets: b"0",
+        ..whole
+    };
+    let empty = Case {
+        name: "none",
+        answer: Ok(0),
+        octets: b"",
+        ..whole
+    };
+    let gone = Case {
+        name: "gone",
+        answer: Err(StoreFail::Missing),
+        octets: b"",
+        ..whole
+    };
+    for case in [whole, exact, past, first, empty, gone] {
+        let mut room = vec![in rt.alloc(); 0; case.room]?;
+        let mut octets = List::new(rt.alloc());
+        let answer = read_pieces(&mut store, case.name, case.limit, &mut room, &mut octets);
+        assert!(rt; answer == case.answer);
+        assert!(rt; octets.as_slice() == case.octets);
+    }
+    Ok(())
+}

@@ -1,0 +1,15 @@
+//! Tests of the parts of a network, of their parcels and of the shares that run them.
+#![tactic(auto)]
+
+#[cfg(test)]
+mod fake_part;
+#[cfg(test)]
+mod orders;
+#[cfg(test)]
+mod parcels;
+#[cfg(test)]
+mod rooms;
+#[cfg(test)]
+mod segments;
+#[cfg(test)]
+mod shares;

@@ -1,0 +1,11 @@
+//! Tests of the top call over stores and sinks in memory, some of whose calls fail.
+#![tactic(auto)]
+
+#[cfg(test)]
+mod cases;
+#[cfg(test)]
+mod loads;
+#[cfg(test)]
+mod plain;
+#[cfg(test)]
+mod runs;

@@ -1,6 +1,0 @@
-use Rattle.std.specs.Prelude.{Some}
-use Rattle.worker_gate.specs.PlannedShares.{IsPlannedShare}
-use Rattle.share_tests.proofs.tests.run.Given as goal
-
-abbrev pub invariant-loop-window : goal.invariant-loop-window
-invariant-loop-window g l = IsPlannedShare (Some l.plan) l.segments × IsPlannedShare (Some l.plan) l.repeater
