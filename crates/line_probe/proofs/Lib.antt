@@ -3,3 +3,12 @@ pub mod Columns
 pub mod RunsSoFar
 pub mod SameSymbols
 pub mod TapWords
+pub mod Numbers
+pub mod WordsAfter
+pub mod FoundFields
+pub mod FoundRuns
+pub mod TextsApart
+pub mod TextsRead
+pub mod HeardTaps
+pub mod BurstsSoFar
+pub mod BurstsFound

@@ -2,7 +2,7 @@
 ghost use Rattle.std.specs.Prelude.{◌≡◌, ◌+◌, ◌-◌, ◌<◌, ◌≤◌, ◌^◌, All, IfOk, List, ℕ, length, slice_index_or};
 ghost use Rattle.load_plan.specs.declared.plan.Plan.{Plan};
 ghost use Rattle.line_probe.specs.Heard.{AreProbed, heard_from, rows_of_taps};
-ghost use Rattle.line_probe.specs.Runs.{AreRunsOf};
+ghost use Rattle.line_probe.specs.Runs.{AreHeardRuns, AreRunsOf};
 ghost use Rattle.line_probe.specs.Taps.{HasTap};
 ghost use Rattle.line_probe.specs.declared.tap.Tap.{Tap};
 ghost use Rattle.network.specs.Outputs.{half_bits};
@@ -88,7 +88,8 @@ pub fn probe(
     requires taps { All (HasTap plan.now.layout) taps.now }
     requires order { from < to }
     requires end { to ≤ half_bits plan.now }
-    ensures { IfOk result (λ lists. AreProbed plan.now from to taps.now lists) }
+    ensures probed { IfOk result (λ lists. AreProbed plan.now from to taps.now lists) }
+    ensures heard { IfOk result (All AreHeardRuns) }
 {
     let heard = heard_at_taps(alloc, plan, taps, from, to)?;
     let mut lists = RunsList::new(alloc);

@@ -1,9 +1,13 @@
-use Rattle.std.proofs.Common.{◌≡◌, ◌+◌, ◌-◌, ◌∷◌, ◌++◌, [], List, length, take, get_or, refl, sym, ap, subst, arith}
+use Rattle.std.proofs.Common.{◌≡◌, ◌≤◌, ℕ, ◌+◌, ◌-◌, ◌∷◌, ◌++◌, [], List, length, take, get_or, refl, sym, ap, subst, arith}
 use Rattle.std.proofs.lemmas.List.{take_all, take_more}
 use Rattle.load_plan.proofs.PlansAreSound.{sound_of_plan}
 use Rattle.line_probe.specs.Heard.{AreProbed}
 use Rattle.line_probe.specs.declared.run.Run.{Run}
 use Rattle.line_probe.specs.declared.tap.Tap.{Tap}
+use Rattle.std.proofs.lemmas.List.Elements.{All-from_recursion}
+use Rattle.line_probe.specs.Runs.{AreHeardRuns}
+use Rattle.load_plan.specs.declared.plan.Plan.{Plan}
+use Rattle.line_probe.proofs.HeardTaps.{probed_runs}
 use Rattle.line_probe.proofs.Columns.{probed_more, rows_short}
 use Rattle.line_probe.proofs.hearing.probe.Goals as goal
 
@@ -22,7 +26,14 @@ loop-k-preserved c =
     (probed_more c.args.plan.now c.args.from c.args.to (take k taps) c.loop-k.lists (get_or taps k none) c.in_ok-tap_runs.field-0 c.loop-k.invariant
     (c.in_ok-tap_runs.ensures c.args.plan.now taps (c.args.to - c.args.from) none c.in_ok-heard.ensures refl)))
 
-pub returns : goal.returns
-returns c =
-    let all : take c.loop-k.k c.args.taps.now ≡ c.args.taps.now = take_all c.loop-k.k c.args.taps.now (omega arith) in
-    subst (λ (ts : List Tap). AreProbed c.args.plan.now c.args.from c.args.to ts c.loop-k.lists) all c.loop-k.invariant
+-- the runs of all taps
+all_probed : (plan : Plan) (from to : ℕ) (taps : List Tap) (k : ℕ) (lists : List (List Run)) → length taps ≤ k → AreProbed plan from to (take k taps) lists → AreProbed plan from to taps lists
+all_probed plan from to taps k lists le h = subst (λ (ts : List Tap). AreProbed plan from to ts lists) (take_all k taps le) h
+
+pub returns-clause-probed : goal.returns-clause-probed
+returns-clause-probed c = all_probed c.args.plan.now c.args.from c.args.to c.args.taps.now c.loop-k.k c.loop-k.lists (omega arith) c.loop-k.invariant
+
+pub returns-clause-heard : goal.returns-clause-heard
+returns-clause-heard c =
+    All-from_recursion AreHeardRuns c.loop-k.lists (probed_runs c.args.plan.now c.args.from c.args.to c.args.taps.now c.loop-k.lists c.requires.order c.requires.end
+    (all_probed c.args.plan.now c.args.from c.args.to c.args.taps.now c.loop-k.k c.loop-k.lists (omega arith) c.loop-k.invariant))
