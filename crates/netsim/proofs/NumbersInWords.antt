@@ -1,11 +1,11 @@
 -- The number that a word is in decimal.
-use Rattle.std.proofs.Common.{◌≡◌, ◌≢◌, ℕ, zero, suc, ◌+◌, ◌<◌, ◌≤◌, ◌^◌, Bool, true, false, cond, Option, None, Some, List, refl, sym, ap, ◌∙◌, inl, inr, arith}
+use Rattle.std.proofs.Common.{◌≡◌, ◌≢◌, ℕ, zero, suc, ◌+◌, ◌-◌, ◌<◌, ◌≤◌, ◌^◌, Bool, true, false, cond, Option, None, Some, List, refl, sym, ap, ◌∙◌, inl, inr, arith}
 use Rattle.std.specs.Prelude.{bytes_eq, decimal, find}
 use Rattle.std.specs.List.{range_with_len}
 use Rattle.std.proofs.lemmas.Bool.{cases_Bool}
 use Rattle.std.proofs.lemmas.Fmt.{decimal_injective}
 use Rattle.std.proofs.lemmas.Slice.Eq.{bytes_eq-Decides}
-use Rattle.netsim.specs.Requests.{number_up_to}
+use Rattle.netsim.specs.Requests.{number_between}
 
 taken : (b : Bool) (x : ℕ) (rest : Option ℕ) → b ≡ true → cond b (Some x) rest ≡ Some x
 taken true x rest e = refl
@@ -43,11 +43,11 @@ unfound word (suc n) a never =
     ]
 
 -- a word that is a number in range
-pub number_found : (most : ℕ) (word : List ℕ) (k : ℕ) → most < 2 ^ 31 → 1 ≤ k → k ≤ most → word ≡ decimal k → number_up_to most word ≡ Some k
-unfolding number_up_to
-number_found most word k small low high is = found word most 1 k low (omega arith) (omega arith) is
+pub number_found : (least most : ℕ) (word : List ℕ) (k : ℕ) → most < 2 ^ 31 → least ≤ k → k ≤ most → word ≡ decimal k → number_between least most word ≡ Some k
+unfolding number_between
+number_found least most word k small low high is = found word (most + 1 - least) least k low (omega arith) (omega arith) is
 
 -- a word that is none
-pub number_unfound : (most : ℕ) (word : List ℕ) → ((k : ℕ) → 1 ≤ k → k ≤ most → word ≢ decimal k) → number_up_to most word ≡ None
-unfolding number_up_to
-number_unfound most word never = unfound word most 1 (λ k low high. never k low (omega arith))
+pub number_unfound : (least most : ℕ) (word : List ℕ) → ((k : ℕ) → least ≤ k → k ≤ most → word ≢ decimal k) → number_between least most word ≡ None
+unfolding number_between
+number_unfound least most word never = unfound word (most + 1 - least) least (λ k low high. never k low (omega arith))

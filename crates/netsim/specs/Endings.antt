@@ -1,19 +1,25 @@
 -- How a call ends (profile).
-use Rattle.std.specs.Prelude.{◌≡◌, ◌≤◌, ◌⊎◌, ℕ, List, Option, None, Some, option_map, slice_get, Result, Ok, Err}
+use Rattle.std.specs.Prelude.{◌≡◌, ◌≤◌, ◌⊎◌, ℕ, ◌-◌, List, Option, None, Some, option_map, slice_get, Result, Ok, Err}
 use Rattle.capture_file.specs.declared.fault.CaptureFault.{CaptureFault}
 use Rattle.outside.specs.Files.{Files, IsAbsent, Rose}
 use Rattle.layout_file.specs.Faults.{judged}
 use Rattle.layout.specs.declared.lines.Layout.{Layout}
 use Rattle.layout.specs.declared.lines.StationLine.{StationLine}
 use Rattle.layout_file.specs.declared.fault.LayoutFault.{LayoutFault}
+use Rattle.line_probe.specs.declared.tap.Tap.{Tap}
 use Rattle.load_files.specs.Loaded.{IsLoaded, IsFirstAbsent, Faulty, load_of}
 use Rattle.load_plan.specs.declared.plan.Plan.{Plan}
+use Rattle.log_meter.specs.FigureTexts.{line_of_log_with}
+use Rattle.log_meter.specs.declared.fault.LogFault.{LogFault}
+use Rattle.network.specs.Outputs.{half_bits}
 use Rattle.netsim.specs.FileLimits.{most_layout}
 use Rattle.netsim.specs.Reading.{front_of}
 use Rattle.netsim.specs.Writing.{put_all, added, IsBrokenAmong, IsSaid, IsCutShort}
 use Rattle.netsim.specs.Moments.{Moment}
 use Rattle.netsim.specs.Demos.{IsDemoText}
-use Rattle.netsim.specs.Requests.{Asked, asked, Check, Slack, Plain, Run, Demo, Help, Version}
+use Rattle.netsim.specs.Meters.{HasLogFault, IsMeterText}
+use Rattle.netsim.specs.Probes.{AreTapsOf, HasAim, IsMissLine, IsTextOfTaps}
+use Rattle.netsim.specs.Requests.{Asked, asked, Check, Slack, Plain, Run, Demo, Probe, Meter, Help, Version}
 use Rattle.netsim.specs.Runs.{IsPlanOf, run_files, IsSummary}
 use Rattle.netsim.specs.SlackTexts.{IsSlackText}
 use Rattle.netsim.specs.Texts.{line_of_words_fault, line_of_fault, line_of_load_fault, line_of_read_fault}
@@ -75,6 +81,8 @@ IsEarly name before after ending.Load = ⊥
 IsEarly name before after ending.Read = IsUnreadSaid name before after
 IsEarly name before after ending.Write = ⊥
 IsEarly name before after ending.Memory = after.written ≡ before.written
+IsEarly name before after ending.Probe = ⊥
+IsEarly name before after ending.Log = ⊥
 
 -- what is said of the load of a station, from 0, with a fault: its line, and nothing without memory; the last two
 -- numbers count what the sink refused
@@ -103,6 +111,8 @@ IsUnloadedSaid network before after ending.Load = IsLoadFaultSaid network before
 IsUnloadedSaid network before after ending.Read = IsLoadUnreadSaid network before after
 IsUnloadedSaid network before after ending.Write = ⊥
 IsUnloadedSaid network before after ending.Memory = after.written ≡ before.written
+IsUnloadedSaid network before after ending.Probe = ⊥
+IsUnloadedSaid network before after ending.Log = ⊥
 
 -- the call ended before the loads of a layout without fault were read
 pub record IsLoadEnd (layout : List ℕ) (before after : Moment) (e : Ending) : Type 0 where
@@ -119,6 +129,8 @@ IsText text written now faults risen ending.Load = ⊥
 IsText text written now faults risen ending.Read = ⊥
 IsText text written now faults risen ending.Write = IsCutShort text written now × Rose faults risen
 IsText text written now faults risen ending.Memory = IsCutShort text written now
+IsText text written now faults risen ending.Probe = ⊥
+IsText text written now faults risen ending.Log = ⊥
 
 -- all files of a plan's run are whole; the summary was written, or a front of it
 abbrev pub AreFiled : List ℕ → Plan → Moment → Moment → Ending → Type 0
@@ -138,6 +150,8 @@ IsUnfiled prefix plan before after ending.Write =
     × (after.written ≡ before.written)
 IsUnfiled prefix plan before after ending.Memory =
     IsBrokenAmong (run_files prefix plan) before.held after.held × (after.written ≡ before.written)
+IsUnfiled prefix plan before after ending.Probe = ⊥
+IsUnfiled prefix plan before after ending.Log = ⊥
 
 -- a file could not be written: a write to the store failed, or there was no memory
 abbrev pub IsFileEnd : ℕ → ℕ → Ending → Type 0
@@ -233,6 +247,91 @@ abbrev pub IsDemoEnd : ℕ → Moment → Moment → Ending → Type 0
 IsDemoEnd number before after e =
     IsDemoTold number before.written after.written before.faults after.faults e × (after.held ≡ before.held)
 
+-- what a probe aims at isn't there: that was said, and nothing without memory; the last two numbers count what the sink
+-- refused
+abbrev pub IsAimEnd : Layout → ℕ → List (List ℕ) → Option (List ℕ) → Option (List ℕ) → ℕ → ℕ → Ending → Type 0
+IsAimEnd network to words written now refused risen ending.Probe =
+    (line : List ℕ) × IsMissLine network to words line × IsSaid line written now refused risen
+IsAimEnd network to words written now refused risen ending.Memory = now ≡ written
+IsAimEnd network to words written now refused risen _ = ⊥
+
+-- the layout has no fault, what a probe aims at isn't in its network, and that was said
+pub record IsMissed (layout : List ℕ) (to : ℕ) (words : List (List ℕ)) (before after : Moment) (e : Ending)
+    : Type 0 where
+  pub network : Layout
+  pub judged : IsJudged layout before.held (Ok network)
+  pub missed : IsAimEnd network to words before.written after.written before.refused after.refused e
+
+-- the layout has no fault, what a probe aims at is in its network, and the call ended before the loads were read
+pub record IsUnprobed (layout : List ℕ) (to : ℕ) (words : List (List ℕ)) (before after : Moment) (e : Ending)
+    : Type 0 where
+  pub network : Layout
+  pub judged : IsJudged layout before.held (Ok network)
+  pub aim : HasAim network to words
+  pub said : IsUnloadedSaid network before after e
+
+-- the layout and its loads have no fault, its network has a tap for each of these words, its run has the half bits of
+-- the probe, and this is the text of what they hear
+pub record IsProbeText (layout : List ℕ) (held : Option Files) (from to : ℕ) (words : List (List ℕ)) (text : List ℕ)
+    : Type 0 where
+  pub plan : Plan
+  pub planned : IsPlanned layout held plan
+  pub taps : List Tap
+  pub named : AreTapsOf plan.layout words taps
+  pub within : to ≤ half_bits plan
+  pub lines : IsTextOfTaps plan from (to - from) words taps text
+
+-- the text of a probe was written, or a front of it
+pub record IsProbed (layout : List ℕ) (from to : ℕ) (words : List (List ℕ)) (before after : Moment) (e : Ending)
+    : Type 0 where
+  pub text : List ℕ
+  pub right : IsProbeText layout before.held from to words text
+  pub written : IsText text before.written after.written before.faults after.faults e
+
+-- the text of what the taps of these words hear in so many half bits from this one on was written, or a front of it; the
+-- last two numbers count the failed writes
+abbrev pub AreTextsTold :
+    Plan → ℕ → ℕ → List (List ℕ) → List Tap → Option (List ℕ) → Option (List ℕ) → ℕ → ℕ → Ending → Type 0
+AreTextsTold plan from n words taps written now faults risen e =
+    (text : List ℕ) × IsTextOfTaps plan from n words taps text × IsText text written now faults risen e
+
+-- what taps of a plan hear was written, or a front of it, or there was no memory for it; the last two numbers count the
+-- failed writes
+abbrev pub AreTapsTold :
+    Plan → ℕ → ℕ → List (List ℕ) → List Tap → Option (List ℕ) → Option (List ℕ) → ℕ → ℕ → Ending → Type 0
+AreTapsTold plan from to words taps written now faults risen e =
+    ((e ≡ ending.Memory) × (now ≡ written)) ⊎ AreTextsTold plan from (to - from) words taps written now faults risen e
+
+-- the end of the form probe LAYOUT FROM TO TAP ..: it writes no file
+abbrev pub IsProbeEnd : List ℕ → ℕ → ℕ → List (List ℕ) → Moment → Moment → Ending → Type 0
+IsProbeEnd layout from to words before after e =
+    (after.held ≡ before.held)
+    × (IsEarly layout before after e ⊎ IsMissed layout to words before after e
+    ⊎ IsUnprobed layout to words before after e ⊎ IsProbed layout from to words before after e)
+
+-- the log has a fault, and its line was said
+abbrev pub IsLogFaultSaid : List ℕ → Moment → Moment → Type 0
+IsLogFaultSaid log before after =
+    (fault : LogFault) × HasLogFault log before.held fault × Says (line_of_log_with fault) before after
+
+-- the call ended before a log without fault was read
+abbrev pub IsUnmetered : List ℕ → Moment → Moment → Ending → Type 0
+IsUnmetered log before after ending.Log = IsLogFaultSaid log before after
+IsUnmetered log before after ending.Read = IsUnreadSaid log before after
+IsUnmetered log before after ending.Memory = after.written ≡ before.written
+IsUnmetered log before after _ = ⊥
+
+-- the text of a log's figures was written, or a front of it
+pub record IsMetered (log : List ℕ) (before after : Moment) (e : Ending) : Type 0 where
+  pub text : List ℕ
+  pub right : IsMeterText log before.held text
+  pub written : IsText text before.written after.written before.faults after.faults e
+
+-- the end of the form meter LOG: it writes no file
+abbrev pub IsMeterEnd : List ℕ → Moment → Moment → Ending → Type 0
+IsMeterEnd log before after e =
+    (after.held ≡ before.held) × (IsUnmetered log before after e ⊎ IsMetered log before after e)
+
 -- the end of words that ask for this; the words are none of the forms where they ask for nothing
 abbrev pub IsEndOf : Option Asked → Moment → Moment → Ending → Type 0
 IsEndOf None before after e = (e ≡ ending.Words) × (after.held ≡ before.held) × Says line_of_words_fault before after
@@ -241,6 +340,8 @@ IsEndOf (Some (Slack layout)) before after e = IsSlackEnd layout before after e
 IsEndOf (Some (Plain layout prefix)) before after e = IsPlainEnd layout prefix before after e
 IsEndOf (Some (Run layout prefix workers)) before after e = IsPlainEnd layout prefix before after e
 IsEndOf (Some (Demo number workers)) before after e = IsDemoEnd number before after e
+IsEndOf (Some (Probe layout from to words)) before after e = IsProbeEnd layout from to words before after e
+IsEndOf (Some (Meter log)) before after e = IsMeterEnd log before after e
 IsEndOf (Some Help) before after e = IsTextEnd HELP.now before after e
 IsEndOf (Some Version) before after e = IsTextEnd VERSION.now before after e
 
@@ -257,6 +358,8 @@ status_of ending.Load = 3
 status_of ending.Read = 4
 status_of ending.Write = 5
 status_of ending.Memory = 6
+status_of ending.Probe = 7
+status_of ending.Log = 8
 
 -- the status is that of an ending which these words allow between entry and exit
 pub record IsAnswer (words : List (List ℕ)) (entry exit : Moment) (status : ℕ) : Type 0 where

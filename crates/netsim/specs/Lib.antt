@@ -8,6 +8,8 @@ pub mod Verdicts
 pub mod SlackTexts
 pub mod Runs
 pub mod Demos
+pub mod Meters
+pub mod Probes
 pub mod Endings
 pub mod Statuses
 pub mod StatusLaws

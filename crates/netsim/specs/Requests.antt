@@ -1,19 +1,22 @@
 -- What the words of the command line ask for (profile).
-use Rattle.std.specs.Prelude.{◌≤◌, ℕ, List, [], ◌∷◌, length, Bool, ◌&&◌, nat_le, Option, None, Some, option_map, find, decimal, if◌then◌else◌, bytes_eq, codes}
+use Rattle.std.specs.Prelude.{◌≤◌, ◌<◌, ℕ, ◌+◌, ◌-◌, List, [], ◌∷◌, length, Bool, true, ◌&&◌, nat_le, nat_lt, Option, None, Some, option_map, find, decimal, if◌then◌else◌, bytes_eq, codes}
 use Rattle.std.specs.List.{range_with_len}
-use Rattle.layout.specs.Limits.{most_repeaters}
-use Rattle.netsim.specs.FileLimits.{most_name, most_workers}
+use Rattle.layout.specs.Limits.{most_half_bits, most_repeaters}
+use Rattle.netsim.specs.FileLimits.{most_name, most_probed, most_tap_word, most_taps, most_workers}
 use Rattle.netsim.specs.declared.words.Request.{Request}
 use Rattle.netsim.specs.declared.words.Request.TheVariants as request
 
 -- the path verdict of a layout, its slacks, a run by half bits with the names of the layout and of what is written, the
--- same by windows on so many workers, a run of the layout of demo of a number on so many, or a fixed text
+-- same by windows on so many workers, a run of the layout of demo of a number on so many, what the taps of these words
+-- hear from one half bit on and before another, the figures of a log, or a fixed text
 pub data Asked : Type 0 where
   Check : (layout : List ℕ) → Asked
   Slack : (layout : List ℕ) → Asked
   Plain : (layout prefix : List ℕ) → Asked
   Run : (layout prefix : List ℕ) (workers : ℕ) → Asked
   Demo : (number workers : ℕ) → Asked
+  Probe : (layout : List ℕ) (from to : ℕ) (taps : List (List ℕ)) → Asked
+  Meter : (log : List ℕ) → Asked
   Help : Asked
   Version : Asked
 
@@ -21,9 +24,18 @@ pub data Asked : Type 0 where
 abbrev pub is_file_name : List ℕ → Bool
 is_file_name word = nat_le 1 (length word) && nat_le (length word) most_name
 
--- the number from 1 to this one that is written so in decimal, without a sign or a leading zero
-unfoldable pub number_up_to : ℕ → List ℕ → Option ℕ
-number_up_to most word = find (λ n. bytes_eq word (decimal n)) (range_with_len 1 most)
+-- the number from the first of these to the second that is written so in decimal, without a sign or a leading zero
+unfoldable pub number_between : ℕ → ℕ → List ℕ → Option ℕ
+number_between least most word = find (λ n. bytes_eq word (decimal n)) (range_with_len least (most + 1 - least))
+
+-- a word for a tap has 1 to 40 octets
+abbrev pub is_tap_word : List ℕ → Bool
+is_tap_word word = nat_le 1 (length word) && nat_le (length word) most_tap_word
+
+-- words for taps
+abbrev pub are_tap_words : List (List ℕ) → Bool
+are_tap_words [] = true
+are_tap_words (word ∷ words) = is_tap_word word && are_tap_words words
 
 -- what one word asks for: --help or --version
 abbrev pub asked_text : List ℕ → Option Asked
@@ -32,11 +44,12 @@ asked_text word =
     else if bytes_eq word (codes "--version") then Some Version
     else None
 
--- what two words ask for: check LAYOUT or slack LAYOUT
-abbrev pub asked_layout : List ℕ → List ℕ → Option Asked
-asked_layout word layout =
-    if bytes_eq word (codes "check") && is_file_name layout then Some (Check layout)
-    else if bytes_eq word (codes "slack") && is_file_name layout then Some (Slack layout)
+-- what two words ask for: check LAYOUT, slack LAYOUT or meter LOG
+abbrev pub asked_file : List ℕ → List ℕ → Option Asked
+asked_file word file =
+    if bytes_eq word (codes "check") && is_file_name file then Some (Check file)
+    else if bytes_eq word (codes "slack") && is_file_name file then Some (Slack file)
+    else if bytes_eq word (codes "meter") && is_file_name file then Some (Meter file)
     else None
 
 -- what the words after plain ask for: LAYOUT PREFIX
@@ -51,7 +64,8 @@ asked_numbers None workers = None
 
 -- what the words after demo ask for: NUMBER WORKERS
 abbrev pub asked_demo : List ℕ → List ℕ → Option Asked
-asked_demo number workers = asked_numbers (number_up_to most_repeaters number) (number_up_to most_workers workers)
+asked_demo number workers =
+    asked_numbers (number_between 1 most_repeaters number) (number_between 1 most_workers workers)
 
 -- what three words ask for: plain LAYOUT PREFIX or demo NUMBER WORKERS
 abbrev pub asked_three : List ℕ → List ℕ → List ℕ → Option Asked
@@ -64,14 +78,32 @@ asked_three word first second =
 abbrev pub asked_run : List ℕ → List ℕ → List ℕ → List ℕ → Option Asked
 asked_run word layout prefix workers =
     if bytes_eq word (codes "run") && is_file_name layout && is_file_name prefix
-    then option_map (Run layout prefix) (number_up_to most_workers workers)
+    then option_map (Run layout prefix) (number_between 1 most_workers workers)
+    else None
+
+-- one half bit comes before another, and at most a million lie between them
+abbrev pub is_stretch : ℕ → ℕ → Bool
+is_stretch from to = nat_lt from to && nat_le to (from + most_probed)
+
+-- what is asked for of a layout and of words for taps by these two half bits, if they are there
+abbrev pub asked_stretch : List ℕ → List (List ℕ) → Option ℕ → Option ℕ → Option Asked
+asked_stretch layout taps (Some from) (Some to) = if is_stretch from to then Some (Probe layout from to taps) else None
+asked_stretch layout taps (Some from) None = None
+asked_stretch layout taps None to = None
+
+-- what five words and more ask for: probe LAYOUT FROM TO TAP .. with at most 16 taps
+abbrev pub asked_probe : List ℕ → List ℕ → List ℕ → List ℕ → List (List ℕ) → Option Asked
+asked_probe word layout from to taps =
+    if bytes_eq word (codes "probe") && is_file_name layout && nat_le (length taps) most_taps && are_tap_words taps
+    then asked_stretch layout taps (number_between 0 most_half_bits from) (number_between 0 most_half_bits to)
     else None
 
 -- what the words of the command line ask for, without the program's own name
 abbrev pub asked : List (List ℕ) → Option Asked
+asked (word ∷ layout ∷ from ∷ to ∷ tap ∷ taps) = asked_probe word layout from to (tap ∷ taps)
 asked (word ∷ layout ∷ prefix ∷ workers ∷ []) = asked_run word layout prefix workers
 asked (word ∷ first ∷ second ∷ []) = asked_three word first second
-asked (word ∷ layout ∷ []) = asked_layout word layout
+asked (word ∷ file ∷ []) = asked_file word file
 asked (word ∷ []) = asked_text word
 asked words = None
 
@@ -82,6 +114,8 @@ asked_of (request.Slack layout) = Slack layout.now
 asked_of (request.Plain layout prefix) = Plain layout.now prefix.now
 asked_of (request.Run layout prefix workers) = Run layout.now prefix.now workers
 asked_of (request.Demo number workers) = Demo number workers
+asked_of (request.Probe layout from to taps) = Probe layout.now from to taps.now
+asked_of (request.Meter log) = Meter log.now
 asked_of request.Help = Help
 asked_of request.Version = Version
 
@@ -93,5 +127,8 @@ HasNumbersInRange (request.Plain layout prefix) = Unit {0}
 HasNumbersInRange (request.Run layout prefix workers) = (1 ≤ workers) × (workers ≤ most_workers)
 HasNumbersInRange (request.Demo number workers) =
     (1 ≤ number) × (number ≤ most_repeaters) × (1 ≤ workers) × (workers ≤ most_workers)
+HasNumbersInRange (request.Probe layout from to taps) =
+    (from < to) × (to ≤ from + most_probed) × (to ≤ most_half_bits) × (length taps.now ≤ most_taps)
+HasNumbersInRange (request.Meter log) = Unit {0}
 HasNumbersInRange request.Help = Unit {0}
 HasNumbersInRange request.Version = Unit {0}

@@ -32,6 +32,18 @@ line_of_load_fault name fault =
     codes "capture fault " ++ decimal (code_of fault) ++ codes " " ++ name_of fault
     ++ codes " station " ++ name ++ codes " record " ++ decimal (number_of fault) ++ codes "\n"
 
+-- the line of a probe's first word that names no tap
+unfoldable pub line_of_tap_fault : List ℕ → List ℕ
+line_of_tap_fault word = codes "probe fault tap " ++ word ++ codes "\n"
+
+-- the line of a probe that ends after the run
+abbrev pub line_of_range_fault : List ℕ
+line_of_range_fault = codes "probe fault range\n"
+
+-- the line before what the tap of a word hears
+unfoldable pub line_of_tap : List ℕ → List ℕ
+line_of_tap word = codes "tap " ++ word ++ codes "\n"
+
 -- the name of the counters of a prefix
 unfoldable pub name_of_counters : List ℕ → List ℕ
 name_of_counters prefix = prefix ++ codes ".counters"

@@ -12,12 +12,16 @@ pub enum Ending {
     Layout,
     /// A load has a fault.
     Load,
-    /// The layout or a load isn't held, or a read failed.
+    /// A file to be read isn't held, or a read failed.
     Read,
     /// A write failed.
     Write,
     /// An allocation was refused.
     Memory,
+    /// A probe has a tap that the layout hasn't, or ends after the run.
+    Probe,
+    /// A log has a fault.
+    Log,
 }
 
 impl Ending {
@@ -35,6 +39,8 @@ impl Ending {
             Ending::Read => 4,
             Ending::Write => 5,
             Ending::Memory => 6,
+            Ending::Probe => 7,
+            Ending::Log => 8,
         }
     }
 }

@@ -1,17 +1,47 @@
 //! The plan of a layout file and its loads.
 ghost use Rattle.std.specs.Prelude.{◌≡◌, ◌≤◌, [], All, IfOk, IfErr, OnOk, length, replicate};
 ghost use Rattle.layout.specs.Sound.{IsSound};
-ghost use Rattle.netsim.specs.Endings.{IsBeforeRun, IsPlanned, HasOnlyRead};
+ghost use Rattle.netsim.specs.Endings.{IsBeforeRun, IsPlanned, IsUnloadedSaid, HasOnlyRead};
 ghost use Rattle.netsim.specs.FileLimits.{most_load_records};
 ghost use Rattle.netsim.specs.Moments.{moment};
+ghost use Rattle.netsim.specs.Runs.{IsPlanOf};
 
 use crate::endings::Ending;
 use crate::judge::read_network;
 use crate::loads::read_network_loads;
+use layout::Layout;
 use lists::{List, OutOfMemory};
 use load_plan::{Plan, RecordsList, make_plan};
 use outside::{Sink, Store};
 use std::alloc::Global;
+
+/// Reads the loads of a network and makes their plan, or says why there is none.
+pub(crate) fn plan_network<S: Store, K: Sink>(
+    alloc: Global,
+    network: Layout,
+    store: &mut S,
+    out: &mut K,
+) -> Result<Plan, Ending>
+    requires { IsSound network }
+    ensures planned { IfOk result (λ plan. IsPlanOf (S.held store.old) network plan) }
+    ensures read { OnOk result (HasOnlyRead
+        (moment S.held S.read_faults S.write_faults K.written K.faults K.refused store.old out.old)
+        (moment S.held S.read_faults S.write_faults K.written K.faults K.refused store.new out.new)) }
+    ensures unloaded { IfErr result (λ e. IsUnloadedSaid network
+        (moment S.held S.read_faults S.write_faults K.written K.faults K.refused store.old out.old)
+        (moment S.held S.read_faults S.write_faults K.written K.faults K.refused store.new out.new)
+        e) }
+    ensures held { S.held store.new ≡ S.held store.old }
+{
+    let loads = match read_network_loads(alloc, &network, store, out) {
+        Ok(loads) => loads,
+        Err(ended) => return Err(ended),
+    };
+    match make_plan(alloc, network, loads) {
+        Ok(plan) => Ok(plan),
+        Err(OutOfMemory) => Err(Ending::Memory),
+    }
+}
 
 /// Reads a layout file and its loads and makes their plan, or says why there is none.
 pub(crate) fn read_plan<S: Store, K: Sink>(
@@ -34,14 +64,7 @@ pub(crate) fn read_plan<S: Store, K: Sink>(
         Ok(network) => network,
         Err(ended) => return Err(ended),
     };
-    let loads = match read_network_loads(alloc, &network, store, out) {
-        Ok(loads) => loads,
-        Err(ended) => return Err(ended),
-    };
-    match make_plan(alloc, network, loads) {
-        Ok(plan) => Ok(plan),
-        Err(OutOfMemory) => Err(Ending::Memory),
-    }
+    plan_network(alloc, network, store, out)
 }
 
 /// So many loads without a record.

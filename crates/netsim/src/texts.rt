@@ -1,6 +1,6 @@
 //! The fixed texts, the lines of faults, and the names of the files that are written.
 ghost use Rattle.std.specs.Prelude.{◌≡◌, ◌++◌, IfOk, OnOk, decimal, string_bytes};
-ghost use Rattle.netsim.specs.Texts.{line_of_fault, line_of_load_fault, line_of_read_fault, name_of_capture, name_of_counters, name_of_log, text_of_place};
+ghost use Rattle.netsim.specs.Texts.{line_of_fault, line_of_load_fault, line_of_read_fault, line_of_tap_fault, name_of_capture, name_of_counters, name_of_log, text_of_place};
 
 use capture_file::CaptureFault;
 use layout_file::{LayoutFault, Place};
@@ -10,9 +10,12 @@ use std::alloc::Global;
 /// What is said of words that are none of the forms.
 pub const WORDS_FAULT: &str = "words fault\n";
 
+/// What is said of a probe that ends after the run.
+pub const RANGE_FAULT: &str = "probe fault range\n";
+
 /// What the program is called with.
 pub const HELP: &str =
-    "netsim check LAYOUT: writes whether the worst round trip of LAYOUT is within the slot time\nnetsim slack LAYOUT: writes that, and how far each gap between neighbouring taps and each repeater's delay can grow\nnetsim plain LAYOUT PREFIX: runs the network of LAYOUT by half bits and writes PREFIX.log, PREFIX.counters and a capture PREFIX.STATION.pcap for each station\nnetsim run LAYOUT PREFIX WORKERS: does the same by windows on 1 to 64 workers\nnetsim demo NUMBER WORKERS: runs a made network of 1 to 128 repeaters by windows on 1 to 64 workers and writes no file\nnetsim --help: writes this text\nnetsim --version: writes the name and the version\n";
+    "netsim check LAYOUT: writes whether the worst round trip of LAYOUT is within the slot time\nnetsim slack LAYOUT: writes that, and how far each gap between neighbouring taps and each repeater's delay can grow\nnetsim plain LAYOUT PREFIX: runs the network of LAYOUT by half bits and writes PREFIX.log, PREFIX.counters and a capture PREFIX.STATION.pcap for each station\nnetsim run LAYOUT PREFIX WORKERS: does the same by windows on 1 to 64 workers\nnetsim demo NUMBER WORKERS: runs a made network of 1 to 128 repeaters by windows on 1 to 64 workers and writes no file\nnetsim probe LAYOUT FROM TO TAP ..: runs the network of LAYOUT by half bits and writes what 1 to 16 taps hear from half bit FROM on and before TO, as runs of one symbol and bursts; a TAP is a station or REPEATER:PORT\nnetsim meter LOG: writes how many rows of each kind each device has in LOG, and how much of the channel each station got\nnetsim --help: writes this text\nnetsim --version: writes the name and the version\n";
 
 /// The program's name and version.
 pub const VERSION: &str = "netsim 0.1.0\n";
@@ -92,6 +95,18 @@ pub(crate) fn line_of_load_fault(
     line.extend(name.as_bytes())?;
     line.extend(b" record ")?;
     add_number(&mut line, fault.number())?;
+    line.extend(b"\n")?;
+    Ok(line)
+}
+
+/// What is said of a word of a probe that names no tap.
+#[tactic(auto, unfolding(crate::specs::Texts::line_of_tap_fault))]
+pub(crate) fn line_of_tap_fault(alloc: Global, word: &str) -> Result<List<u8>, OutOfMemory>
+    ensures { IfOk result (λ line. line ≡ line_of_tap_fault word.now) }
+{
+    let mut line = List::new(alloc);
+    line.extend(b"probe fault tap ")?;
+    line.extend(word.as_bytes())?;
     line.extend(b"\n")?;
     Ok(line)
 }

@@ -9,6 +9,8 @@ ghost use Rattle.netsim.specs.Statuses.{AreSlacksDone, IfCheck, IfDemo, IfFiles,
 
 use crate::demo::demo;
 use crate::endings::Ending;
+use crate::meter::meter;
+use crate::probe::probe;
 use crate::runs::{plain, run};
 use crate::sink_texts::{say, write_line};
 use crate::tell::{Telling, tell};
@@ -46,6 +48,15 @@ pub fn run_words<X: Threads + Wait + Sync, S: Store, K: Sink, G: Gate>(
             },
         ) => run(rt, alloc, layout, prefix, workers, gate, store, out),
         Some(Request::Demo { number, workers }) => demo(rt, alloc, number, workers, gate, out),
+        Some(
+            Request::Probe {
+                layout,
+                from,
+                to,
+                taps,
+            },
+        ) => probe(alloc, layout, from, to, taps, store, out),
+        Some(Request::Meter { log }) => meter(alloc, log, store, out),
         Some(Request::Help) => write_line(out, HELP.as_bytes()),
         Some(Request::Version) => write_line(out, VERSION.as_bytes()),
         None => {

@@ -1,8 +1,10 @@
 //! The words of the command line.
-ghost use Rattle.std.specs.Prelude.{◌≡◌, ◌≤◌, ◌<◌, ◌^◌, IfSome, option_map};
-ghost use Rattle.netsim.specs.Requests.{HasNumbersInRange, asked, asked_demo, asked_layout, asked_of, asked_plain, asked_run, asked_text, asked_three, is_file_name, number_up_to};
+ghost use Rattle.std.specs.Prelude.{◌≡◌, ◌≤◌, ◌<◌, ◌^◌, IfSome, length, option_map};
+ghost use Rattle.layout.specs.Limits.{most_half_bits};
+ghost use Rattle.netsim.specs.FileLimits.{most_taps};
+ghost use Rattle.netsim.specs.Requests.{HasNumbersInRange, are_tap_words, asked, asked_demo, asked_file, asked_of, asked_plain, asked_probe, asked_run, asked_stretch, asked_text, asked_three, is_file_name, is_tap_word, number_between};
 
-use layout::MOST_REPEATERS;
+use layout::{MOST_HALF_BITS, MOST_REPEATERS};
 use lists::{List, Text};
 
 /// The words that the program was called with, without its own name.
@@ -13,6 +15,18 @@ const MOST_NAME: usize = 200;
 
 /// The most workers of a run (profile).
 const MOST_WORKERS: u32 = 64;
+
+/// How many words come before the taps of a probe.
+const WORDS_BEFORE_TAPS: usize = 4;
+
+/// The most taps of a probe (profile).
+const MOST_TAPS: usize = 16;
+
+/// The most octets of a word for a tap (profile).
+const MOST_TAP_WORD: usize = 40;
+
+/// The most half bits of a probe (profile).
+const MOST_PROBED: u32 = 1_000_000;
 
 /// What the words ask for.
 #[derive(Clone, Copy, Debug)]
@@ -41,6 +55,17 @@ pub(crate) enum Request<'a> {
         number: u32,
         workers: u32,
     },
+    /// Says what taps hear from one half bit on and before another.
+    Probe {
+        layout: &'a str,
+        from: u32,
+        to: u32,
+        taps: &'a [Text],
+    },
+    /// Says figures of a log.
+    Meter {
+        log: &'a str,
+    },
     /// What the program is called with.
     Help,
     /// The program's name and version.
@@ -53,17 +78,18 @@ fn is_file_name(word: &str) -> bool
     !word.is_empty() && word.len() <= MOST_NAME
 }
 
-/// The number from 1 to the most that a word is in decimal, without a sign or a leading zero.
-fn read_number(word: &str, most: u32) -> Option<u32>
-    requires { most < 2 ^ 31 }
-    ensures number { result ≡ number_up_to most word.now }
-    ensures least { IfSome result (λ n. 1 ≤ n) }
+/// The number from the least to the most that a word is in decimal, without a sign or a leading zero.
+fn read_number(word: &str, least: u32, most: u32) -> Option<u32>
+    requires some { least ≤ most }
+    requires small { most < 2 ^ 31 }
+    ensures number { result ≡ number_between least most word.now }
+    ensures least { IfSome result (λ n. least ≤ n) }
     ensures most { IfSome result (λ n. n ≤ most) }
 {
     let Ok(number) = word.parse::<u32>() else {
         return None;
     };
-    if number < 1 {
+    if number < least {
         return None;
     }
     if number > most {
@@ -81,9 +107,13 @@ pub(crate) fn read_words(words: &Words) -> Option<Request<'_>>
     ensures asked { option_map asked_of result ≡ asked words.now }
     ensures range { IfSome result HasNumbersInRange }
 {
-    match words.as_slice() {
+    let words = words.as_slice();
+    if words.len() > WORDS_BEFORE_TAPS {
+        return read_long(words);
+    }
+    match words {
         [word] => read_text(word.as_str()),
-        [word, layout] => read_layout_form(word.as_str(), layout.as_str()),
+        [word, file] => read_file_form(word.as_str(), file.as_str()),
         [word, first, second] => read_three(word.as_str(), first.as_str(), second.as_str()),
         [word, layout, prefix, workers] => read_run(
             word.as_str(),
@@ -93,6 +123,20 @@ pub(crate) fn read_words(words: &Words) -> Option<Request<'_>>
         ),
         _ => None,
     }
+}
+
+fn read_long(words: &[Text]) -> Option<Request<'_>>
+    requires { 4 < length words.now }
+    ensures asked { option_map asked_of result ≡ asked words.now }
+    ensures range { IfSome result HasNumbersInRange }
+{
+    read_probe(
+        words[0].as_str(),
+        words[1].as_str(),
+        words[2].as_str(),
+        words[3].as_str(),
+        &words[WORDS_BEFORE_TAPS..],
+    )
 }
 
 fn read_text(word: &str) -> Option<Request<'static>>
@@ -106,14 +150,16 @@ fn read_text(word: &str) -> Option<Request<'static>>
     }
 }
 
-fn read_layout_form<'a>(word: &str, layout: &'a str) -> Option<Request<'a>>
-    ensures asked { option_map asked_of result ≡ asked_layout word.now layout.now }
+fn read_file_form<'a>(word: &str, file: &'a str) -> Option<Request<'a>>
+    ensures asked { option_map asked_of result ≡ asked_file word.now file.now }
     ensures range { IfSome result HasNumbersInRange }
 {
-    if word == "check" && is_file_name(layout) {
-        Some(Request::Check { layout })
-    } else if word == "slack" && is_file_name(layout) {
-        Some(Request::Slack { layout })
+    if word == "check" && is_file_name(file) {
+        Some(Request::Check { layout: file })
+    } else if word == "slack" && is_file_name(file) {
+        Some(Request::Slack { layout: file })
+    } else if word == "meter" && is_file_name(file) {
+        Some(Request::Meter { log: file })
     } else {
         None
     }
@@ -145,8 +191,8 @@ fn read_demo(number: &str, workers: &str) -> Option<Request<'static>>
     ensures asked { option_map asked_of result ≡ asked_demo number.now workers.now }
     ensures range { IfSome result HasNumbersInRange }
 {
-    let number = read_number(number, MOST_REPEATERS as u32)?;
-    let workers = read_number(workers, MOST_WORKERS)?;
+    let number = read_number(number, 1, MOST_REPEATERS as u32)?;
+    let workers = read_number(workers, 1, MOST_WORKERS)?;
     Some(Request::Demo { number, workers })
 }
 
@@ -155,12 +201,66 @@ fn read_run<'a>(word: &str, layout: &'a str, prefix: &'a str, workers: &str) -> 
     ensures range { IfSome result HasNumbersInRange }
 {
     if word == "run" && is_file_name(layout) && is_file_name(prefix) {
-        let workers = read_number(workers, MOST_WORKERS)?;
+        let workers = read_number(workers, 1, MOST_WORKERS)?;
         Some(Request::Run {
             layout,
             prefix,
             workers,
         })
+    } else {
+        None
+    }
+}
+
+fn is_tap_word(word: &str) -> bool
+    ensures { result ≡ is_tap_word word.now }
+{
+    !word.is_empty() && word.len() <= MOST_TAP_WORD
+}
+
+fn are_tap_words(words: &[Text]) -> bool
+    ensures { result ≡ are_tap_words words.now }
+{
+    for word in words {
+        if !is_tap_word(word.as_str()) {
+            return false;
+        }
+    }
+    true
+}
+
+fn read_stretch<'a>(layout: &'a str, from: &str, to: &str, taps: &'a [Text]) -> Option<Request<'a>>
+    requires { length taps.now ≤ most_taps }
+    ensures asked { option_map asked_of result ≡
+        asked_stretch layout.now taps.now (number_between 0 most_half_bits from.now) (number_between 0 most_half_bits to.now) }
+    ensures range { IfSome result HasNumbersInRange }
+{
+    let from = read_number(from, 0, MOST_HALF_BITS as u32)?;
+    let to = read_number(to, 0, MOST_HALF_BITS as u32)?;
+    if from < to && to <= from + MOST_PROBED {
+        Some(Request::Probe {
+            layout,
+            from,
+            to,
+            taps,
+        })
+    } else {
+        None
+    }
+}
+
+fn read_probe<'a>(
+    word: &str,
+    layout: &'a str,
+    from: &str,
+    to: &str,
+    taps: &'a [Text],
+) -> Option<Request<'a>>
+    ensures asked { option_map asked_of result ≡ asked_probe word.now layout.now from.now to.now taps.now }
+    ensures range { IfSome result HasNumbersInRange }
+{
+    if word == "probe" && is_file_name(layout) && taps.len() <= MOST_TAPS && are_tap_words(taps) {
+        read_stretch(layout, from, to, taps)
     } else {
         None
     }

@@ -1,0 +1,91 @@
+//! What a probe aims at: taps by their words, and an end within the run.
+ghost use Rattle.std.specs.Prelude.{◌≡◌, ◌≤◌, All, IfOk, IfErr, OnOk, OnErr};
+ghost use Rattle.layout.specs.Sound.{IsSound};
+ghost use Rattle.line_probe.specs.Taps.{HasTap};
+ghost use Rattle.netsim.specs.Endings.{IsAimEnd};
+ghost use Rattle.netsim.specs.Probes.{AreTapsOf, IsTapStop, half_bits_of};
+ghost use Rattle.netsim.specs.Texts.{line_of_tap_fault};
+ghost use Rattle.netsim.specs.Writing.{IsSaid};
+
+use crate::endings::Ending;
+use crate::sink_texts::say;
+use crate::texts::{RANGE_FAULT, line_of_tap_fault};
+use layout::Layout;
+use line_probe::{Tap, find_tap};
+use lists::{List, OutOfMemory, Text};
+use mac_parameters::HALF_BITS_A_BIT;
+use outside::Sink;
+use std::alloc::Global;
+
+/// Why there are no taps of these words.
+#[derive(Clone, Copy, Debug)]
+pub(crate) enum TapStop<'a> {
+    /// The first word that names no tap.
+    Unknown { word: &'a str },
+    /// An allocation was refused.
+    OutOfMemory,
+}
+
+/// The taps that these words name, or the first word that names none.
+fn taps_of<'a>(alloc: Global, network: &Layout, words: &'a [Text]) -> Result<List<Tap>, TapStop<'a>>
+    requires { IsSound network.now }
+    ensures taps { IfOk result (λ taps. AreTapsOf network.now words.now taps) }
+    ensures there { IfOk result (λ taps. All (HasTap network.now) taps) }
+    ensures stop { IfErr result (λ stop. IsTapStop network.now words.now stop) }
+{
+    let mut taps = List::new(alloc);
+    for word in words {
+        let Some(tap) = find_tap(network, word.as_str().as_bytes()) else {
+            return Err(TapStop::Unknown {
+                word: word.as_str(),
+            });
+        };
+        let Ok(()) = taps.push(tap) else {
+            return Err(TapStop::OutOfMemory);
+        };
+    }
+    Ok(taps)
+}
+
+/// Says that a word names no tap.
+fn say_tap_fault<K: Sink>(alloc: Global, word: &str, out: &mut K) -> Result<(), OutOfMemory>
+    ensures said { OnOk result (IsSaid (line_of_tap_fault word.now) (K.written out.old) (K.written out.new) (K.refused out.old) (K.refused out.new)) }
+    ensures silent { OnErr result (K.written out.new ≡ K.written out.old) }
+{
+    let line = line_of_tap_fault(alloc, word)?;
+    say(out, line.as_slice());
+    Ok(())
+}
+
+/// The taps that these words name in a network whose run has the half bits before `to`, or says what isn't there: the
+/// first word that names no tap, or else those half bits.
+pub(crate) fn aim<K: Sink>(
+    alloc: Global,
+    network: &Layout,
+    to: u32,
+    words: &[Text],
+    out: &mut K,
+) -> Result<List<Tap>, Ending>
+    requires { IsSound network.now }
+    ensures taps { IfOk result (λ taps. AreTapsOf network.now words.now taps) }
+    ensures there { IfOk result (λ taps. All (HasTap network.now) taps) }
+    ensures within { OnOk result (to ≤ half_bits_of network.now) }
+    ensures silent { OnOk result (K.written out.new ≡ K.written out.old) }
+    ensures faults { OnOk result (K.faults out.new ≡ K.faults out.old) }
+    ensures refused { OnOk result (K.refused out.new ≡ K.refused out.old) }
+    ensures missed { IfErr result (λ e. IsAimEnd network.now to words.now (K.written out.old) (K.written out.new) (K.refused out.old) (K.refused out.new) e) }
+{
+    let taps = match taps_of(alloc, network, words) {
+        Ok(taps) => taps,
+        Err(TapStop::OutOfMemory) => return Err(Ending::Memory),
+        Err(TapStop::Unknown { word }) => match say_tap_fault(alloc, word, out) {
+            Ok(()) => return Err(Ending::Probe),
+            Err(OutOfMemory) => return Err(Ending::Memory),
+        },
+    };
+    if u64::from(to) > u64::from(HALF_BITS_A_BIT) * network.until_bits {
+        say(out, RANGE_FAULT.as_bytes());
+        return Err(Ending::Probe);
+    }
+    Ok(taps)
+}

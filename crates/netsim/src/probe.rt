@@ -1,0 +1,109 @@
+//! The form that says what taps of a layout file's network hear.
+ghost use Rattle.std.specs.Prelude.{◌≡◌, ◌≤◌, ◌<◌, ◌+◌, ◌^◌, ℕ, List, All, length};
+ghost use Rattle.layout.specs.Sound.{IsSound};
+ghost use Rattle.layout.specs.Limits.{most_half_bits};
+ghost use Rattle.line_probe.specs.Heard.{rows_of_taps};
+ghost use Rattle.line_probe.specs.Taps.{HasTap};
+ghost use Rattle.line_probe.specs.declared.tap.Tap.{Tap};
+ghost use Rattle.load_plan.specs.declared.plan.Plan.{Plan};
+ghost use Rattle.network.specs.Outputs.{half_bits};
+ghost use Rattle.netsim.specs.Endings.{AreTapsTold, AreTextsTold, IsProbeEnd};
+ghost use Rattle.netsim.specs.FileLimits.{most_probed, most_taps};
+ghost use Rattle.netsim.specs.Moments.{moment};
+
+use crate::aim::aim;
+use crate::endings::Ending;
+use crate::judge::read_network;
+use crate::plans::plan_network;
+use crate::probe_texts::text_of_tap;
+use crate::sink_texts::write_line;
+use line_probe::{Tap, heard_at_taps};
+use lists::{List, OutOfMemory, Text};
+use load_plan::Plan;
+use manchester_line::Sym;
+use outside::{Sink, Store};
+use std::alloc::Global;
+
+/// Writes what the taps of these words hear, of what they all hear from half bit `from` on, tap by tap.
+fn write_taps<K: Sink>(
+    alloc: Global,
+    heard: &List<Sym>,
+    words: &[Text],
+    from: u64,
+    out: &mut K,
+) -> Ending
+    requires { from + length heard.now ≤ 2 ^ 63 }
+    ensures { (plan : Plan) (taps : List Tap) (n : ℕ) → heard.now ≡ rows_of_taps plan taps from n → length taps ≡ length words.now →
+        AreTextsTold plan from n words.now taps (K.written out.old) (K.written out.new) (K.faults out.old) (K.faults out.new) result }
+{
+    for k in 0..words.len() {
+        let text = match text_of_tap(alloc, heard, words.len(), k, from, words[k].as_str()) {
+            Ok(text) => text,
+            Err(OutOfMemory) => return Ending::Memory,
+        };
+        match write_line(out, text.as_slice()) {
+            Ending::Done => {}
+            ended => return ended,
+        }
+    }
+    Ending::Done
+}
+
+/// Writes what these taps of a plan's network hear from half bit `from` on and before half bit `to`.
+fn tell_taps<K: Sink>(
+    alloc: Global,
+    plan: &Plan,
+    words: &[Text],
+    taps: &[Tap],
+    from: u32,
+    to: u32,
+    out: &mut K,
+) -> Ending
+    requires taps { All (HasTap plan.now.layout) taps.now }
+    requires named { length taps.now ≡ length words.now }
+    requires few { length taps.now ≤ most_taps }
+    requires order { from < to }
+    requires short { to ≤ from + most_probed }
+    requires end { to ≤ half_bits plan.now }
+    ensures { AreTapsTold plan.now from to words.now taps.now (K.written out.old) (K.written out.new) (K.faults out.old) (K.faults out.new) result }
+{
+    let from = u64::from(from);
+    match heard_at_taps(alloc, plan, taps, from, u64::from(to)) {
+        Ok(heard) => write_taps(alloc, &heard, words, from, out),
+        Err(OutOfMemory) => Ending::Memory,
+    }
+}
+
+/// Says what the taps of these words hear in the network of a layout file with its loads, from half bit `from` on and
+/// before half bit `to`.
+pub(crate) fn probe<S: Store, K: Sink>(
+    alloc: Global,
+    layout: &str,
+    from: u32,
+    to: u32,
+    words: &[Text],
+    store: &mut S,
+    out: &mut K,
+) -> Ending
+    requires order { from < to }
+    requires short { to ≤ from + most_probed }
+    requires few { length words.now ≤ most_taps }
+    ensures { IsProbeEnd layout.now from to words.now
+        (moment S.held S.read_faults S.write_faults K.written K.faults K.refused store.old out.old)
+        (moment S.held S.read_faults S.write_faults K.written K.faults K.refused store.new out.new)
+        result }
+{
+    let network = match read_network(alloc, layout, store, out) {
+        Ok(network) => network,
+        Err(ended) => return ended,
+    };
+    let taps = match aim(alloc, &network, to, words, out) {
+        Ok(taps) => taps,
+        Err(ended) => return ended,
+    };
+    let plan = match plan_network(alloc, network, store, out) {
+        Ok(plan) => plan,
+        Err(ended) => return ended,
+    };
+    tell_taps(alloc, &plan, words, taps.as_slice(), from, to, out)
+}
