@@ -4,10 +4,10 @@ use Rattle.layout.specs.declared.lines.Layout.{Layout}
 use Rattle.netsim.specs.declared.endings.Ending.{Ending}
 use Rattle.netsim.specs.declared.endings.Ending.TheVariants as ending
 use Rattle.netsim.specs.declared.texts.TheConstants.{HELP, VERSION}
-use Rattle.netsim.specs.Endings.{IsAnswer, IsCheckEnd, IsDemoEnd, IsEarly, IsEndOf, IsLoadEnd, IsPlainEnd, IsRun, IsSlackEnd, IsText, IsTellingEnd, IsTextEnd, IsUnrun, status_of}
+use Rattle.netsim.specs.Endings.{IsAnswer, IsCheckEnd, IsDemoEnd, IsEarly, IsEndOf, IsLoadEnd, IsMeterEnd, IsMetered, IsMissed, IsPlainEnd, IsProbed, IsProbeEnd, IsRun, IsSlackEnd, IsText, IsTellingEnd, IsTextEnd, IsUnmetered, IsUnprobed, IsUnrun, status_of}
 use Rattle.netsim.specs.Demos.{IsDemoText}
 use Rattle.netsim.specs.Moments.{Moment}
-use Rattle.netsim.specs.Requests.{Asked, asked, Check, Demo, Slack}
+use Rattle.netsim.specs.Requests.{Asked, asked, Check, Demo, Meter, Probe, Slack}
 use Rattle.netsim.specs.SlackTexts.{IsSlackText}
 use Rattle.netsim.specs.Statuses.{AskForFiles, IfTelling, IfText}
 use Rattle.netsim.specs.Verdicts.{IsVerdictLine}
@@ -20,7 +20,9 @@ ending_at (suc (suc zero)) = ending.Layout
 ending_at (suc (suc (suc zero))) = ending.Load
 ending_at (suc (suc (suc (suc zero)))) = ending.Read
 ending_at (suc (suc (suc (suc (suc zero))))) = ending.Write
-ending_at (suc (suc (suc (suc (suc (suc n)))))) = ending.Memory
+ending_at (suc (suc (suc (suc (suc (suc zero)))))) = ending.Memory
+ending_at (suc (suc (suc (suc (suc (suc (suc zero))))))) = ending.Probe
+ending_at (suc (suc (suc (suc (suc (suc (suc (suc n)))))))) = ending.Log
 
 at_status : (e : Ending) → ending_at (status_of e) ≡ e
 at_status ending.Done = refl
@@ -30,6 +32,8 @@ at_status ending.Load = refl
 at_status ending.Read = refl
 at_status ending.Write = refl
 at_status ending.Memory = refl
+at_status ending.Probe = refl
+at_status ending.Log = refl
 
 -- the end of an answer with this status
 pub end_at : (words : List (List ℕ)) (entry exit : Moment) (status k : ℕ) → IsAnswer words entry exit status → status ≡ k → IsEndOf (asked words) entry exit (ending_at k)
@@ -49,6 +53,25 @@ files_end o layout prefix entry exit e asks end =
 
 pub demo_end : (o : Option Asked) (number workers : ℕ) (entry exit : Moment) (e : Ending) → o ≡ Some (Demo number workers) → IsEndOf o entry exit e → IsDemoEnd number entry exit e
 demo_end o number workers entry exit e is end = subst (λ a. IsEndOf a entry exit e) is end
+
+pub probe_end : (o : Option Asked) (layout : List ℕ) (from to : ℕ) (taps : List (List ℕ)) (entry exit : Moment) (e : Ending) → o ≡ Some (Probe layout from to taps) → IsEndOf o entry exit e → IsProbeEnd layout from to taps entry exit e
+probe_end o layout from to taps entry exit e is end = subst (λ a. IsEndOf a entry exit e) is end
+
+pub meter_end : (o : Option Asked) (log : List ℕ) (entry exit : Moment) (e : Ending) → o ≡ Some (Meter log) → IsEndOf o entry exit e → IsMeterEnd log entry exit e
+meter_end o log entry exit e is end = subst (λ a. IsEndOf a entry exit e) is end
+
+-- what comes of each of the four ways in which probe ends comes of its end
+pub by_probe : (X : Type 0) (layout : List ℕ) (from to : ℕ) (taps : List (List ℕ)) (before after : Moment) (e : Ending) → (IsEarly layout before after e → X) → (IsMissed layout to taps before after e → X)
+    → (IsUnprobed layout to taps before after e → X) → (IsProbed layout from to taps before after e → X) → IsProbeEnd layout from to taps before after e → X
+by_probe X layout from to taps before after e early missed unprobed probed h =
+    elim h.1 [
+      | inl one ↦ early one
+      | inr later ↦ elim later [ inl two ↦ missed two | inr last ↦ elim last [ inl three ↦ unprobed three | inr four ↦ probed four ] ]
+    ]
+
+-- what comes of each of the two ways in which meter ends comes of its end
+pub by_meter : (X : Type 0) (log : List ℕ) (before after : Moment) (e : Ending) → (IsUnmetered log before after e → X) → (IsMetered log before after e → X) → IsMeterEnd log before after e → X
+by_meter X log before after e unmetered metered h = elim h.1 [ inl one ↦ unmetered one | inr two ↦ metered two ]
 
 -- what comes of each of the four ways in which a form that writes the files of a run ends comes of its end
 pub by_way : (X : Type 0) (layout prefix : List ℕ) (before after : Moment) (e : Ending) → (IsEarly layout before after e → X) → (IsLoadEnd layout before after e → X) → (IsUnrun before after e → X) → (IsRun layout prefix before after e → X)

@@ -7,12 +7,12 @@ use Rattle.layout_file.specs.declared.fault.LayoutFault.{LayoutFault}
 use Rattle.netsim.specs.declared.endings.Ending.{Ending}
 use Rattle.netsim.specs.declared.endings.Ending.TheVariants as ending
 use Rattle.netsim.specs.Moments.{Moment}
-use Rattle.netsim.specs.Endings.{IsDemoEnd, IsEndOf, IsPlainEnd, IsTellingEnd, IsJudged, HasFault, IsEarly, IsFaultSaid, IsUnrun, status_of}
+use Rattle.netsim.specs.Endings.{IsDemoEnd, IsEndOf, IsMeterEnd, IsPlainEnd, IsProbeEnd, IsTellingEnd, IsJudged, HasFault, IsEarly, IsFaultSaid, IsUnrun, status_of}
 use Rattle.netsim.specs.Reading.{front_of}
-use Rattle.netsim.specs.Requests.{Asked, asked, Check, Slack, Plain, Run, Demo, Help, Version}
+use Rattle.netsim.specs.Requests.{Asked, asked, Check, Slack, Plain, Run, Demo, Probe, Meter, Help, Version}
 use Rattle.netsim.specs.Statuses.{IsFaultStatus, IsLayoutWith, IsUnreadOrMemory}
 use Rattle.netsim.specs.StatusLaws.{AreLayoutFaultsSaid, DoAbsentLayoutsDecide, DoLayoutFaultsDecide}
-use Rattle.netsim.proofs.EndingsByStatus.{by_demo, by_way, end_at, files_end, of_tellings}
+use Rattle.netsim.proofs.EndingsByStatus.{by_demo, by_meter, by_probe, by_way, end_at, files_end, of_tellings, probe_end}
 
 pub absent_unjudged : (name : List ℕ) (held : Option Files) (verdict : Result Layout LayoutFault) → IsAbsent name held → IsJudged name held verdict → ⊥
 unfolding front_of
@@ -44,6 +44,8 @@ module _ (layout : List ℕ) (before after : Moment) where
   early_absent ending.Read absent early = inl refl
   early_absent ending.Write absent early = absurd early
   early_absent ending.Memory absent early = inr refl
+  early_absent ending.Probe absent early = absurd early
+  early_absent ending.Log absent early = absurd early
 
 -- where a read failed or the layout isn't held
 unread_status : (X : Type 0) (layout : List ℕ) (held : Option Files) (reads risen : ℕ) (P : Files → Type 0) → ((files : Files) → IsAbsent layout (Some files) → P files → ⊥) → (Rose reads risen → X)
@@ -66,6 +68,8 @@ early_faulty layout before after ending.Read early =
     unread_status (IsFaultStatus 2 4 before.reads after.reads) layout before.held before.reads after.reads (λ files. HasFault layout (Some files)) (absent_faulty layout) (λ rose. inr (inr (refl, rose))) early.0
 early_faulty layout before after ending.Write early = absurd early
 early_faulty layout before after ending.Memory early = some_of before.held _ (λ files fault. inr (inl refl))
+early_faulty layout before after ending.Probe early = absurd early
+early_faulty layout before after ending.Log early = absurd early
 
 unrun_faulty : (fault : ℕ) (P : Files → Type 0) (before after : Moment) (e : Ending) → IsUnrun before after e
     → IfSome before.held (λ files. P files → IsFaultStatus fault (status_of e) before.reads after.reads)
@@ -84,6 +88,14 @@ plain_faulty layout prefix before after e h =
     (λ unrun. unrun_faulty 2 (λ files. HasFault layout (Some files)) before after e unrun)
     (λ run. no_fault_of (IsFaultStatus 2 (status_of e) before.reads after.reads) layout before.held run.planned.network run.planned.judged) h
 
+probe_faulty : (layout : List ℕ) (from to : ℕ) (taps : List (List ℕ)) (before after : Moment) (e : Ending) → IsProbeEnd layout from to taps before after e
+    → IfSome before.held (λ files. HasFault layout (Some files) → IsFaultStatus 2 (status_of e) before.reads after.reads)
+probe_faulty layout from to taps before after e h =
+    by_probe (IfSome before.held (λ files. HasFault layout (Some files) → IsFaultStatus 2 (status_of e) before.reads after.reads)) layout from to taps before after e (λ early. early_faulty layout before after e early)
+    (λ missed. no_fault_of (IsFaultStatus 2 (status_of e) before.reads after.reads) layout before.held missed.network missed.judged)
+    (λ unprobed. no_fault_of (IsFaultStatus 2 (status_of e) before.reads after.reads) layout before.held unprobed.network unprobed.judged)
+    (λ probed. no_fault_of (IsFaultStatus 2 (status_of e) before.reads after.reads) layout before.held probed.right.planned.network probed.right.planned.judged) h
+
 -- status 2 where the layout has a fault
 pub layout_faults_decide : DoLayoutFaultsDecide
 layout_faults_decide words entry exit status answer =
@@ -91,6 +103,7 @@ layout_faults_decide words entry exit status answer =
       of_tellings (asked words) entry exit answer.by (λ Tells layout. IfSome entry.held (λ files. HasFault layout (Some files) → IsFaultStatus 2 (status_of answer.by) entry.reads exit.reads))
           (λ Tells layout end. telling_faulty Tells layout entry exit answer.by end) answer.allowed,
       λ layout prefix is. plain_faulty layout prefix entry exit answer.by (files_end (asked words) layout prefix entry exit answer.by is answer.allowed),
+      λ layout from to taps is. probe_faulty layout from to taps entry exit answer.by (probe_end (asked words) layout from to taps entry exit answer.by is answer.allowed),
     )
 
 telling_absent : (Tells : Layout → List ℕ → Type 0) (layout : List ℕ) (before after : Moment) (e : Ending) → IsTellingEnd Tells layout before after e → IsAbsent layout before.held → IsUnreadOrMemory (status_of e)
@@ -103,6 +116,12 @@ plain_absent layout prefix before after e h absent =
     (λ unloaded. absurd (absent_unjudged layout before.held (Ok unloaded.network) absent unloaded.judged)) (λ unrun. inr (ap status_of unrun.0))
     (λ run. absurd (absent_unjudged layout before.held (Ok run.planned.network) absent run.planned.judged)) h
 
+probe_absent : (layout : List ℕ) (from to : ℕ) (taps : List (List ℕ)) (before after : Moment) (e : Ending) → IsProbeEnd layout from to taps before after e → IsAbsent layout before.held → IsUnreadOrMemory (status_of e)
+probe_absent layout from to taps before after e h absent =
+    by_probe (IsUnreadOrMemory (status_of e)) layout from to taps before after e (λ early. early_absent layout before after e absent early)
+    (λ missed. absurd (absent_unjudged layout before.held (Ok missed.network) absent missed.judged)) (λ unprobed. absurd (absent_unjudged layout before.held (Ok unprobed.network) absent unprobed.judged))
+    (λ probed. absurd (absent_unjudged layout before.held (Ok probed.right.planned.network) absent probed.right.planned.judged)) h
+
 -- a layout that isn't held is not judged
 pub absent_layouts_decide : DoAbsentLayoutsDecide
 absent_layouts_decide words entry exit status answer =
@@ -110,6 +129,7 @@ absent_layouts_decide words entry exit status answer =
       of_tellings (asked words) entry exit answer.by (λ Tells layout. IsAbsent layout entry.held → IsUnreadOrMemory (status_of answer.by))
           (λ Tells layout end. telling_absent Tells layout entry exit answer.by end) answer.allowed,
       λ layout prefix is. plain_absent layout prefix entry exit answer.by (files_end (asked words) layout prefix entry exit answer.by is answer.allowed),
+      λ layout from to taps is. probe_absent layout from to taps entry exit answer.by (probe_end (asked words) layout from to taps entry exit answer.by is answer.allowed),
     )
 
 layout_unrun : ending.Layout ≡ ending.Memory → ⊥
@@ -126,6 +146,13 @@ plain_said layout prefix entry exit h =
 demo_said : (number : ℕ) (entry exit : Moment) → IsDemoEnd number entry exit ending.Layout → ⊥
 demo_said number entry exit h = by_demo ⊥ number entry exit ending.Layout (λ is written. layout_unrun is) (λ text right written. written) h
 
+probe_said : (layout : List ℕ) (from to : ℕ) (taps : List (List ℕ)) (entry exit : Moment) → IsProbeEnd layout from to taps entry exit ending.Layout → IsFaultSaid layout entry exit
+probe_said layout from to taps entry exit h =
+    by_probe (IsFaultSaid layout entry exit) layout from to taps entry exit ending.Layout (λ early. early) (λ missed. absurd missed.missed) (λ unprobed. absurd unprobed.said) (λ probed. absurd probed.written) h
+
+meter_said : (log : List ℕ) (entry exit : Moment) → IsMeterEnd log entry exit ending.Layout → ⊥
+meter_said log entry exit h = by_meter ⊥ log entry exit ending.Layout (λ unmetered. unmetered) (λ metered. metered.written) h
+
 -- status 2 comes of a layout with a fault
 faulty_of : (o : Option Asked) (entry exit : Moment) → IsEndOf o entry exit ending.Layout → IsLayoutWith o (λ layout. IsFaultSaid layout entry exit)
 faulty_of None entry exit h = absurd (words_layout h.0)
@@ -136,6 +163,8 @@ faulty_of (Some (Slack layout)) entry exit h = elim h.1 [ inl early ↦ early | 
 faulty_of (Some (Plain layout prefix)) entry exit h = plain_said layout prefix entry exit h
 faulty_of (Some (Run layout prefix workers)) entry exit h = plain_said layout prefix entry exit h
 faulty_of (Some (Demo number workers)) entry exit h = demo_said number entry exit h
+faulty_of (Some (Probe layout from to taps)) entry exit h = probe_said layout from to taps entry exit h
+faulty_of (Some (Meter log)) entry exit h = meter_said log entry exit h
 
 pub layout_faults_are_said : AreLayoutFaultsSaid
 layout_faults_are_said words entry exit status answer is = faulty_of (asked words) entry exit (end_at words entry exit status 2 answer is)

@@ -11,11 +11,11 @@ use Rattle.load_plan.specs.declared.plan.Plan.{Plan}
 use Rattle.netsim.specs.declared.endings.Ending.{Ending}
 use Rattle.netsim.specs.declared.endings.Ending.TheVariants as ending
 use Rattle.netsim.specs.Moments.{Moment}
-use Rattle.netsim.specs.Endings.{IsAnswer, IsDemoEnd, IsEndOf, IsPlainEnd, IsTellingEnd, IsJudged, IsEarly, IsLoadFaultSaid, IsUnloadedSaid, IsUnrun, IsFiledEnd, IsText, status_of}
-use Rattle.netsim.specs.Requests.{Asked, asked, Check, Slack, Plain, Run, Demo, Help, Version}
-use Rattle.netsim.specs.Statuses.{HasAbsentLoad, HasLoadFault, IsDoneOrMemory, IsFaultStatus, IsFilesWith, IsInputFaultSaid, IsNetworkWith, IsReadFaultSaid, IsUnhindered, IsUnreadOrMemory}
+use Rattle.netsim.specs.Endings.{IsAnswer, IsDemoEnd, IsEndOf, IsMeterEnd, IsPlainEnd, IsProbeEnd, IsTellingEnd, IsJudged, IsEarly, IsLoadFaultSaid, IsUnloadedSaid, IsUnreadSaid, IsUnrun, IsFiledEnd, IsText, status_of}
+use Rattle.netsim.specs.Requests.{Asked, asked, Check, Slack, Plain, Run, Demo, Probe, Meter, Help, Version}
+use Rattle.netsim.specs.Statuses.{HasAbsentLoad, HasLoadFault, IsDoneOrMemory, IsFaultStatus, IsInputFaultSaid, IsLoadedWith, IsNetworkWith, IsReadFaultSaid, IsUnhindered, IsUnreadOrMemory}
 use Rattle.netsim.specs.StatusLaws.{AreDemosComplete, AreLoadFaultsSaid, AreReadFaultsSaid, AreTellingsComplete, AreTextsComplete, DoAbsentLoadsDecide, DoLoadFaultsDecide}
-use Rattle.netsim.proofs.EndingsByStatus.{by_demo, by_way, demo_end, end_at, files_end, of_tellings, of_texts}
+use Rattle.netsim.proofs.EndingsByStatus.{by_demo, by_meter, by_probe, by_way, demo_end, end_at, files_end, of_tellings, of_texts}
 use Rattle.netsim.proofs.LayoutDecidesStatus.{absent_unjudged, good_or_faulty, same_network}
 
 -- some network was judged good, and its loads are these
@@ -49,7 +49,7 @@ known_unread layout None reads risen X on unread = tt
 known_unread layout (Some files) reads risen X on unread =
     λ l known. elim unread [ inl absent ↦ absurd (absent_unjudged layout (Some files) (Ok known.network) absent known.judged) | inr rose ↦ on l rose ]
 
-known_loads : (layout : List ℕ) (held : Option Files) (network : Layout) (a : Loaded) (X : Loaded → Type 0) → IsJudged layout held (Ok network) → IsLoaded held network.stations a → X a → IfKnown layout held X
+pub known_loads : (layout : List ℕ) (held : Option Files) (network : Layout) (a : Loaded) (X : Loaded → Type 0) → IsJudged layout held (Ok network) → IsLoaded held network.stations a → X a → IfKnown layout held X
 known_loads layout None network a X judged is x = tt
 known_loads layout (Some files) network a X judged is x =
     λ l known. subst X (known_same layout files a l (record { network = network; judged = judged; is = is }) known) x
@@ -68,7 +68,7 @@ pub record Says (X : ℕ → Loaded → Type 0) (reads risen : ℕ) : Type 0 whe
   pub fault : (station : ℕ) (f : CaptureFault) → X 3 (Faulty station f)
 
 module _ (X : ℕ → Loaded → Type 0) (layout : List ℕ) (before after : Moment) (says : Says X before.reads after.reads) where
-  early_known : (e : Ending) → IsEarly layout before after e → IfKnown layout before.held (X (status_of e))
+  pub early_known : (e : Ending) → IsEarly layout before after e → IfKnown layout before.held (X (status_of e))
   early_known ending.Done early = absurd early
   early_known ending.Words early = absurd early
   early_known ending.Layout early = known_faulty layout before.held (X 2) early.0 early.1
@@ -76,8 +76,10 @@ module _ (X : ℕ → Loaded → Type 0) (layout : List ℕ) (before after : Mom
   early_known ending.Read early = known_unread layout before.held before.reads after.reads (X 4) says.rose early.0
   early_known ending.Write early = absurd early
   early_known ending.Memory early = always layout before.held (X 6) says.memory
+  early_known ending.Probe early = absurd early
+  early_known ending.Log early = absurd early
 
-  unloaded_known : (network : Layout) (e : Ending) → IsJudged layout before.held (Ok network) → IsUnloadedSaid network before after e → IfKnown layout before.held (X (status_of e))
+  pub unloaded_known : (network : Layout) (e : Ending) → IsJudged layout before.held (Ok network) → IsUnloadedSaid network before after e → IfKnown layout before.held (X (status_of e))
   unloaded_known network ending.Done judged said = absurd said
   unloaded_known network ending.Words judged said = absurd said
   unloaded_known network ending.Layout judged said = absurd said
@@ -85,6 +87,8 @@ module _ (X : ℕ → Loaded → Type 0) (layout : List ℕ) (before after : Mom
   unloaded_known network ending.Read judged said = known_absent layout before.held network said.name before.reads after.reads (X 4) judged (says.absent said.name) says.rose said.unread
   unloaded_known network ending.Write judged said = absurd said
   unloaded_known network ending.Memory judged said = always layout before.held (X 6) says.memory
+  unloaded_known network ending.Probe judged said = absurd said
+  unloaded_known network ending.Log judged said = absurd said
 
   unrun_known : (e : Ending) → IsUnrun before after e → IfKnown layout before.held (X (status_of e))
   unrun_known e unrun = let six : 6 ≡ status_of e = sym (ap status_of unrun.0) in always layout before.held (X (status_of e)) (λ l. subst (λ n. X n l) six (says.memory l))
@@ -102,7 +106,7 @@ plain_known X layout prefix before after e says ran h =
 abbrev FaultSays : ℕ → ℕ → ℕ → Loaded → Type 0
 FaultSays reads risen n l = (station : ℕ) (f : CaptureFault) → l ≡ Faulty station f → IsFaultStatus 3 n reads risen
 
-fault_says : (reads risen : ℕ) → Says (FaultSays reads risen) reads risen
+pub fault_says : (reads risen : ℕ) → Says (FaultSays reads risen) reads risen
 fault_says reads risen = record {
   memory = λ l station f is. inr (inl refl);
   rose = λ l rose station f is. inr (inr (refl, rose));
@@ -131,7 +135,7 @@ load_faults_decide words entry exit status answer =
 abbrev AbsentSays : ℕ → Loaded → Type 0
 AbsentSays n l = (name : List ℕ) → l ≡ Absent name → IsUnreadOrMemory n
 
-absent_says : (reads risen : ℕ) → Says AbsentSays reads risen
+pub absent_says : (reads risen : ℕ) → Says AbsentSays reads risen
 absent_says reads risen = record {
   memory = λ l name is. inr refl;
   rose = λ l rose name is. inl refl;
@@ -180,6 +184,8 @@ filed_whole prefix plan before after ending.Load filed w f = elim filed [ inl al
 filed_whole prefix plan before after ending.Read filed w f = elim filed [ inl all ↦ absurd all.1.2 | inr some ↦ absurd some ]
 filed_whole prefix plan before after ending.Write filed w f = elim filed [ inl all ↦ absurd (f all.1.2.1) | inr some ↦ absurd (w some.1) ]
 filed_whole prefix plan before after ending.Memory filed w f = inr refl
+filed_whole prefix plan before after ending.Probe filed w f = elim filed [ inl all ↦ absurd all.1.2 | inr some ↦ absurd some ]
+filed_whole prefix plan before after ending.Log filed w f = elim filed [ inl all ↦ absurd all.1.2 | inr some ↦ absurd some ]
 
 -- a run that nothing hinders is done
 pub complete : (words : List (List ℕ)) (entry exit : Moment) (status : ℕ) → IsAnswer words entry exit status → IsUnhindered words entry exit → IsDoneOrMemory status
@@ -198,7 +204,7 @@ known_telling layout None reads read faults faulted n known = tt
 known_telling layout (Some files) reads read faults faulted n known =
     λ network good. known (loaded files network.stations) (record { network = network; judged = good; is = refl })
 
-text_whole : (text : List ℕ) (before after : Moment) (e : Ending) → IsText text before.written after.written before.faults after.faults e → ¬ Rose before.faults after.faults → IsDoneOrMemory (status_of e)
+pub text_whole : (text : List ℕ) (before after : Moment) (e : Ending) → IsText text before.written after.written before.faults after.faults e → ¬ Rose before.faults after.faults → IsDoneOrMemory (status_of e)
 text_whole text before after ending.Done written never = inl refl
 text_whole text before after ending.Words written never = absurd written
 text_whole text before after ending.Layout written never = absurd written
@@ -206,6 +212,8 @@ text_whole text before after ending.Load written never = absurd written
 text_whole text before after ending.Read written never = absurd written
 text_whole text before after ending.Write written never = absurd (never written.1)
 text_whole text before after ending.Memory written never = inr refl
+text_whole text before after ending.Probe written never = absurd written
+text_whole text before after ending.Log written never = absurd written
 
 early_told : (layout : List ℕ) (before after : Moment) (e : Ending) → IsEarly layout before after e → IfKnown layout before.held (TellingSays before.reads after.reads before.faults after.faults (status_of e))
 early_told layout before after ending.Done early = absurd early
@@ -216,6 +224,8 @@ early_told layout before after ending.Read early =
     known_unread layout before.held before.reads after.reads (TellingSays before.reads after.reads before.faults after.faults 4) (λ l rose r f. absurd (r rose)) early.0
 early_told layout before after ending.Write early = absurd early
 early_told layout before after ending.Memory early = always layout before.held (TellingSays before.reads after.reads before.faults after.faults 6) (λ l r f. inr refl)
+early_told layout before after ending.Probe early = absurd early
+early_told layout before after ending.Log early = absurd early
 
 telling_known : (Tells : Layout → List ℕ → Type 0) (layout : List ℕ) (before after : Moment) (e : Ending) → IsTellingEnd Tells layout before after e → IfKnown layout before.held (TellingSays before.reads after.reads before.faults after.faults (status_of e))
 telling_known Tells layout before after e h =
@@ -261,15 +271,25 @@ load_said layout prefix entry exit h =
 load_demo : (number : ℕ) (entry exit : Moment) → IsDemoEnd number entry exit ending.Load → ⊥
 load_demo number entry exit h = by_demo ⊥ number entry exit ending.Load (λ is written. load_unrun is) (λ text right written. written) h
 
-load_faulty_of : (o : Option Asked) (entry exit : Moment) → IsEndOf o entry exit ending.Load → IsFilesWith o (λ layout prefix. IsNetworkWith layout entry.held (λ network. IsLoadFaultSaid network entry exit))
+load_probe : (layout : List ℕ) (from to : ℕ) (taps : List (List ℕ)) (entry exit : Moment) → IsProbeEnd layout from to taps entry exit ending.Load → IsNetworkWith layout entry.held (λ network. IsLoadFaultSaid network entry exit)
+load_probe layout from to taps entry exit h =
+    by_probe (IsNetworkWith layout entry.held (λ network. IsLoadFaultSaid network entry exit)) layout from to taps entry exit ending.Load (λ early. absurd early) (λ missed. absurd missed.missed)
+    (λ unprobed. (unprobed.network, unprobed.judged, unprobed.said)) (λ probed. absurd probed.written) h
+
+load_meter : (log : List ℕ) (entry exit : Moment) → IsMeterEnd log entry exit ending.Load → ⊥
+load_meter log entry exit h = by_meter ⊥ log entry exit ending.Load (λ unmetered. unmetered) (λ metered. metered.written) h
+
+load_faulty_of : (o : Option Asked) (entry exit : Moment) → IsEndOf o entry exit ending.Load → IsLoadedWith o (λ layout. IsNetworkWith layout entry.held (λ network. IsLoadFaultSaid network entry exit))
 load_faulty_of None entry exit h = absurd (words_load h.0)
 load_faulty_of (Some Help) entry exit h = absurd h.0
 load_faulty_of (Some Version) entry exit h = absurd h.0
 load_faulty_of (Some (Check layout)) entry exit h = elim h.1 [ inl early ↦ absurd early | inr checked ↦ absurd checked.written ]
 load_faulty_of (Some (Slack layout)) entry exit h = elim h.1 [ inl early ↦ absurd early | inr checked ↦ absurd checked.written ]
-load_faulty_of (Some (Plain layout prefix)) entry exit h = (layout, prefix, inl refl, load_said layout prefix entry exit h)
-load_faulty_of (Some (Run layout prefix workers)) entry exit h = (layout, prefix, inr (workers, refl), load_said layout prefix entry exit h)
+load_faulty_of (Some (Plain layout prefix)) entry exit h = load_said layout prefix entry exit h
+load_faulty_of (Some (Run layout prefix workers)) entry exit h = load_said layout prefix entry exit h
 load_faulty_of (Some (Demo number workers)) entry exit h = absurd (load_demo number entry exit h)
+load_faulty_of (Some (Probe layout from to taps)) entry exit h = load_probe layout from to taps entry exit h
+load_faulty_of (Some (Meter log)) entry exit h = absurd (load_meter log entry exit h)
 
 -- status 3 comes of a load with a fault
 pub load_faults_are_said : AreLoadFaultsSaid
@@ -283,6 +303,14 @@ unread_said layout prefix entry exit h =
 unread_demo : (number : ℕ) (entry exit : Moment) → IsDemoEnd number entry exit ending.Read → ⊥
 unread_demo number entry exit h = by_demo ⊥ number entry exit ending.Read (λ is written. read_unrun is) (λ text right written. written) h
 
+unread_probe : (layout : List ℕ) (from to : ℕ) (taps : List (List ℕ)) (entry exit : Moment) → IsProbeEnd layout from to taps entry exit ending.Read → IsInputFaultSaid layout entry exit
+unread_probe layout from to taps entry exit h =
+    by_probe (IsInputFaultSaid layout entry exit) layout from to taps entry exit ending.Read (λ early. inl early) (λ missed. absurd missed.missed) (λ unprobed. inr (unprobed.network, unprobed.judged, unprobed.said))
+    (λ probed. absurd probed.written) h
+
+unread_meter : (log : List ℕ) (entry exit : Moment) → IsMeterEnd log entry exit ending.Read → IsUnreadSaid log entry exit
+unread_meter log entry exit h = by_meter (IsUnreadSaid log entry exit) log entry exit ending.Read (λ unmetered. unmetered) (λ metered. absurd metered.written) h
+
 unread_of : (o : Option Asked) (entry exit : Moment) → IsEndOf o entry exit ending.Read → IsReadFaultSaid o entry exit
 unread_of None entry exit h = absurd (words_read h.0)
 unread_of (Some Help) entry exit h = absurd h.0
@@ -292,6 +320,8 @@ unread_of (Some (Slack layout)) entry exit h = elim h.1 [ inl early ↦ early | 
 unread_of (Some (Plain layout prefix)) entry exit h = unread_said layout prefix entry exit h
 unread_of (Some (Run layout prefix workers)) entry exit h = unread_said layout prefix entry exit h
 unread_of (Some (Demo number workers)) entry exit h = unread_demo number entry exit h
+unread_of (Some (Probe layout from to taps)) entry exit h = unread_probe layout from to taps entry exit h
+unread_of (Some (Meter log)) entry exit h = unread_meter log entry exit h
 
 -- status 4 comes of a file that isn't held or of a failed read
 pub read_faults_are_said : AreReadFaultsSaid

@@ -1,8 +1,6 @@
 -- The end of a run, from what was read and what was written.
-use Rattle.std.proofs.Common.{◌≡◌, ℕ, ◌≤◌, Option, Ok, List, refl, inl, inr, arith}
-use Rattle.capture_file.specs.declared.entries.Record.{Record}
+use Rattle.std.proofs.Common.{◌≡◌, ℕ, ◌≤◌, Option, Result, Ok, Err, IfOk, IfErr, OnOk, List, refl, ◌∙◌, inl, inr, arith}
 use Rattle.layout.specs.declared.lines.Layout.{Layout}
-use Rattle.load_files.specs.Loaded.{IsLoaded, Whole}
 use Rattle.load_plan.specs.declared.plan.Plan.{Plan}
 use Rattle.outside.specs.Files.{Files, Rose}
 use Rattle.netsim.specs.declared.endings.Ending.{Ending}
@@ -10,7 +8,7 @@ use Rattle.netsim.specs.declared.endings.Ending.TheVariants as ending
 use Rattle.netsim.specs.Moments.{Moment}
 use Rattle.netsim.specs.Endings.{IsBeforeRun, IsJudged, IsFiledEnd, IsFileEnd, IsPlainEnd, IsPlanned, HasOnlyRead, IsRunEnd, IsText, IsUnloadedSaid, IsUnfiled}
 use Rattle.netsim.specs.Writing.{put_all, IsBrokenAmong, IsSaid}
-use Rattle.netsim.specs.Runs.{IsSummary, run_files}
+use Rattle.netsim.specs.Runs.{IsPlanOf, IsSummary, run_files}
 
 -- the files are whole, and the summary was written
 pub run-filed : (plan : Plan) (prefix : List ℕ) (before after : Moment) (e : Ending) (summary text : List ℕ) → after.held ≡ put_all (run_files prefix plan) before.held → IsSummary plan summary → text ≡ summary
@@ -25,13 +23,15 @@ unfiled_by prefix plan before after ending.Load broken end silent = absurd end
 unfiled_by prefix plan before after ending.Read broken end silent = absurd end
 unfiled_by prefix plan before after ending.Write broken end silent = (broken, end, silent)
 unfiled_by prefix plan before after ending.Memory broken end silent = (broken, silent)
+unfiled_by prefix plan before after ending.Probe broken end silent = absurd end
+unfiled_by prefix plan before after ending.Log broken end silent = absurd end
 
 -- a file could not be written
 pub run-unfiled : (plan : Plan) (prefix : List ℕ) (before after : Moment) (e : Ending) → IsBrokenAmong (run_files prefix plan) before.held after.held → IsFileEnd before.writes after.writes e → after.written ≡ before.written
     → IsRunEnd plan prefix before after e
 run-unfiled plan prefix before after e broken end silent = inr (inr (unfiled_by prefix plan before after e broken end silent))
 
-rose-before : (a b c : ℕ) → a ≤ b → Rose b c → Rose a c
+pub rose-before : (a b c : ℕ) → a ≤ b → Rose b c → Rose a c
 rose-before a b c le rose = omega (arith, le, rose)
 
 unfiled_before : (prefix : List ℕ) (plan : Plan) (before mid after : Moment) (e : Ending) → HasOnlyRead before mid → IsUnfiled prefix plan mid after e → IsUnfiled prefix plan before after e
@@ -43,6 +43,8 @@ unfiled_before prefix plan before mid after ending.Read read un = un
 unfiled_before prefix plan before mid after ending.Write read un =
     (rw read.held at un.0, rose-before before.writes mid.writes after.writes read.writes un.1, rw read.written at un.2)
 unfiled_before prefix plan before mid after ending.Memory read un = (rw read.held at un.0, rw read.written at un.1)
+unfiled_before prefix plan before mid after ending.Probe read un = un
+unfiled_before prefix plan before mid after ending.Log read un = un
 
 filed_before : (prefix : List ℕ) (plan : Plan) (before mid after : Moment) (e : Ending) → HasOnlyRead before mid → IsFiledEnd prefix plan mid after e → IsFiledEnd prefix plan before after e
 filed_before prefix plan before mid after e read filed =
@@ -59,10 +61,10 @@ plain-ran layout prefix plan before mid after e read planned end =
       | inr filed ↦ inr (record { plan = plan; planned = planned; filed = filed_before prefix plan before mid after e read filed })
     ]
 
-said_before : (line : List ℕ) (before mid after : Moment) → HasOnlyRead before mid → IsSaid line mid.written after.written mid.refused after.refused → IsSaid line before.written after.written before.refused after.refused
+pub said_before : (line : List ℕ) (before mid after : Moment) → HasOnlyRead before mid → IsSaid line mid.written after.written mid.refused after.refused → IsSaid line before.written after.written before.refused after.refused
 said_before line before mid after read said = rw (read.written, read.refused) at said
 
-unloaded_before : (network : Layout) (before mid after : Moment) (e : Ending) → HasOnlyRead before mid → IsUnloadedSaid network mid after e → IsUnloadedSaid network before after e
+pub unloaded_before : (network : Layout) (before mid after : Moment) (e : Ending) → HasOnlyRead before mid → IsUnloadedSaid network mid after e → IsUnloadedSaid network before after e
 unloaded_before network before mid after ending.Done read said = said
 unloaded_before network before mid after ending.Words read said = said
 unloaded_before network before mid after ending.Layout read said = said
@@ -78,6 +80,8 @@ unloaded_before network before mid after ending.Read read said =
     }
 unloaded_before network before mid after ending.Write read said = said
 unloaded_before network before mid after ending.Memory read said = rw read.written at said
+unloaded_before network before mid after ending.Probe read said = said
+unloaded_before network before mid after ending.Log read said = said
 
 -- the loads of a layout could not be read
 pub plan-unloaded : (layout : List ℕ) (network : Layout) (before mid after : Moment) (e : Ending) → HasOnlyRead before mid → IsJudged layout before.held (Ok network) → after.held ≡ mid.held → IsUnloadedSaid network mid after e
@@ -85,10 +89,34 @@ pub plan-unloaded : (layout : List ℕ) (network : Layout) (before mid after : M
 plan-unloaded layout network before mid after e read judged held said =
     inr (inl (record { network = network; judged = judged; said = unloaded_before network before mid after e read said }, rw read.held at held))
 
--- there was no memory for the plan
-pub plan-unmade : (layout : List ℕ) (before after : Moment) → HasOnlyRead before after → IsBeforeRun layout before after ending.Memory
-plan-unmade layout before after read = inr (inr (refl, read.held, read.written))
+-- the plan of what is held is that of what was held
+pub plan-before : (held mid : Option Files) (network : Layout) (plan : Plan) → mid ≡ held → IsPlanOf mid network plan → IsPlanOf held network plan
+plan-before held mid network plan is planned = rw is at planned
 
--- the loads that were read are those that were held
-pub loaded-before : (held mid : Option Files) (network : Layout) (loads : List (List Record)) → mid ≡ held → IsLoaded mid network.stations (Whole loads) → IsLoaded held network.stations (Whole loads)
-loaded-before held mid network loads is loaded = rw is at loaded
+-- nothing but reading was done, and then nothing but reading
+pub read-twice : (before mid after : Moment) → HasOnlyRead before mid → HasOnlyRead mid after → HasOnlyRead before after
+read-twice before mid after one two =
+    record {
+      held = two.held ∙ one.held;
+      reads = omega (arith, one.reads, two.reads);
+      writes = omega (arith, one.writes, two.writes);
+      written = two.written ∙ one.written;
+      faults = two.faults ∙ one.faults;
+      refused = two.refused ∙ one.refused;
+    }
+
+-- the plan of a network that was read
+pub planned-of : (layout : List ℕ) (network : Layout) (before mid : Moment) (r : Result Plan Ending) → HasOnlyRead before mid → IsJudged layout before.held (Ok network) → IfOk r (λ plan. IsPlanOf mid.held network plan)
+    → IfOk r (λ plan. IsPlanned layout before.held plan)
+planned-of layout network before mid (Ok plan) read judged is = record { network = network; judged = judged; is = plan-before before.held mid.held network plan read.held is }
+planned-of layout network before mid (Err e) read judged is = tt
+
+pub read-through : (before mid after : Moment) (r : Result Plan Ending) → HasOnlyRead before mid → OnOk r (HasOnlyRead mid after) → OnOk r (HasOnlyRead before after)
+read-through before mid after (Ok plan) one two = read-twice before mid after one two
+read-through before mid after (Err e) one two = tt
+
+-- there is none
+pub unplanned-of : (layout : List ℕ) (network : Layout) (before mid after : Moment) (r : Result Plan Ending) → HasOnlyRead before mid → IsJudged layout before.held (Ok network) → after.held ≡ mid.held
+    → IfErr r (λ e. IsUnloadedSaid network mid after e) → IfErr r (λ e. IsBeforeRun layout before after e)
+unplanned-of layout network before mid after (Ok plan) read judged held said = tt
+unplanned-of layout network before mid after (Err e) read judged held said = plan-unloaded layout network before mid after e read judged held said

@@ -13,5 +13,7 @@ pub mod Probes
 pub mod Endings
 pub mod Statuses
 pub mod StatusLaws
+pub mod MeterLaws
+pub mod ProbeLaws
 pub mod LoggedCollisions
 pub mod LogLaws

@@ -6,7 +6,7 @@ use Rattle.layout.specs.declared.lines.Layout.{Layout}
 use Rattle.netsim.specs.Endings.{HasFault, IsAnswer, IsFaultSaid, IsJudged, IsLoadFaultSaid, Says}
 use Rattle.netsim.specs.Moments.{Moment}
 use Rattle.netsim.specs.Requests.{asked}
-use Rattle.netsim.specs.Statuses.{AreRunFilesHeld, HasAbsentLoad, HasLoadFault, IfDemo, IfFiles, IfLayout, IfTelling, IfText, IsDemoCut, IsDemoStatus, IsDoneOrMemory, IsFaultStatus, IsLayoutWith, IsNetworkWith, IsFilesWith, IsReadFaultSaid, IsTellingCut, IsUnreadOrMemory}
+use Rattle.netsim.specs.Statuses.{AreRunFilesHeld, HasAbsentLoad, HasLoadFault, IfDemo, IfFiles, IfLayout, IfTelling, IfText, IsDemoCut, IsDemoStatus, IsDoneOrMemory, IsFaultStatus, IsLayoutWith, IsLoadedWith, IsNetworkWith, IsReadFaultSaid, IsTellingCut, IsUnreadOrMemory}
 use Rattle.netsim.specs.Texts.{line_of_words_fault}
 use Rattle.netsim.specs.Writing.{added, IsCutShort}
 
@@ -45,7 +45,7 @@ abbrev pub AreLoadFaultsSaid : Type 0
 AreLoadFaultsSaid =
     OfAnswers (λ words entry exit status.
     status ≡ 3
-    → IsFilesWith (asked words) (λ layout prefix.
+    → IsLoadedWith (asked words) (λ layout.
     IsNetworkWith layout entry.held (λ network. IsLoadFaultSaid network entry exit)))
 
 -- where a load of a layout without fault is the first with a fault the status is 3, but for a failed read and want of

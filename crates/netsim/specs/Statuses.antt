@@ -7,9 +7,11 @@ use Rattle.layout.specs.declared.lines.Layout.{Layout}
 use Rattle.load_files.specs.Loaded.{IsLoaded, IsFirstAbsent, Faulty, Whole}
 use Rattle.load_plan.specs.declared.plan.Plan.{Plan}
 use Rattle.netsim.specs.Demos.{IsDemoText}
-use Rattle.netsim.specs.Endings.{IsJudged, IsLoadUnreadSaid, IsPlanned, IsUnreadSaid}
+use Rattle.netsim.specs.Endings.{IsJudged, IsLoadUnreadSaid, IsPlanned, IsProbeText, IsUnreadSaid, Says}
+use Rattle.netsim.specs.Meters.{IsMeterText}
 use Rattle.netsim.specs.Moments.{Moment}
-use Rattle.netsim.specs.Requests.{Asked, asked, Check, Slack, Plain, Run, Demo, Help, Version}
+use Rattle.netsim.specs.Probes.{IsMissLine}
+use Rattle.netsim.specs.Requests.{Asked, asked, Check, Slack, Plain, Run, Demo, Probe, Meter, Help, Version}
 use Rattle.netsim.specs.Runs.{run_files, IsSummary}
 use Rattle.netsim.specs.SlackTexts.{IsSlackText}
 use Rattle.netsim.specs.Verdicts.{IsVerdictLine}
@@ -42,9 +44,20 @@ IfFiles o P = (layout prefix : List ℕ) → AskForFiles o layout prefix → P l
 abbrev pub IfDemo : Option Asked → (ℕ → Type 0) → Type 0
 IfDemo o P = (number workers : ℕ) → o ≡ Some (Demo number workers) → P number
 
+-- if the words are probe LAYOUT FROM TO TAP .., this holds of the name, of the two half bits and of the words for taps
+abbrev pub IfProbe : Option Asked → (List ℕ → ℕ → ℕ → List (List ℕ) → Type 0) → Type 0
+IfProbe o P =
+    (layout : List ℕ) (from to : ℕ) (taps : List (List ℕ)) → o ≡ Some (Probe layout from to taps) → P layout from to taps
+
+-- if the words are meter LOG, this holds of the name
+abbrev pub IfMeter : Option Asked → (List ℕ → Type 0) → Type 0
+IfMeter o P = (log : List ℕ) → o ≡ Some (Meter log) → P log
+
 -- if the words are of a form with a layout, this holds of its name
 abbrev pub IfLayout : Option Asked → (List ℕ → Type 0) → Type 0
-IfLayout o P = IfTelling o (λ Tells layout. P layout) × IfFiles o (λ layout prefix. P layout)
+IfLayout o P =
+    IfTelling o (λ Tells layout. P layout) × IfFiles o (λ layout prefix. P layout)
+    × IfProbe o (λ layout from to taps. P layout)
 
 -- if the words ask for a fixed text, this holds of it
 abbrev pub IfText : Option Asked → (List ℕ → Type 0) → Type 0
@@ -57,17 +70,55 @@ IsLayoutWith (Some (Slack layout)) P = P layout
 IsLayoutWith (Some (Plain layout prefix)) P = P layout
 IsLayoutWith (Some (Run layout prefix workers)) P = P layout
 IsLayoutWith (Some (Demo number workers)) P = ⊥
+IsLayoutWith (Some (Probe layout from to taps)) P = P layout
+IsLayoutWith (Some (Meter log)) P = ⊥
 IsLayoutWith (Some Help) P = ⊥
 IsLayoutWith (Some Version) P = ⊥
 IsLayoutWith None P = ⊥
 
--- the words are of a form that writes the files of a run, and this holds of the two names
-abbrev pub IsFilesWith : Option Asked → (List ℕ → List ℕ → Type 0) → Type 0
-IsFilesWith o P = (layout : List ℕ) × (prefix : List ℕ) × AskForFiles o layout prefix × P layout prefix
+-- the words are of a form that reads the loads of a layout, and this holds of the layout's name
+abbrev pub IsLoadedWith : Option Asked → (List ℕ → Type 0) → Type 0
+IsLoadedWith (Some (Check layout)) P = ⊥
+IsLoadedWith (Some (Slack layout)) P = ⊥
+IsLoadedWith (Some (Plain layout prefix)) P = P layout
+IsLoadedWith (Some (Run layout prefix workers)) P = P layout
+IsLoadedWith (Some (Demo number workers)) P = ⊥
+IsLoadedWith (Some (Probe layout from to taps)) P = P layout
+IsLoadedWith (Some (Meter log)) P = ⊥
+IsLoadedWith (Some Help) P = ⊥
+IsLoadedWith (Some Version) P = ⊥
+IsLoadedWith None P = ⊥
+
+-- the words are probe LAYOUT FROM TO TAP .., and this holds of the name, of the end and of the words for taps
+abbrev pub IsProbeWith : Option Asked → (List ℕ → ℕ → List (List ℕ) → Type 0) → Type 0
+IsProbeWith (Some (Check layout)) P = ⊥
+IsProbeWith (Some (Slack layout)) P = ⊥
+IsProbeWith (Some (Plain layout prefix)) P = ⊥
+IsProbeWith (Some (Run layout prefix workers)) P = ⊥
+IsProbeWith (Some (Demo number workers)) P = ⊥
+IsProbeWith (Some (Probe layout from to taps)) P = P layout to taps
+IsProbeWith (Some (Meter log)) P = ⊥
+IsProbeWith (Some Help) P = ⊥
+IsProbeWith (Some Version) P = ⊥
+IsProbeWith None P = ⊥
+
+-- the words are meter LOG, and this holds of the name
+abbrev pub IsMeterWith : Option Asked → (List ℕ → Type 0) → Type 0
+IsMeterWith (Some (Check layout)) P = ⊥
+IsMeterWith (Some (Slack layout)) P = ⊥
+IsMeterWith (Some (Plain layout prefix)) P = ⊥
+IsMeterWith (Some (Run layout prefix workers)) P = ⊥
+IsMeterWith (Some (Demo number workers)) P = ⊥
+IsMeterWith (Some (Probe layout from to taps)) P = ⊥
+IsMeterWith (Some (Meter log)) P = P log
+IsMeterWith (Some Help) P = ⊥
+IsMeterWith (Some Version) P = ⊥
+IsMeterWith None P = ⊥
 
 -- the statuses of a call that begins no file and writes its line alone
 abbrev pub IsRefusal : ℕ → Type 0
-IsRefusal status = (status ≡ 1) ⊎ (status ≡ 2) ⊎ (status ≡ 3) ⊎ (status ≡ 4)
+IsRefusal status =
+    (status ≡ 1) ⊎ (status ≡ 2) ⊎ (status ≡ 3) ⊎ (status ≡ 4) ⊎ (status ≡ 7) ⊎ (status ≡ 8)
 
 -- the statuses of a call that the outside didn't hinder; 6 is want of memory
 abbrev pub IsDoneOrMemory : ℕ → Type 0
@@ -101,14 +152,16 @@ IsInputFaultSaid layout entry exit =
     IsUnreadSaid layout entry exit
     ⊎ IsNetworkWith layout entry.held (λ network. IsLoadUnreadSaid network entry exit)
 
--- a file to be read, which is the layout or, for a run, one of its loads, isn't held or a read failed, and its name
--- was said
+-- a file to be read, which is the log, or the layout or, for a run and a probe, one of its loads, isn't held or a read
+-- failed, and its name was said
 abbrev pub IsReadFaultSaid : Option Asked → Moment → Moment → Type 0
 IsReadFaultSaid (Some (Check layout)) entry exit = IsUnreadSaid layout entry exit
 IsReadFaultSaid (Some (Slack layout)) entry exit = IsUnreadSaid layout entry exit
 IsReadFaultSaid (Some (Plain layout prefix)) entry exit = IsInputFaultSaid layout entry exit
 IsReadFaultSaid (Some (Run layout prefix workers)) entry exit = IsInputFaultSaid layout entry exit
 IsReadFaultSaid (Some (Demo number workers)) entry exit = ⊥
+IsReadFaultSaid (Some (Probe layout from to taps)) entry exit = IsInputFaultSaid layout entry exit
+IsReadFaultSaid (Some (Meter log)) entry exit = IsUnreadSaid log entry exit
 IsReadFaultSaid (Some Help) entry exit = ⊥
 IsReadFaultSaid (Some Version) entry exit = ⊥
 IsReadFaultSaid None entry exit = ⊥
@@ -196,6 +249,37 @@ pub record IsDemoCut (number : ℕ) (entry exit : Moment) : Type 0 where
 -- the statuses of demo: done, a failed write, or want of memory
 abbrev pub IsDemoStatus : ℕ → Type 0
 IsDemoStatus status = (status ≡ 0) ⊎ (status ≡ 5) ⊎ (status ≡ 6)
+
+-- a probe is done: the sink got the text of what the taps of these words hear from one half bit on and before another, in
+-- the network of the layout with the loads held at entry, and every file is as at entry
+pub record IsProbeDone (layout : List ℕ) (from to : ℕ) (taps : List (List ℕ)) (entry exit : Moment) : Type 0 where
+  pub text : List ℕ
+  pub right : IsProbeText layout entry.held from to taps text
+  pub written : exit.written ≡ added text entry.written
+  pub held : exit.held ≡ entry.held
+
+-- the sink got a front of that text
+pub record IsProbeCut (layout : List ℕ) (from to : ℕ) (taps : List (List ℕ)) (entry exit : Moment) : Type 0 where
+  pub text : List ℕ
+  pub right : IsProbeText layout entry.held from to taps text
+  pub cut : IsCutShort text entry.written exit.written
+
+-- what a probe aims at isn't in this network, and that was said
+abbrev pub IsMissSaid : Layout → ℕ → List (List ℕ) → Moment → Moment → Type 0
+IsMissSaid network to taps entry exit = (line : List ℕ) × IsMissLine network to taps line × Says line entry exit
+
+-- a log is metered: the sink got the text of the figures of the log held at entry, and every file is as at entry
+pub record IsMeterDone (log : List ℕ) (entry exit : Moment) : Type 0 where
+  pub text : List ℕ
+  pub right : IsMeterText log entry.held text
+  pub written : exit.written ≡ added text entry.written
+  pub held : exit.held ≡ entry.held
+
+-- the sink got a front of that text
+pub record IsMeterCut (log : List ℕ) (entry exit : Moment) : Type 0 where
+  pub text : List ℕ
+  pub right : IsMeterText log entry.held text
+  pub cut : IsCutShort text entry.written exit.written
 
 -- a run that nothing hinders: the words are of a form that writes the files of a run, the store tells its files, the
 -- layout and the loads are held without fault, and no count of faults has risen

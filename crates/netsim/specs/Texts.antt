@@ -1,10 +1,11 @@
 -- The lines of faults, and the names of the files that are written (profile).
-use Rattle.std.specs.Prelude.{ℕ, List, ◌++◌, codes, decimal}
+use Rattle.std.specs.Prelude.{ℕ, List, ◌++◌, codes, decimal, if◌then◌else◌}
 use Rattle.layout_file.specs.declared.fault.LayoutFault.{LayoutFault}
 use Rattle.layout_file.specs.declared.fault.Place.{Place}
 use Rattle.capture_file.specs.Names.{code_of, name_of, number_of}
 use Rattle.capture_file.specs.declared.fault.CaptureFault.{CaptureFault}
 use Rattle.layout_file.specs.FaultNames.{name_of_table, name_of_key, number_of_code, name_of_code}
+use Rattle.line_probe.specs.declared.burst.Burst.{Burst}
 
 -- the line of words that are none of the forms
 abbrev pub line_of_words_fault : List ℕ
@@ -43,6 +44,17 @@ line_of_range_fault = codes "probe fault range\n"
 -- the line before what the tap of a word hears
 unfoldable pub line_of_tap : List ℕ → List ℕ
 line_of_tap word = codes "tap " ++ word ++ codes "\n"
+
+-- what is said of how a burst reads: its whole octets and the bits beyond them, or that it is spoiled
+abbrev pub words_of_burst : Burst → List ℕ
+words_of_burst burst =
+    if burst.spoiled then codes " spoiled\n"
+    else codes " octets " ++ decimal burst.octets ++ codes " spare " ++ decimal burst.spare ++ codes "\n"
+
+-- the line of a burst: its first half bit, from 0, how many it has, and how it reads
+unfoldable pub line_of_burst : Burst → List ℕ
+line_of_burst burst =
+    codes "burst " ++ decimal burst.start ++ codes " " ++ decimal burst.halves ++ words_of_burst burst
 
 -- the name of the counters of a prefix
 unfoldable pub name_of_counters : List ℕ → List ℕ

@@ -1,5 +1,7 @@
 //! What each status says beyond the clauses of the top call: laws of every answer, each a call without a body.
 ghost use Rattle.netsim.specs.LogLaws.{AreRunCollisionsDetected, IsEmptyLogRefused, IsInfixRefused, IsLateHitRefused};
+ghost use Rattle.netsim.specs.MeterLaws.{AreLogFaultsSaid, AreMetersComplete, AreMetersCutShort, AreMetersRefused, DoAbsentLogsDecide, DoLogFaultsDecide, DoMetersKeepFiles};
+ghost use Rattle.netsim.specs.ProbeLaws.{AreMissesSaid, AreProbesComplete, AreProbesCutShort, AreProbesRefused, DoMissesDecide, DoProbedAbsentLoadsDecide, DoProbedLoadFaultsDecide, DoProbesKeepFiles};
 ghost use Rattle.netsim.specs.StatusLaws.{AreDemosComplete, AreDemosCutShort, AreDemosRefused, AreFailuresSilent, AreFilesWhole, AreLayoutFaultsSaid, AreLoadFaultsSaid, AreReadFaultsSaid, AreTellingsComplete, AreTellingsCutShort, AreTellingsRefused, AreTextsComplete, AreTextsCutShort, AreTextsFailed, AreTextsWritten, AreWordsSaid, DoAbsentLayoutsDecide, DoAbsentLoadsDecide, DoDemosKeepFiles, DoLayoutFaultsDecide, DoLoadFaultsDecide, DoTellingsKeepFiles, DoTextsKeepFiles, HaveDemosStatuses};
 
 /// Words of no form have their line on the sink, or a front of it where the sink refuses.
@@ -53,6 +55,45 @@ pub fn demos_are_told()
     ensures refused { AreDemosRefused }
     ensures held { DoDemosKeepFiles }
     ensures complete { AreDemosComplete }
+{}
+
+/// Status 7 comes exactly of a probe of a layout without fault that hasn't one of the taps, or else ends before the probe
+/// does, but for a failed read and want of memory, and its line is on the sink.
+pub fn misses_decide()
+    ensures said { AreMissesSaid }
+    ensures only { DoMissesDecide }
+{}
+
+/// The statuses 3 and 4 of a probe that finds what it aims at come of its loads as those of a run do.
+pub fn probed_loads_decide()
+    ensures fault { DoProbedLoadFaultsDecide }
+    ensures absent { DoProbedAbsentLoadsDecide }
+{}
+
+/// `probe` leaves a front of its text on the sink where it isn't done, and every file as at entry; with 5 a write to the
+/// sink failed. One that nothing hinders has the status 0 or 6.
+pub fn probes_are_told()
+    ensures failed { AreProbesCutShort }
+    ensures refused { AreProbesRefused }
+    ensures held { DoProbesKeepFiles }
+    ensures complete { AreProbesComplete }
+{}
+
+/// Status 8 comes exactly of a log with a fault, but for a failed read and want of memory, and its line is on the sink;
+/// status 4 of `meter` comes of a log that isn't held, but for want of memory.
+pub fn log_faults_decide()
+    ensures said { AreLogFaultsSaid }
+    ensures only { DoLogFaultsDecide }
+    ensures absent { DoAbsentLogsDecide }
+{}
+
+/// `meter` leaves a front of its text on the sink where it isn't done, and every file as at entry; with 5 a write to the
+/// sink failed. One that nothing hinders has the status 0 or 6.
+pub fn meters_are_told()
+    ensures failed { AreMetersCutShort }
+    ensures refused { AreMetersRefused }
+    ensures held { DoMetersKeepFiles }
+    ensures complete { AreMetersComplete }
 {}
 
 /// A form with a fixed text writes it, or a front of it, and leaves every file as at entry; with 5 a write to the sink

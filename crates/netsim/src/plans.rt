@@ -24,6 +24,7 @@ pub(crate) fn plan_network<S: Store, K: Sink>(
 ) -> Result<Plan, Ending>
     requires { IsSound network }
     ensures planned { IfOk result (λ plan. IsPlanOf (S.held store.old) network plan) }
+    ensures sound { IfOk result (λ plan. IsSound plan.layout) }
     ensures read { OnOk result (HasOnlyRead
         (moment S.held S.read_faults S.write_faults K.written K.faults K.refused store.old out.old)
         (moment S.held S.read_faults S.write_faults K.written K.faults K.refused store.new out.new)) }

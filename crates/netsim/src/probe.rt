@@ -10,18 +10,19 @@ ghost use Rattle.network.specs.Outputs.{half_bits};
 ghost use Rattle.netsim.specs.Endings.{AreTapsTold, AreTextsTold, IsProbeEnd};
 ghost use Rattle.netsim.specs.FileLimits.{most_probed, most_taps};
 ghost use Rattle.netsim.specs.Moments.{moment};
+ghost use Rattle.netsim.specs.Probes.{AreHeard};
 
 use crate::aim::aim;
 use crate::endings::Ending;
 use crate::judge::read_network;
 use crate::plans::plan_network;
 use crate::probe_texts::text_of_tap;
-use crate::sink_texts::write_line;
+use crate::sink_texts::write_text;
 use line_probe::{Tap, heard_at_taps};
 use lists::{List, OutOfMemory, Text};
 use load_plan::Plan;
 use manchester_line::Sym;
-use outside::{Sink, Store};
+use outside::{Sink, SinkFail, Store};
 use std::alloc::Global;
 
 /// Writes what the taps of these words hear, of what they all hear from half bit `from` on, tap by tap.
@@ -32,7 +33,8 @@ fn write_taps<K: Sink>(
     from: u64,
     out: &mut K,
 ) -> Ending
-    requires { from + length heard.now ≤ 2 ^ 63 }
+    requires heard { AreHeard heard.now (length words.now) from }
+    requires short { from + length heard.now ≤ 2 ^ 63 }
     ensures { (plan : Plan) (taps : List Tap) (n : ℕ) → heard.now ≡ rows_of_taps plan taps from n → length taps ≡ length words.now →
         AreTextsTold plan from n words.now taps (K.written out.old) (K.written out.new) (K.faults out.old) (K.faults out.new) result }
 {
@@ -41,9 +43,10 @@ fn write_taps<K: Sink>(
             Ok(text) => text,
             Err(OutOfMemory) => return Ending::Memory,
         };
-        match write_line(out, text.as_slice()) {
-            Ending::Done => {}
-            ended => return ended,
+        match write_text(out, text.as_slice()) {
+            Ok(()) => {}
+            Err(SinkFail::Failed) => return Ending::Write,
+            Err(SinkFail::OutOfMemory) => return Ending::Memory,
         }
     }
     Ending::Done
@@ -65,6 +68,7 @@ fn tell_taps<K: Sink>(
     requires order { from < to }
     requires short { to ≤ from + most_probed }
     requires end { to ≤ half_bits plan.now }
+    requires late { to ≤ most_half_bits }
     ensures { AreTapsTold plan.now from to words.now taps.now (K.written out.old) (K.written out.new) (K.faults out.old) (K.faults out.new) result }
 {
     let from = u64::from(from);
@@ -87,6 +91,7 @@ pub(crate) fn probe<S: Store, K: Sink>(
 ) -> Ending
     requires order { from < to }
     requires short { to ≤ from + most_probed }
+    requires late { to ≤ most_half_bits }
     requires few { length words.now ≤ most_taps }
     ensures { IsProbeEnd layout.now from to words.now
         (moment S.held S.read_faults S.write_faults K.written K.faults K.refused store.old out.old)

@@ -34,6 +34,13 @@ pub(crate) fn add_count(line: &mut List<u8>, count: usize) -> Result<(), OutOfMe
     line.extend(itoa::Buffer::new().format(count).as_bytes())
 }
 
+/// Puts a number of half bits in decimal at the end of a line.
+pub(crate) fn add_half_bits(line: &mut List<u8>, number: u64) -> Result<(), OutOfMemory>
+    ensures ok { OnOk result (line.new ≡ line.old ++ decimal number) }
+{
+    line.extend(itoa::Buffer::new().format(number).as_bytes())
+}
+
 /// Puts the place of a fault at the end of its line.
 fn add_place(line: &mut List<u8>, place: &Place) -> Result<(), OutOfMemory>
     ensures ok { OnOk result (line.new ≡ line.old ++ text_of_place place.now) }

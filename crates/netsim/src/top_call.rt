@@ -5,7 +5,7 @@ ghost use Rattle.netsim.specs.LoggedCollisions.{AreCollisionsLogged};
 ghost use Rattle.netsim.specs.Endings.{IsAnswer, IsEnd};
 ghost use Rattle.netsim.specs.Moments.{moment};
 ghost use Rattle.netsim.specs.Requests.{asked};
-ghost use Rattle.netsim.specs.Statuses.{AreSlacksDone, IfCheck, IfDemo, IfFiles, IfSlack, IsCheckDone, IsDemoDone, IsDoneOrMemory, IsRefusal, IsRunBroken, IsRunDone, IsRunRefused, IsUnhindered};
+ghost use Rattle.netsim.specs.Statuses.{AreSlacksDone, IfCheck, IfDemo, IfFiles, IfMeter, IfProbe, IfSlack, IsCheckDone, IsDemoDone, IsDoneOrMemory, IsMeterDone, IsProbeDone, IsRefusal, IsRunBroken, IsRunDone, IsRunRefused, IsUnhindered};
 
 use crate::demo::demo;
 use crate::endings::Ending;
@@ -73,10 +73,13 @@ pub fn run_words<X: Threads + Wait + Sync, S: Store, K: Sink, G: Gate>(
 /// loads by half bits, writes PREFIX.log, PREFIX.counters and a capture PREFIX.STATION.pcap for each station, and then
 /// the summary to the sink. `run LAYOUT PREFIX WORKERS` does the same by windows, on 1 to 64 workers, and
 /// `demo NUMBER WORKERS` runs the layout of demo of 1 to 128 so, and writes its size and the summary to the sink.
+/// `probe LAYOUT FROM TO TAP ..` runs the network by half bits and writes to the sink what 1 to 16 taps hear from half bit
+/// FROM on and before TO, as runs of one symbol and bursts. `meter LOG` writes the figures of a log to the sink.
 /// `--help` and `--version` write a fixed text to the sink.
-/// LAYOUT and PREFIX have 1 to 200 octets. The statuses are 0 for done, 1 for words of no form, 2 for a layout with
-/// a fault, 3 for a load with a fault, 4 for a layout or a load that can't be read, 5 for a failed write and 6 for
-/// want of memory, which alone is free. The forms `run` and `demo` may wait.
+/// LAYOUT, PREFIX and LOG have 1 to 200 octets, and a TAP 1 to 40; FROM is below TO, which is at most 2,000,000,000 and at
+/// most 1,000,000 more. The statuses are 0 for done, 1 for words of no form, 2 for a layout with a fault, 3 for a load
+/// with a fault, 4 for a file that can't be read, 5 for a failed write, 6 for want of memory, which alone is free, 7 for
+/// a tap that the layout hasn't or a TO past the run, and 8 for a log with a fault. The forms `run` and `demo` may wait.
 pub fn netsim<X: Threads + Wait + Sync, S: Store, K: Sink, G: Gate>(
     rt: &X,
     alloc: Global,
@@ -124,7 +127,18 @@ pub fn netsim<X: Threads + Wait + Sync, S: Store, K: Sink, G: Gate>(
         (moment S.held S.read_faults S.write_faults K.written K.faults K.refused store.old out.old)
         (moment S.held S.read_faults S.write_faults K.written K.faults K.refused store.new out.new)) }
 
-    // With the statuses 1 to 4 every file is as at entry.
+    // A probe is done: the sink got the runs and the bursts of what each tap hears in the network of the layout and the
+    // loads held at entry, and nothing else is changed.
+    ensures probed { result ≡ 0 → IfProbe (asked words.now) (λ layout from to taps. IsProbeDone layout from to taps
+        (moment S.held S.read_faults S.write_faults K.written K.faults K.refused store.old out.old)
+        (moment S.held S.read_faults S.write_faults K.written K.faults K.refused store.new out.new)) }
+
+    // A log is metered: the sink got the figures of the log held at entry, and nothing else is changed.
+    ensures metered { result ≡ 0 → IfMeter (asked words.now) (λ log. IsMeterDone log
+        (moment S.held S.read_faults S.write_faults K.written K.faults K.refused store.old out.old)
+        (moment S.held S.read_faults S.write_faults K.written K.faults K.refused store.new out.new)) }
+
+    // With the statuses 1 to 4, 7 and 8 every file is as at entry.
     ensures refused { IsRefusal result → S.held store.new ≡ S.held store.old }
 
     // Status 5 only where a write to the store or to the sink failed.

@@ -2,6 +2,8 @@ use Rattle.netsim.proofs.EveryForm.{words_of_none, refused, failed}
 use Rattle.netsim.proofs.FilesAfterRuns.{done, checked, slacks_done, demonstrated, broken, memory}
 use Rattle.netsim.proofs.LoadsDecideStatus.{complete}
 use Rattle.netsim.proofs.CollisionsAreTold.{collisions_are_told}
+use Rattle.netsim.proofs.MetersAreTold.{metered}
+use Rattle.netsim.proofs.ProbesAreTold.{probed}
 use Rattle.netsim.proofs.top_call.netsim.Goals as goal
 
 pub returns-clause-detected : goal.returns-clause-detected
@@ -21,6 +23,12 @@ returns-clause-slacks g c = slacks_done c.args.words.now _ _ _ (record { by = c.
 
 pub returns-clause-demonstrated : goal.returns-clause-demonstrated
 returns-clause-demonstrated g c = demonstrated c.args.words.now _ _ _ (record { by = c.run_words.result; is = c.status.ensures; allowed = c.run_words.ensures })
+
+pub returns-clause-probed : goal.returns-clause-probed
+returns-clause-probed g c = probed c.args.words.now _ _ _ (record { by = c.run_words.result; is = c.status.ensures; allowed = c.run_words.ensures })
+
+pub returns-clause-metered : goal.returns-clause-metered
+returns-clause-metered g c = metered c.args.words.now _ _ _ (record { by = c.run_words.result; is = c.status.ensures; allowed = c.run_words.ensures })
 
 pub returns-clause-refused : goal.returns-clause-refused
 returns-clause-refused g c = refused c.args.words.now _ _ _ (record { by = c.run_words.result; is = c.status.ensures; allowed = c.run_words.ensures })
