@@ -19,7 +19,7 @@ unfolding front_of
 absent_unjudged name None verdict absent judged = absent
 absent_unjudged name (Some files) verdict absent judged = let e = rw absent at judged in cc
 
-some_of : (held : Option Files) (P : Files → Type 0) → ((files : Files) → P files) → IfSome held P
+pub some_of : (held : Option Files) (P : Files → Type 0) → ((files : Files) → P files) → IfSome held P
 some_of None P all = tt
 some_of (Some files) P all = all files
 
@@ -48,7 +48,7 @@ module _ (layout : List ℕ) (before after : Moment) where
   early_absent ending.Log absent early = absurd early
 
 -- where a read failed or the layout isn't held
-unread_status : (X : Type 0) (layout : List ℕ) (held : Option Files) (reads risen : ℕ) (P : Files → Type 0) → ((files : Files) → IsAbsent layout (Some files) → P files → ⊥) → (Rose reads risen → X)
+pub unread_status : (X : Type 0) (layout : List ℕ) (held : Option Files) (reads risen : ℕ) (P : Files → Type 0) → ((files : Files) → IsAbsent layout (Some files) → P files → ⊥) → (Rose reads risen → X)
     → IsAbsent layout held ⊎ Rose reads risen → IfSome held (λ files. P files → X)
 unread_status X layout None reads risen P never on unread = tt
 unread_status X layout (Some files) reads risen P never on unread =

@@ -6,6 +6,8 @@ pub mod EveryForm
 pub mod LayoutDecidesStatus
 pub mod LoadsDecideStatus
 pub mod FilesAfterRuns
+pub mod MetersAreTold
+pub mod ProbesAreTold
 pub mod FilesInTurn
 pub mod RunEnds
 pub mod NumbersInWords

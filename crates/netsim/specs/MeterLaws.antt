@@ -1,10 +1,9 @@
 -- What each status says of the form meter LOG: laws of every answer (profile).
-use Rattle.std.specs.Prelude.{◌≡◌, ◌⊎◌, ℕ, List, Some, IfSome}
-use Rattle.log_meter.specs.declared.fault.LogFault.{LogFault}
+use Rattle.std.specs.Prelude.{◌≡◌, ◌⊎◌, List, Some, IfSome}
 use Rattle.log_meter.specs.declared.line.LogLine.{LogLine}
 use Rattle.outside.specs.Files.{IsAbsent, Rose}
 use Rattle.netsim.specs.Endings.{IsLogFaultSaid}
-use Rattle.netsim.specs.Meters.{HasLog, HasLogFault}
+use Rattle.netsim.specs.Meters.{HasLog, IsFaultyLog}
 use Rattle.netsim.specs.Requests.{asked}
 use Rattle.netsim.specs.StatusLaws.{OfAnswers}
 use Rattle.netsim.specs.Statuses.{IfMeter, IsDoneOrMemory, IsFaultStatus, IsMeterCut, IsMeterWith, IsUnreadOrMemory}
@@ -21,7 +20,7 @@ DoLogFaultsDecide =
     OfAnswers (λ words entry exit status.
     IfMeter (asked words) (λ log.
     IfSome entry.held (λ files.
-    (fault : LogFault) → HasLogFault log (Some files) fault → IsFaultStatus 8 status entry.reads exit.reads)))
+    IsFaultyLog log (Some files) → IsFaultStatus 8 status entry.reads exit.reads)))
 
 -- where the log isn't held the status is 4, but for want of memory
 abbrev pub DoAbsentLogsDecide : Type 0

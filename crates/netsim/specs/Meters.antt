@@ -21,10 +21,14 @@ abbrev pub IsReadLog : List ℕ → Option Files → List ℕ → Type 0
 IsReadLog log held octets = IsFront most_log_octets log held octets
 
 -- the log has this fault
-pub record HasLogFault (log : List ℕ) (held : Option Files) (fault : LogFault) : Type 0 where
+pub record HasLogFault (log : List ℕ) (held : Option Files) (f : LogFault) : Type 0 where
   pub octets : List ℕ
   pub read : IsReadLog log held octets
-  pub faulty : IsFaultOfLog octets fault
+  pub faulty : IsFaultOfLog octets f
+
+-- the log has a fault
+abbrev pub IsFaultyLog : List ℕ → Option Files → Type 0
+IsFaultyLog log held = (f : LogFault) × HasLogFault log held f
 
 -- the log has no fault, and these are its lines
 pub record HasLog (log : List ℕ) (held : Option Files) (lines : List LogLine) : Type 0 where
