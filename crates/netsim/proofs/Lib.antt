@@ -10,6 +10,9 @@ pub mod MetersAreTold
 pub mod ProbesAreTold
 pub mod FilesInTurn
 pub mod RunEnds
+pub mod ProbeEnds
+pub mod TapsOfWords
+pub mod TapTexts
 pub mod NumbersInWords
 pub mod DemoTexts
 pub mod DetectionFoundations

@@ -6,6 +6,10 @@ mod cases;
 #[cfg(test)]
 mod loads;
 #[cfg(test)]
+mod meters;
+#[cfg(test)]
 mod plain;
+#[cfg(test)]
+mod probes;
 #[cfg(test)]
 mod runs;
