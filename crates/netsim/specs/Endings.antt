@@ -288,8 +288,8 @@ pub record IsProbed (layout : List ℕ) (from to : ℕ) (words : List (List ℕ)
   pub right : IsProbeText layout before.held from to words text
   pub written : IsText text before.written after.written before.faults after.faults e
 
--- the text of what the taps of these words hear in so many half bits from this one on was written, or a front of it; the
--- last two numbers count the failed writes
+-- the text of what the taps of these words hear in so many half bits from this one on was written, or a front of it;
+-- the last two numbers count the failed writes
 abbrev pub AreTextsTold :
     Plan → ℕ → ℕ → List (List ℕ) → List Tap → Option (List ℕ) → Option (List ℕ) → ℕ → ℕ → Ending → Type 0
 AreTextsTold plan from n words taps written now faults risen e =

@@ -17,8 +17,8 @@ AreMissesSaid =
     → IsProbeWith (asked words) (λ layout to taps.
     IsNetworkWith layout entry.held (λ network. IsMissSaid network to taps entry exit)))
 
--- where the layout held at entry has no fault and what the probe aims at isn't in its network the status is 7, but for a
--- failed read and want of memory
+-- where the layout held at entry has no fault and what the probe aims at isn't in its network the status is 7, but for
+-- a failed read and want of memory
 abbrev pub DoMissesDecide : Type 0
 DoMissesDecide =
     OfAnswers (λ words entry exit status.
@@ -72,8 +72,8 @@ abbrev pub DoProbesKeepFiles : Type 0
 DoProbesKeepFiles =
     OfAnswers (λ words entry exit status. IfProbe (asked words) (λ layout from to taps. exit.held ≡ entry.held))
 
--- a probe whose layout and loads are held without fault, and which aims at what is there, has the status 0 or 6 where no
--- read and no write to the sink failed
+-- a probe whose layout and loads are held without fault, and which aims at what is there, has the status 0 or 6 where
+-- no read and no write to the sink failed
 abbrev pub AreProbesComplete : Type 0
 AreProbesComplete =
     OfAnswers (λ words entry exit status.

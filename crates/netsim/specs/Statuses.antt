@@ -47,7 +47,8 @@ IfDemo o P = (number workers : ℕ) → o ≡ Some (Demo number workers) → P n
 -- if the words are probe LAYOUT FROM TO TAP .., this holds of the name, of the two half bits and of the words for taps
 abbrev pub IfProbe : Option Asked → (List ℕ → ℕ → ℕ → List (List ℕ) → Type 0) → Type 0
 IfProbe o P =
-    (layout : List ℕ) (from to : ℕ) (taps : List (List ℕ)) → o ≡ Some (Probe layout from to taps) → P layout from to taps
+    (layout : List ℕ) (from to : ℕ) (taps : List (List ℕ)) → o ≡ Some (Probe layout from to taps)
+    → P layout from to taps
 
 -- if the words are meter LOG, this holds of the name
 abbrev pub IfMeter : Option Asked → (List ℕ → Type 0) → Type 0
@@ -250,8 +251,8 @@ pub record IsDemoCut (number : ℕ) (entry exit : Moment) : Type 0 where
 abbrev pub IsDemoStatus : ℕ → Type 0
 IsDemoStatus status = (status ≡ 0) ⊎ (status ≡ 5) ⊎ (status ≡ 6)
 
--- a probe is done: the sink got the text of what the taps of these words hear from one half bit on and before another, in
--- the network of the layout with the loads held at entry, and every file is as at entry
+-- a probe is done: the sink got the text of what the taps of these words hear from one half bit on and before another,
+-- in the network of the layout with the loads held at entry, and every file is as at entry
 pub record IsProbeDone (layout : List ℕ) (from to : ℕ) (taps : List (List ℕ)) (entry exit : Moment) : Type 0 where
   pub text : List ℕ
   pub right : IsProbeText layout entry.held from to taps text
