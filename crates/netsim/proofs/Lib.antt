@@ -12,7 +12,6 @@ pub mod FilesInTurn
 pub mod RunEnds
 pub mod ProbeEnds
 pub mod TapsOfWords
-pub mod LogFaults
 pub mod TapTexts
 pub mod NumbersInWords
 pub mod DemoTexts

@@ -1,4 +1,4 @@
-use Rattle.std.proofs.Common.{ℕ, List, get_or, length, ◌≡◌, ◌∙◌, arith}
+use Rattle.std.proofs.Common.{Err, ap, ℕ, List, get_or, length, ◌≡◌, ◌∙◌, arith}
 use Rattle.load_plan.specs.declared.plan.Plan.{Plan}
 use Rattle.line_probe.specs.Heard.{rows_of_taps}
 use Rattle.line_probe.specs.declared.tap.Tap.{Tap}
@@ -26,7 +26,7 @@ pub returns-in-Err-Failed : goal.returns-in-Err-Failed
 returns-in-Err-Failed g c plan taps n is many =
     let cut = told_cut plan c.args.from n c.loop-k.k c.args.words.now taps no_tap c.index-words-k.result c.as_slice.result.now (g.K.Sink.written c.args.out.now) (g.K.Sink.written c.loop-k.out) (g.K.Sink.written c.write_text.new.out)
     c.loop-k-test.true many (c.loop-k.invariant.told plan taps n is many) (next_text g (goal.at.returns-in-Err-Failed g c).After-write_text plan taps n is many) c.in-Err-Failed.ensures.err in
-    (cut.0, cut.1, (cut.2, omega (arith, c.loop-k.invariant.faults, c.in-Err-Failed.ensures.failed c.in-Err-Failed.field-0-is)))
+    (cut.0, cut.1, (cut.2, omega (arith, c.loop-k.invariant.faults, c.in-Err-Failed.ensures.failed (ap Err c.in-Err-Failed.field-0-is))))
 
 pub returns-in-Err-OutOfMemory : goal.returns-in-Err-OutOfMemory
 returns-in-Err-OutOfMemory g c plan taps n is many =
