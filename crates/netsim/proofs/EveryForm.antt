@@ -1,5 +1,5 @@
 -- What holds of every answer, whatever the form of words.
-use Rattle.std.proofs.Common.{◌≡◌, ◌⊎◌, ◌↔◌, ℕ, Option, None, Some, List, refl, ap, subst, ◌∙◌, inl, inr, arith}
+use Rattle.std.proofs.Common.{◌≡◌, ◌<◌, ◌⊎◌, ◌↔◌, ℕ, Option, None, Some, List, refl, ap, subst, ◌∙◌, inl, inr, arith}
 use Rattle.outside.specs.Files.{Rose}
 use Rattle.load_plan.specs.declared.plan.Plan.{Plan}
 use Rattle.netsim.specs.declared.endings.Ending.{Ending}
