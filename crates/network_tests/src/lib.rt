@@ -6,11 +6,7 @@ mod crowds;
 #[cfg(test)]
 mod plans;
 #[cfg(test)]
-mod probes;
-#[cfg(test)]
 mod reading;
-#[cfg(test)]
-mod runs;
 #[cfg(test)]
 mod steps;
 #[cfg(test)]
