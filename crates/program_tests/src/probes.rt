@@ -145,12 +145,10 @@ fn probes_that_are_refused(rt: HostRuntime) -> Result<(), OutOfMemory> {
         ..PROBE
     };
     let unread = Case {
+        words: PROBE.words,
         reads: &[1],
         said: "read fault l.toml\n",
-        ..Case {
-            words: PROBE.words,
-            ..missing
-        }
+        ..missing
     };
     let without_load = Case {
         words: PROBE.words,
