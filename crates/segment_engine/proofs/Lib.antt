@@ -3,6 +3,7 @@ pub mod HeldLines
 pub mod LinesHear
 pub mod StationRoom
 pub mod StationsStep
+pub mod HeardLines
 pub mod HalfBits
 pub mod TapsNear
 pub mod WindowLines

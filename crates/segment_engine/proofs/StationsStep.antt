@@ -17,7 +17,7 @@ use Rattle.net_step.proofs.KeptReceivers.{receptions-more, AllHear-more}
 use Rattle.segment_engine.specs.StationPasses.{rows_heard, captures_heard}
 
 -- a list from place i on
-rest_of : {X : Type 0} (xs : List X) (i : ℕ) (d : X) → i < length xs → get_or xs i d ∷ drop (i + 1) xs ≡ drop i xs
+pub rest_of : {X : Type 0} (xs : List X) (i : ℕ) (d : X) → i < length xs → get_or xs i d ∷ drop (i + 1) xs ≡ drop i xs
 rest_of xs i d h = let one : i + 1 ≡ suc i = omega arith in ap (λ m. get_or xs i d ∷ drop m xs) one ∙ sym (drop-cons xs i d h)
 
 -- what one sender more does

@@ -48,6 +48,13 @@ heard_of_lines L t p at q (l ∷ ls) =
 abbrev pub heard_by_lines : ℕ → ℕ → List TapLine → ℕ → Sym
 heard_by_lines L t ls p = heard_of_lines L t p (slice_index_or ls p no_line).at 0 ls
 
+-- What tap p hears of tap q's line in half bit t: nothing of its own (clause 8, profile).
+abbrev pub heard_of_line : ℕ → ℕ → List TapLine → ℕ → ℕ → Sym
+heard_of_line L t ls p q =
+    let l = slice_index_or ls q no_line in
+    if q == p then Idle
+    else earlier (symbol_on l) t (half_bits_back L (slice_index_or ls p no_line).at l)
+
 -- What is further back on a line than `far` half bits reaches no other of the taps with these lines, where a window has
 -- L half bits (profile).
 abbrev pub IsReachOf : ℕ → ℕ → List TapLine → Type 0

@@ -1,11 +1,13 @@
 //! Passes over the lines of a segment's taps.
 ghost use Rattle.std.specs.Prelude.{◌≡◌, ◌<◌, ◌≤◌, ◌+◌, ◌^◌, ◌==◌, ℕ, if◌then◌else◌, true, [], ◌∷◌, All, length, replicate, slice_index_or};
+ghost use Rattle.manchester_line.specs.declared.Sym.{Sym};
 ghost use Rattle.manchester_line.specs.declared.Sym.TheVariants.{Idle};
+ghost use Rattle.manchester_line.specs.Line.{mix_of};
 ghost use Rattle.net_parts.specs.Machines.{span};
 ghost use Rattle.net_parts.specs.declared.parcel.Parcel.{Parcel};
 ghost use Rattle.network.specs.Times.{earlier};
 ghost use Rattle.segment_engine.specs.QuietHalfBits.{AreIdleFrom};
-ghost use Rattle.segment_engine.specs.TapLines.{TapLine, heard_by_lines, heard_of_lines, no_line, symbol_on, half_bits_back, IsReachOf, line_extended, slid};
+ghost use Rattle.segment_engine.specs.TapLines.{TapLine, heard_by_lines, heard_of_line, no_line, symbol_on, half_bits_back, IsReachOf, line_extended, slid};
 
 use crate::line::Line;
 use manchester_line::{Sym, mix};
@@ -22,17 +24,18 @@ fn heard_of(line: &Line, p: usize, q: usize, at: u32, lookahead: u32, t: u64) ->
     }
 }
 
-/// What tap `p` hears in half bit `t`.
-fn hear(lines: &[Line], p: usize, lookahead: u32, t: u64) -> Sym
-    requires { p < length lines.now }
-    ensures { result ≡ heard_by_lines lookahead t lines.now p }
+/// Adds to what each tap hears in half bit `t` what reaches it of tap `q`'s line.
+fn hear_line(lines: &[Line], q: usize, lookahead: u32, t: u64, heard: &mut [Sym])
+    requires line { q < length lines.now }
+    requires taps { length heard.old ≡ length lines.now }
+    ensures { (p : ℕ) (d : Sym) → p < length heard.new →
+        slice_index_or heard.new p d ≡ mix_of (slice_index_or heard.old p d) (heard_of_line lookahead t lines.now p q) }
 {
-    let at = lines[p].place();
-    let mut sound = Sym::Idle;
-    for q in 0..lines.len() {
-        sound = mix(sound, heard_of(&lines[q], p, q, at, lookahead, t));
+    for p in 0..lines.len() {
+        let at = lines[p].place();
+        let sound = heard_of(&lines[q], p, q, at, lookahead, t);
+        heard[p] = mix(heard[p], sound);
     }
-    sound
 }
 
 /// How far back on a line, in half bits, anything that reaches another tap is at most.
@@ -51,13 +54,20 @@ pub fn farthest(lines: &[Line], lookahead: u32) -> u64
     way.saturating_sub(u64::from(lookahead))
 }
 
-/// What each tap hears in half bit `t`.
-pub fn hear_all(lines: &[Line], lookahead: u32, t: u64, heard: &mut [Sym])
-    requires { length heard.old ≡ length lines.now }
+/// What each tap hears in half bit `t`, where nothing reaches a tap that is further back than `far` half bits. A line on
+/// which nothing but Idle stands since then is passed over.
+pub fn hear_all(lines: &[Line], lookahead: u32, far: u64, t: u64, heard: &mut [Sym])
+    requires taps { length heard.old ≡ length lines.now }
+    requires reach { IsReachOf far lookahead lines.now }
     ensures { heard.new ≡ span (heard_by_lines lookahead t lines.now) 0 (length lines.now) }
 {
-    for p in 0..lines.len() {
-        heard[p] = hear(lines, p, lookahead, t);
+    let from = t.saturating_sub(far);
+    heard.fill(Sym::Idle);
+    for q in 0..lines.len() {
+        if lines[q].is_quiet_from(from) {
+            continue;
+        }
+        hear_line(lines, q, lookahead, t, heard);
     }
 }
 

@@ -51,7 +51,7 @@ pub fn half_bit(of: &Segment, window: u64, k: u32, state: &mut Running, parcels:
         HaveLinesRoom of.now.plan.value of.now.number n state.new.lines.items }
 {
     let t = state.t;
-    hear_all(&state.lines, of.lookahead, t, &mut state.heard);
+    hear_all(&state.lines, of.lookahead, state.far, t, &mut state.heard);
     let (heard, ports_heard) = state.heard.split_at(of.stations.len());
     step_stations(
         t,
