@@ -2,4 +2,6 @@ pub mod RowsApart
 pub mod LoggedPorts
 pub mod RepeaterWindows
 pub mod RepeatersAsParts
+pub mod SteadyRuns
+pub mod ClassesOfRows
 pub mod LeapedHalfBits

@@ -170,7 +170,7 @@ waits_most s ports lg lc =
     let g = guards_wait s.guards in
     omega (arith, m, c, g, lg, lc)
 
-length-guards_after : (gs : List Guard) (hs es : List Sym) → length hs ≡ length gs → length es ≡ length gs → length (guards_after gs hs es) ≡ length gs
+pub length-guards_after : (gs : List Guard) (hs es : List Sym) → length hs ≡ length gs → length es ≡ length gs → length (guards_after gs hs es) ≡ length gs
 length-guards_after [] hs es lh le = refl
 length-guards_after (g ∷ gs) [] es lh le = absurd (omega arith)
 length-guards_after (g ∷ gs) (h ∷ hs) [] lh le = absurd (omega arith)

@@ -4,7 +4,7 @@ use Rattle.std.specs.Prelude.{◌≡◌, ℕ, ◌+◌, ◌-◌, ◌<◌, ◌≤�
 use Rattle.manchester_line.specs.declared.Sym.{Sym}
 use Rattle.manchester_line.specs.declared.Sym.TheVariants.{Idle}
 use Rattle.load_plan.specs.declared.plan.Plan.{Plan}
-use Rattle.mac_parameters.specs.Parameters.{most_ports}
+use Rattle.mac_parameters.specs.Parameters.{greatest_delay, most_ports}
 use Rattle.repeater_core.specs.Step.{State}
 use Rattle.window_room.specs.Rooms.{Room}
 use Rattle.network.specs.Times.{decided}
@@ -23,14 +23,15 @@ pub record KeptRepeater : Type 0 where
   pub state : RepeaterState
   pub room : ℕ
 
--- Each port has its guard and its places for what it hears, emits and is sent, and a repeater has no captures
--- (profile).
-pub record AreSized (ports : ℕ) (r : State) (log : Room) (heard emitted decided : ℕ) : Type 0 where
+-- Each port has its guard and its places for what it hears, emits and is sent, there are as many places for what is sent
+-- in half bits that are made at once as a delay may have half bits, and a repeater has no captures (profile).
+pub record AreSized (ports : ℕ) (r : State) (log : Room) (heard emitted decided sent : ℕ) : Type 0 where
   pub guards : length r.guards ≡ ports
   pub few : ports ≤ most_ports
   pub hearing : heard ≡ ports
   pub emitting : emitted ≡ ports
   pub deciding : decided ≡ ports
+  pub sending : sent ≡ greatest_delay
   pub no_captures : log.captures ≡ []
 
 -- What parcels bring for half bit k of a window, in their order (profile).

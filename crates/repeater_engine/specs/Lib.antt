@@ -1,4 +1,5 @@
 pub mod RowWaits
 pub mod KeptRepeaters
+pub mod LeapedHalfBits
 pub mod Logging
 pub mod RepeaterNumbers

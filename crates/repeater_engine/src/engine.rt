@@ -5,10 +5,13 @@ ghost use Rattle.mac_parameters.specs.Parameters.{greatest_delay, most_ports};
 ghost use Rattle.net_parts.specs.RepeaterParts.{repeater_step};
 ghost use Rattle.net_parts.specs.Standing.{repeater_at};
 ghost use Rattle.repeater_core.specs.Step.{decided_by, new_state};
+ghost use Rattle.repeater_core.specs.Steady.{IsSteady};
 ghost use Rattle.repeater_engine.specs.KeptRepeaters.{HaveRow, KeptRepeater, parcels_after, row_brought};
+ghost use Rattle.repeater_engine.specs.LeapedHalfBits.{made_of, rows_brought, AreOfClasses, HaveRows, ReachFrom};
 ghost use Rattle.repeater_engine.specs.RowWaits.{HasRowRoom};
 
-use crate::parcels::{hear_all, put_all};
+use crate::leaps::{leap_over, steady_ahead};
+use crate::parcels::{MOST_AT_ONCE, hear_all, put_all, put_pieces};
 use crate::rows::{log_events, rows_in};
 use lists::OutOfMemory;
 use load_plan::Plan;
@@ -20,6 +23,9 @@ use std::alloc::Global;
 use std::marker::Model;
 use std::snapshot::Snapshot;
 use window_room::RowRoom;
+
+/// The fewest half bits that are made at once.
+const FEWEST_AT_ONCE: usize = 4;
 
 /// A repeater before half bit `t`, its device's number and its rows. `heard`, `emitted` and `decided` have a symbol for
 /// each of its ports.
@@ -33,6 +39,7 @@ pub struct RepeaterEngine {
     heard: Vec<Sym>,
     emitted: Vec<Sym>,
     decided: Vec<Sym>,
+    sent: Vec<Sym>,
 }
 
 impl Model for RepeaterEngine {
@@ -47,7 +54,7 @@ impl Model for RepeaterEngine {
       room = e.log.row_room;
     } };
 
-    ghost invariant = { λ e. AreSized e.ports e.repeater e.log (length e.heard.items) (length e.emitted.items) (length e.decided.items) };
+    ghost invariant = { λ e. AreSized e.ports e.repeater e.log (length e.heard.items) (length e.emitted.items) (length e.decided.items) (length e.sent.items) };
 }
 
 impl RepeaterEngine {
@@ -55,7 +62,9 @@ impl RepeaterEngine {
     ghost use Rattle.mac_parameters.specs.Parameters.{greatest_delay, most_ports};
     ghost use Rattle.net_parts.specs.RepeaterParts.{repeater_step};
     ghost use Rattle.repeater_core.specs.Step.{decided_by, new_state};
+    ghost use Rattle.repeater_core.specs.Steady.{IsSteady};
     ghost use Rattle.repeater_engine.specs.KeptRepeaters.{HaveRow, row_brought};
+    ghost use Rattle.repeater_engine.specs.LeapedHalfBits.{made_of, rows_brought, AreOfClasses, HaveRows, ReachFrom};
     ghost use Rattle.repeater_engine.specs.RowWaits.{HasRowRoom};
 
     /// The repeater of this device before half bit 0, of 2 to 32 ports and with a delay of 1 to 200 half bits.
@@ -82,6 +91,7 @@ impl RepeaterEngine {
             heard: vec![in alloc; Sym::Idle; count]?,
             emitted: vec![in alloc; Sym::Idle; count]?,
             decided: vec![in alloc; Sym::Idle; count]?,
+            sent: vec![in alloc; Sym::Idle; MOST_AT_ONCE]?,
         })
     }
 
@@ -126,6 +136,86 @@ impl RepeaterEngine {
         self.t += 1;
     }
 
+    /// How many half bits of a window from half bit `k` of its `n` on may be made at once.
+    fn ahead(&mut self, parcels: &[Parcel], k: usize, n: usize) -> usize
+        requires many { length parcels.now ≡ length self.old.state.repeater.guards }
+        requires left { k < n }
+        requires long { ReachFrom k (n - k) parcels.now }
+        ensures same { self.new ≡ self.old }
+        ensures within { k + result ≤ n }
+        ensures few { result ≤ greatest_delay }
+        ensures alike { AreOfClasses (row_brought k parcels.now) (rows_brought k result parcels.now) }
+        ensures steady { IsSteady (row_brought k parcels.now) self.old.state.repeater result }
+    {
+        hear_all(parcels, k, &mut self.heard);
+        let most = (n - k).min(MOST_AT_ONCE);
+        steady_ahead(
+            &self.repeater,
+            parcels,
+            k,
+            most,
+            &self.heard,
+            &mut self.emitted,
+        )
+    }
+
+    /// Makes the `m` half bits of a window from half bit `k` of its `n` on at once, in which nothing happens but counts.
+    fn leap(&mut self, parcels: &mut [Parcel], k: usize, m: usize, n: usize)
+        requires many { length parcels.old ≡ length self.old.state.repeater.guards }
+        requires some { 0 < m }
+        requires few { m ≤ greatest_delay }
+        requires within { k + m ≤ n }
+        requires long { ReachFrom k (n - k) parcels.old }
+        requires time { self.old.state.t < 2 ^ 63 }
+        requires room { HasRowRoom (length self.old.state.repeater.guards) (n - k) self.old.room self.old.state.repeater }
+        requires alike { AreOfClasses (row_brought k parcels.old) (rows_brought k m parcels.old) }
+        requires steady { IsSteady (row_brought k parcels.old) self.old.state.repeater m }
+        ensures device { self.new.device ≡ self.old.device }
+        ensures state { self.new.state ≡ (made_of self.old.device (rows_brought k m parcels.old) self.old.state).state }
+        ensures ports { length self.new.state.repeater.guards ≡ length self.old.state.repeater.guards }
+        ensures parcels { HaveRows k (made_of self.old.device (rows_brought k m parcels.old) self.old.state).rows parcels.old parcels.new }
+        ensures room { HasRowRoom (length self.new.state.repeater.guards) (n - (k + m)) self.new.room self.new.state.repeater }
+    {
+        hear_all(parcels, k, &mut self.heard);
+        leap_over(
+            &mut self.repeater,
+            parcels,
+            k,
+            m,
+            &self.heard,
+            &mut self.emitted,
+            &mut self.decided,
+            &mut self.sent,
+        );
+        put_pieces(parcels, k, &self.decided, &self.sent[..m]);
+        self.t += m as u64;
+    }
+
+    /// Makes half bits of a window from half bit `k` of its `n` on, and answers how many: all that may be made at once, or
+    /// one where those are fewer than a few.
+    pub fn go_on(&mut self, parcels: &mut [Parcel], k: usize, n: usize) -> usize
+        requires many { length parcels.old ≡ length self.old.state.repeater.guards }
+        requires long { ReachFrom k (n - k) parcels.old }
+        requires left { k < n }
+        requires time { self.old.state.t < 2 ^ 63 }
+        requires room { HasRowRoom (length self.old.state.repeater.guards) (n - k) self.old.room self.old.state.repeater }
+        ensures some { 0 < result }
+        ensures within { k + result ≤ n }
+        ensures device { self.new.device ≡ self.old.device }
+        ensures state { self.new.state ≡ (made_of self.old.device (rows_brought k result parcels.old) self.old.state).state }
+        ensures ports { length self.new.state.repeater.guards ≡ length self.old.state.repeater.guards }
+        ensures parcels { HaveRows k (made_of self.old.device (rows_brought k result parcels.old) self.old.state).rows parcels.old parcels.new }
+        ensures room { HasRowRoom (length self.new.state.repeater.guards) (n - (k + result)) self.new.room self.new.state.repeater }
+    {
+        let m = self.ahead(parcels, k, n);
+        if m < FEWEST_AT_ONCE {
+            self.half_bit(parcels, k, n);
+            return 1;
+        }
+        self.leap(parcels, k, m, n);
+        m
+    }
+
     /// The rows so far. It takes memory for those that lie in the room of a window.
     pub fn into_outputs(self) -> Result<Outputs, OutOfMemory>
         ensures rows { IfOk result (λ outputs. outputs.rows ≡ self.state.rows) }
@@ -140,6 +230,7 @@ impl RepeaterEngine {
             heard: _,
             emitted: _,
             decided: _,
+            sent: _,
         } = self;
         log.settle()?;
         Ok(log.into_outputs())
@@ -166,7 +257,8 @@ pub fn make_window(
     ensures parcels { parcels.new ≡ parcels_after plan.now.value repeater window engine.old.state.t n n }
 {
     let _ = plan;
-    for k in 0..n {
-        engine.half_bit(parcels, k, n);
+    let mut k = 0;
+    while k < n {
+        k += engine.go_on(parcels, k, n);
     }
 }

@@ -2,6 +2,7 @@
 #![tactic(auto)]
 
 mod engine;
+mod leaps;
 mod parcels;
 mod part;
 mod rows;

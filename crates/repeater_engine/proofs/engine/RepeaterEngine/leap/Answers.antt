@@ -1,0 +1,99 @@
+use Rattle.std.proofs.Common.{◌≡◌, ℕ, zero, suc, ◌+◌, ◌-◌, ◌<◌, false, List, [], ◌∷◌, ◌++◌, map, length, length-take-le, take, drop, get_or, refl, sym, subst, ap, ap₂, ◌∙◌, arith, rules}
+use Rattle.std.proofs.Math.Seq.{take-append_seam}
+use Rattle.std.proofs.lemmas.List.{length-map}
+use Rattle.manchester_line.specs.declared.Sym.{Sym}
+use Rattle.manchester_line.specs.declared.Sym.TheVariants.{Idle}
+use Rattle.manchester_line.specs.Line.{is_signal}
+use Rattle.repeater_core.specs.Classes.{after_rows, AreSteadyRows}
+use Rattle.repeater_core.specs.Counts.{Choice}
+use Rattle.repeater_core.specs.Step.{State, chosen, emitted_by, decided_by}
+use Rattle.repeater_core.proofs.Lawful.{length_chosen}
+use Rattle.net_parts.specs.RepeaterParts.{RepeaterState}
+use Rattle.net_parts.proofs.RepeaterSteps.{length-span}
+use Rattle.repeater_engine.specs.KeptRepeaters.{KeptRepeater, piece_of, row_brought, with_piece}
+use Rattle.repeater_engine.specs.LeapedHalfBits.{made_of, rows_brought}
+use Rattle.repeater_engine.specs.RowWaits.{HasRowRoom}
+use Rattle.repeater_engine.proofs.ClassesOfRows.{rows_wide}
+use Rattle.repeater_engine.proofs.SteadyRuns.{HasPorts, steady_run, room_lasts, decided_run, piece_decided}
+use Rattle.repeater_engine.proofs.engine.RepeaterEngine.leap.Goals.{After-leap_over}
+use Rattle.repeater_engine.proofs.engine.RepeaterEngine.leap.Goals as goal
+
+-- a list that is written over from its beginning
+overwritten : (n : ℕ) (new old : List Sym) → n ≡ length new → take n (new ++ drop (length new) old) ≡ new
+overwritten n new old e = ap (λ m. take m (new ++ drop (length new) old)) e ∙ take-append_seam new (drop (length new) old)
+
+signal_at : (xs : List Sym) (p : ℕ) → get_or (map is_signal xs) p false ≡ is_signal (get_or xs p Idle)
+signal_at [] p = refl
+signal_at (x ∷ xs) zero = refl
+signal_at (x ∷ xs) (suc p) = signal_at xs p
+
+-- the repeater before its half bits
+abbrev before : (c : After-leap_over) → RepeaterState
+before c = record { t = c.self.inside.t; repeater = c.self.inside.repeater; rows = c.self.inside.log.rows }
+
+wide : (c : After-leap_over) → length (map is_signal (emitted_by c.self.inside.repeater)) ≡ c.self.inside.ports
+wide c = length-map (emitted_by c.self.inside.repeater) is_signal ∙ ap length (sym c.leap_over.ensures.emitted) ∙ search rules
+
+has_ports : (c : After-leap_over) → HasPorts c.self.inside.ports c.self.inside.repeater
+has_ports c =
+    let r = c.self.inside.repeater in
+    let heard = c.deref.result.now in
+    record {
+      guards = c.self.invariant.guards;
+      counts = sym (length_chosen heard r) ∙ sym (length-map (chosen heard r) (λ (x : Choice). x.symbol)) ∙ ap length (sym c.leap_over.ensures.decided) ∙ search rules;
+    }
+
+many : (c : After-leap_over) → length c.args.parcels.now ≡ c.self.inside.ports
+many c = c.requires.many ∙ sym (ap (λ (x : KeptRepeater). length x.state.repeater.guards) c.self.view_is) ∙ c.self.invariant.guards
+
+sent_long : (c : After-leap_over) → length c.leap_over.new.sent ≡ 200
+sent_long c = search rules
+
+time_fits : (c : After-leap_over) → length (rows_brought c.args.k c.args.m c.args.parcels.now) ≡ c.args.m
+time_fits c = length-span (λ j. row_brought j c.args.parcels.now) c.args.k c.args.m
+
+pub returns-clause-state : goal.returns-clause-state
+returns-clause-state c =
+    let at = (goal.at.returns-clause-state c).After-leap_over in
+    let rows = rows_brought c.args.k c.args.m c.args.parcels.now in
+    let r = c.self.inside.repeater in
+    let run = steady_run c.self.inside.ports (map is_signal (emitted_by r)) (map is_signal c.leap_over.new.decided) (wide at) c.self.inside.device rows (before at) (has_ports at)
+    (rows_wide c.args.parcels.now c.self.inside.ports c.args.k c.args.m (many at)) c.leap_over.ensures.steps in
+    ap₂ (λ (n : ℕ) (x : State). let made : RepeaterState = record { t = c.self.inside.t + n; repeater = x; rows = c.self.inside.log.rows } in made) (sym (time_fits at)) c.leap_over.ensures.state
+    ∙ sym run
+    ∙ ap (λ (x : KeptRepeater). (made_of x.device rows x.state).state) c.self.view_is
+
+pub returns-clause-parcels : goal.returns-clause-parcels
+returns-clause-parcels c = λ p d l.
+    let at = (goal.at.returns-clause-parcels c).After-leap_over in
+    let k = c.args.k in
+    let m = c.args.m in
+    let rows = rows_brought k m c.args.parcels.now in
+    let flags = c.leap_over.new.decided in
+    let texts = take m c.leap_over.new.sent in
+    let decided : c.deref-2.result.now ≡ flags = c.deref-2.ensures.value ∙ overwritten c.self.inside.decided.len flags c.self.inside.decided.items (search rules) in
+    let sent : c.deref-3.result.now ≡ c.leap_over.new.sent = c.deref-3.ensures.value ∙ overwritten c.self.inside.sent.len c.leap_over.new.sent c.self.inside.sent.items (search rules) in
+    let long : length texts ≡ length rows = length-take-le m c.leap_over.new.sent (omega (arith, c.requires.few, sent_long at)) ∙ sym (time_fits at) in
+    let made = decided_run c.self.inside.device rows (map is_signal flags) texts (before at) long c.leap_over.ensures.decisions in
+    let column =
+    ap (map (λ row. get_or row p Idle)) made ∙ piece_decided (map is_signal flags) p texts ∙ ap (λ b. piece_of b texts) (signal_at flags p) in
+    let old = get_or c.args.parcels.now p d in
+    c.put_pieces.ensures p d l
+    ∙ ap₂ (λ xs ys. with_piece k (piece_of (is_signal (get_or xs p Idle)) (take m ys)) old) decided sent
+    ∙ ap (λ piece. with_piece k piece old) (sym column)
+    ∙ ap (λ (x : KeptRepeater). with_piece k (map (λ row. get_or row p Idle) (made_of x.device rows x.state).rows) old) c.self.view_is
+
+pub returns-clause-room : goal.returns-clause-room
+returns-clause-room c =
+    let at = (goal.at.returns-clause-room c).After-leap_over in
+    let rows = rows_brought c.args.k c.args.m c.args.parcels.now in
+    let r = c.self.inside.repeater in
+    let ports = c.self.inside.ports in
+    let room = c.self.inside.log.row_room in
+    let given = subst (λ (x : KeptRepeater). HasRowRoom (length x.state.repeater.guards) (c.args.n - c.args.k) x.room x.state.repeater) (sym c.self.view_is) c.requires.room in
+    let among = subst (λ n. HasRowRoom n (c.args.n - c.args.k) room r) c.self.invariant.guards given in
+    let left : c.args.n - c.args.k ≡ c.args.n - (c.args.k + c.args.m) + length rows = omega (arith, c.requires.within, time_fits at) in
+    let lasts = room_lasts ports (map is_signal (emitted_by r)) (map is_signal c.leap_over.new.decided) (wide at) rows r (has_ports at) (rows_wide c.args.parcels.now ports c.args.k c.args.m (many at)) c.leap_over.ensures.steps
+    (c.args.n - c.args.k) (c.args.n - (c.args.k + c.args.m)) room left among in
+    let later = subst (λ (x : State). HasRowRoom ports (c.args.n - (c.args.k + c.args.m)) room x) (sym c.leap_over.ensures.state) lasts in
+    subst (λ n. HasRowRoom n (c.args.n - (c.args.k + c.args.m)) room c.leap_over.new.repeater) (sym (c.leap_over.ensures.ports ∙ c.self.invariant.guards)) later
