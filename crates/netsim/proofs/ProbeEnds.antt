@@ -1,5 +1,5 @@
 -- The end of a probe, from what was read and what was written.
-use Rattle.std.proofs.Common.{◌≡◌, ℕ, ◌≤◌, Option, Ok, List, refl, sym, subst, ◌∙◌, inl, inr}
+use Rattle.std.proofs.Common.{◌≡◌, ℕ, ◌≤◌, Ok, List, sym, subst, ◌∙◌, inl, inr}
 use Rattle.layout.specs.declared.lines.Layout.{Layout}
 use Rattle.line_probe.specs.declared.tap.Tap.{Tap}
 use Rattle.load_plan.specs.declared.plan.Plan.{Plan}
@@ -7,9 +7,9 @@ use Rattle.netsim.specs.declared.endings.Ending.{Ending}
 use Rattle.netsim.specs.declared.endings.Ending.TheVariants as ending
 use Rattle.netsim.specs.Endings.{AreTapsTold, HasOnlyRead, IsAimEnd, IsEarly, IsJudged, IsProbeEnd, IsUnloadedSaid}
 use Rattle.netsim.specs.Moments.{Moment}
-use Rattle.netsim.specs.Probes.{AreTapsOf, HasAim, half_bits_of}
+use Rattle.netsim.specs.Probes.{AreTapsOf, half_bits_of}
 use Rattle.netsim.specs.Runs.{IsPlanOf}
-use Rattle.netsim.proofs.RunEnds.{plan-before, unloaded_before}
+use Rattle.netsim.proofs.RunEnds.{unloaded_before}
 
 -- the layout could not be read
 pub probe-early : (layout : List ℕ) (from to : ℕ) (taps : List (List ℕ)) (before after : Moment) (e : Ending) → after.held ≡ before.held → IsEarly layout before after e → IsProbeEnd layout from to taps before after e

@@ -1,5 +1,5 @@
 -- The status of probe is that of its layout, of what it aims at and of its loads, and what it leaves.
-use Rattle.std.proofs.Common.{◌≡◌, ◌<◌, ◌≤◌, ◌⊎◌, ℕ, Option, None, Some, Ok, Err, List, [], ◌∷◌, ◌++◌, refl, ap, subst, inl, inr, arith}
+use Rattle.std.proofs.Common.{◌≡◌, ◌⊎◌, ℕ, Option, None, Some, Ok, Err, List, [], ◌∷◌, ◌++◌, refl, subst, inl, inr, arith}
 use Rattle.std.specs.Prelude.{IfSome}
 use Rattle.capture_file.specs.declared.entries.Record.{Record}
 use Rattle.capture_file.specs.declared.fault.CaptureFault.{CaptureFault}
@@ -11,10 +11,10 @@ use Rattle.load_files.specs.Loaded.{Loaded, IsLoaded, IsFirstAbsent, Whole, Faul
 use Rattle.outside.specs.Files.{Files, IsAbsent, Rose}
 use Rattle.netsim.specs.declared.endings.Ending.{Ending}
 use Rattle.netsim.specs.declared.endings.Ending.TheVariants as ending
-use Rattle.netsim.specs.Endings.{IsAimEnd, IsAnswer, IsEarly, IsEndOf, IsJudged, IsMissed, IsProbed, IsProbeEnd, IsText, status_of}
+use Rattle.netsim.specs.Endings.{IsAimEnd, IsAnswer, IsEarly, IsEndOf, IsJudged, IsMissed, IsProbed, IsProbeEnd, status_of}
 use Rattle.netsim.specs.Moments.{Moment}
 use Rattle.netsim.specs.ProbeLaws.{AreMissesSaid, AreProbesComplete, AreProbesCutShort, AreProbesRefused, DoMissesDecide, DoProbedAbsentLoadsDecide, DoProbedLoadFaultsDecide, DoProbesKeepFiles}
-use Rattle.netsim.specs.Probes.{AreTapsOf, HasAim, HasNoAim, IsFirstUnknown, half_bits_of}
+use Rattle.netsim.specs.Probes.{AreTapsOf, HasAim, HasNoAim}
 use Rattle.netsim.specs.Requests.{Asked, asked, Check, Slack, Plain, Run, Demo, Probe, Meter, Help, Version}
 use Rattle.netsim.specs.Statuses.{IfProbe, IsDoneOrMemory, IsFaultStatus, IsMissSaid, IsNetworkWith, IsProbeCut, IsProbeDone, IsProbeWith, IsUnreadOrMemory}
 use Rattle.netsim.proofs.EndingsByStatus.{by_demo, by_meter, by_probe, by_way, end_at, probe_end}

@@ -1,5 +1,5 @@
 -- The text of what several taps hear, written tap by tap: there is one, and a front of it was written.
-use Rattle.std.proofs.Common.{◌≡◌, ℕ, zero, suc, ◌+◌, ◌-◌, ◌<◌, ◌≤◌, true, List, [], ◌∷◌, ◌++◌, take, drop, length, length-drop, get_or, Option, None, Some, option_map, refl, sym, ap, subst, ◌∙◌, inl, inr, append_assoc, arith}
+use Rattle.std.proofs.Common.{◌≡◌, ℕ, zero, suc, ◌+◌, ◌-◌, ◌<◌, ◌≤◌, List, [], ◌∷◌, ◌++◌, take, drop, length, length-drop, get_or, Option, None, Some, refl, sym, ap, subst, ◌∙◌, inl, inr, append_assoc, arith}
 use Rattle.std.specs.Prelude.{nat_le}
 use Rattle.std.proofs.lemmas.Bool.{cases_Bool, leb-true, leb-false}
 use Rattle.std.proofs.lemmas.List.{append-nil, drop_more, take-append-drop, take-append-le, take_all, take_more}
@@ -16,7 +16,6 @@ use Rattle.line_probe.specs.declared.run.Run.{Run}
 use Rattle.line_probe.specs.declared.tap.Tap.{Tap}
 use Rattle.line_probe.proofs.RunsSoFar.{first_run, longer, run_begins, run_goes_on}
 use Rattle.line_probe.proofs.SameSymbols.{other_symbols, same_symbols}
-use Rattle.outside.specs.Files.{Rose}
 use Rattle.netsim.specs.Probes.{IsTextOfTap, IsTextOfTaps, text_of_bursts}
 use Rattle.netsim.specs.Texts.{line_of_tap}
 use Rattle.netsim.specs.Writing.{IsCutShort, added}

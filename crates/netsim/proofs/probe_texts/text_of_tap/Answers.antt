@@ -1,4 +1,4 @@
-use Rattle.std.proofs.Common.{◌++◌, get_or, ap, ◌∙◌, arith}
+use Rattle.std.proofs.Common.{get_or, ap, ◌∙◌, arith}
 use Rattle.line_probe.specs.Heard.{heard_from}
 use Rattle.line_probe.specs.RunTexts.{text_of_runs}
 use Rattle.line_probe.specs.declared.tap.Tap.{Tap}
