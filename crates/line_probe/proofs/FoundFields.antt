@@ -6,7 +6,8 @@ use Rattle.std.proofs.lemmas.Bool.{cases_Bool, eqb-true, le-leb, leb-true}
 use Rattle.std.proofs.lemmas.Bool.Decides.{nat_tests}
 use Rattle.std.proofs.lemmas.Option.{same_Some, cond_some}
 use Rattle.layout.specs.Limits.{most_half_bits}
-use Rattle.line_probe.specs.Reading.{◌>>=◌, after_word, decimal_at, half_bits_at}
+use Rattle.log_meter.specs.Reading.{◌>>=◌, after_word, decimal_at}
+use Rattle.line_probe.specs.Reading.{half_bits_at}
 use Rattle.line_probe.proofs.Numbers.{begins_with_digit, number_again, number_text}
 
 -- both steps found something

@@ -6,8 +6,9 @@ use Rattle.std.proofs.lemmas.Bool.{le-leb, leb-true}
 use Rattle.std.proofs.lemmas.Option.{same_Some, cond_some, none-some}
 use Rattle.manchester_line.specs.declared.Sym.{Sym}
 use Rattle.manchester_line.specs.declared.Sym.TheVariants.{Idle, Hi, Lo, Clash}
-use Rattle.line_probe.specs.ReadBack.{HasNoLine, IsTold}
-use Rattle.line_probe.specs.Reading.{IsReading, Read, after_word, else_read, half_bits_at, run_at, symbol_at, symbol_found}
+use Rattle.line_probe.specs.ReadBack.{HasNoRunLine, IsToldRun}
+use Rattle.log_meter.specs.Reading.{IsReading, Read, after_word, else_read}
+use Rattle.line_probe.specs.Reading.{half_bits_at, run_at, symbol_at, symbol_found}
 use Rattle.line_probe.specs.RunTexts.{line_of_run, word_of_symbol}
 use Rattle.line_probe.specs.declared.run.Run.{Run}
 use Rattle.line_probe.proofs.FoundFields.{bind_some, half_bits_again, half_bits_text, word_text}
@@ -57,7 +58,7 @@ symbol_again Clash rest = refl
 
 -- the line of a run, before the rest
 pub record IsRunBefore (octets : List ℕ) (r : Run) (rest : List ℕ) : Type 0 where
-  pub told : IsTold r
+  pub told : IsToldRun r
   pub text : octets ≡ line_of_run r ++ rest
 
 pub run_found : (octets : List ℕ) (y : Run × List ℕ) → run_at octets ≡ Some y → IsRunBefore octets y.0 y.1
@@ -81,7 +82,7 @@ run_found octets y h =
     } in
     subst (λ (p : Run × List ℕ). IsRunBefore octets p.0 p.1) test.1 before
 
-onto_again : (r : Run) (more : List ℕ) → IsTold r → run_at (run_onto r more) ≡ Some (r, more)
+onto_again : (r : Run) (more : List ℕ) → IsToldRun r → run_at (run_onto r more) ≡ Some (r, more)
 unfolding run_at
 onto_again r more h =
     let rest2 = codes " " ++ (word_of_symbol r.symbol ++ (codes "\n" ++ more)) in
@@ -93,7 +94,7 @@ onto_again r more h =
       le-leb 1 r.count h.some,
     ) refl
 
-pub run_again : (r : Run) (more : List ℕ) → IsTold r → run_at (line_of_run r ++ more) ≡ Some (r, more)
+pub run_again : (r : Run) (more : List ℕ) → IsToldRun r → run_at (line_of_run r ++ more) ≡ Some (r, more)
 run_again r more h = ap run_at (run_onto_is r more) ∙ onto_again r more h
 
 -- the octets after the line of a run are fewer
@@ -102,17 +103,17 @@ line_is_shorter octets r rest e =
     let front = (((decimal r.start ++ codes " ") ++ decimal r.count) ++ codes " ") ++ word_of_symbol r.symbol in
     omega (arith, ap length e, length-append (line_of_run r) rest, length-append front (codes "\n"))
 
-pub no_run_read : (octets : List ℕ) → run_at octets ≡ None → HasNoLine octets
+pub no_run_read : (octets : List ℕ) → run_at octets ≡ None → HasNoRunLine octets
 no_run_read octets none r more told e = none-some (r, more) (sym none ∙ (ap run_at e ∙ run_again r more told))
 
 -- no line begins another
-pub lines_apart : (r s : Run) (x y : List ℕ) → IsTold r → IsTold s → line_of_run r ++ x ≡ line_of_run s ++ y → (r ≡ s) × (x ≡ y)
+pub lines_apart : (r s : Run) (x y : List ℕ) → IsToldRun r → IsToldRun s → line_of_run r ++ x ≡ line_of_run s ++ y → (r ≡ s) × (x ≡ y)
 lines_apart r s x y tr ts e =
     let same = same_Some _ _ (sym (run_again r x tr) ∙ (ap run_at e ∙ run_again s y ts)) in
     (ap (λ (p : Run × List ℕ). p.0) same, ap (λ (p : Run × List ℕ). p.1) same)
 
 -- what the reader of a line answers
-pub answer_told : (octets : List ℕ) (r : Option (Run × Bor (List ℕ))) → IsReading (λ x. (x.0, x.1.now)) r (run_at octets) → IfSome r (λ x. IsTold x.0)
+pub answer_told : (octets : List ℕ) (r : Option (Run × Bor (List ℕ))) → IsReading (λ x. (x.0, x.1.now)) r (run_at octets) → IfSome r (λ x. IsToldRun x.0)
 answer_told octets None h = tt
 answer_told octets (Some x) h = (run_found octets (x.0, x.1.now) h).told
 
@@ -124,6 +125,6 @@ pub answer_shorter : (octets : List ℕ) (r : Option (Run × Bor (List ℕ))) �
 answer_shorter octets None h = tt
 answer_shorter octets (Some x) h = line_is_shorter octets x.0 x.1.now (run_found octets (x.0, x.1.now) h).text
 
-pub answer_none : (octets : List ℕ) (r : Option (Run × Bor (List ℕ))) → IsReading (λ x. (x.0, x.1.now)) r (run_at octets) → IfNone r (HasNoLine octets)
+pub answer_none : (octets : List ℕ) (r : Option (Run × Bor (List ℕ))) → IsReading (λ x. (x.0, x.1.now)) r (run_at octets) → IfNone r (HasNoRunLine octets)
 answer_none octets None h = no_run_read octets h
 answer_none octets (Some x) h = tt

@@ -4,7 +4,7 @@ use Rattle.std.specs.Prelude.{IfSome, Option, Result, ◌≢◌, ◌⊎◌}
 use Rattle.std.specs.List.{AllByRecursion}
 use Rattle.std.proofs.lemmas.Grind.{flat_map-append}
 use Rattle.std.proofs.lemmas.List.{append-nil, append_cancel_left}
-use Rattle.line_probe.specs.ReadBack.{AreTold, BeginsAtEnd, FollowOn, GoesOn, HasOtherSymbol, IsBadAt, IsGapAt, IsJudged, IsRunAt, IsSameAt, IsTextOf, IsTold, IsUnlessMemory, LeavesGap, last_run}
+use Rattle.line_probe.specs.ReadBack.{AreTold, BeginsAtEnd, FollowOn, GoesOnAlike, HasOtherSymbol, IsBadRunAt, IsGapAt, AreJudgedRuns, IsRunAt, IsSameAt, IsTextOf, IsToldRun, AreUnlessMemory, LeavesGap, last_run}
 use Rattle.line_probe.specs.RunTexts.{line_of_run, text_of_runs}
 use Rattle.line_probe.specs.declared.fault.RunsFault.{RunsFault}
 use Rattle.line_probe.specs.declared.fault.RunsFault.TheVariants as fault
@@ -22,10 +22,10 @@ record Follows (before : Option Run) (r : Run) : Type 0 where
 
 -- the line of no run that follows stands in front
 abbrev Stuck : Option Run → List ℕ → Type 0
-Stuck before octets = (r : Run) (more : List ℕ) → IsTold r → Follows before r → octets ≢ line_of_run r ++ more
+Stuck before octets = (r : Run) (more : List ℕ) → IsToldRun r → Follows before r → octets ≢ line_of_run r ++ more
 
 -- the runs of two texts before what is no further run are the same
-same_front : (before : Option Run) (f g : List Run) (x y : List ℕ) → AllByRecursion IsTold f → AllByRecursion IsTold g → FollowOn before f → FollowOn before g
+same_front : (before : Option Run) (f g : List Run) (x y : List ℕ) → AllByRecursion IsToldRun f → AllByRecursion IsToldRun g → FollowOn before f → FollowOn before g
     → text_of_runs f ++ x ≡ text_of_runs g ++ y → Stuck (last_run before f) x → Stuck (last_run before g) y → f ≡ g
 same_front before [] [] x y tf tg of og e sx sy = refl
 same_front before [] (s ∷ ss) x y tf tg of og e sx sy =
@@ -56,7 +56,7 @@ split_text : (octets : List ℕ) (runs : List Run) → IsTextOf octets runs → 
 split_text octets runs is =
     record { told = is.told; text = is.text ∙ sym (append-nil (text_of_runs runs)); stuck = λ r more told follows e. some_octets r more e }
 
-split_bad : (octets : List ℕ) (n : ℕ) (is : IsBadAt n octets) → Split octets is.front is.rest
+split_bad : (octets : List ℕ) (n : ℕ) (is : IsBadRunAt n octets) → Split octets is.front is.rest
 split_bad octets n is = record { told = is.told; text = is.text; stuck = λ r more told follows. is.bad r more told }
 
 -- a run that follows leaves no gap
@@ -65,12 +65,12 @@ no_gap None r gap follows = gap
 no_gap (Some p) r gap follows = gap follows.next
 
 -- nor does it go on
-no_same : (before : Option Run) (r : Run) → GoesOn before r → Follows before r → ⊥
+no_same : (before : Option Run) (r : Run) → GoesOnAlike before r → Follows before r → ⊥
 no_same None r same follows = same
 no_same (Some p) r same follows = follows.other same.1
 
 -- a run leaves a gap or goes on, and not both
-gap_or_same : (before : Option Run) (r : Run) → LeavesGap before r → GoesOn before r → ⊥
+gap_or_same : (before : Option Run) (r : Run) → LeavesGap before r → GoesOnAlike before r → ⊥
 gap_or_same None r gap same = gap
 gap_or_same (Some p) r gap same = gap same.0
 
@@ -89,14 +89,14 @@ split_gap : (octets : List ℕ) (n : ℕ) (is : IsGapAt n octets) → Split octe
 split_gap octets n is = split_run LeavesGap octets n no_gap is
 
 split_same : (octets : List ℕ) (n : ℕ) (is : IsSameAt n octets) → Split octets is.front (line_of_run is.run ++ is.rest)
-split_same octets n is = split_run GoesOn octets n no_same is
+split_same octets n is = split_run GoesOnAlike octets n no_same is
 
 -- lines after the same runs have the same number
 same_number : (f g : List Run) (n m : ℕ) → f ≡ g → n ≡ length f + 1 → m ≡ length g + 1 → n ≡ m
 same_number f g n m same left right = left ∙ (ap (λ (h : List Run). length h + 1) same ∙ sym right)
 
 -- the text of runs has no line that is none
-text_or_bad : (octets : List ℕ) (f : List Run) (n : ℕ) → IsTextOf octets f → IsBadAt n octets → ⊥
+text_or_bad : (octets : List ℕ) (f : List Run) (n : ℕ) → IsTextOf octets f → IsBadRunAt n octets → ⊥
 text_or_bad octets f n a b = b.more (sym (one_split octets f b.front [] b.rest (split_text octets f a) (split_bad octets n b)).1)
 
 -- nor another fault
@@ -105,7 +105,7 @@ text_or_run : (So : Option Run → Run → Type 0) (octets : List ℕ) (f : List
 text_or_run So octets f n never a b = some_octets b.run b.rest (one_split octets f b.front [] (line_of_run b.run ++ b.rest) (split_text octets f a) (split_run So octets n never b)).1
 
 bad_or_run : (So : Option Run → Run → Type 0) (octets : List ℕ) (m n : ℕ) → ((before : Option Run) (r : Run) → So before r → Follows before r → ⊥)
-    → IsBadAt m octets → IsRunAt So n octets → ⊥
+    → IsBadRunAt m octets → IsRunAt So n octets → ⊥
 bad_or_run So octets m n never a b = a.bad b.run b.rest b.line (one_split octets a.front b.front a.rest (line_of_run b.run ++ b.rest) (split_bad octets m a) (split_run So octets n never b)).1
 
 -- the same run stands after the same runs
@@ -114,13 +114,13 @@ run_or_run octets n m a b =
     let same = one_split octets a.front b.front (line_of_run a.run ++ a.rest) (line_of_run b.run ++ b.rest) (split_gap octets n a) (split_same octets m b) in
     let runs = lines_apart a.run b.run a.rest b.rest a.line b.line same.1 in
     gap_or_same (last_run None a.front) a.run a.so
-    (subst (λ (z : Run). GoesOn (last_run None a.front) z) (sym runs.0) (subst (λ (h : List Run). GoesOn (last_run None h) b.run) (sym same.0) b.so))
+    (subst (λ (z : Run). GoesOnAlike (last_run None a.front) z) (sym runs.0) (subst (λ (h : List Run). GoesOnAlike (last_run None h) b.run) (sym same.0) b.so))
 
-one_judgement : (octets : List ℕ) (r s : Result (List Run) RunsFault) → IsJudged octets r → IsJudged octets s → r ≡ s
+one_judgement : (octets : List ℕ) (r s : Result (List Run) RunsFault) → AreJudgedRuns octets r → AreJudgedRuns octets s → r ≡ s
 one_judgement octets (Ok f) (Ok g) a b = ap Ok (one_split octets f g [] [] (split_text octets f a) (split_text octets g b)).0
 one_judgement octets (Ok f) (Err (fault.BadLine m)) a b = absurd (text_or_bad octets f m a b)
 one_judgement octets (Ok f) (Err (fault.Gap m)) a b = absurd (text_or_run LeavesGap octets f m no_gap a b)
-one_judgement octets (Ok f) (Err (fault.Same m)) a b = absurd (text_or_run GoesOn octets f m no_same a b)
+one_judgement octets (Ok f) (Err (fault.Same m)) a b = absurd (text_or_run GoesOnAlike octets f m no_same a b)
 one_judgement octets (Ok f) (Err fault.OutOfMemory) a b = absurd b
 one_judgement octets (Err (fault.BadLine n)) (Ok g) a b = absurd (text_or_bad octets g n b a)
 one_judgement octets (Err (fault.BadLine n)) (Err (fault.BadLine m)) a b =
@@ -128,7 +128,7 @@ one_judgement octets (Err (fault.BadLine n)) (Err (fault.BadLine m)) a b =
     let number : n ≡ m = same_number a.front b.front n m same.0 a.number b.number in
     rw number refl
 one_judgement octets (Err (fault.BadLine n)) (Err (fault.Gap m)) a b = absurd (bad_or_run LeavesGap octets n m no_gap a b)
-one_judgement octets (Err (fault.BadLine n)) (Err (fault.Same m)) a b = absurd (bad_or_run GoesOn octets n m no_same a b)
+one_judgement octets (Err (fault.BadLine n)) (Err (fault.Same m)) a b = absurd (bad_or_run GoesOnAlike octets n m no_same a b)
 one_judgement octets (Err (fault.BadLine n)) (Err fault.OutOfMemory) a b = absurd b
 one_judgement octets (Err (fault.Gap n)) (Ok g) a b = absurd (text_or_run LeavesGap octets g n no_gap b a)
 one_judgement octets (Err (fault.Gap n)) (Err (fault.BadLine m)) a b = absurd (bad_or_run LeavesGap octets m n no_gap b a)
@@ -138,8 +138,8 @@ one_judgement octets (Err (fault.Gap n)) (Err (fault.Gap m)) a b =
     rw number refl
 one_judgement octets (Err (fault.Gap n)) (Err (fault.Same m)) a b = absurd (run_or_run octets n m a b)
 one_judgement octets (Err (fault.Gap n)) (Err fault.OutOfMemory) a b = absurd b
-one_judgement octets (Err (fault.Same n)) (Ok g) a b = absurd (text_or_run GoesOn octets g n no_same b a)
-one_judgement octets (Err (fault.Same n)) (Err (fault.BadLine m)) a b = absurd (bad_or_run GoesOn octets m n no_same b a)
+one_judgement octets (Err (fault.Same n)) (Ok g) a b = absurd (text_or_run GoesOnAlike octets g n no_same b a)
+one_judgement octets (Err (fault.Same n)) (Err (fault.BadLine m)) a b = absurd (bad_or_run GoesOnAlike octets m n no_same b a)
 one_judgement octets (Err (fault.Same n)) (Err (fault.Gap m)) a b = absurd (run_or_run octets m n b a)
 one_judgement octets (Err (fault.Same n)) (Err (fault.Same m)) a b =
     let same = one_split octets a.front b.front (line_of_run a.run ++ a.rest) (line_of_run b.run ++ b.rest) (split_same octets n a) (split_same octets m b) in
@@ -148,12 +148,12 @@ one_judgement octets (Err (fault.Same n)) (Err (fault.Same m)) a b =
 one_judgement octets (Err (fault.Same n)) (Err fault.OutOfMemory) a b = absurd b
 one_judgement octets (Err fault.OutOfMemory) s a b = absurd a
 
-pub told_snoc : (rs : List Run) (r : Run) → AllByRecursion IsTold rs → IsTold r → AllByRecursion IsTold (rs ++ r ∷ [])
+pub told_snoc : (rs : List Run) (r : Run) → AllByRecursion IsToldRun rs → IsToldRun r → AllByRecursion IsToldRun (rs ++ r ∷ [])
 told_snoc [] r all one = (one, tt)
 told_snoc (s ∷ ss) r all one = (all.0, told_snoc ss r all.1 one)
 
 -- the last of runs that lines may tell is one
-pub last_is_told : (before : Option Run) (rs : List Run) → IfSome before IsTold → AllByRecursion IsTold rs → IfSome (last_run before rs) IsTold
+pub last_is_told : (before : Option Run) (rs : List Run) → IfSome before IsToldRun → AllByRecursion IsToldRun rs → IfSome (last_run before rs) IsToldRun
 last_is_told before [] h all = h
 last_is_told before (s ∷ ss) h all = last_is_told (Some s) ss all.0 all.1
 
@@ -171,7 +171,7 @@ text_snoc rs r rest =
     ∙ append_assoc (text_of_runs rs) (line_of_run r) rest
 
 -- an answer other than want of memory is the only one
-pub only_judgement : (octets : List ℕ) (r : Result (List Run) RunsFault) → (r ≡ Err fault.OutOfMemory) ⊎ IsJudged octets r
-    → (judged : Result (List Run) RunsFault) → IsJudged octets judged → IsUnlessMemory r judged
+pub only_judgement : (octets : List ℕ) (r : Result (List Run) RunsFault) → (r ≡ Err fault.OutOfMemory) ⊎ AreJudgedRuns octets r
+    → (judged : Result (List Run) RunsFault) → AreJudgedRuns octets judged → AreUnlessMemory r judged
 only_judgement octets r (inl memory) judged h = inr memory
 only_judgement octets r (inr is) judged h = inl (one_judgement octets r judged is h)

@@ -4,9 +4,9 @@ use Rattle.std.specs.Prelude.{IfOk, Result, ◌⊎◌}
 use Rattle.std.specs.List.{AllByRecursion}
 use Rattle.layout.specs.Limits.{most_half_bits}
 use Rattle.manchester_line.specs.declared.Sym.{Sym}
-use Rattle.line_probe.specs.ReadBack.{AreTold, FollowOn, IsJudged, IsTextOf, IsTold}
+use Rattle.line_probe.specs.ReadBack.{AreTold, FollowOn, AreJudgedRuns, IsTextOf, IsToldRun}
 use Rattle.line_probe.specs.RunTexts.{text_of_runs}
-use Rattle.line_probe.specs.Runs.{AreHeardRuns, AreJoined, AreMaximal, BeginsOtherwise, end_after, symbols_of_runs}
+use Rattle.line_probe.specs.Runs.{AreHeardRuns, AreJoined, AreMaximal, BeginsOtherwise, end_after_runs, symbols_of_runs}
 use Rattle.line_probe.specs.declared.fault.RunsFault.{RunsFault}
 use Rattle.line_probe.specs.declared.fault.RunsFault.TheVariants as fault
 use Rattle.line_probe.specs.declared.run.Run.{Run}
@@ -19,7 +19,7 @@ replicate_length (suc n) s = ap suc (replicate_length n s)
 pub symbols_count : (r : Run) (rs : List Run) → length (symbols_of_runs (r ∷ rs)) ≡ r.count + length (symbols_of_runs rs)
 symbols_count r rs = length-append (replicate r.count r.symbol) (symbols_of_runs rs) ∙ ap (λ n. n + length (symbols_of_runs rs)) (replicate_length r.count r.symbol)
 
-told_runs : (from : ℕ) (runs : List Run) → AreJoined from runs → from + length (symbols_of_runs runs) ≤ most_half_bits → AllByRecursion IsTold runs
+told_runs : (from : ℕ) (runs : List Run) → AreJoined from runs → from + length (symbols_of_runs runs) ≤ most_half_bits → AllByRecursion IsToldRun runs
 told_runs from [] joined within = tt
 told_runs from (r ∷ rs) joined within =
     let count = symbols_count r rs in (
@@ -51,11 +51,11 @@ heard_is_text octets runs h e =
     }
 
 -- where the runs that follow end
-end_of_runs : (before : Run) (runs : List Run) → AllByRecursion IsTold runs → FollowOn (Some before) runs → before.start + before.count + length (symbols_of_runs runs) ≡ end_after (before.start + before.count) runs
-end_of_runs before [] each order = omega arith
-end_of_runs before (r ∷ rs) each order = omega (arith, symbols_count r rs, end_of_runs r rs each.1 order.2, order.0)
+end_of_told_runs : (before : Run) (runs : List Run) → AllByRecursion IsToldRun runs → FollowOn (Some before) runs → before.start + before.count + length (symbols_of_runs runs) ≡ end_after_runs (before.start + before.count) runs
+end_of_told_runs before [] each order = omega arith
+end_of_told_runs before (r ∷ rs) each order = omega (arith, symbols_count r rs, end_of_told_runs r rs each.1 order.2, order.0)
 
-joined_after : (before : Run) (runs : List Run) → AllByRecursion IsTold runs → FollowOn (Some before) runs → AreJoined (before.start + before.count) runs
+joined_after : (before : Run) (runs : List Run) → AllByRecursion IsToldRun runs → FollowOn (Some before) runs → AreJoined (before.start + before.count) runs
 joined_after before [] each order = tt
 joined_after before (r ∷ rs) each order =
     (order.0, each.0.some, subst (λ n. AreJoined (n + r.count) rs) order.0 (joined_after r rs each.1 order.2))
@@ -65,7 +65,7 @@ maximal_after before [] order = (tt, tt)
 maximal_after before (r ∷ rs) order = ((λ e. order.1 (sym e)), maximal_after r rs order.2)
 
 -- runs that were read and end soon enough can be heard
-pub read_are_heard : (runs : List Run) → AreTold runs → end_after 0 runs ≤ most_half_bits → AreHeardRuns runs
+pub read_are_heard : (runs : List Run) → AreTold runs → end_after_runs 0 runs ≤ most_half_bits → AreHeardRuns runs
 read_are_heard [] told within =
     record { from = 0; symbols = []; runs_of = record { joined = tt; maximal = tt; symbols_are = refl }; within = omega arith }
 read_are_heard (r ∷ rs) told within =
@@ -77,11 +77,11 @@ read_are_heard (r ∷ rs) told within =
         maximal = maximal_after r rs told.order.2;
         symbols_are = refl;
       };
-      within = omega (arith, symbols_count r rs, end_of_runs r rs told.each.1 told.order.2, within);
+      within = omega (arith, symbols_count r rs, end_of_told_runs r rs told.each.1 told.order.2, within);
     }
 
 -- the same of what was answered
-pub answer_heard : (octets : List ℕ) (r : Result (List Run) RunsFault) → (r ≡ Err fault.OutOfMemory) ⊎ IsJudged octets r → IfOk r (λ runs. end_after 0 runs ≤ most_half_bits → AreHeardRuns runs)
+pub answer_heard : (octets : List ℕ) (r : Result (List Run) RunsFault) → (r ≡ Err fault.OutOfMemory) ⊎ AreJudgedRuns octets r → IfOk r (λ runs. end_after_runs 0 runs ≤ most_half_bits → AreHeardRuns runs)
 answer_heard octets (Ok runs) (inl memory) = cc memory
 answer_heard octets (Ok runs) (inr is) = read_are_heard runs is.told
 answer_heard octets (Err f) h = tt

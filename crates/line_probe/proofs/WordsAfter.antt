@@ -4,7 +4,7 @@ use Rattle.std.specs.Prelude.{Option}
 use Rattle.std.specs.Cmp.Lexicographic.{pointwise}
 use Rattle.std.specs.Option.{MatchOption}
 use Rattle.std.proofs.lemmas.Bool.{cases_Bool}
-use Rattle.line_probe.specs.Reading.{IsReading, after_word}
+use Rattle.log_meter.specs.Reading.{IsReading, after_word}
 
 -- where the octets begin with the word, those after it
 pub after_same : (word octets : List ℕ) → pointwise eqb (take (length word) octets) word ≡ true → after_word word octets ≡ Some (drop (length word) octets)

@@ -14,7 +14,8 @@ signals_in_front symbols = take (prefix_len is_signal symbols) symbols
 
 -- whether there are any, with Idle after them
 abbrev pub has_ended_signals : List Sym → Bool
-has_ended_signals symbols = nat_lt 0 (length (signals_in_front symbols)) && nat_lt (length (signals_in_front symbols)) (length symbols)
+has_ended_signals symbols =
+    nat_lt 0 (length (signals_in_front symbols)) && nat_lt (length (signals_in_front symbols)) (length symbols)
 
 -- how many whole octets a reception has by its reading, and none where it is spoiled
 abbrev pub octets_read : Option (List Bool) → ℕ

@@ -35,9 +35,9 @@ pub record AreRunsOf (from : ℕ) (symbols : List Sym) (runs : List Run) : Type 
   pub symbols_are : symbols_of_runs runs ≡ symbols
 
 -- the half bit after the last of these runs, and t where there is none
-abbrev pub end_after : ℕ → List Run → ℕ
-end_after t [] = t
-end_after t (r ∷ rs) = end_after (r.start + r.count) rs
+abbrev pub end_after_runs : ℕ → List Run → ℕ
+end_after_runs t [] = t
+end_after_runs t (r ∷ rs) = end_after_runs (r.start + r.count) rs
 
 -- these are the runs of some symbols that can be heard in a network, which has at most 2,000,000,000 half bits
 pub record AreHeardRuns (runs : List Run) : Type 0 where

@@ -1,8 +1,9 @@
 //! Words, numbers and runs at the front of octets.
 ghost use Rattle.std.specs.Prelude.{◌≡◌, ◌≤◌, ◌<◌, ◌^◌, ◌+◌, ◌-◌, ◌*◌, ◌++◌, IfSome, IfNone, drop, length};
-ghost use Rattle.line_probe.specs.ReadBack.{HasNoLine, IsTold};
+ghost use Rattle.line_probe.specs.ReadBack.{HasNoRunLine, IsToldRun};
 ghost use Rattle.line_probe.specs.RunTexts.{line_of_run};
-ghost use Rattle.line_probe.specs.Reading.{IsReading, after_word, decimal_at, digits_ended, follows_zero, half_bits_at, run_at, symbol_at};
+ghost use Rattle.log_meter.specs.Reading.{IsReading, after_word, decimal_at, digits_ended, follows_zero};
+ghost use Rattle.line_probe.specs.Reading.{half_bits_at, run_at, symbol_at};
 
 use crate::Run;
 use layout::MOST_HALF_BITS;
@@ -118,10 +119,10 @@ fn run_at(octets: &[u8]) -> Option<(Run, &[u8])>
 
 /// The run whose line stands in front, and the octets after its line feed.
 pub fn line_of(octets: &[u8]) -> Option<(Run, &[u8])>
-    ensures told { IfSome result (λ r. IsTold r.0) }
+    ensures told { IfSome result (λ r. IsToldRun r.0) }
     ensures text { IfSome result (λ r. octets.now ≡ line_of_run r.0 ++ r.1.now) }
     ensures shorter { IfSome result (λ r. length r.1.now < length octets.now) }
-    ensures none { IfNone result (HasNoLine octets.now) }
+    ensures none { IfNone result (HasNoRunLine octets.now) }
 {
     run_at(octets)
 }

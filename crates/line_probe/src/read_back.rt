@@ -3,9 +3,9 @@ ghost use Rattle.std.specs.Prelude.{◌≡◌, ◌<◌, ◌≤◌, ◌+◌, ◌-
 ghost use Rattle.layout.specs.Limits.{most_half_bits};
 ghost use Rattle.load_plan.specs.declared.plan.Plan.{Plan};
 ghost use Rattle.line_probe.specs.Heard.{AreProbed};
-ghost use Rattle.line_probe.specs.ReadBack.{IsBadAt, IsFaultAfter, IsGapAt, IsJudged, IsSameAt, IsTextOf, IsTold, IsUnlessMemory};
+ghost use Rattle.line_probe.specs.ReadBack.{IsBadRunAt, IsFaultAfter, IsGapAt, AreJudgedRuns, IsSameAt, IsTextOf, IsToldRun, AreUnlessMemory};
 ghost use Rattle.line_probe.specs.RunTexts.{text_of_runs};
-ghost use Rattle.line_probe.specs.Runs.{AreHeardRuns, end_after};
+ghost use Rattle.line_probe.specs.Runs.{AreHeardRuns, end_after_runs};
 ghost use Rattle.line_probe.specs.declared.fault.RunsFault.{RunsFault};
 ghost use Rattle.line_probe.specs.declared.fault.RunsFault.TheVariants.{BadLine, Gap, OutOfMemory, Same};
 ghost use Rattle.line_probe.specs.declared.run.Run.{Run};
@@ -18,7 +18,7 @@ use std::alloc::Global;
 
 /// What is wrong with a run in this line after the one before, if there is one.
 fn fault_after(before: Option<Run>, run: Run, line: u32) -> Option<RunsFault>
-    requires { IfSome before IsTold }
+    requires { IfSome before IsToldRun }
     ensures { IsFaultAfter before run line result }
 {
     let last = before?;
@@ -34,7 +34,7 @@ fn fault_after(before: Option<Run>, run: Run, line: u32) -> Option<RunsFault>
 /// The runs whose text the octets are, or the first fault.
 fn judged_runs(alloc: Global, bytes: &[u8]) -> Result<Runs, RunsFault>
     requires { length bytes.now ≤ 4000000000 }
-    ensures { (result ≡ Err OutOfMemory) ⊎ IsJudged bytes.now result }
+    ensures { (result ≡ Err OutOfMemory) ⊎ AreJudgedRuns bytes.now result }
 {
     let mut runs = Runs::new(alloc);
     let mut rest = bytes;
@@ -59,16 +59,16 @@ fn judged_runs(alloc: Global, bytes: &[u8]) -> Result<Runs, RunsFault>
 pub fn read_runs(alloc: Global, bytes: &[u8]) -> Result<Runs, RunsFault>
     requires { length bytes.now ≤ 4000000000 }
     ensures runs { IfOk result (λ runs. IsTextOf bytes.now runs) }
-    ensures within { IfOk result (λ runs. end_after 0 runs ≤ most_half_bits → AreHeardRuns runs) }
-    ensures bad_line { (n : ℕ) → result ≡ Err (BadLine n) → IsBadAt n bytes.now }
+    ensures within { IfOk result (λ runs. end_after_runs 0 runs ≤ most_half_bits → AreHeardRuns runs) }
+    ensures bad_line { (n : ℕ) → result ≡ Err (BadLine n) → IsBadRunAt n bytes.now }
     ensures gap { (n : ℕ) → result ≡ Err (Gap n) → IsGapAt n bytes.now }
     ensures same { (n : ℕ) → result ≡ Err (Same n) → IsSameAt n bytes.now }
-    ensures only { (judged : Result (List Run) RunsFault) → IsJudged bytes.now judged → IsUnlessMemory result judged }
+    ensures only { (judged : Result (List Run) RunsFault) → AreJudgedRuns bytes.now judged → AreUnlessMemory result judged }
     ensures heard { (runs : List Run) → AreHeardRuns runs → bytes.now ≡ text_of_runs runs →
-        IsUnlessMemory result (Ok runs) }
+        AreUnlessMemory result (Ok runs) }
     ensures probed { (plan : Plan) (from to : ℕ) (taps : List Tap) (lists : List (List Run)) (k : ℕ) (runs : List Run) →
         from < to → to ≤ half_bits plan → AreProbed plan from to taps lists → slice_get lists k ≡ Some runs →
-        bytes.now ≡ text_of_runs runs → IsUnlessMemory result (Ok runs) }
+        bytes.now ≡ text_of_runs runs → AreUnlessMemory result (Ok runs) }
 {
     judged_runs(alloc, bytes)
 }

@@ -1,7 +1,7 @@
 //! Texts of runs that are read, and the bursts in them.
 ghost use Rattle.std.specs.Prelude.{◌≡◌, ◌≤◌, true};
 ghost use Rattle.layout.specs.Limits.{most_half_bits};
-ghost use Rattle.line_probe.specs.Runs.{end_after};
+ghost use Rattle.line_probe.specs.Runs.{end_after_runs};
 
 use line_probe::{Burst, OutOfMemory, Run, Runs, RunsFault, bursts, read_runs};
 use manchester_line::Sym;
@@ -204,7 +204,7 @@ fn a_fault_of_runs_has_its_code(rt: HostRuntime) {
 
 /// Whether the runs end by half bit 2,000,000,000.
 fn end_soon(runs: &Runs) -> bool
-    ensures { result ≡ true → end_after 0 runs.now ≤ most_half_bits }
+    ensures { result ≡ true → end_after_runs 0 runs.now ≤ most_half_bits }
 {
     let mut end = 0u64;
     for k in 0..runs.len() {

@@ -23,8 +23,8 @@ pub record KeptRepeater : Type 0 where
   pub state : RepeaterState
   pub room : ℕ
 
--- Each port has its guard and its places for what it hears, emits and is sent, there are as many places for what is sent
--- in half bits that are made at once as a delay may have half bits, and a repeater has no captures (profile).
+-- Each port has its guard and its places for what it hears, emits and is sent; there are as many places for what is
+-- sent in half bits that are made at once as a delay may have half bits; and a repeater has no captures (profile).
 pub record AreSized (ports : ℕ) (r : State) (log : Room) (heard emitted decided sent : ℕ) : Type 0 where
   pub guards : length r.guards ≡ ports
   pub few : ports ≤ most_ports

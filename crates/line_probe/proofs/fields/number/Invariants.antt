@@ -1,5 +1,5 @@
 use Rattle.std.proofs.Common.{◌≡◌, drop}
-use Rattle.line_probe.specs.Reading.{digits_on}
+use Rattle.log_meter.specs.Reading.{digits_on}
 use Rattle.line_probe.proofs.fields.number.Given as goal
 
 abbrev pub invariant-digits : goal.invariant-digits

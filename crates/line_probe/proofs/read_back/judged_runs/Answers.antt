@@ -1,13 +1,13 @@
 use Rattle.std.proofs.Common.{◌++◌, ◌∷◌, [], None, ap, subst, sym, ◌∙◌, arith, length-append}
 use Rattle.std.specs.Prelude.{IfSome}
-use Rattle.line_probe.specs.ReadBack.{BeginsAtEnd, HasOtherSymbol, IsTold}
+use Rattle.line_probe.specs.ReadBack.{BeginsAtEnd, HasOtherSymbol, IsToldRun}
 use Rattle.line_probe.specs.RunTexts.{text_of_runs}
 use Rattle.line_probe.proofs.TextsApart.{last_is_told, last_snoc, order_snoc, text_snoc, told_snoc}
 use Rattle.line_probe.proofs.read_back.judged_runs.Goals as goal
 
 pub fault_after-requires : goal.fault_after-requires
 fault_after-requires c =
-    subst (λ before. IfSome before IsTold) (sym c.loop-rest.invariant.last) (last_is_told None c.loop-rest.runs tt c.loop-rest.invariant.each)
+    subst (λ before. IfSome before IsToldRun) (sym c.loop-rest.invariant.last) (last_is_told None c.loop-rest.runs tt c.loop-rest.invariant.each)
 
 pub loop-rest-preserved : goal.loop-rest-preserved
 loop-rest-preserved c =
