@@ -203,12 +203,11 @@ fn a_fault_of_runs_has_its_code(rt: HostRuntime) {
 }
 
 /// Whether the runs end by half bit 2,000,000,000.
-fn end_soon(runs: &Runs) -> bool
+fn end_soon(runs: &[Run]) -> bool
     ensures { result ≡ true → end_after_runs 0 runs.now ≤ most_half_bits }
 {
     let mut end = 0u64;
-    for k in 0..runs.len() {
-        let run = runs.get(k);
+    for run in runs {
         let Some(next) = run.start.checked_add(run.count) else {
             return false;
         };
@@ -223,7 +222,7 @@ fn first_burst(alloc: Global, text: &[u8]) -> Result<(Option<Burst>, usize), Run
         return Err(RunsFault::OutOfMemory);
     }
     let runs = read_runs(alloc, text)?;
-    if !end_soon(&runs) {
+    if !end_soon(runs.as_slice()) {
         return Err(RunsFault::OutOfMemory);
     }
     let bursts = bursts(alloc, &runs)?;

@@ -69,7 +69,7 @@ fn heard_by_b(alloc: Global, from: u64, to: u64) -> Result<Runs, Fail>
     let Some(tap) = find_tap(&plan.layout, b"b") else {
         return Err(Fail::from("no tap"));
     };
-    if plan.layout.until_bits * 2 < HALF_BITS || from >= to || to > HALF_BITS {
+    if plan.layout.until_bits < HALF_BITS / 2 || from >= to || to > HALF_BITS {
         return Err(Fail::from("no half bits"));
     }
     let mut lists = probe(alloc, &plan, &[tap], from, to)?;
