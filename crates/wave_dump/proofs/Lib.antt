@@ -1,0 +1,5 @@
+pub mod Joined
+pub mod Taken
+pub mod Standing
+pub mod SoFar
+pub mod RisingTimes

@@ -1,0 +1,75 @@
+//! The value change dump.
+ghost use Rattle.std.specs.Prelude.{◌≡◌, ◌*◌, ◌<◌, ◌≤◌, ◌^◌, ◌++◌, ℕ, List, IfOk, OnOk, length, map};
+ghost use Rattle.manchester_line.specs.declared.Sym.{Sym};
+ghost use Rattle.mac_parameters.specs.Parameters.{nanoseconds_a_half_bit};
+ghost use Rattle.wave_dump.specs.Dump.{dump_of_waves};
+ghost use Rattle.wave_dump.specs.Heard.{AreHeard};
+ghost use Rattle.wave_dump.specs.Waiting.{begun_moment, runs_after};
+
+use crate::head::add_head;
+use crate::values::{MOST_TAPS, add_time};
+use crate::waiting::{add_all_begun, do_any_begin, take_begun};
+use line_probe::{Run, Runs, RunsList};
+use lists::{List, OutOfMemory, Text};
+use std::alloc::Global;
+
+/// All runs of each tap.
+fn all_waiting(alloc: Global, lists: &[Runs]) -> Result<Vec<&[Run]>, OutOfMemory>
+    ensures { IfOk result (λ waiting. map (λ runs. runs.now) waiting.items ≡ lists.now) }
+{
+    let mut waiting = Vec::new(alloc);
+    for runs in lists {
+        waiting.push(runs.as_slice())?;
+    }
+    Ok(waiting)
+}
+
+/// Tells half bit t if a run begins in it.
+fn tell(text: &mut List<u8>, waiting: &mut [&[Run]], t: u64) -> Result<(), OutOfMemory>
+    requires few { length waiting.old ≤ MOST_TAPS }
+    requires time { nanoseconds_a_half_bit * t < 2 ^ 64 }
+    ensures text { OnOk result (text.new ≡ text.old ++ begun_moment t (map (λ runs. runs.now) waiting.old)) }
+    ensures waiting { OnOk result (map (λ runs. runs.now) waiting.new ≡ map (runs_after t) (map (λ runs. runs.now) waiting.old)) }
+{
+    if !do_any_begin(waiting, t) {
+        return Ok(());
+    }
+    add_time(text, t)?;
+    add_all_begun(text, waiting, t)?;
+    take_begun(waiting, t);
+    Ok(())
+}
+
+/// The value change dump of what taps of these names hear from half bit `from` on and before half bit `to`, of the runs
+/// of what they hear, one list a tap (IEEE 1364 clause 18, the four-state form): the head; the values of all taps in the
+/// first half bit; each later half bit in which a tap hears another symbol than before, with the values that changed, in
+/// the order of the taps; the time of `to`. Times are nanoseconds. The k-th tap, from 0, has the character 33 + k as its
+/// code. It looks at the next run of each tap once a half bit.
+pub fn waves_text(
+    alloc: Global,
+    names: &[Text],
+    from: u64,
+    to: u64,
+    lists: &RunsList,
+) -> Result<List<u8>, OutOfMemory>
+    requires names { length names.now ≡ length lists.now }
+    requires few { length lists.now ≤ MOST_TAPS }
+    requires order { from < to }
+    requires time { nanoseconds_a_half_bit * to < 2 ^ 64 }
+    ensures { (heard : List (List Sym)) → AreHeard from to heard lists.now →
+        IfOk result (λ text. text ≡ dump_of_waves names.now from to heard) }
+{
+    let mut text = List::new(alloc);
+    add_head(&mut text, names, from, to)?;
+    add_time(&mut text, from)?;
+    text.extend(b"$dumpvars\n")?;
+    let mut waiting = all_waiting(alloc, lists.as_slice())?;
+    add_all_begun(&mut text, &waiting, from)?;
+    take_begun(&mut waiting, from);
+    text.extend(b"$end\n")?;
+    'told: for t in from + 1..to {
+        tell(&mut text, &mut waiting, t)?;
+    }
+    add_time(&mut text, to)?;
+    Ok(text)
+}
