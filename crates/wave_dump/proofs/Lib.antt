@@ -3,3 +3,4 @@ pub mod Taken
 pub mod Standing
 pub mod SoFar
 pub mod RisingTimes
+pub mod ProbedTaps

@@ -2,8 +2,11 @@
 ghost use Rattle.std.specs.Prelude.{◌≡◌, ◌*◌, ◌<◌, ◌≤◌, ◌^◌, ◌++◌, ℕ, List, IfOk, OnOk, length, map};
 ghost use Rattle.manchester_line.specs.declared.Sym.{Sym};
 ghost use Rattle.mac_parameters.specs.Parameters.{nanoseconds_a_half_bit};
+ghost use Rattle.load_plan.specs.declared.plan.Plan.{Plan};
+ghost use Rattle.line_probe.specs.Heard.{AreProbed};
+ghost use Rattle.line_probe.specs.declared.tap.Tap.{Tap};
 ghost use Rattle.wave_dump.specs.Dump.{dump_of_waves};
-ghost use Rattle.wave_dump.specs.Heard.{AreHeard};
+ghost use Rattle.wave_dump.specs.Heard.{AreHeard, waves_of_plan};
 ghost use Rattle.wave_dump.specs.Waiting.{begun_moment, runs_after};
 
 use crate::head::add_head;
@@ -56,8 +59,10 @@ pub fn waves_text(
     requires few { length lists.now ≤ MOST_TAPS }
     requires order { from < to }
     requires time { nanoseconds_a_half_bit * to < 2 ^ 64 }
-    ensures { (heard : List (List Sym)) → AreHeard from to heard lists.now →
+    ensures text { (heard : List (List Sym)) → AreHeard from to heard lists.now →
         IfOk result (λ text. text ≡ dump_of_waves names.now from to heard) }
+    ensures probed { (plan : Plan) (taps : List Tap) → AreProbed plan from to taps lists.now →
+        IfOk result (λ text. text ≡ waves_of_plan plan names.now taps from to) }
 {
     let mut text = List::new(alloc);
     add_head(&mut text, names, from, to)?;

@@ -5,7 +5,9 @@ use Rattle.line_probe.specs.declared.run.Run.{Run}
 use Rattle.wave_dump.specs.Dump.{head_of_dump}
 use Rattle.wave_dump.specs.Values.{line_of_time}
 use Rattle.wave_dump.specs.Waiting.{begun_moment, begun_values, runs_after}
+use Rattle.wave_dump.specs.Heard.{all_heard}
 use Rattle.wave_dump.proofs.Joined.{one_and_four}
+use Rattle.wave_dump.proofs.ProbedTaps.{probed_are_heard}
 use Rattle.wave_dump.proofs.SoFar.{IsDumpedTo, dumped_first, dumped_more, dumped_last}
 use Rattle.wave_dump.proofs.Taken.{written_back}
 use Rattle.wave_dump.proofs.dump.waves_text.Goals as goal
@@ -43,8 +45,12 @@ told-preserved c =
           (dumped_more c.args.names.now c.args.from c.args.to c.told.t heard (runs_behind c.told.waiting.items) c.told.text (omega arith) c.told-test.true (c.told.invariant.dumped heard h)));
     }
 
-pub returns : goal.returns
-returns c heard h =
+pub returns-clause-text : goal.returns-clause-text
+returns-clause-text c heard h =
     let last : c.told.t ≡ c.args.to = omega arith in
     dumped_last c.args.names.now c.args.from c.args.to heard (runs_behind c.told.waiting.items) c.told.text c.add_time-2.new.text c.in_ok-add_time-2.ensures
     (subst (λ (t : ℕ). IsDumpedTo c.args.names.now c.args.from c.args.to t heard (runs_behind c.told.waiting.items) c.told.text) last (c.told.invariant.dumped heard h))
+
+pub returns-clause-probed : goal.returns-clause-probed
+returns-clause-probed c plan taps h =
+    returns-clause-text c (all_heard plan taps c.args.from c.args.to) (probed_are_heard plan c.args.from c.args.to taps c.args.lists.now h)
