@@ -4,13 +4,13 @@ use Rattle.load_plan.specs.declared.plan.Plan.{Plan}
 use Rattle.line_probe.specs.Heard.{AreProbed, heard_from}
 use Rattle.line_probe.specs.declared.run.Run.{Run}
 use Rattle.line_probe.specs.declared.tap.Tap.{Tap}
-use Rattle.wave_dump.specs.Heard.{AreHeard, all_heard}
+use Rattle.wave_dump.specs.Heard.{AreTapRuns, all_heard}
 
 length-heard_from : (plan : Plan) (tap : Tap) (from n : ℕ) → length (heard_from plan tap from n) ≡ n
 length-heard_from plan tap from zero = refl
 length-heard_from plan tap from (suc n) = ap suc (length-heard_from plan tap (from + 1) n)
 
-pub probed_are_heard : (plan : Plan) (from to : ℕ) (taps : List Tap) (lists : List (List Run)) → AreProbed plan from to taps lists → AreHeard from to (all_heard plan taps from to) lists
+pub probed_are_heard : (plan : Plan) (from to : ℕ) (taps : List Tap) (lists : List (List Run)) → AreProbed plan from to taps lists → AreTapRuns from to (all_heard plan taps from to) lists
 probed_are_heard plan from to [] [] h = tt
 probed_are_heard plan from to [] (runs ∷ lists) h = absurd h
 probed_are_heard plan from to (tap ∷ taps) [] h = absurd h

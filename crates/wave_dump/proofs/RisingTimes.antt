@@ -7,7 +7,7 @@ use Rattle.std.specs.List.Sorted.{IsStrictlyIncreasing}
 use Rattle.manchester_line.specs.declared.Sym.{Sym}
 use Rattle.manchester_line.specs.declared.Sym.TheVariants.{Idle, Hi, Lo, Clash}
 use Rattle.wave_dump.specs.Changes.{changing_half_bits, do_differ, is_changed, symbol_in}
-use Rattle.wave_dump.specs.WaveLaws.{DoTimesRise, DoValuesLast, DoesEachChange}
+use Rattle.wave_dump.specs.WaveLaws.{OnlyChangesAreTold, TimesRise, ValuesLast}
 
 -- the first of these numbers is no less than a least one, and each other one is greater than the one before
 abbrev Rises : ℕ → List ℕ → Type 0
@@ -35,7 +35,7 @@ next_above low (x ∷ y ∷ ys) r (suc k) h = next_above (x + 1) (y ∷ ys) r.1 
 increasing : (low : ℕ) (xs : List ℕ) → Rises low xs → IsStrictlyIncreasing xs
 increasing low xs r k h = let less : get_or xs k 0 < get_or xs (suc k) 0 = next_above low xs r k (omega arith) in rw add-one less
 
-pub times_rise : DoTimesRise
+pub times_rise : TimesRise
 times_rise from to heard order =
     let rises : Rises from (from ∷ (changing_half_bits from to heard ++ to ∷ [])) = (omega arith, all_rise (λ t. list_any (is_changed from t) heard) (from + 1) (to - (from + 1)) to (omega arith)) in
     increasing from (from ∷ (changing_half_bits from to heard ++ to ∷ [])) rises
@@ -48,7 +48,7 @@ all_pass : (p : ℕ → Bool) (xs : List ℕ) → All (λ t. p t ≡ true) (filt
 all_pass p [] = All-nil (λ t. p t ≡ true)
 all_pass p (x ∷ xs) = one_passes p x (filter p xs) (p x) refl (all_pass p xs)
 
-pub each_changes : DoesEachChange
+pub each_changes : OnlyChangesAreTold
 each_changes from to heard = all_pass (λ t. list_any (is_changed from t) heard) (range_with_len (from + 1) (to - (from + 1)))
 
 no_difference : (a b : Sym) → do_differ a b ≡ false → a ≡ b
@@ -77,7 +77,7 @@ value_stays from s (suc n) symbols h =
     no_difference (symbol_in from symbols (s + suc n - 1)) (symbol_in from symbols (s + suc n)) (h (s + suc n) (omega arith) (omega arith)) in
     sym last ∙ ap (symbol_in from symbols) before ∙ value_stays from s n symbols (λ u after up. h u after (omega arith))
 
-pub values_last : DoValuesLast
+pub values_last : ValuesLast
 values_last from s t symbols start order h =
     let at : s + (t - s) ≡ t = omega arith in
     ap (symbol_in from symbols) (sym at) ∙ value_stays from s (t - s) symbols (λ u after up. h u after (omega arith))

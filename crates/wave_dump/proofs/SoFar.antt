@@ -4,15 +4,15 @@ use Rattle.std.specs.List.{list_any, range_with_len}
 use Rattle.manchester_line.specs.declared.Sym.{Sym}
 use Rattle.line_probe.specs.declared.run.Run.{Run}
 use Rattle.wave_dump.specs.Changes.{all_values, is_changed}
-use Rattle.wave_dump.specs.Dump.{dump_of_waves, first_moment, head_of_dump, moment}
-use Rattle.wave_dump.specs.Heard.{AreHeard}
+use Rattle.wave_dump.specs.Dump.{dump_of_waves, first_moment, head_of_dump, told_moment}
+use Rattle.wave_dump.specs.Heard.{AreTapRuns}
 use Rattle.wave_dump.specs.Values.{line_of_time}
 use Rattle.wave_dump.specs.Waiting.{begun_moment, begun_values, does_begin, runs_after}
 use Rattle.wave_dump.proofs.Standing.{AllAgree, AllStand, all_taps, first_taps}
 
 -- what is told of those of these half bits in which something changes
 abbrev pub moments : ℕ → List (List Sym) → List ℕ → List ℕ
-moments from heard ts = flat_map (moment from heard) (filter (λ t. list_any (is_changed from t) heard) ts)
+moments from heard ts = flat_map (told_moment from heard) (filter (λ t. list_any (is_changed from t) heard) ts)
 
 -- the dump without its last line
 abbrev pub dump_to_last : List (List ℕ) → ℕ → ℕ → List (List Sym) → List ℕ
@@ -28,9 +28,9 @@ one_moment : (p : ℕ → Bool) (f : ℕ → List ℕ) (t : ℕ) (ts : List ℕ)
 one_moment p f t ts = elim (p t) as (λ b. flat_map f (cond b (t ∷ filter p ts) (filter p ts)) ≡ cond b (f t) [] ++ flat_map f (filter p ts)) [ true ↦ refl | false ↦ refl ]
 
 same_moment : (from n t m : ℕ) (heard : List (List Sym)) (waiting : List (List Run)) → AllAgree from n t m heard waiting
-    → cond (list_any (is_changed from t) heard) (moment from heard t) [] ≡ begun_moment t waiting
+    → cond (list_any (is_changed from t) heard) (told_moment from heard t) [] ≡ begun_moment t waiting
 same_moment from n t m heard waiting a =
-    ap (λ b. cond b (moment from heard t) []) a.changes
+    ap (λ b. cond b (told_moment from heard t) []) a.changes
     ∙ ap (λ xs. cond (list_any (does_begin t) waiting) (line_of_time t ++ xs) []) (a.values 0)
 
 -- one half bit more
@@ -42,7 +42,7 @@ dumped_more names from to t heard waiting text after before h =
     let left : to - t ≡ suc (to - (t + 1)) = omega arith in
     let rest : moments from heard (range_with_len t (to - t)) ≡ begun_moment t waiting ++ moments from heard (range_with_len (t + 1) (to - (t + 1))) =
     ap (λ n. moments from heard (range_with_len t n)) left
-    ∙ one_moment (λ t. list_any (is_changed from t) heard) (moment from heard) t (range_with_len (t + 1) (to - (t + 1)))
+    ∙ one_moment (λ t. list_any (is_changed from t) heard) (told_moment from heard) t (range_with_len (t + 1) (to - (t + 1)))
     ∙ ap (λ xs. xs ++ moments from heard (range_with_len (t + 1) (to - (t + 1)))) (same_moment from (to - from) t (t - (from + 1)) heard waiting a) in
     record {
       stand = subst (λ (k : ℕ). AllStand from (to - from) k heard (map (runs_after t) waiting)) next a.stand;
@@ -51,7 +51,7 @@ dumped_more names from to t heard waiting text after before h =
     }
 
 -- the first half bit
-pub dumped_first : (names : List (List ℕ)) (from to : ℕ) (heard : List (List Sym)) (lists : List (List Run)) (text : List ℕ) → from < to → AreHeard from to heard lists
+pub dumped_first : (names : List (List ℕ)) (from to : ℕ) (heard : List (List Sym)) (lists : List (List Run)) (text : List ℕ) → from < to → AreTapRuns from to heard lists
     → text ≡ head_of_dump names from to ++ (line_of_time from ++ codes "$dumpvars\n" ++ begun_values from 0 lists ++ codes "$end\n")
     → IsDumpedTo names from to (from + 1) heard (map (runs_after from) lists) text
 dumped_first names from to heard lists text order h is =

@@ -9,7 +9,7 @@ use Rattle.manchester_line.specs.declared.Sym.TheVariants.{Idle, Hi, Lo, Clash}
 use Rattle.line_probe.specs.Runs.{AreJoined, AreMaximal, AreRunsOf, BeginsOtherwise, symbols_of_runs}
 use Rattle.line_probe.specs.declared.run.Run.{Run}
 use Rattle.wave_dump.specs.Changes.{all_values, changed_values, do_differ, is_changed, symbol_in}
-use Rattle.wave_dump.specs.Heard.{AreHeard}
+use Rattle.wave_dump.specs.Heard.{AreTapRuns}
 use Rattle.wave_dump.specs.Values.{line_of_value}
 use Rattle.wave_dump.specs.Waiting.{begun_value, begun_values, does_begin, runs_after}
 
@@ -194,7 +194,7 @@ first_tap from n symbols (r ∷ rs) some long h =
           (record { symbol = r.symbol; more = r.count - 1; rest = all; joined = subst (λ (e : ℕ). AreJoined e rs) ends h.joined.2; other = h.maximal.0; maximal = h.maximal.1 }),
     )
 
-pub first_taps : (from to : ℕ) (heard : List (List Sym)) (lists : List (List Run)) → from < to → AreHeard from to heard lists
+pub first_taps : (from to : ℕ) (heard : List (List Sym)) (lists : List (List Run)) → from < to → AreTapRuns from to heard lists
     → ((k : ℕ) → all_values from from k heard ≡ begun_values from k lists) × AllStand from (to - from) 0 heard (map (runs_after from) lists)
 first_taps from to [] [] order h = (λ k. refl, tt)
 first_taps from to [] (runs ∷ lists) order h = absurd h

@@ -22,8 +22,8 @@ do_differ _ _ = true
 abbrev pub is_changed : ℕ → ℕ → List Sym → Bool
 is_changed from t symbols = do_differ (symbol_in from symbols (t - 1)) (symbol_in from symbols t)
 
--- the half bits after `from` and before `to` in which at least one tap hears another symbol than in the half bit before,
--- in order
+-- the half bits after `from` and before `to` in which at least one tap hears another symbol than in the half bit
+-- before, in order
 abbrev pub changing_half_bits : ℕ → ℕ → List (List Sym) → List ℕ
 changing_half_bits from to heard =
     filter (λ t. list_any (is_changed from t) heard) (range_with_len (from + 1) (to - (from + 1)))
@@ -34,8 +34,8 @@ all_values from t k [] = []
 all_values from t k (symbols ∷ heard) =
     line_of_value k (symbol_in from symbols t) ++ all_values from t (k + 1) heard
 
--- the values of those of these taps that hear another symbol in half bit t than in the half bit before; the first of the
--- taps is the k-th
+-- the values of those of these taps that hear another symbol in half bit t than in the half bit before; the first of
+-- the taps is the k-th
 abbrev pub changed_values : ℕ → ℕ → ℕ → List (List Sym) → List ℕ
 changed_values from t k [] = []
 changed_values from t k (symbols ∷ heard) =

@@ -1,5 +1,5 @@
--- The value change dump of what taps hear: the four-state form of IEEE 1364 clause 18. Half bits count from 0, and so do
--- taps.
+-- The value change dump of what taps hear: the four-state form of IEEE 1364 clause 18. Half bits count from 0, and so
+-- do taps.
 use Rattle.std.specs.Prelude.{ℕ, ◌+◌, List, [], ◌∷◌, ◌++◌, flat_map, codes, decimal}
 use Rattle.mac_parameters.specs.Parameters.{nanoseconds_a_half_bit}
 use Rattle.manchester_line.specs.declared.Sym.{Sym}
@@ -33,11 +33,11 @@ first_moment from heard =
     line_of_time from ++ codes "$dumpvars\n" ++ all_values from from 0 heard ++ codes "$end\n"
 
 -- the time of half bit t, and the values that changed in it
-abbrev pub moment : ℕ → List (List Sym) → ℕ → List ℕ
-moment from heard t = line_of_time t ++ changed_values from t 0 heard
+abbrev pub told_moment : ℕ → List (List Sym) → ℕ → List ℕ
+told_moment from heard t = line_of_time t ++ changed_values from t 0 heard
 
 -- the dump of what taps of these names hear from half bit `from` on and before half bit `to`
 abbrev pub dump_of_waves : List (List ℕ) → ℕ → ℕ → List (List Sym) → List ℕ
 dump_of_waves names from to heard =
     head_of_dump names from to ++ first_moment from heard
-    ++ flat_map (moment from heard) (changing_half_bits from to heard) ++ line_of_time to
+    ++ flat_map (told_moment from heard) (changing_half_bits from to heard) ++ line_of_time to

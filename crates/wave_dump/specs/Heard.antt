@@ -9,11 +9,11 @@ use Rattle.line_probe.specs.declared.tap.Tap.{Tap}
 use Rattle.wave_dump.specs.Dump.{dump_of_waves}
 
 -- for each tap, these are the runs of the symbols that it hears from half bit `from` on and before half bit `to`
-abbrev pub AreHeard : ℕ → ℕ → List (List Sym) → List (List Run) → Type 0
-AreHeard from to [] [] = ⊤
-AreHeard from to (symbols ∷ heard) (runs ∷ lists) =
-    (length symbols ≡ to - from) × AreRunsOf from symbols runs × AreHeard from to heard lists
-AreHeard from to _ _ = ⊥
+abbrev pub AreTapRuns : ℕ → ℕ → List (List Sym) → List (List Run) → Type 0
+AreTapRuns from to [] [] = ⊤
+AreTapRuns from to (symbols ∷ heard) (runs ∷ lists) =
+    (length symbols ≡ to - from) × AreRunsOf from symbols runs × AreTapRuns from to heard lists
+AreTapRuns from to _ _ = ⊥
 
 -- what each of these taps hears in the network of a plan, from half bit `from` on and before half bit `to`
 abbrev pub all_heard : Plan → List Tap → ℕ → ℕ → List (List Sym)

@@ -1,5 +1,5 @@
--- The runs of taps that are still to be told, one list a tap, the earliest of them first. Half bits count from 0, and so
--- do taps.
+-- The runs of taps that are still to be told, one list a tap, the earliest of them first. Half bits count from 0, and
+-- so do taps.
 use Rattle.std.specs.Prelude.{ℕ, ◌+◌, ◌==◌, Bool, false, if◌then◌else◌, List, [], ◌∷◌, ◌++◌}
 use Rattle.std.specs.List.{list_any}
 use Rattle.line_probe.specs.declared.run.Run.{Run}

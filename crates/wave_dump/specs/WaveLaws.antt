@@ -10,16 +10,18 @@ abbrev pub told_half_bits : ℕ → ℕ → List (List Sym) → List ℕ
 told_half_bits from to heard = from ∷ (changing_half_bits from to heard ++ to ∷ [])
 
 -- the times that a dump tells rise strictly
-abbrev pub DoTimesRise : Type 0
-DoTimesRise = (from to : ℕ) (heard : List (List Sym)) → from < to → IsStrictlyIncreasing (told_half_bits from to heard)
+abbrev pub TimesRise : Type 0
+TimesRise = (from to : ℕ) (heard : List (List Sym)) → from < to → IsStrictlyIncreasing (told_half_bits from to heard)
 
 -- in each half bit that a dump tells after the first and before the last at least one tap changes
-abbrev pub DoesEachChange : Type 0
-DoesEachChange =
-    (from to : ℕ) (heard : List (List Sym)) → All (λ t. list_any (is_changed from t) heard ≡ true) (changing_half_bits from to heard)
+abbrev pub OnlyChangesAreTold : Type 0
+OnlyChangesAreTold =
+    (from to : ℕ) (heard : List (List Sym))
+    → All (λ t. list_any (is_changed from t) heard ≡ true) (changing_half_bits from to heard)
 
 -- a tap of which no change is told after half bit s and up to half bit t hears in t what it hears in s
-abbrev pub DoValuesLast : Type 0
-DoValuesLast =
-    (from s t : ℕ) (symbols : List Sym) → from ≤ s → s ≤ t → ((u : ℕ) → s < u → u ≤ t → is_changed from u symbols ≡ false)
+abbrev pub ValuesLast : Type 0
+ValuesLast =
+    (from s t : ℕ) (symbols : List Sym) → from ≤ s → s ≤ t
+    → ((u : ℕ) → s < u → u ≤ t → is_changed from u symbols ≡ false)
     → symbol_in from symbols t ≡ symbol_in from symbols s

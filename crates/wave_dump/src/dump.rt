@@ -6,7 +6,7 @@ ghost use Rattle.load_plan.specs.declared.plan.Plan.{Plan};
 ghost use Rattle.line_probe.specs.Heard.{AreProbed};
 ghost use Rattle.line_probe.specs.declared.tap.Tap.{Tap};
 ghost use Rattle.wave_dump.specs.Dump.{dump_of_waves};
-ghost use Rattle.wave_dump.specs.Heard.{AreHeard, waves_of_plan};
+ghost use Rattle.wave_dump.specs.Heard.{AreTapRuns, waves_of_plan};
 ghost use Rattle.wave_dump.specs.Waiting.{begun_moment, runs_after};
 
 use crate::head::add_head;
@@ -43,11 +43,12 @@ fn tell(text: &mut List<u8>, waiting: &mut [&[Run]], t: u64) -> Result<(), OutOf
     Ok(())
 }
 
-/// The value change dump of what taps of these names hear from half bit `from` on and before half bit `to`, of the runs
-/// of what they hear, one list a tap (IEEE 1364 clause 18, the four-state form): the head; the values of all taps in the
-/// first half bit; each later half bit in which a tap hears another symbol than before, with the values that changed, in
-/// the order of the taps; the time of `to`. Times are nanoseconds. The k-th tap, from 0, has the character 33 + k as its
-/// code. It looks at the next run of each tap once a half bit.
+/// The value change dump (IEEE 1364 clause 18, the four-state form) of what 1 to 16 taps hear from half bit `from` on and
+/// before half bit `to`. It takes the names of the taps and, in the same order, the runs of what each hears, as `probe`
+/// answers them; of other runs nothing is said. The text has the head; the values of all taps in the first half bit; each
+/// later half bit in which a tap hears another symbol than before, with the values that changed, in the order of the taps;
+/// the time of `to`. Half bits count from 0, and times are nanoseconds. The code of the k-th tap, from 0, is the character
+/// 33 + k. The one refusal is want of memory. It takes one look at each tap a half bit.
 pub fn waves_text(
     alloc: Global,
     names: &[Text],
@@ -59,7 +60,7 @@ pub fn waves_text(
     requires few { length lists.now ≤ MOST_TAPS }
     requires order { from < to }
     requires time { nanoseconds_a_half_bit * to < 2 ^ 64 }
-    ensures text { (heard : List (List Sym)) → AreHeard from to heard lists.now →
+    ensures text { (heard : List (List Sym)) → AreTapRuns from to heard lists.now →
         IfOk result (λ text. text ≡ dump_of_waves names.now from to heard) }
     ensures probed { (plan : Plan) (taps : List Tap) → AreProbed plan from to taps lists.now →
         IfOk result (λ text. text ≡ waves_of_plan plan names.now taps from to) }

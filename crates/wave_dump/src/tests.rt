@@ -1,41 +1,65 @@
 //! What taps hear, as value change dumps.
-use crate::waves_text;
+use crate::{MOST_TAPS, waves_text};
 use line_probe::{Run, Runs, RunsList};
 use lists::{List, OutOfMemory, Text};
 use manchester_line::Sym;
 use std::alloc::Global;
 use std::test::Fail;
 
-/// Runs of one tap: the symbols that follow each other from this half bit on, each with its half bits.
-fn runs_of(alloc: Global, from: u64, symbols: &[(Sym, u64)]) -> Result<Runs, OutOfMemory> {
+/// What a tap hears: symbols that follow each other, each with its half bits.
+type Heard<'a> = &'a [(Sym, u64)];
+
+/// The runs of what one tap hears from this half bit on.
+fn runs_of(alloc: Global, from: u64, heard: Heard) -> Result<Runs, OutOfMemory> {
     let mut runs = Runs::new(alloc);
     let mut start = from;
-    for (symbol, count) in symbols {
+    for k in 0..heard.len() {
+        let (symbol, count) = heard[k];
         runs.push(Run {
             start,
-            count: *count,
-            symbol: *symbol,
+            count,
+            symbol,
         })?;
-        start = start.wrapping_add(*count);
+        start = start.wrapping_add(count);
     }
     Ok(runs)
 }
 
-/// A tap with its name and what it hears.
-type Told<'a> = (&'a str, &'a [(Sym, u64)]);
-
-/// The dump of these taps, or none where there are none or too many.
-fn dump_of(alloc: Global, from: u64, to: u64, taps: &[Told]) -> Result<List<u8>, Fail> {
-    let mut names = List::new(alloc);
+/// The runs of what these taps hear from this half bit on.
+fn lists_of(alloc: Global, from: u64, heard: &[Heard]) -> Result<RunsList, OutOfMemory> {
     let mut lists = RunsList::new(alloc);
-    for (name, symbols) in taps {
-        names.push(Text::new(alloc, name)?)?;
-        lists.push(runs_of(alloc, from, symbols)?)?;
+    for k in 0..heard.len() {
+        lists.push(runs_of(alloc, from, heard[k])?)?;
     }
-    if names.len() != lists.len() || lists.len() > 16 || from >= to || to > 2_000_000_000 {
-        return Err(Fail::from("no dump"));
+    Ok(lists)
+}
+
+fn texts_of(alloc: Global, names: &[&str]) -> Result<List<Text>, OutOfMemory> {
+    let mut texts = List::new(alloc);
+    for k in 0..names.len() {
+        texts.push(Text::new(alloc, names[k])?)?;
     }
-    Ok(waves_text(alloc, names.as_slice(), from, to, &lists)?)
+    Ok(texts)
+}
+
+/// Whether this is the dump of what taps of these names hear from one half bit to another.
+fn is_dump(
+    alloc: Global,
+    (from, to): (u64, u64),
+    names: &[&str],
+    heard: &[Heard],
+    dump: &str,
+) -> Result<bool, OutOfMemory> {
+    let lists = lists_of(alloc, from, heard)?;
+    let texts = texts_of(alloc, names)?;
+    if texts.len() != lists.len() || lists.len() > MOST_TAPS {
+        return Ok(false);
+    }
+    if from >= to || to > 2_000_000_000 {
+        return Ok(false);
+    }
+    let text = waves_text(alloc, texts.as_slice(), from, to, &lists)?;
+    Ok(text.as_slice() == dump.as_bytes())
 }
 
 /// Two taps, the first of which hears the beginning of a frame.
@@ -60,10 +84,10 @@ $end
 
 #[test]
 fn a_frame_begins(rt: HostRuntime) -> Result<(), Fail> {
-    let a: &[(Sym, u64)] = &[(Sym::Idle, 10), (Sym::Lo, 1), (Sym::Hi, 9)];
-    let r: &[(Sym, u64)] = &[(Sym::Idle, 20)];
-    let text = dump_of(rt.alloc(), 0, 20, &[("a", a), ("r:1", r)])?;
-    assert_eq!(rt; text.as_slice(), A_FRAME_BEGINS.as_bytes());
+    let a: Heard = &[(Sym::Idle, 10), (Sym::Lo, 1), (Sym::Hi, 9)];
+    let r: Heard = &[(Sym::Idle, 20)];
+    let names = ["a", "r:1"];
+    assert!(rt; is_dump(rt.alloc(), (0, 20), &names, &[a, r], A_FRAME_BEGINS)?);
     Ok(())
 }
 
@@ -102,16 +126,16 @@ x\"
 
 #[test]
 fn taps_change_together_and_apart(rt: HostRuntime) -> Result<(), Fail> {
-    let a: &[(Sym, u64)] = &[(Sym::Lo, 1), (Sym::Hi, 1), (Sym::Clash, 4), (Sym::Idle, 6)];
-    let r: &[(Sym, u64)] = &[
+    let a: Heard = &[(Sym::Lo, 1), (Sym::Hi, 1), (Sym::Clash, 4), (Sym::Idle, 6)];
+    let r: Heard = &[
         (Sym::Clash, 1),
         (Sym::Idle, 2),
         (Sym::Lo, 3),
         (Sym::Hi, 5),
         (Sym::Clash, 1),
     ];
-    let text = dump_of(rt.alloc(), 100, 112, &[("a", a), ("r:1", r), ("a", a)])?;
-    assert_eq!(rt; text.as_slice(), CHANGES.as_bytes());
+    let names = ["a", "r:1", "a"];
+    assert!(rt; is_dump(rt.alloc(), (100, 112), &names, &[a, r, a], CHANGES)?);
     Ok(())
 }
 
@@ -131,9 +155,8 @@ $end
 
 #[test]
 fn one_half_bit(rt: HostRuntime) -> Result<(), Fail> {
-    let b: &[(Sym, u64)] = &[(Sym::Clash, 1)];
-    let text = dump_of(rt.alloc(), 7, 8, &[("b", b)])?;
-    assert_eq!(rt; text.as_slice(), ONE_HALF_BIT.as_bytes());
+    let b: Heard = &[(Sym::Clash, 1)];
+    assert!(rt; is_dump(rt.alloc(), (7, 8), &["b"], &[b], ONE_HALF_BIT)?);
     Ok(())
 }
 
@@ -153,9 +176,9 @@ $end
 
 #[test]
 fn a_tap_that_hears_nothing(rt: HostRuntime) -> Result<(), Fail> {
-    let s: &[(Sym, u64)] = &[(Sym::Idle, 10)];
-    let text = dump_of(rt.alloc(), 1_999_999_990, 2_000_000_000, &[("s:12", s)])?;
-    assert_eq!(rt; text.as_slice(), SILENCE.as_bytes());
+    let s: Heard = &[(Sym::Idle, 10)];
+    let half_bits = (1_999_999_990, 2_000_000_000);
+    assert!(rt; is_dump(rt.alloc(), half_bits, &["s:12"], &[s], SILENCE)?);
     Ok(())
 }
 
@@ -239,28 +262,16 @@ z0
 
 #[test]
 fn sixteen_taps(rt: HostRuntime) -> Result<(), Fail> {
-    let lo: &[(Sym, u64)] = &[(Sym::Idle, 1), (Sym::Lo, 1), (Sym::Idle, 1)];
-    let hi: &[(Sym, u64)] = &[(Sym::Idle, 1), (Sym::Hi, 1), (Sym::Idle, 1)];
-    let clash: &[(Sym, u64)] = &[(Sym::Idle, 1), (Sym::Clash, 1), (Sym::Idle, 1)];
-    let taps: [Told; 16] = [
-        ("s0", lo),
-        ("s1", hi),
-        ("s2", clash),
-        ("s3", lo),
-        ("s4", hi),
-        ("s5", clash),
-        ("s6", lo),
-        ("s7", hi),
-        ("s8", clash),
-        ("s9", lo),
-        ("s10", hi),
-        ("s11", clash),
-        ("s12", lo),
-        ("s13", hi),
-        ("s14", clash),
-        ("s15", lo),
+    let lo: Heard = &[(Sym::Idle, 1), (Sym::Lo, 1), (Sym::Idle, 1)];
+    let hi: Heard = &[(Sym::Idle, 1), (Sym::Hi, 1), (Sym::Idle, 1)];
+    let clash: Heard = &[(Sym::Idle, 1), (Sym::Clash, 1), (Sym::Idle, 1)];
+    let names = [
+        "s0", "s1", "s2", "s3", "s4", "s5", "s6", "s7", "s8", "s9", "s10", "s11", "s12", "s13",
+        "s14", "s15",
     ];
-    let text = dump_of(rt.alloc(), 0, 3, &taps)?;
-    assert_eq!(rt; text.as_slice(), SIXTEEN_TAPS.as_bytes());
+    let heard = [
+        lo, hi, clash, lo, hi, clash, lo, hi, clash, lo, hi, clash, lo, hi, clash, lo,
+    ];
+    assert!(rt; is_dump(rt.alloc(), (0, 3), &names, &heard, SIXTEEN_TAPS)?);
     Ok(())
 }
