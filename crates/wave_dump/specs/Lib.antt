@@ -1,0 +1,6 @@
+pub mod Values
+pub mod Changes
+pub mod Dump
+pub mod Waiting
+pub mod Heard
+pub mod WaveLaws
