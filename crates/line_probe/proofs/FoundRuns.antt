@@ -6,12 +6,13 @@ use Rattle.std.proofs.lemmas.Bool.{le-leb, leb-true}
 use Rattle.std.proofs.lemmas.Option.{same_Some, cond_some, none-some}
 use Rattle.manchester_line.specs.declared.Sym.{Sym}
 use Rattle.manchester_line.specs.declared.Sym.TheVariants.{Idle, Hi, Lo, Clash}
+use Rattle.layout.specs.Limits.{most_half_bits}
 use Rattle.line_probe.specs.ReadBack.{HasNoRunLine, IsToldRun}
-use Rattle.log_meter.specs.Reading.{IsReading, Read, after_word, else_read}
-use Rattle.line_probe.specs.Reading.{half_bits_at, run_at, symbol_at, symbol_found}
+use Rattle.text_fields.specs.Reading.{IsReading, Read, after_word, else_read, half_bit_at}
+use Rattle.line_probe.specs.Reading.{run_at, symbol_at, symbol_found}
 use Rattle.line_probe.specs.RunTexts.{line_of_run, word_of_symbol}
 use Rattle.line_probe.specs.declared.run.Run.{Run}
-use Rattle.line_probe.proofs.FoundFields.{bind_some, half_bits_again, half_bits_text, word_text}
+use Rattle.text_fields.proofs.FoundFields.{bind_some, half_bit_again, half_bit_text, word_text}
 
 -- the line of a run before more octets
 abbrev pub run_onto : Run → List ℕ → List ℕ
@@ -64,14 +65,14 @@ pub record IsRunBefore (octets : List ℕ) (r : Run) (rest : List ℕ) : Type 0 
 pub run_found : (octets : List ℕ) (y : Run × List ℕ) → run_at octets ≡ Some y → IsRunBefore octets y.0 y.1
 unfolding run_at
 run_found octets y h =
-    let start = bind_some (half_bits_at [] octets) _ y h in
-    let count = bind_some (half_bits_at (codes " ") start.0.1) _ y start.2 in
+    let start = bind_some (half_bit_at most_half_bits [] octets) _ y h in
+    let count = bind_some (half_bit_at most_half_bits (codes " ") start.0.1) _ y start.2 in
     let symbol = bind_some (symbol_at count.0.1) _ y count.2 in
     let feed = bind_some (after_word (codes "\n") symbol.0.1) _ y symbol.2 in
     let r : Run = record { start = start.0.0; count = count.0.0; symbol = symbol.0.0 } in
     let test = cond_some (nat_le 1 count.0.0) (r, feed.0) y feed.2 in
-    let a = half_bits_text [] octets start.0.0 start.0.1 start.1 in
-    let b = half_bits_text (codes " ") start.0.1 count.0.0 count.0.1 count.1 in
+    let a = half_bit_text most_half_bits [] octets start.0.0 start.0.1 start.1 in
+    let b = half_bit_text most_half_bits (codes " ") start.0.1 count.0.0 count.0.1 count.1 in
     let c = symbol_text count.0.1 symbol.0.0 symbol.0.1 symbol.1 in
     let d = word_text (codes "\n") symbol.0.1 feed.0 feed.1 in
     let text : octets ≡ run_onto r feed.0 = rw (← d, ← c, ← b.0) a.0 in
@@ -88,8 +89,8 @@ onto_again r more h =
     let rest2 = codes " " ++ (word_of_symbol r.symbol ++ (codes "\n" ++ more)) in
     let rest1 = codes " " ++ (decimal r.count ++ rest2) in
     rw (
-      half_bits_again [] r.start rest1 h.start refl,
-      half_bits_again (codes " ") r.count rest2 h.count refl,
+      half_bit_again most_half_bits [] r.start rest1 h.start (omega (arith, h.start)) refl,
+      half_bit_again most_half_bits (codes " ") r.count rest2 h.count (omega (arith, h.count)) refl,
       symbol_again r.symbol (codes "\n" ++ more),
       le-leb 1 r.count h.some,
     ) refl

@@ -3,9 +3,6 @@ pub mod Columns
 pub mod RunsSoFar
 pub mod SameSymbols
 pub mod TapWords
-pub mod Numbers
-pub mod WordsAfter
-pub mod FoundFields
 pub mod FoundRuns
 pub mod TextsApart
 pub mod TextsRead

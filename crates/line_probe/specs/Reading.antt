@@ -1,18 +1,11 @@
 -- How the line of a run is read from left to right: each reader answers what it found and the octets after it
 -- (profile).
-use Rattle.std.specs.Prelude.{ℕ, nat_le, List, [], ◌∷◌, codes, Option, None, Some, if◌then◌else◌}
+use Rattle.std.specs.Prelude.{ℕ, nat_le, List, [], codes, Option, None, Some, if◌then◌else◌}
 use Rattle.layout.specs.Limits.{most_half_bits}
-use Rattle.log_meter.specs.Reading.{Read, ◌>>=◌, else_read, after_word, decimal_at}
+use Rattle.text_fields.specs.Reading.{Read, ◌>>=◌, else_read, after_word, half_bit_at}
 use Rattle.manchester_line.specs.declared.Sym.{Sym}
 use Rattle.manchester_line.specs.declared.Sym.TheVariants.{Idle, Hi, Lo, Clash}
 use Rattle.line_probe.specs.declared.run.Run.{Run}
-
--- a word and a number of half bits
-unfoldable pub half_bits_at : List ℕ → List ℕ → Read ℕ
-half_bits_at word octets = do
-  rest ← after_word word octets
-  n ← decimal_at rest
-  if nat_le n.0 most_half_bits then Some n else None
 
 -- this symbol, where its word was found
 abbrev pub symbol_found : Sym → Option (List ℕ) → Read Sym
@@ -30,8 +23,8 @@ symbol_at octets =
 -- the line of a run of at least one half bit, with its line feed
 unfoldable pub run_at : List ℕ → Read Run
 run_at octets = do
-  start ← half_bits_at [] octets
-  count ← half_bits_at (codes " ") start.1
+  start ← half_bit_at most_half_bits [] octets
+  count ← half_bit_at most_half_bits (codes " ") start.1
   symbol ← symbol_at count.1
   rest ← after_word (codes "\n") symbol.1
   if nat_le 1 count.0 then Some (record { start = start.0; count = count.0; symbol = symbol.0 }, rest) else None

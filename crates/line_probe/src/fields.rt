@@ -1,83 +1,14 @@
-//! Words, numbers and runs at the front of octets.
-ghost use Rattle.std.specs.Prelude.{◌≡◌, ◌≤◌, ◌<◌, ◌^◌, ◌+◌, ◌-◌, ◌*◌, ◌++◌, IfSome, IfNone, drop, length};
+//! The lines of runs at the front of octets.
+ghost use Rattle.std.specs.Prelude.{◌≡◌, ◌<◌, ◌++◌, IfSome, IfNone, length};
+ghost use Rattle.text_fields.specs.Reading.{IsReading};
 ghost use Rattle.line_probe.specs.ReadBack.{HasNoRunLine, IsToldRun};
+ghost use Rattle.line_probe.specs.Reading.{run_at, symbol_at};
 ghost use Rattle.line_probe.specs.RunTexts.{line_of_run};
-ghost use Rattle.log_meter.specs.Reading.{IsReading, after_word, decimal_at, digits_ended, follows_zero};
-ghost use Rattle.line_probe.specs.Reading.{half_bits_at, run_at, symbol_at};
 
 use crate::Run;
 use layout::MOST_HALF_BITS;
 use manchester_line::Sym;
-
-/// The octets after a word.
-fn after_word<'a>(word: &[u8], octets: &'a [u8]) -> Option<&'a [u8]>
-    ensures { IsReading (λ rest. rest.now) result (after_word word.now octets.now) }
-{
-    octets.strip_prefix(word)
-}
-
-/// The digits ended at `len`.
-fn digits_ended(value: u32, len: usize, octets: &[u8]) -> Option<(u32, &[u8])>
-    requires { len ≤ length octets.now }
-    ensures { IsReading (λ n. (n.0, n.1.now)) result (digits_ended value len (drop len octets.now)) }
-{
-    if len > 0 {
-        Some((value, &octets[len..]))
-    } else {
-        None
-    }
-}
-
-/// Whether a digit would follow a first digit of zero.
-fn follows_zero(value: u32, len: usize) -> bool
-    ensures { result ≡ follows_zero value len }
-{
-    value == 0 && len > 0
-}
-
-/// The number `value` with one digit more, if that has 32 bits.
-fn with_digit(value: u32, digit: u8) -> Option<u32>
-    requires { 48 ≤ digit }
-    ensures none { IfNone result (2 ^ 32 ≤ value * 10 + (digit - 48)) }
-    ensures some { IfSome result (λ sum. (sum ≡ value * 10 + (digit - 48)) × (sum < 2 ^ 32)) }
-{
-    let tens = value.checked_mul(10)?;
-    tens.checked_add(u32::from(digit - b'0'))
-}
-
-/// A decimal number without leading zeros that has 32 bits.
-fn number(octets: &[u8]) -> Option<(u32, &[u8])>
-    ensures { IsReading (λ n. (n.0, n.1.now)) result (decimal_at octets.now) }
-{
-    let mut value = 0u32;
-    'digits: for i in 0..octets.len() {
-        let digit = octets[i];
-        if !digit.is_ascii_digit() {
-            return digits_ended(value, i, octets);
-        }
-        if follows_zero(value, i) {
-            return None;
-        }
-        let Some(sum) = with_digit(value, digit) else {
-            return None;
-        };
-        value = sum;
-    }
-    digits_ended(value, octets.len(), octets)
-}
-
-/// A word and a number of half bits.
-#[tactic(auto, unfolding(crate::specs::Reading::half_bits_at))]
-fn half_bits<'a>(word: &[u8], octets: &'a [u8]) -> Option<(u64, &'a [u8])>
-    ensures { IsReading (λ n. (n.0, n.1.now)) result (half_bits_at word.now octets.now) }
-{
-    let (n, rest) = number(after_word(word, octets)?)?;
-    let n = u64::from(n);
-    if n > MOST_HALF_BITS {
-        return None;
-    }
-    Some((n, rest))
-}
+use text_fields::{after_word, half_bit};
 
 /// A symbol, by its word after a blank.
 #[tactic(auto, unfolding(crate::specs::Reading::symbol_at))]
@@ -102,8 +33,8 @@ fn symbol(octets: &[u8]) -> Option<(Sym, &[u8])>
 fn run_at(octets: &[u8]) -> Option<(Run, &[u8])>
     ensures { IsReading (λ r. (r.0, r.1.now)) result (run_at octets.now) }
 {
-    let (start, rest) = half_bits(b"", octets)?;
-    let (count, rest) = half_bits(b" ", rest)?;
+    let (start, rest) = half_bit(MOST_HALF_BITS, b"", octets)?;
+    let (count, rest) = half_bit(MOST_HALF_BITS, b" ", rest)?;
     let (symbol, rest) = symbol(rest)?;
     let rest = after_word(b"\n", rest)?;
     if count < 1 {

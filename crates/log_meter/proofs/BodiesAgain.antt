@@ -10,10 +10,11 @@ use Rattle.collision_log.specs.declared.row.Body.TheVariants.{Sent, Collided, Gi
 use Rattle.collision_log.specs.declared.row.Why.{Why}
 use Rattle.collision_log.specs.declared.row.Why.TheVariants.{Fragment, TooLong, FcsError, AlignError, Damaged}
 use Rattle.log_meter.specs.Lines.{IsInRange, is_of_repeater}
-use Rattle.log_meter.specs.Reading.{after_word, body_at, clash_at, closed_at, collided_at, cut_at, digits_on, dropped_at, field_at, given_up_at, halted_at, logged_hit_at, decimal_at, opened_at, else_read, received_at, repeater_body_at, sent_at, station_body_at, why_at}
+use Rattle.text_fields.specs.Reading.{after_word, digits_on, field_at, decimal_at, else_read}
+use Rattle.log_meter.specs.Reading.{body_at, clash_at, closed_at, collided_at, cut_at, dropped_at, given_up_at, halted_at, logged_hit_at, opened_at, received_at, repeater_body_at, sent_at, station_body_at, why_at}
 use Rattle.log_meter.proofs.BodyTexts.{body_onto}
-use Rattle.log_meter.proofs.FoundFields.{field_again, half_bit_again}
-use Rattle.log_meter.proofs.Numbers.{begins_with_digit, number_again}
+use Rattle.text_fields.proofs.FoundFields.{field_again, half_bit_again}
+use Rattle.text_fields.proofs.Numbers.{begins_with_digit, number_again}
 
 sent_again : (t frame start attempt : ℕ) (more : List ℕ) → t < 2 ^ 32 → IsInRange t (Sent frame start attempt) → begins_with_digit more ≡ false
     → sent_at t (body_onto (Sent frame start attempt) more) ≡ Some (Sent frame start attempt, more)

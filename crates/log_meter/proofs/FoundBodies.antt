@@ -8,9 +8,10 @@ use Rattle.collision_log.specs.declared.row.Body.TheVariants.{Sent, Collided, Gi
 use Rattle.collision_log.specs.declared.row.Why.{Why}
 use Rattle.collision_log.specs.declared.row.Why.TheVariants.{Fragment, TooLong, FcsError, AlignError, Damaged}
 use Rattle.log_meter.specs.Lines.{IsInRange, is_of_repeater}
-use Rattle.log_meter.specs.Reading.{Read, after_word, body_at, clash_at, closed_at, collided_at, cut_at, dropped_at, field_at, given_up_at, half_bit_at, halted_at, logged_hit_at, no_number, decimal_at, opened_at, else_read, received_at, repeater_body_at, sent_at, some_number, station_body_at, why_at, why_found}
-use Rattle.log_meter.proofs.FoundFields.{bind_some, field_text, half_bit_text, word_text}
-use Rattle.log_meter.proofs.Numbers.{number_text}
+use Rattle.text_fields.specs.Reading.{Read, after_word, field_at, half_bit_at, decimal_at, else_read}
+use Rattle.log_meter.specs.Reading.{body_at, clash_at, closed_at, collided_at, cut_at, dropped_at, given_up_at, halted_at, logged_hit_at, no_number, opened_at, received_at, repeater_body_at, sent_at, some_number, station_body_at, why_at, why_found}
+use Rattle.text_fields.proofs.FoundFields.{bind_some, field_text, half_bit_text, word_text}
+use Rattle.text_fields.proofs.Numbers.{number_text}
 use Rattle.log_meter.proofs.BodyTexts.{body_onto}
 
 -- what was read in half bit t of a device, before the rest, is its text with numbers in range

@@ -1,7 +1,4 @@
 pub mod BodyTexts
-pub mod Numbers
-pub mod Words
-pub mod FoundFields
 pub mod FoundBodies
 pub mod BodiesAgain
 pub mod WholeLines

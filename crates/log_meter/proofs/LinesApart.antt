@@ -7,11 +7,12 @@ use Rattle.std.proofs.lemmas.List.{append-nil, append_cancel_left}
 use Rattle.std.proofs.lemmas.Option.{none-some, same_Some}
 use Rattle.log_meter.specs.Lines.{IsLogLine, entry_text}
 use Rattle.log_meter.specs.Logs.{HasNoLine, IsBadAt, IsFallingAt, IsJudgedLog, IsLog, IsLogOf, IsUnlessMemory, NeverFalls, last_half_bit, log_text}
-use Rattle.log_meter.specs.Reading.{after_word, log_line_at}
+use Rattle.text_fields.specs.Reading.{after_word}
+use Rattle.log_meter.specs.Reading.{log_line_at}
 use Rattle.log_meter.specs.declared.fault.LogFault.{LogFault}
 use Rattle.log_meter.specs.declared.fault.LogFault.TheVariants as fault
 use Rattle.log_meter.specs.declared.line.LogLine.{LogLine}
-use Rattle.log_meter.proofs.FoundFields.{word_text}
+use Rattle.text_fields.proofs.FoundFields.{word_text}
 use Rattle.log_meter.proofs.WholeLines.{bare_line, line_again, line_found}
 
 -- a line and its line feed, before more octets

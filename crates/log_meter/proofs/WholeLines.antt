@@ -6,13 +6,14 @@ use Rattle.std.proofs.lemmas.Option.{same_Some}
 use Rattle.collision_log.specs.Rows.{body_text, device_word}
 use Rattle.layout.specs.Limits.{most_half_bits}
 use Rattle.log_meter.specs.Lines.{IsLogLine}
-use Rattle.log_meter.specs.Reading.{after_word, body_at, device_at, device_found, half_bit_at, log_line_at, name_at, else_read}
+use Rattle.text_fields.specs.Reading.{after_word, half_bit_at, name_at, else_read}
+use Rattle.log_meter.specs.Reading.{body_at, device_at, device_found, log_line_at}
 use Rattle.log_meter.specs.declared.line.LogLine.{LogLine}
 use Rattle.log_meter.proofs.BodiesAgain.{body_again}
 use Rattle.log_meter.proofs.BodyTexts.{body_onto, body_onto_is, last_two}
 use Rattle.log_meter.proofs.FoundBodies.{body_found}
-use Rattle.log_meter.proofs.FoundFields.{bind_some, half_bit_again, half_bit_text, name_again, name_text, word_text}
-use Rattle.log_meter.proofs.Numbers.{begins_with_digit}
+use Rattle.text_fields.proofs.FoundFields.{bind_some, half_bit_again, half_bit_text, name_again, name_text, word_text}
+use Rattle.text_fields.proofs.Numbers.{begins_with_digit}
 
 -- a line's text without its line feed
 abbrev pub bare_line : LogLine → List ℕ

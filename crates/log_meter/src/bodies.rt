@@ -1,8 +1,9 @@
 //! What happened, read from the end of a line.
-ghost use Rattle.log_meter.specs.Reading.{IsReading, body_at, clash_at, closed_at, collided_at, cut_at, dropped_at, given_up_at, halted_at, logged_hit_at, opened_at, received_at, repeater_body_at, sent_at, station_body_at, why_at};
+ghost use Rattle.text_fields.specs.Reading.{IsReading};
+ghost use Rattle.log_meter.specs.Reading.{body_at, clash_at, closed_at, collided_at, cut_at, dropped_at, given_up_at, halted_at, logged_hit_at, opened_at, received_at, repeater_body_at, sent_at, station_body_at, why_at};
 
-use crate::fields::{after_word, field, half_bit, number};
 use collision_log::{Body, Why};
+use text_fields::{after_word, field, half_bit, number};
 
 #[tactic(auto, unfolding(crate::specs::Reading::sent_at))]
 fn sent(t: u64, octets: &[u8]) -> Option<(Body, &[u8])>

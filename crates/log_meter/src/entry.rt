@@ -1,11 +1,12 @@
 //! A line as it stands in the octets, before its name is kept.
-ghost use Rattle.log_meter.specs.Reading.{IsReading, device_at, log_line_at};
+ghost use Rattle.text_fields.specs.Reading.{IsReading};
+ghost use Rattle.log_meter.specs.Reading.{device_at, log_line_at};
 ghost use Rattle.log_meter.specs.Entries.{line_of};
 
 use crate::bodies::body;
-use crate::fields::{after_word, half_bit, name};
 use collision_log::Body;
 use layout::MOST_HALF_BITS;
+use text_fields::{after_word, half_bit, name};
 
 /// A line whose name stands in the octets that were read.
 #[derive(Clone, Copy)]

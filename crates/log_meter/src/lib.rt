@@ -5,7 +5,6 @@ mod bodies;
 mod device_figures;
 mod entry;
 mod fault;
-mod fields;
 mod line;
 mod log;
 mod metering;

@@ -15,10 +15,10 @@ ghost use Rattle.network.specs.Outputs.{rows};
 ghost use Rattle.run_texts.specs.Texts.{log_of_rows};
 
 use crate::entry::{Entry, entry_at};
-use crate::fields::after_word;
 use crate::line::kept;
 use crate::{LogFault, LogLines};
 use std::alloc::Global;
+use text_fields::after_word;
 
 /// The most octets that a log may have.
 pub const MOST_LOG_OCTETS: usize = 268_435_456;

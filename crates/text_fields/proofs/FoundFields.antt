@@ -13,8 +13,8 @@ use Rattle.std.proofs.lemmas.Option.{same_Some, cond_some}
 use Rattle.layout.specs.Limits.{longest_name}
 use Rattle.layout.specs.NameOctets.{is_name_octet}
 use Rattle.layout.specs.Sound.{IsName}
-use Rattle.log_meter.specs.Reading.{◌>>=◌, after_word, field_at, half_bit_at, name_at, name_of_length, decimal_at}
-use Rattle.log_meter.proofs.Numbers.{begins_with_digit, number_again, number_text}
+use Rattle.text_fields.specs.Reading.{◌>>=◌, after_word, field_at, half_bit_at, name_at, name_of_length, decimal_at}
+use Rattle.text_fields.proofs.Numbers.{begins_with_digit, number_again, number_text}
 
 -- both steps found something
 pub bind_some : {A B : Type 0} (o : Option A) (f : A → Option B) (y : B) → (o >>= f) ≡ Some y → (x : A) × (o ≡ Some x) × (f x ≡ Some y)

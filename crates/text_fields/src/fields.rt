@@ -2,7 +2,7 @@
 ghost use Rattle.std.specs.Prelude.{◌≡◌, ◌≤◌, ◌<◌, ◌^◌, ◌+◌, ◌-◌, ◌*◌, IfSome, IfNone, drop, length};
 ghost use Rattle.std.specs.List.{prefix_len};
 ghost use Rattle.layout.specs.NameOctets.{is_name_octet};
-ghost use Rattle.log_meter.specs.Reading.{IsReading, after_word, digits_ended, field_at, follows_zero, half_bit_at, name_at, decimal_at};
+ghost use Rattle.text_fields.specs.Reading.{IsReading, after_word, digits_ended, field_at, follows_zero, half_bit_at, name_at, decimal_at};
 
 use layout::LONGEST_NAME;
 

@@ -1,8 +1,8 @@
 use Rattle.std.proofs.Common.{◌≡◌, true, false, arith, slice_index, sym, refl, ◌∙◌, length}
 use Rattle.std.specs.Char.{is_ascii_digit}
-use Rattle.line_probe.proofs.Numbers.{digits_all, digits_next, digits_over, digits_stop, digits_zero}
-use Rattle.line_probe.proofs.WordsAfter.{same_read}
-use Rattle.line_probe.proofs.fields.number.Goals as goal
+use Rattle.text_fields.proofs.Numbers.{digits_all, digits_next, digits_over, digits_stop, digits_zero}
+use Rattle.text_fields.proofs.Words.{same_read}
+use Rattle.text_fields.proofs.fields.number.Goals as goal
 
 pub returns-then-not-is_ascii_digit : goal.returns-then-not-is_ascii_digit
 returns-then-not-is_ascii_digit c =

@@ -1,8 +1,8 @@
 use Rattle.std.proofs.Common.{sym, ap, subst, take, ◌∙◌}
 use Rattle.std.specs.Prelude.{IsAscii}
 use Rattle.std.proofs.lemmas.Str.{IsUtf8-from_ascii}
-use Rattle.log_meter.proofs.Words.{name_is_ascii}
-use Rattle.log_meter.proofs.fields.name.Goals as goal
+use Rattle.text_fields.proofs.Words.{name_is_ascii}
+use Rattle.text_fields.proofs.fields.name.Goals as goal
 
 pub returns-in_default : goal.returns-in_default
 returns-in_default c =

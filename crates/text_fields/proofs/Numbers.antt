@@ -6,7 +6,7 @@ use Rattle.std.proofs.lemmas.List.{drop_more, drop_all}
 use Rattle.std.proofs.lemmas.Option.{some_pair_parts}
 use Rattle.std.specs.Fmt.{decimal}
 use Rattle.std.specs.Char.{is_ascii_digit}
-use Rattle.log_meter.specs.Reading.{digits_ended, digits_on, follows_zero, decimal_at}
+use Rattle.text_fields.specs.Reading.{digits_ended, digits_on, follows_zero, decimal_at}
 
 -- no digit comes next
 pub digits_stop : (value len : ℕ) (xs : List ℕ) (i : ℕ) → i < length xs → is_ascii_digit (slice_index xs i) ≡ false → digits_on value len (drop i xs) ≡ digits_ended value len (drop i xs)

@@ -9,7 +9,7 @@ use Rattle.std.proofs.lemmas.Str.Ascii.{IsAscii-cons, IsAscii-nil}
 use Rattle.layout.specs.NameOctets.{is_name_octet}
 use Rattle.std.proofs.lemmas.List.{drop_more, drop_all}
 use Rattle.std.proofs.lemmas.Bool.{cases_Bool}
-use Rattle.log_meter.specs.Reading.{IsReading, after_word}
+use Rattle.text_fields.specs.Reading.{IsReading, after_word}
 
 -- where the octets begin with the word, those after it
 pub after_same : (word octets : List ℕ) → pointwise eqb (take (length word) octets) word ≡ true → after_word word octets ≡ Some (drop (length word) octets)

@@ -1,7 +1,7 @@
 use Rattle.std.proofs.Common.{◌≡◌, ◌≤◌, ◌+◌, ◌-◌, length, drop}
 use Rattle.std.specs.List.{prefix_len}
 use Rattle.layout.specs.NameOctets.{is_name_octet}
-use Rattle.log_meter.proofs.fields.name_len.Given as goal
+use Rattle.text_fields.proofs.fields.name_len.Given as goal
 
 abbrev pub invariant-loop-len : goal.invariant-loop-len
 invariant-loop-len l =
