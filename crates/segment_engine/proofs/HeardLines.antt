@@ -105,3 +105,18 @@ heard_all L t q ls heard len end all =
     ∙ all p in_it
     ∙ ap f (sym place)
     ∙ sym (get_or-span f 0 (length ls) p d in_it))
+
+-- all lines over several half bits
+pub heard_piece : (L t n p q : ℕ) (ls : List TapLine) (piece : List Sym) → length piece ≡ n → length ls ≤ q →
+    ((j : ℕ) → j < n → mix_of (get_or piece j Idle) (heard_of_lines L (t + j) p (get_or ls p no_line).at q (drop q ls)) ≡ heard_by_lines L (t + j) ls p) →
+    piece ≡ span (λ u. heard_by_lines L u ls p) t n
+heard_piece L t n p q ls piece len end all =
+    let f = λ (u : ℕ). heard_by_lines L u ls p in
+    same_lists piece (span f t n) (len ∙ sym (length-span f t n)) (λ j d h.
+    let in_it : j < n = omega (arith, h, len) in
+    let at = (get_or ls p no_line).at in
+    sym (get_or_default piece j Idle d h)
+    ∙ sym (mix_idle (get_or piece j Idle))
+    ∙ ap (λ xs. mix_of (get_or piece j Idle) (heard_of_lines L (t + j) p at q xs)) (sym (drop_all q ls end))
+    ∙ all j in_it
+    ∙ sym (get_or-span f t n j d in_it))

@@ -17,3 +17,8 @@ pub mod QuietStations
 pub mod QuietRoom
 pub mod PiecesAhead
 pub mod QuietHalfBits
+pub mod LinesAhead
+pub mod SteadyHalfBits
+pub mod SteadyStations
+pub mod SteadyReceivers
+pub mod SteadyCalm

@@ -37,7 +37,7 @@ span_same f k (suc n) x h =
     ap₂ ◌∷◌ ((let z : k ≡ k + 0 = omega arith in ap f z) ∙ h 0 (omega arith))
     (span_same f (suc k) n x (λ i l. (let z : suc k + i ≡ k + suc i = omega arith in ap f z) ∙ h (suc i) (omega (arith, l))))
 
-emits_idle : (s : Sender) (j : ℕ) (p : Phase) → is_sending p ≡ false → emission_by s j p ≡ Idle
+pub emits_idle : (s : Sender) (j : ℕ) (p : Phase) → is_sending p ≡ false → emission_by s j p ≡ Idle
 emits_idle s j Rest h = refl
 emits_idle s j Waiting h = refl
 emits_idle s j (Sending start hit) h = absurd (false≢true (sym h))

@@ -32,7 +32,7 @@ pub last_calm : (s : Sender) (hs : List Sym) (h : Sym) → AreCalm s (hs ++ h �
 last_calm s [] h c = c.0.no_event
 last_calm s (x ∷ hs) h c = last_calm (sender_step s x).state hs h c.1
 
-with_none : (e : Option Body) (bodies : List Body) → with_event e bodies ≡ [] → (e ≡ None) × (bodies ≡ [])
+pub with_none : (e : Option Body) (bodies : List Body) → with_event e bodies ≡ [] → (e ≡ None) × (bodies ≡ [])
 with_none None bodies h = (refl, h)
 with_none (Some body) bodies h = absurd (let n = ap length h in omega (arith, n))
 

@@ -5,3 +5,4 @@ pub mod PartStates
 pub mod RunningStates
 pub mod KeptParts
 pub mod QuietHalfBits
+pub mod SteadyPieces

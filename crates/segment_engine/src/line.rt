@@ -1,12 +1,15 @@
 //! The line of a tap: the symbols of half bits one after another, the latest of which still reach other taps.
-ghost use Rattle.std.specs.Prelude.{◌≡◌, ◌<◌, ◌≤◌, ◌+◌, ◌++◌, ◌^◌, ℕ, [], ◌∷◌, length, drop, min, replicate, vec_len, vec_capacity, true, IfOk};
+ghost use Rattle.std.specs.Prelude.{◌≡◌, ◌<◌, ◌≤◌, ◌+◌, ◌++◌, ◌^◌, ℕ, [], ◌∷◌, length, drop, min, replicate, vec_len, vec_capacity, true, slice_index_or, IfOk};
+ghost use Rattle.manchester_line.specs.declared.Sym.{Sym};
 ghost use Rattle.manchester_line.specs.declared.Sym.TheVariants.{Idle};
+ghost use Rattle.manchester_line.specs.Line.{mix_of};
+ghost use Rattle.segment_engine.specs.SteadyPieces.{line_cut};
 ghost use Rattle.network.specs.Times.{earlier};
 ghost use Rattle.segment_engine.specs.TapLines.{TapLine, symbol_on, half_bits_back, line_extended, slid};
 
 use lists::OutOfMemory;
 use mac_parameters::{GREATEST_DELAY, GREATEST_PLACE};
-use manchester_line::Sym;
+use manchester_line::{Sym, mix};
 use std::alloc::Global;
 use std::marker::Model;
 
@@ -66,6 +69,18 @@ fn drop_first(symbols: &mut Vec<Sym>, count: usize) -> usize
     gone
 }
 
+/// Adds the symbols from place `from` on, from 0, to those of a piece.
+fn mix_from(piece: &mut [Sym], symbols: &[Sym], from: u64)
+    ensures { (j : ℕ) (d : Sym) → j < length piece.new → slice_index_or piece.new j d
+        ≡ mix_of (slice_index_or piece.old j d) (slice_index_or symbols.now (from + j) Idle) }
+{
+    let first = from.min(symbols.len() as u64) as usize;
+    let count = piece.len().min(symbols.len() - first);
+    for j in 0..count {
+        piece[j] = mix(piece[j], symbols[first + j]);
+    }
+}
+
 impl Line {
     /// The empty line of a tap from half bit 0 on, with room for so many symbols.
     pub fn new(alloc: Global, at: u32, delay: u32, room: usize) -> Result<Line, OutOfMemory>
@@ -113,17 +128,56 @@ impl Line {
         }
     }
 
-    /// What a tap at a place hears of it in half bit `t`.
-    pub fn reaches(&self, at: u32, lookahead: u32, t: u64) -> Sym
-        ensures { result ≡ earlier (symbol_on self.now) t (half_bits_back lookahead at self.now) }
+    /// How far back on it, in half bits, is what a tap at a place hears.
+    fn back(&self, at: u32, lookahead: u32) -> u64
+        ensures { result ≡ half_bits_back lookahead at self.now }
     {
         let way = u64::from(at.abs_diff(self.at)) + u64::from(self.delay);
-        let back = way.saturating_sub(u64::from(lookahead));
+        way.saturating_sub(u64::from(lookahead))
+    }
+
+    /// What stands on it so many half bits before half bit `t`.
+    fn back_from(&self, back: u64, t: u64) -> Sym
+        ensures { result ≡ earlier (symbol_on self.now) t back }
+    {
         if back <= t {
             self.symbol(t - back)
         } else {
             Sym::Idle
         }
+    }
+
+    /// What a tap at a place hears of it in half bit `t`.
+    pub fn reaches(&self, at: u32, lookahead: u32, t: u64) -> Sym
+        ensures { result ≡ earlier (symbol_on self.now) t (half_bits_back lookahead at self.now) }
+    {
+        self.back_from(self.back(at, lookahead), t)
+    }
+
+    /// Adds to what a tap hears in the half bits from `t` on, as many as the piece has, what stands on it so many half bits
+    /// before.
+    fn mix_back(&self, back: u64, t: u64, piece: &mut [Sym])
+        requires { t + length piece.old < 2 ^ 64 }
+        ensures { (j : ℕ) (d : Sym) → j < length piece.new → slice_index_or piece.new j d
+            ≡ mix_of (slice_index_or piece.old j d) (earlier (symbol_on self.now) (t + j) back) }
+    {
+        for j in 0..piece.len() {
+            piece[j] = mix(piece[j], self.back_from(back, t + j as u64));
+        }
+    }
+
+    /// Adds to what a tap at a place hears in the half bits from `t` on, as many as the piece has, what reaches it of the line.
+    pub fn mix_over(&self, at: u32, lookahead: u32, t: u64, piece: &mut [Sym])
+        requires { t + length piece.old < 2 ^ 64 }
+        ensures { (j : ℕ) (d : Sym) → j < length piece.new → slice_index_or piece.new j d
+            ≡ mix_of (slice_index_or piece.old j d) (earlier (symbol_on self.now) (t + j) (half_bits_back lookahead at self.now)) }
+    {
+        let back = self.back(at, lookahead);
+        if t < back || t - back < self.base {
+            self.mix_back(back, t, piece);
+            return;
+        }
+        mix_from(piece, &self.symbols, t - back - self.base);
     }
 
     /// Whether nothing but Idle stands on it from half bit `u` on.
@@ -163,6 +217,20 @@ impl Line {
         ensures { self.new ≡ line_extended self.old (replicate count Idle) }
     {
         self.quiet += count;
+    }
+
+    /// Takes from it what stands on it for half bit `u` and later ones.
+    pub fn cut(&mut self, u: u64)
+        ensures { self.new ≡ line_cut u self.old }
+    {
+        let written = self.symbols.len() as u64;
+        let kept = u.saturating_sub(self.base);
+        if kept < written {
+            self.symbols.truncate(kept as usize);
+            self.quiet = 0;
+        } else {
+            self.quiet = (self.quiet as u64).min(kept - written) as usize;
+        }
     }
 
     /// Makes room for so many symbols: where there is less, it drops those that reach no other tap any more.

@@ -94,6 +94,7 @@ impl SegmentPart {
             far: _,
             heard: _,
             emitted: _,
+            piece: _,
             mut room,
         } = state;
         room.settle()?;

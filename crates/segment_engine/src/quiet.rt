@@ -30,7 +30,7 @@ fn are_at_rest(receivers: &[Receiver]) -> bool
 }
 
 /// Whether a sending is under way.
-fn is_sending(sender: &Transmitter) -> bool
+pub fn is_sending(sender: &Transmitter) -> bool
     ensures { result ≡ is_sending_in sender.now.phase }
 {
     match sender.phase() {

@@ -17,7 +17,7 @@ use net_parts::Parcel;
 use window_room::RowRoom;
 
 /// A segment before half bit `t`: its stations, the lines of its taps, and what was logged and captured. `heard` has a symbol
-/// for each tap, `emitted` one for each station. What is further back on a line than `far` half bits reaches no other tap.
+/// for each tap, `emitted` one for each station, and `piece` those of a tap over several half bits. What is further back on a line than `far` half bits reaches no other tap.
 #[derive(Drop)]
 pub struct Running {
     pub t: u64,
@@ -27,6 +27,7 @@ pub struct Running {
     pub far: u64,
     pub heard: Vec<Sym>,
     pub emitted: Vec<Sym>,
+    pub piece: Vec<Sym>,
     pub room: RowRoom,
 }
 

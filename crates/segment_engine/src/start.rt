@@ -110,6 +110,7 @@ pub fn start(alloc: Global, of: &Segment, plan: &Plan) -> Result<Running, OutOfM
         far,
         heard: vec![in alloc; Sym::Idle; places.len()]?,
         emitted: vec![in alloc; Sym::Idle; stations]?,
+        piece: vec![in alloc; Sym::Idle; of.lookahead as usize]?,
         room: RowRoom::new(alloc, stations)?,
     })
 }

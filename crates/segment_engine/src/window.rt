@@ -7,11 +7,12 @@ ghost use Rattle.segment_engine.specs.PartStates.{half_filled};
 ghost use Rattle.segment_engine.specs.RunningStates.{IsRunningAt, HaveLinesRoom};
 ghost use Rattle.window_room.specs.NeededRoom.{Covers, stations_demand};
 
-use crate::lines::{slide_all, take_in};
+use crate::lines::{hear_all, slide_all, take_in};
 use crate::parcels::turn;
 use crate::quiet::{leap_quiet, quiet_half_bits};
 use crate::running::{Running, half_bit};
 use crate::segment::Segment;
+use crate::steady::{calm_ahead, leap_steady};
 use net_parts::Parcel;
 
 /// What came in for the ports in a window is put on their lines, and there is room for what the stations emit in it.
@@ -30,6 +31,45 @@ fn begin(of: &Segment, window: u64, state: &mut Running, parcels: &[Parcel])
 {
     slide_all(&mut state.lines, of.lookahead as usize);
     take_in(&mut state.lines, of.stations.len(), parcels);
+}
+
+/// Half bits of a window of a segment from half bit `k` on, from 0, at most `most`, in which each station goes on with what it
+/// does. It answers how many.
+fn go_steadily(
+    of: &Segment,
+    window: u64,
+    k: u32,
+    most: u32,
+    state: &mut Running,
+    parcels: &mut [Parcel],
+) -> u32
+    requires at { IsRunningAt of.now.plan.value of.now.number ((window + 1) * of.now.lookahead) state.old }
+    requires time { state.old.t ≡ window * of.now.lookahead + k }
+    requires some { 0 < most }
+    requires within { k + most ≤ of.now.lookahead }
+    requires in_time { state.old.t + most ≤ 2000000000 }
+    requires parcels { parcels.old
+        ≡ map (half_filled of.now.plan.value of.now.lookahead window k) (wiring of.now.plan.value.layout of.now.number).edges }
+    requires lines { HaveLinesRoom of.now.plan.value of.now.number most state.old.lines.items }
+    ensures within { result ≤ most }
+    ensures at { IsRunningAt of.now.plan.value of.now.number ((window + 1) * of.now.lookahead) state.new }
+    ensures time { state.new.t ≡ state.old.t + result }
+    ensures parcels { parcels.new
+        ≡ map (half_filled of.now.plan.value of.now.lookahead window (k + result)) (wiring of.now.plan.value.layout of.now.number).edges }
+    ensures room { (n : ℕ) →
+        Covers (stations_demand (n + result) state.old.senders.items state.old.receivers.items) state.old.room →
+        Covers (stations_demand n state.new.senders.items state.new.receivers.items) state.new.room }
+    ensures lines { (n : ℕ) → HaveLinesRoom of.now.plan.value of.now.number (n + result) state.old.lines.items →
+        HaveLinesRoom of.now.plan.value of.now.number n state.new.lines.items }
+{
+    let t = state.t;
+    hear_all(&state.lines, of.lookahead, state.far, t, &mut state.heard);
+    let most = (most as usize).min(state.piece.len()) as u32;
+    let calm = calm_ahead(t, &state.heard, &state.senders, &state.receivers, most);
+    if calm == 0 {
+        return 0;
+    }
+    leap_steady(of, window, k, calm, state, parcels)
 }
 
 /// Half bits of a window of a segment from half bit `k` on, from 0, at least one and at most `most`: as many as nothing
@@ -67,6 +107,10 @@ fn go_on(
     if quiet > 0 {
         leap_quiet(of, window, quiet, state);
         return quiet;
+    }
+    let steady = go_steadily(of, window, k, most, state, parcels);
+    if steady > 0 {
+        return steady;
     }
     half_bit(of, window, k, state, parcels);
     1

@@ -1,0 +1,62 @@
+-- Stations to which nothing happens for several half bits, and what their lines tell ahead.
+use Rattle.std.proofs.Common.{◌≡◌, ℕ, ◌+◌, ◌-◌, ◌<◌, ◌≤◌, Bool, true, false, List, length, replicate, refl, sym, subst, ap, ap₂, ◌∙◌, arith}
+use Rattle.std.specs.Prelude.{◌↔◌, Option}
+use Rattle.manchester_line.specs.declared.Sym.{Sym}
+use Rattle.manchester_line.specs.declared.Sym.TheVariants.{Idle}
+use Rattle.manchester_line.specs.Line.{is_signal}
+use Rattle.mac_receive.specs.KeptReceiver.{Kept}
+use Rattle.mac_transmit.specs.declared.phase.Phase.TheVariants.{Sending}
+use Rattle.mac_transmit.specs.Sender.{Sender, is_sending, frame_at, symbol_of}
+use Rattle.mac_transmit.specs.Calm.{AllHeardAs, AreCalm, calm_of}
+use Rattle.mac_transmit.specs.Emissions.{emission_by}
+use Rattle.net_parts.specs.Machines.{span}
+use Rattle.segment_engine.specs.TapLines.{TapLine, line_extended}
+use Rattle.segment_engine.specs.SteadyPieces.{IsCalmAs, IsToldAhead, sent_ahead}
+use Rattle.segment_engine.proofs.QuietHalfBits.{emits_idle, span_same}
+
+pub fewer_calm : (m n : ℕ) (c : Bool) (s : Sender) (k : Kept) → n ≤ m → IsCalmAs m c s k → IsCalmAs n c s k
+fewer_calm m n c s k h is = record {
+  number = let x = is.number in omega (arith, x, h);
+  calm = λ hs a l. is.calm hs a (omega (arith, l, h));
+  at_rest = is.at_rest;
+}
+
+pub calm_as : (n most : ℕ) (c c' : Bool) (s s' : Sender) (k k' : Kept) → n ≤ most → most ≡ calm_of s c → most ≤ 4096 →
+    ((hs : List Sym) → AllHeardAs c hs → length hs ≤ 4096 → AreCalm s hs ↔ (length hs ≤ most)) →
+    (is_sending s.phase ≡ false → c ≡ false → k.halves ≡ 0) → c ≡ c' → s ≡ s' → k ≡ k' → IsCalmAs n c' s' k'
+calm_as n most c c' s s' k k' h is within exact rest ec es ek =
+    let one : IsCalmAs n c s k = record {
+      number = omega (arith, h, is);
+      calm = λ hs a l. (exact hs a (omega (arith, l, h, within))).1 (omega (arith, l, h));
+      at_rest = rest;
+    } in
+    subst (λ x. IsCalmAs n c' s' x) ek (subst (λ x. IsCalmAs n c' x k) es (subst (λ x. IsCalmAs n x s k) ec one))
+
+-- what a sending has ahead
+pub emission_is : (s : Sender) (octets : List ℕ) (start : ℕ) (hit : Option ℕ) (t j : ℕ) → octets ≡ frame_at s.queue s.place → s.phase ≡ Sending start hit → t ≡ s.t → start ≤ t →
+    emission_by s j s.phase ≡ symbol_of octets hit (t - start + j)
+emission_is s octets start hit t j is phase time h =
+    let e : s.t + j - start ≡ t - start + j = omega (arith, time, h) in
+    ap (emission_by s j) phase ∙ ap₂ (λ x y. symbol_of x hit y) (sym is) e
+
+pub idle_ahead : (s : Sender) (n : ℕ) → is_sending s.phase ≡ false → sent_ahead s n ≡ replicate n Idle
+idle_ahead s n h = span_same (λ j. emission_by s j s.phase) 0 n Idle (λ i l. emits_idle s (0 + i) s.phase h)
+
+pub idle_class : (s : Sender) (j : ℕ) → is_sending s.phase ≡ false → is_signal (emission_by s j s.phase) ≡ is_sending s.phase
+idle_class s j h = ap is_signal (emits_idle s j s.phase h) ∙ sym h
+
+-- lines told ahead for fewer half bits, and one line
+pub told_less : (s : Sender) (least least' most : ℕ) (l l' : TapLine) → least' ≤ least → IsToldAhead s least most l l' → IsToldAhead s least' most l l'
+told_less s least least' most l l' h is = record {
+  number = is.number;
+  enough = let x = is.enough in omega (arith, x, h);
+  few = is.few;
+  line = is.line;
+  signal = λ j l. is.signal j (omega (arith, l, h));
+}
+
+pub told_one : (s s' : Sender) (least most n : ℕ) (l l' : TapLine) → least ≤ n → n ≤ most → l' ≡ line_extended l (sent_ahead s n) →
+    ((j : ℕ) → j < n → is_signal (emission_by s j s.phase) ≡ is_sending s.phase) → s ≡ s' → IsToldAhead s' least most l l'
+told_one s s' least most n l l' a b line signal same =
+    let one : IsToldAhead s least most l l' = record { number = n; enough = a; few = b; line = line; signal = λ j h. signal j (omega (arith, h, a)) } in
+    subst (λ x. IsToldAhead x least most l l') same one

@@ -1,0 +1,47 @@
+-- Several half bits of a segment in which each of its stations hears a signal all the time, or Idle all the time, and
+-- goes on with what it does (profile). Half bits and taps count from 0.
+use Rattle.std.specs.Prelude.{ℕ, ◌≡◌, ◌+◌, ◌-◌, ◌<◌, ◌≤◌, Bool, false, List, ◌++◌, take, drop, length}
+use Rattle.manchester_line.specs.declared.Sym.{Sym}
+use Rattle.manchester_line.specs.Line.{is_signal}
+use Rattle.mac_receive.specs.KeptReceiver.{Kept}
+use Rattle.mac_transmit.specs.Sender.{Sender, is_sending}
+use Rattle.mac_transmit.specs.Calm.{AllHeardAs, AreCalm, calm_of}
+use Rattle.mac_transmit.specs.Emissions.{emission_by}
+use Rattle.net_parts.specs.declared.parcel.Parcel.{Parcel}
+use Rattle.net_parts.specs.Machines.{span}
+use Rattle.segment_engine.specs.TapLines.{TapLine, line_extended, heard_by_lines}
+
+-- What tap p hears by these lines in the n half bits from t on, where a window has L half bits (clause 8, profile).
+abbrev pub heard_for : ℕ → ℕ → ℕ → List TapLine → ℕ → List Sym
+heard_for L t n ls p = span (λ u. heard_by_lines L u ls p) t n
+
+-- What a sender emits in the n half bits from now on, if nothing happens to it until then (4.2.8).
+abbrev pub sent_ahead : Sender → ℕ → List Sym
+sent_ahead s n = span (λ j. emission_by s j s.phase) 0 n
+
+-- A line with what its station emits in the half bits ahead, at least `least` and at most `most` of them, if nothing
+-- happens to its sender: as long as it sends, that is a signal (profile).
+pub record IsToldAhead (s : Sender) (least most : ℕ) (l l' : TapLine) : Type 0 where
+  pub number : ℕ
+  pub enough : least ≤ number
+  pub few : number ≤ most
+  pub line : l' ≡ line_extended l (sent_ahead s number)
+  pub signal : (j : ℕ) → j < least → is_signal (emission_by s j s.phase) ≡ is_sending s.phase
+
+-- Nothing happens to a station in n half bits in which it hears a signal all the time, or Idle all the time, as
+-- `carrier` says: its sender goes on, and no reception ends (profile).
+pub record IsCalmAs (n : ℕ) (carrier : Bool) (s : Sender) (k : Kept) : Type 0 where
+  pub number : n ≤ calm_of s carrier
+  pub calm : (hs : List Sym) → AllHeardAs carrier hs → length hs ≤ n → AreCalm s hs
+  pub at_rest : is_sending s.phase ≡ false → carrier ≡ false → k.halves ≡ 0
+
+-- A line without what stands on it for half bit u and later ones (profile).
+abbrev pub line_cut : ℕ → TapLine → TapLine
+line_cut u l = record l {
+  symbols = take (u - l.base) l.symbols;
+  room = l.room + (length l.symbols - (u - l.base));
+}
+
+-- A parcel with these symbols for the half bits of its window from k on (profile).
+abbrev pub with_piece_at : ℕ → List Sym → Parcel → Parcel
+with_piece_at k piece p = record p { symbols = take k p.symbols ++ (piece ++ drop (k + length piece) p.symbols) }

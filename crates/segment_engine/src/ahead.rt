@@ -1,0 +1,147 @@
+//! What stations emit in the half bits ahead, if nothing happens to them.
+ghost use Rattle.std.specs.Prelude.{◌≡◌, ◌≤◌, ◌<◌, ◌+◌, ◌^◌, ℕ, true, All, length, slice_index_or};
+ghost use Rattle.manchester_line.specs.Line.{is_signal as is_signal_of};
+ghost use Rattle.mac_transmit.specs.Emissions.{emission_by};
+ghost use Rattle.mac_transmit.specs.Sender.{Sender, jam_start, line_at, symbol_of, is_sending as is_sending_in};
+ghost use Rattle.net_parts.specs.Machines.{span};
+ghost use Rattle.segment_engine.specs.SteadyPieces.{IsToldAhead, sent_ahead, line_cut};
+ghost use Rattle.segment_engine.specs.TapLines.{TapLine, line_extended};
+
+use crate::line::Line;
+use crate::quiet::is_sending;
+use mac_parameters::{HALF_BITS_A_BIT, PREAMBLE};
+use mac_transmit::{Phase, Transmitter};
+use manchester_line::{Sym, is_signal, jam_sym, line_sym};
+
+/// The position, from 0, at which the jam of a sending with this hit begins.
+fn start_of_jam(hit: u32) -> u64
+    ensures start { result ≡ jam_start hit }
+    ensures small { result < 2 ^ 33 }
+{
+    if hit < PREAMBLE {
+        u64::from(PREAMBLE)
+    } else {
+        let bit = u64::from(HALF_BITS_A_BIT);
+        bit * (u64::from(hit) / bit + 1)
+    }
+}
+
+/// Half bit `p` of a frame's line text.
+#[tactic(auto, unfolding(mac_transmit::specs::Sender::line_at))]
+fn text_symbol(octets: &[u8], p: u64) -> Sym
+    requires length { length octets.now ≤ 1600 }
+    requires place { p < 2 ^ 32 }
+    ensures { result ≡ line_at octets.now p }
+{
+    line_sym(octets, p as u32)
+}
+
+/// The symbol at position `p` of a sending.
+fn sending_symbol(octets: &[u8], hit: Option<u32>, p: u64) -> Sym
+    requires length { length octets.now ≤ 1600 }
+    requires place { p < 2 ^ 32 }
+    ensures { result ≡ symbol_of octets.now hit p }
+{
+    match hit {
+        None => text_symbol(octets, p),
+        Some(hit) => {
+            let jam = start_of_jam(hit);
+            if p < jam {
+                text_symbol(octets, p)
+            } else {
+                jam_sym((p - jam) as u32)
+            }
+        }
+    }
+}
+
+/// Puts the symbols of a sending from position `p` on behind a line's, as long as they are a signal and at most so many. It
+/// answers how many.
+fn send_ahead(octets: &[u8], hit: Option<u32>, p: u64, count: u32, line: &mut Line) -> u32
+    requires length { length octets.now ≤ 1600 }
+    requires place { p + count < 2 ^ 32 }
+    requires room { count ≤ line.old.room }
+    ensures within { result ≤ count }
+    ensures line { line.new ≡ line_extended line.old (span (λ j. symbol_of octets.now hit (p + j)) 0 result) }
+    ensures signal { (j : ℕ) → j < result → is_signal_of (symbol_of octets.now hit (p + j)) ≡ true }
+{
+    for j in 0..count {
+        let s = sending_symbol(octets, hit, p + u64::from(j));
+        if !is_signal(s) {
+            return j;
+        }
+        line.push(s);
+    }
+    count
+}
+
+/// Puts on a station's line what its sending has for the half bits from `t` on, as long as that is a signal and at most so many.
+/// It answers how many.
+fn send_on(t: u64, count: u32, sender: &Transmitter, line: &mut Line) -> u32
+    requires time { t ≡ sender.now.t }
+    requires in_time { t + count ≤ 2000000000 }
+    requires room { count ≤ line.old.room }
+    ensures within { result ≤ count }
+    ensures line { line.new ≡ line_extended line.old (sent_ahead sender.now result) }
+    ensures signal { (j : ℕ) → j < result → is_signal_of (emission_by sender.now j sender.now.phase) ≡ true }
+{
+    let Phase::Sending { start, hit } = sender.phase() else {
+        return 0;
+    };
+    if t < start {
+        return 0;
+    }
+    let Some(frame) = sender.frame() else {
+        return 0;
+    };
+    send_ahead(frame.octets(), hit, t - start, count, line)
+}
+
+/// Puts on a station's line what it emits in the half bits from `t` on, at most so many, if nothing happens to its sender. It
+/// answers for how many.
+fn go_ahead(t: u64, count: u32, sender: &Transmitter, line: &mut Line) -> u32
+    requires time { t ≡ sender.now.t }
+    requires in_time { t + count ≤ 2000000000 }
+    requires room { count ≤ line.old.room }
+    ensures within { result ≤ count }
+    ensures line { line.new ≡ line_extended line.old (sent_ahead sender.now result) }
+    ensures signal { (j : ℕ) → j < result → is_signal_of (emission_by sender.now j sender.now.phase) ≡ is_sending_in sender.now.phase }
+{
+    if is_sending(sender) {
+        return send_on(t, count, sender, line);
+    }
+    line.rest(count as usize);
+    count
+}
+
+/// Puts on the line of each station what it emits in the half bits from `t` on, at most so many, if nothing happens to its
+/// sender: those lines come first. It answers for how many half bits all of them have that.
+pub fn emit_ahead(t: u64, count: u32, senders: &[Transmitter], lines: &mut [Line]) -> u32
+    requires few { length senders.now ≤ length lines.old }
+    requires times { All (λ s. s.t ≡ t) senders.now }
+    requires in_time { t + count ≤ 2000000000 }
+    requires room { (r : ℕ) (d : TapLine) → r < length senders.now → count ≤ (slice_index_or lines.old r d).room }
+    ensures within { result ≤ count }
+    ensures told { (r : ℕ) (d : TapLine) (e : Sender) → r < length senders.now →
+        IsToldAhead (slice_index_or senders.now r e) result count (slice_index_or lines.old r d) (slice_index_or lines.new r d) }
+    ensures others { (r : ℕ) (d : TapLine) → length senders.now ≤ r →
+        slice_index_or lines.new r d ≡ slice_index_or lines.old r d }
+{
+    let mut ahead = count;
+    for r in 0..senders.len() {
+        let line = &mut lines[r];
+        ahead = ahead.min(go_ahead(t, count, &senders[r], line));
+    }
+    ahead
+}
+
+/// Takes from the line of each station what stands on it for half bit `u` and later ones: so many lines come first.
+pub fn cut_all(lines: &mut [Line], stations: usize, u: u64)
+    requires { stations ≤ length lines.old }
+    ensures cut { (r : ℕ) (d : TapLine) → r < stations → slice_index_or lines.new r d ≡ line_cut u (slice_index_or lines.old r d) }
+    ensures others { (r : ℕ) (d : TapLine) → stations ≤ r → slice_index_or lines.new r d ≡ slice_index_or lines.old r d }
+{
+    for r in 0..stations {
+        lines[r].cut(u);
+    }
+}
