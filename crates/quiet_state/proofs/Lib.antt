@@ -1,0 +1,6 @@
+mod BareSenders
+mod BareRepeaters
+mod AlikeNets
+mod ResumedStations
+mod ResumedRepeaters
+mod QuietNets

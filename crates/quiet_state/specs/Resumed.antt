@@ -1,0 +1,86 @@
+-- The state of a quiet network, and the network that goes on from a state (profile). Half bits, stations and ports count
+-- from 0.
+use Rattle.std.specs.Prelude.{ℕ, zero, suc, ◌+◌, ◌-◌, List, [], ◌∷◌, ◌++◌, map, flat_map, length, take, drop}
+use Rattle.frame_layout.specs.declared.queue.Ready.{Ready}
+use Rattle.collision_log.specs.declared.row.Row.{Row}
+use Rattle.layout.specs.Taps.{taps_of}
+use Rattle.layout.specs.declared.lines.RepeaterLine.{RepeaterLine}
+use Rattle.load_plan.specs.declared.plan.Plan.{Plan}
+use Rattle.mac_transmit.specs.Resuming.{state_of, resumed_sender}
+use Rattle.mac_transmit.specs.Sender.{Sender}
+use Rattle.mac_transmit.specs.declared.state.SenderState.{SenderState}
+use Rattle.port_partition.specs.Guard.{Guard}
+use Rattle.repeater_core.specs.Step.{State, resumed_state}
+use Rattle.network.specs.Net.{Net, net, new_net, next}
+use Rattle.network.specs.Outputs.{cut_rows, half_bits}
+use Rattle.network.specs.declared.outputs.Taken.{Taken}
+use Rattle.quiet_state.specs.declared.state.NetState.{NetState}
+
+-- The guards of the ports of all repeaters, the ports of one repeater after those of the one before.
+abbrev pub guards_in : Net → List Guard
+guards_in n = flat_map (λ r. r.guards) n.repeaters
+
+-- The half bits for which each port still rests (profile, jabber lockup protection), in the same order.
+abbrev pub rests_in : Net → List ℕ
+rests_in n = flat_map (λ r. map (λ c. c.rest) r.counts) n.repeaters
+
+-- The state of the network of a plan before half bit t, if it is quiet: what its senders do, the guards of its ports and
+-- how long each port rests, and the rows and captures so far.
+abbrev pub state_at : Plan → ℕ → NetState
+state_at plan t =
+    record {
+      t = t;
+      senders = map state_of (net plan t).senders;
+      guards = guards_in (net plan t);
+      rests = rests_in (net plan t);
+      rows = (net plan t).rows;
+      captures = (net plan t).captures;
+    }
+
+-- The senders of the stations from k on before half bit t that go on from these states, each with its queue and its
+-- stream of draws.
+abbrev pub resumed_senders : ℕ → ℕ → ℕ → List (List Ready) → List SenderState → List Sender
+resumed_senders seed t k (q ∷ qs) (s ∷ ss) =
+    resumed_sender q (record { seed = seed; station = k; made = s.drawn }) t s ∷ resumed_senders seed t (k + 1) qs ss
+resumed_senders seed t k _ _ = []
+
+-- These repeaters in mode Idle, with the guards and the rests of their ports, which stand one after another; all that
+-- they decided so far is Idle, and no output is under way.
+abbrev pub resumed_repeaters : List RepeaterLine → List Guard → List ℕ → List State
+resumed_repeaters [] guards rests = []
+resumed_repeaters (l ∷ ls) guards rests =
+    resumed_state l.delay (take (length l.ports) guards) (take (length l.ports) rests)
+    ∷ resumed_repeaters ls (drop (length l.ports) guards) (drop (length l.ports) rests)
+
+-- The network of a plan that begins from a state, with new receivers, in which all earlier symbols were Idle.
+abbrev pub net_of : Plan → NetState → Net
+net_of plan s =
+    record {
+      taps = taps_of plan.layout;
+      t = s.t;
+      senders = resumed_senders plan.layout.seed s.t 0 plan.queues s.senders;
+      receivers = (new_net plan).receivers;
+      repeaters = resumed_repeaters plan.layout.repeaters s.guards s.rests;
+      emitted = [];
+      decided = [];
+      rows = s.rows;
+      captures = s.captures;
+    }
+
+-- The same network so many half bits later.
+abbrev pub net_from : Plan → NetState → ℕ → Net
+net_from plan s zero = net_of plan s
+net_from plan s (suc k) = next (net_from plan s k)
+
+-- The network that went on from a state, at the end of the run.
+abbrev pub end_from : Plan → NetState → Net
+end_from plan s = net_from plan s (half_bits plan - s.t)
+
+-- The rows of a run that went on from a state, the state's own first, and last those of the sendings that the end of the
+-- run cuts off.
+unfoldable pub rows_from : Plan → NetState → List Row
+rows_from plan s = (end_from plan s).rows ++ cut_rows (half_bits plan) 0 (end_from plan s).senders
+
+-- For each station the frames that it received in such a run, the state's own first.
+unfoldable pub captures_from : Plan → NetState → List (List Taken)
+captures_from plan s = (end_from plan s).captures
