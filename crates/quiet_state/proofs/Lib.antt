@@ -4,3 +4,5 @@ mod AlikeNets
 mod ResumedStations
 mod ResumedRepeaters
 mod QuietNets
+mod SignalsOver
+mod QuietAsKept

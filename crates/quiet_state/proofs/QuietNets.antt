@@ -46,7 +46,7 @@ nothing_before : (b q : ℕ) → emitted_before [] b q ≡ Idle
 nothing_before zero q = refl
 nothing_before (suc b) q = refl
 
-told_in : (plan : Plan) (t p q back : ℕ) (d : PortLine) → IsQuiet plan t → IsAudible (taps_of plan.layout) p q back d → emitted_before (net plan t).emitted back q ≡ Idle
+pub told_in : (plan : Plan) (t p q back : ℕ) (d : PortLine) → IsQuiet plan t → IsAudible (taps_of plan.layout) p q back d → emitted_before (net plan t).emitted back q ≡ Idle
 told_in plan t p q zero d k h = refl
 told_in plan t p q (suc b) d k h =
     let near = h.near in
@@ -54,7 +54,7 @@ told_in plan t p q (suc b) d k h =
     ∙ earlier_idle (emitted plan q) t (suc b) (λ l.
     k.cables p q (t - suc b) d h.hearer h.emitter (λ e. h.other (sym e)) (sym h.segment) (omega arith) (omega (arith, near, l)))
 
-none_coming : (plan : Plan) (t : ℕ) → IsQuiet plan t → NoneIsComing plan.layout.repeaters (net plan t).decided
+pub none_coming : (plan : Plan) (t : ℕ) → IsQuiet plan t → NoneIsComing plan.layout.repeaters (net plan t).decided
 none_coming plan t k e b in_it soon =
     decided_before_is plan t (suc b) e (omega arith)
     ∙ earlier_idle (decided plan e) t (suc b) (λ l. k.delays e (t - suc b) in_it (omega arith) (omega (arith, soon, l)))

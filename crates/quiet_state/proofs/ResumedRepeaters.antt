@@ -53,7 +53,7 @@ all_rest plan zero = new_rest plan.layout.repeaters
 all_rest plan (suc t) = all_rest_after (ports_hear (net plan t)) (net plan t).repeaters
 
 -- each has its delay
-abbrev AreLate : List RepeaterLine → List State → Type 0
+abbrev pub AreLate : List RepeaterLine → List State → Type 0
 AreLate [] [] = Unit {0}
 AreLate (l ∷ ls) (r ∷ rs) = (r.line.delay ≡ l.delay) × AreLate ls rs
 AreLate _ _ = ⊥
@@ -68,7 +68,7 @@ late_after [] (r ∷ rs) hs h = absurd h
 late_after (l ∷ ls) [] hs h = absurd h
 late_after (l ∷ ls) (r ∷ rs) hs h = (h.0, late_after ls rs (drop (length r.guards) hs) h.1)
 
-late : (plan : Plan) (t : ℕ) → AreLate plan.layout.repeaters (net plan t).repeaters
+pub late : (plan : Plan) (t : ℕ) → AreLate plan.layout.repeaters (net plan t).repeaters
 late plan zero = new_late plan.layout.repeaters
 late plan (suc t) = late_after plan.layout.repeaters (net plan t).repeaters (ports_hear (net plan t)) (late plan t)
 

@@ -1,8 +1,14 @@
 -- The laws of quiet half bits (profile).
-use Rattle.std.specs.Prelude.{ℕ, ◌≡◌}
+use Rattle.std.specs.Prelude.{ℕ, ◌≡◌, ◌+◌, ◌<◌, ◌↔◌, Bool, false, if◌then◌else◌, Some, List, ◌∷◌, slice_index_or}
+use Rattle.manchester_line.specs.declared.Sym.{Sym}
+use Rattle.manchester_line.specs.declared.Sym.TheVariants.{Idle}
+use Rattle.manchester_line.specs.Line.{is_signal}
 use Rattle.load_plan.specs.declared.plan.Plan.{Plan}
-use Rattle.network.specs.Outputs.{rows, captures}
-use Rattle.quiet_state.specs.Quiet.{IsQuiet}
+use Rattle.mac_receive.specs.Receiver.{Receiving, receiver_step}
+use Rattle.network.specs.Net.{net}
+use Rattle.network.specs.Outputs.{half_bits, rows, captures}
+use Rattle.quiet_state.specs.LastSignals.{last_signal, IsQuietAsKept}
+use Rattle.quiet_state.specs.Quiet.{IsQuiet, IsStill}
 use Rattle.quiet_state.specs.Resumed.{state_at, rows_from, captures_from}
 
 -- A run that stops in a quiet half bit and goes on from its state has the rows of the whole run.
@@ -17,3 +23,22 @@ ResumedCapturesAreWhole =
 -- The first half bit of each plan's run is quiet.
 abbrev pub RunsBeginQuiet : Type 0
 RunsBeginQuiet = (plan : Plan) → IsQuiet plan 0
+
+-- A half bit of the run is quiet exactly where what is kept tells so.
+abbrev pub QuietIsAsKept : Type 0
+QuietIsAsKept = (plan : Plan) (t : ℕ) → t < half_bits plan → IsQuiet plan t ↔ IsQuietAsKept (net plan t)
+
+-- Half bit t, in which the taps emit this row, is the last with a signal of a tap that emits one in it, and changes
+-- nothing for the others.
+abbrev pub LastSignalsGoOn : Type 0
+LastSignalsGoOn =
+    (t q : ℕ) (row : List Sym) (rows : List (List Sym))
+    → last_signal (t + 1) (row ∷ rows) q
+    ≡ (if is_signal (slice_index_or row q Idle) then Some t else last_signal t rows q)
+
+-- After a half bit a receiver is neither deaf nor has a reception under way exactly where its station heard Idle in it and
+-- did not emit.
+abbrev pub StillAfterSilence : Type 0
+StillAfterSilence =
+    (r : Receiving) (h : Sym) (sending : Bool)
+    → IsStill (receiver_step r h sending).state ↔ ((h ≡ Idle) × (sending ≡ false))

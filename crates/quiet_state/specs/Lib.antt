@@ -1,3 +1,4 @@
 pub mod Quiet
 pub mod Resumed
+pub mod LastSignals
 pub mod Laws

@@ -1,5 +1,5 @@
 //! Laws of quiet half bits: a call without a body for each.
-ghost use Rattle.quiet_state.specs.Laws.{ResumedCapturesAreWhole, ResumedRowsAreWhole, RunsBeginQuiet};
+ghost use Rattle.quiet_state.specs.Laws.{LastSignalsGoOn, QuietIsAsKept, ResumedCapturesAreWhole, ResumedRowsAreWhole, RunsBeginQuiet, StillAfterSilence};
 
 /// Each run begins in a quiet half bit.
 pub fn runs_begin_quiet()
@@ -10,4 +10,12 @@ pub fn runs_begin_quiet()
 pub fn resumed_runs_are_whole()
     ensures rows { ResumedRowsAreWhole }
     ensures captures { ResumedCapturesAreWhole }
+{}
+
+/// A half bit is quiet exactly where the devices and the last signals of taps and ports tell so; and how the last signals
+/// and the receivers go on, half bit by half bit.
+pub fn quiet_is_as_kept()
+    ensures quiet { QuietIsAsKept }
+    ensures signals { LastSignalsGoOn }
+    ensures receivers { StillAfterSilence }
 {}
