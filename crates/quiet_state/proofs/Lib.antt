@@ -1,8 +1,8 @@
-mod BareSenders
-mod BareRepeaters
-mod AlikeNets
-mod ResumedStations
-mod ResumedRepeaters
-mod QuietNets
-mod SignalsOver
-mod QuietAsKept
+pub mod BareSenders
+pub mod BareRepeaters
+pub mod AlikeNets
+pub mod ResumedStations
+pub mod ResumedRepeaters
+pub mod QuietNets
+pub mod SignalsOver
+pub mod QuietAsKept

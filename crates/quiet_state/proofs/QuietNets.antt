@@ -14,6 +14,7 @@ use Rattle.layout.specs.declared.lines.RepeaterLine.{RepeaterLine}
 use Rattle.layout.specs.declared.lines.StationLine.{StationLine}
 use Rattle.load_plan.specs.declared.plan.Plan.{Plan}
 use Rattle.load_plan.proofs.PlansAreSound.{sound_of_plan}
+use Rattle.mac_transmit.specs.Resuming.{state_of}
 use Rattle.mac_transmit.specs.Sender.{Sender, is_sending}
 use Rattle.repeater_core.specs.declared.modes.Mode.TheVariants as mode
 use Rattle.repeater_core.specs.Step.{State}
@@ -24,9 +25,9 @@ use Rattle.network.proofs.AbsoluteTimes.{emitted_before_is, decided_before_is}
 use Rattle.network.proofs.StationAttempts.{shape_of}
 use Rattle.quiet_state.specs.Laws.{ResumedRowsAreWhole, ResumedCapturesAreWhole, RunsBeginQuiet}
 use Rattle.quiet_state.specs.Quiet.{IsQuiet, IsStill}
-use Rattle.quiet_state.specs.Resumed.{state_at, net_of, net_from, end_from, rows_from, captures_from}
+use Rattle.quiet_state.specs.Resumed.{resumed_senders, state_at, net_of, net_from, end_from, rows_from, captures_from}
 use Rattle.quiet_state.proofs.AlikeNets.{Alike, IsAudible, next_alike}
-use Rattle.quiet_state.proofs.BareSenders.{cut_rows_bare}
+use Rattle.quiet_state.proofs.BareSenders.{bare_sender, cut_rows_bare}
 use Rattle.quiet_state.proofs.ResumedRepeaters.{NoneIsComing, repeaters_resumed}
 use Rattle.quiet_state.proofs.ResumedStations.{senders_resumed, receivers_resumed}
 
@@ -63,8 +64,10 @@ none_coming plan t k e b in_it soon =
 begins_alike : (plan : Plan) (t : ℕ) → IsQuiet plan t → Alike (net plan t) (net_of plan (state_at plan t))
 begins_alike plan t k = record {
   taps = taps_stay plan t;
-  time = time_is plan t;
-  senders = senders_resumed plan t;
+  time = refl;
+  senders =
+      senders_resumed plan t
+      ∙ ap (λ u. map bare_sender (resumed_senders plan.layout.seed u 0 plan.queues (map state_of (net plan t).senders))) (sym (time_is plan t));
   receivers = receivers_resumed plan t k.receivers;
   repeaters = repeaters_resumed plan t (shape_of plan t).lines (none_coming plan t k) k.repeaters;
   told = λ p q back d h. told_in plan t p q back d k (subst (λ ts. IsAudible ts p q back d) (taps_stay plan t) h) ∙ sym (nothing_before back q);
@@ -79,7 +82,10 @@ goes_alike plan t (suc k) zero q e = absurd (omega arith)
 goes_alike plan t (suc k) (suc u) q e = next_alike (net plan u) (net_from plan (state_at plan t) k) (goes_alike plan t k u q (omega arith))
 
 pub ends_alike : (plan : Plan) (t : ℕ) → IsQuiet plan t → Alike (net plan (half_bits plan)) (end_from plan (state_at plan t))
-ends_alike plan t q = let within = q.within in goes_alike plan t (half_bits plan - t) (half_bits plan) q (omega (arith, within))
+ends_alike plan t q = 
+    let within = q.within in
+    let now = time_is plan t in
+    goes_alike plan t (half_bits plan - (net plan t).t) (half_bits plan) q (omega (arith, within, now))
 
 pub resumed_rows : ResumedRowsAreWhole
 unfolding rows rows_from

@@ -24,18 +24,22 @@ guards_in n = flat_map (λ r. r.guards) n.repeaters
 abbrev pub rests_in : Net → List ℕ
 rests_in n = flat_map (λ r. map (λ c. c.rest) r.counts) n.repeaters
 
--- The state of the network of a plan before half bit t, if it is quiet: what its senders do, the guards of its ports and
--- how long each port rests, and the rows and captures so far.
-abbrev pub state_at : Plan → ℕ → NetState
-state_at plan t =
+-- The state of a network, if it is quiet: its half bit, what its senders do, the guards of its ports and how long each port
+-- still rests, and the rows and captures so far.
+abbrev pub net_state : Net → NetState
+net_state n =
     record {
-      t = t;
-      senders = map state_of (net plan t).senders;
-      guards = guards_in (net plan t);
-      rests = rests_in (net plan t);
-      rows = (net plan t).rows;
-      captures = (net plan t).captures;
+      t = n.t;
+      senders = map state_of n.senders;
+      guards = guards_in n;
+      rests = rests_in n;
+      rows = n.rows;
+      captures = n.captures;
     }
+
+-- The state of the network of a plan before half bit t.
+abbrev pub state_at : Plan → ℕ → NetState
+state_at plan t = net_state (net plan t)
 
 -- The senders of the stations from k on before half bit t that go on from these states, each with its queue and its
 -- stream of draws.
