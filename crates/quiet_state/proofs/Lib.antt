@@ -6,3 +6,5 @@ pub mod ResumedRepeaters
 pub mod QuietNets
 pub mod SignalsOver
 pub mod QuietAsKept
+pub mod SenderRanges
+pub mod ResumableStates

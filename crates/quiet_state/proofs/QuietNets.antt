@@ -82,7 +82,7 @@ goes_alike plan t (suc k) zero q e = absurd (omega arith)
 goes_alike plan t (suc k) (suc u) q e = next_alike (net plan u) (net_from plan (state_at plan t) k) (goes_alike plan t k u q (omega arith))
 
 pub ends_alike : (plan : Plan) (t : ℕ) → IsQuiet plan t → Alike (net plan (half_bits plan)) (end_from plan (state_at plan t))
-ends_alike plan t q = 
+ends_alike plan t q =
     let within = q.within in
     let now = time_is plan t in
     goes_alike plan t (half_bits plan - (net plan t).t) (half_bits plan) q (omega (arith, within, now))

@@ -77,7 +77,7 @@ turned_owner : (s : Sender) (c : Bool) → owner (emitting (after_turn s c) c) �
 unfolding emitting sending_started deferring is_free
 turned_owner s c = refl
 
-step_owner : (s : Sender) (h : Sym) → owner (sender_step s h).state ≡ later (owner s)
+pub step_owner : (s : Sender) (h : Sym) → owner (sender_step s h).state ≡ later (owner s)
 unfolding sender_step
 step_owner s h = turned_owner (promoted (finished s)) (is_signal h) ∙ ap later (promoted_owner (finished s) ∙ finished_owner s)
 
@@ -133,11 +133,11 @@ pub senders_resumed : (plan : Plan) (t : ℕ) → map bare_sender (net plan t).s
 senders_resumed plan t = resumed_alike plan.layout.seed t 0 plan.queues (net plan t).senders (owned plan t)
 
 -- what a receiver has from its plan
-record Tuning : Type 0 where
-  lose : ℕ
-  most : ℕ
+pub record Tuning : Type 0 where
+  pub lose : ℕ
+  pub most : ℕ
 
-abbrev tuning : Receiving → Tuning
+abbrev pub tuning : Receiving → Tuning
 tuning r = record { lose = r.lose; most = r.most }
 
 either_tuning : (b : Bool) (x y : Reception) (o : Tuning) → tuning x.state ≡ o → tuning y.state ≡ o → tuning (cond b x y).state ≡ o
@@ -155,7 +155,7 @@ hear_tuning r Hi false = either_tuning r.deaf (quiet r) (extended r Hi) (tuning 
 hear_tuning r Lo false = either_tuning r.deaf (quiet r) (extended r Lo) (tuning r) refl refl
 hear_tuning r Clash false = either_tuning r.deaf (quiet r) (extended r Clash) (tuning r) refl refl
 
-abbrev AreTuned : ℕ → List StationLine → List Receiving → Type 0
+abbrev pub AreTuned : ℕ → List StationLine → List Receiving → Type 0
 AreTuned most [] [] = Unit {0}
 AreTuned most (s ∷ ss) (r ∷ rs) = (tuning r ≡ record { lose = s.lose; most = most }) × AreTuned most ss rs
 AreTuned most _ _ = ⊥
@@ -178,7 +178,7 @@ next_tuned most (s ∷ ss) (x ∷ hs) (e ∷ es) (r ∷ rs) l m h =
 pub many_emit : (plan : Plan) (t : ℕ) → length (stations_emit (net plan t)) ≡ length plan.layout.stations
 many_emit plan t = length-map (sendings_in (net plan t)) (λ (o : SendOutcome). o.emitted) ∙ many_sendings plan t
 
-tuned : (plan : Plan) (t : ℕ) → AreTuned (most_octets (eqb plan.layout.format 2)) plan.layout.stations (net plan t).receivers
+pub tuned : (plan : Plan) (t : ℕ) → AreTuned (most_octets (eqb plan.layout.format 2)) plan.layout.stations (net plan t).receivers
 tuned plan zero = new_tuned (most_octets (eqb plan.layout.format 2)) plan.layout.stations
 tuned plan (suc t) =
     let n = net plan t in

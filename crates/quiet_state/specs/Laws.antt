@@ -1,5 +1,5 @@
 -- The laws of quiet half bits (profile).
-use Rattle.std.specs.Prelude.{ℕ, ◌≡◌, ◌+◌, ◌<◌, ◌↔◌, Bool, false, if◌then◌else◌, Some, List, ◌∷◌, slice_index_or}
+use Rattle.std.specs.Prelude.{ℕ, ◌≡◌, ◌+◌, ◌<◌, ◌≤◌, ◌↔◌, Bool, false, if◌then◌else◌, Some, List, ◌∷◌, slice_index_or}
 use Rattle.manchester_line.specs.declared.Sym.{Sym}
 use Rattle.manchester_line.specs.declared.Sym.TheVariants.{Idle}
 use Rattle.manchester_line.specs.Line.{is_signal}
@@ -8,6 +8,7 @@ use Rattle.mac_receive.specs.Receiver.{Receiving, receiver_step}
 use Rattle.network.specs.Net.{net}
 use Rattle.network.specs.Outputs.{half_bits, rows, captures}
 use Rattle.quiet_state.specs.LastSignals.{last_signal, IsQuietAsKept}
+use Rattle.quiet_state.specs.PlanStates.{IsResumable, HasRowsOf}
 use Rattle.quiet_state.specs.Quiet.{IsQuiet, IsStill}
 use Rattle.quiet_state.specs.Resumed.{state_at, rows_from, captures_from}
 
@@ -42,3 +43,11 @@ abbrev pub StillAfterSilence : Type 0
 StillAfterSilence =
     (r : Receiving) (h : Sym) (sending : Bool)
     → IsStill (receiver_step r h sending).state ↔ ((h ≡ Idle) × (sending ≡ false))
+
+-- The network of the plan can go on from the state of a quiet half bit.
+abbrev pub QuietStatesAreResumable : Type 0
+QuietStatesAreResumable = (plan : Plan) (t : ℕ) → IsQuiet plan t → IsResumable plan (state_at plan t)
+
+-- Each half bit of the run, quiet or not, and its end have the rows and captures that a state tells of.
+abbrev pub StatesHaveTheirRows : Type 0
+StatesHaveTheirRows = (plan : Plan) (t : ℕ) → t ≤ half_bits plan → HasRowsOf plan (state_at plan t)

@@ -1,5 +1,5 @@
 //! Laws of quiet half bits: a call without a body for each.
-ghost use Rattle.quiet_state.specs.Laws.{LastSignalsGoOn, QuietIsAsKept, ResumedCapturesAreWhole, ResumedRowsAreWhole, RunsBeginQuiet, StillAfterSilence};
+ghost use Rattle.quiet_state.specs.Laws.{LastSignalsGoOn, QuietIsAsKept, QuietStatesAreResumable, ResumedCapturesAreWhole, ResumedRowsAreWhole, RunsBeginQuiet, StillAfterSilence};
 
 /// Each run begins in a quiet half bit.
 pub fn runs_begin_quiet()
@@ -18,4 +18,9 @@ pub fn quiet_is_as_kept()
     ensures quiet { QuietIsAsKept }
     ensures signals { LastSignalsGoOn }
     ensures receivers { StillAfterSilence }
+{}
+
+/// The network of a plan can go on from the state of each quiet half bit.
+pub fn quiet_states_are_resumable()
+    ensures { QuietStatesAreResumable }
 {}
