@@ -8,3 +8,6 @@ pub mod SignalsOver
 pub mod QuietAsKept
 pub mod SenderRanges
 pub mod ResumableStates
+pub mod ReceiverRanges
+pub mod RowsInOrder
+pub mod EndedFrames
