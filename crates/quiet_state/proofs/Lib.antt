@@ -11,3 +11,6 @@ pub mod ResumableStates
 pub mod ReceiverRanges
 pub mod RowsInOrder
 pub mod EndedFrames
+pub mod OwnRows
+pub mod BodiesOfRepeaters
+pub mod StateRows

@@ -148,7 +148,7 @@ over_tuning : (r : Receiving) (hs : List Sym) → tuning (reception_ended r hs).
 over_tuning r [] = refl
 over_tuning r (s ∷ ss) = refl
 
-hear_tuning : (r : Receiving) (h : Sym) (b : Bool) → tuning (receiver_step r h b).state ≡ tuning r
+pub hear_tuning : (r : Receiving) (h : Sym) (b : Bool) → tuning (receiver_step r h b).state ≡ tuning r
 hear_tuning r h true = refl
 hear_tuning r Idle false = either_tuning r.deaf (quiet (record r { deaf = false; halves = [] })) (reception_ended r r.halves) (tuning r) refl (over_tuning r r.halves)
 hear_tuning r Hi false = either_tuning r.deaf (quiet r) (extended r Hi) (tuning r) refl refl

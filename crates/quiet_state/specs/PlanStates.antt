@@ -1,6 +1,6 @@
 -- What a state of a plan keeps: what it takes to go on from it, and what its rows and captures tell (profile, where no
 -- clause is named). Half bits, stations, devices and places count from 0, frames, attempts and ports from 1.
-use Rattle.std.specs.Prelude.{ℕ, ◌≡◌, ◌+◌, ◌<◌, ◌≤◌, ◌^◌, ◌⊎◌, ◌==◌, All, List, [], ◌∷◌, map, filter, flat_map, length, slice_index_or}
+use Rattle.std.specs.Prelude.{ℕ, ◌≡◌, ◌+◌, ◌<◌, ◌≤◌, ◌^◌, ◌⊎◌, ◌==◌, All, List, [], ◌∷◌, map, filter, flat_map, length, slice_get, slice_index_or, Some}
 use Rattle.std.specs.List.{range_with_len}
 use Rattle.mac_parameters.specs.Parameters.{attempt_limit, backoff_limit, check_sequence, jabber_rest, least_frame, most_octets}
 use Rattle.frame_layout.specs.declared.queue.Ready.{Ready}
@@ -75,9 +75,9 @@ pub record IsStationRow (plan : Plan) (row : Row) : Type 0 where
 pub record IsRepeaterRow (plan : Plan) (row : Row) : Type 0 where
   pub repeater : ℕ
   pub line : RepeaterLine
-  pub low : repeater < length plan.layout.repeaters
+  pub is_line : slice_get plan.layout.repeaters repeater ≡ Some line
   pub device : row.device ≡ length plan.layout.stations + repeater
-  pub happens : HappensToRepeater (length (slice_index_or plan.layout.repeaters repeater line).ports) row.body
+  pub happens : HappensToRepeater (length line.ports) row.body
 
 -- A row of one of the plan's devices before half bit t.
 abbrev pub IsRowOf : Plan → ℕ → Row → Type 0

@@ -1,5 +1,5 @@
 //! Laws of quiet half bits: a call without a body for each.
-ghost use Rattle.quiet_state.specs.Laws.{LastSignalsGoOn, QuietIsAsKept, QuietStatesAreResumable, ResumedCapturesAreWhole, ResumedRowsAreWhole, RunsBeginQuiet, StillAfterSilence};
+ghost use Rattle.quiet_state.specs.Laws.{LastSignalsGoOn, QuietIsAsKept, QuietStatesAreResumable, ResumedCapturesAreWhole, ResumedRowsAreWhole, RunsBeginQuiet, StatesHaveTheirRows, StillAfterSilence};
 
 /// Each run begins in a quiet half bit.
 pub fn runs_begin_quiet()
@@ -23,4 +23,10 @@ pub fn quiet_is_as_kept()
 /// The network of a plan can go on from the state of each quiet half bit.
 pub fn quiet_states_are_resumable()
     ensures { QuietStatesAreResumable }
+{}
+
+/// The state of each half bit has the rows of the devices so far, in their order, and what its senders' places and its
+/// captures are is told by these rows.
+pub fn states_have_their_rows()
+    ensures { StatesHaveTheirRows }
 {}
