@@ -18,14 +18,14 @@ use Rattle.mac_transmit.specs.Resuming.{state_of}
 use Rattle.mac_transmit.specs.Sender.{Sender, is_sending}
 use Rattle.repeater_core.specs.declared.modes.Mode.TheVariants as mode
 use Rattle.repeater_core.specs.Step.{State}
-use Rattle.network.specs.Net.{net, new_net, new_senders, new_receiver, new_repeater, emitted_before}
+use Rattle.network.specs.Net.{Net, net, next, new_net, new_senders, new_receiver, new_repeater, emitted_before}
 use Rattle.network.specs.Outputs.{half_bits, cut_rows, rows, captures}
 use Rattle.network.specs.Times.{emitted, decided, earlier}
 use Rattle.network.proofs.AbsoluteTimes.{emitted_before_is, decided_before_is}
 use Rattle.network.proofs.StationAttempts.{shape_of}
-use Rattle.quiet_state.specs.Laws.{ResumedRowsAreWhole, ResumedCapturesAreWhole, RunsBeginQuiet}
+use Rattle.quiet_state.specs.Laws.{ResumedRowsAreWhole, ResumedCapturesAreWhole, RunsBeginQuiet, RunsGoOn}
 use Rattle.quiet_state.specs.Quiet.{IsQuiet, IsStill}
-use Rattle.quiet_state.specs.Resumed.{resumed_senders, state_at, net_of, net_from, end_from, rows_from, captures_from}
+use Rattle.quiet_state.specs.Resumed.{resumed_senders, state_at, net_of, net_from, later_net, end_net, rows_from, captures_from}
 use Rattle.quiet_state.proofs.AlikeNets.{Alike, IsAudible, next_alike}
 use Rattle.quiet_state.proofs.BareSenders.{bare_sender, cut_rows_bare}
 use Rattle.quiet_state.proofs.ResumedRepeaters.{NoneIsComing, repeaters_resumed}
@@ -81,7 +81,7 @@ goes_alike plan t zero u q e =
 goes_alike plan t (suc k) zero q e = absurd (omega arith)
 goes_alike plan t (suc k) (suc u) q e = next_alike (net plan u) (net_from plan (state_at plan t) k) (goes_alike plan t k u q (omega arith))
 
-pub ends_alike : (plan : Plan) (t : ℕ) → IsQuiet plan t → Alike (net plan (half_bits plan)) (end_from plan (state_at plan t))
+pub ends_alike : (plan : Plan) (t : ℕ) → IsQuiet plan t → Alike (net plan (half_bits plan)) (end_net (half_bits plan) (net_of plan (state_at plan t)))
 ends_alike plan t q =
     let within = q.within in
     let now = time_is plan t in
@@ -92,13 +92,29 @@ unfolding rows rows_from
 resumed_rows plan t q =
     let a = ends_alike plan t q in
     let n = net plan (half_bits plan) in
-    let m = end_from plan (state_at plan t) in
+    let m = end_net (half_bits plan) (net_of plan (state_at plan t)) in
     sym (ap₂ (λ (xs ys : List Row). xs ++ ys) a.rows
     (cut_rows_bare (half_bits plan) 0 n.senders ∙ ap (cut_rows (half_bits plan) 0) a.senders ∙ sym (cut_rows_bare (half_bits plan) 0 m.senders)))
 
 pub resumed_captures : ResumedCapturesAreWhole
 unfolding captures captures_from
 resumed_captures plan t q = sym (ends_alike plan t q).captures
+
+-- the network itself goes on so
+goes_on : (plan : Plan) (t k u : ℕ) → u ≡ t + k → later_net (net plan t) k ≡ net plan u
+goes_on plan t zero u e = let same : t ≡ u = omega arith in ap (net plan) same
+goes_on plan t (suc k) zero e = absurd (omega arith)
+goes_on plan t (suc k) (suc u) e = ap next (goes_on plan t k u (omega arith))
+
+goes_to_end : (plan : Plan) (t : ℕ) → t ≤ half_bits plan → end_net (half_bits plan) (net plan t) ≡ net plan (half_bits plan)
+goes_to_end plan t l = let now = time_is plan t in goes_on plan t (half_bits plan - (net plan t).t) (half_bits plan) (omega (arith, l, now))
+
+pub runs_go_on : RunsGoOn
+unfolding rows captures
+runs_go_on plan t l = (
+  ap (λ (n : Net). n.rows ++ cut_rows (half_bits plan) 0 n.senders) (goes_to_end plan t l),
+  ap (λ (n : Net). n.captures) (goes_to_end plan t l),
+)
 
 -- the first half bit
 none_sends : (seed k : ℕ) (qs : List (List Ready)) → AllByRecursion (λ (s : Sender). is_sending s.phase ≡ false) (new_senders seed k qs)

@@ -20,7 +20,8 @@ last_signal t [] q = None
 last_signal t (row ∷ rows) q =
     if is_signal (slice_index_or row q Idle) then Some (t - 1) else last_signal (t - 1) rows q
 
--- The half bits from a tap that is here to the farthest of these taps that is on its segment, and 0 where none is (profile).
+-- The half bits from a tap that is here to the farthest of these taps that is on its segment, and 0 where none is
+-- (profile).
 abbrev pub reach_over : PortLine → List PortLine → ℕ
 reach_over here [] = 0
 reach_over here (x ∷ xs) =
@@ -35,9 +36,9 @@ IsOverBy t needs (Some last) = last + needs < t
 abbrev pub line_delays : List State → List ℕ
 line_delays rs = flat_map (λ r. replicate (length r.guards) r.line.delay) rs
 
--- The half bit is quiet as far as what is kept tells: no sender is sending, no receiver is deaf or has a reception under
--- way, each repeater is in mode Idle, what each tap last emitted has passed all other taps of its segment, and what was
--- last decided for each port was emitted.
+-- The half bit is quiet as far as what is kept tells: no sender is sending, no receiver is deaf or has a reception
+-- under way, each repeater is in mode Idle, what each tap last emitted has passed all other taps of its segment, and
+-- what was last decided for each port was emitted.
 pub record IsQuietAsKept (n : Net) : Type 0 where
   pub senders : All (λ s. is_sending s.phase ≡ false) n.senders
   pub receivers : All IsStill n.receivers

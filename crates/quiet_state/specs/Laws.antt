@@ -10,7 +10,7 @@ use Rattle.network.specs.Outputs.{half_bits, rows, captures}
 use Rattle.quiet_state.specs.LastSignals.{last_signal, IsQuietAsKept}
 use Rattle.quiet_state.specs.PlanStates.{IsResumable, HasRowsOf}
 use Rattle.quiet_state.specs.Quiet.{IsQuiet, IsStill}
-use Rattle.quiet_state.specs.Resumed.{state_at, rows_from, captures_from}
+use Rattle.quiet_state.specs.Resumed.{state_at, rows_from, captures_from, rows_to, captures_to}
 
 -- A run that stops in a quiet half bit and goes on from its state has the rows of the whole run.
 abbrev pub ResumedRowsAreWhole : Type 0
@@ -20,6 +20,13 @@ ResumedRowsAreWhole = (plan : Plan) (t : ℕ) → IsQuiet plan t → rows_from p
 abbrev pub ResumedCapturesAreWhole : Type 0
 ResumedCapturesAreWhole =
     (plan : Plan) (t : ℕ) → IsQuiet plan t → captures_from plan (state_at plan t) ≡ captures plan
+
+-- The network of a plan before each half bit, and at the end of the run, is on its way to the rows and captures of the
+-- run.
+abbrev pub RunsGoOn : Type 0
+RunsGoOn =
+    (plan : Plan) (t : ℕ) → t ≤ half_bits plan
+    → (rows_to (half_bits plan) (net plan t) ≡ rows plan) × (captures_to (half_bits plan) (net plan t) ≡ captures plan)
 
 -- The first half bit of each plan's run is quiet.
 abbrev pub RunsBeginQuiet : Type 0
@@ -37,8 +44,8 @@ LastSignalsGoOn =
     → last_signal (t + 1) (row ∷ rows) q
     ≡ (if is_signal (slice_index_or row q Idle) then Some t else last_signal t rows q)
 
--- After a half bit a receiver is neither deaf nor has a reception under way exactly where its station heard Idle in it and
--- did not emit.
+-- After a half bit a receiver is neither deaf nor has a reception under way exactly where its station heard Idle in it
+-- and did not emit.
 abbrev pub StillAfterSilence : Type 0
 StillAfterSilence =
     (r : Receiving) (h : Sym) (sending : Bool)

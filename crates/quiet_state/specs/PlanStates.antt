@@ -25,8 +25,8 @@ AreStatesOf [] [] = Unit {0}
 AreStatesOf (q ∷ qs) (s ∷ ss) = IsStateOf q s × AreStatesOf qs ss
 AreStatesOf _ _ = ⊥
 
--- The network of a plan can go on from this state: it is of a half bit of the run, and has the state of a sender and the
--- captures for each station, and a guard and a rest, of which one half bit is over where it begins, for each port.
+-- The network of a plan can go on from this state: it is of a half bit of the run, and has the state of a sender and
+-- the captures for each station, and a guard and a rest, of which one half bit is over where it begins, for each port.
 pub record IsResumable (plan : Plan) (s : NetState) : Type 0 where
   pub within : s.t < half_bits plan
   pub senders : AreStatesOf plan.queues s.senders
@@ -44,8 +44,9 @@ pub record IsSendingOf (frames t frame start attempt : ℕ) : Type 0 where
   pub once : 1 ≤ attempt
   pub limit : attempt ≤ attempt_limit
 
--- What may happen in half bit t to a station that has so many frames, where a frame has at most so many octets before its
--- check sequence: the end of a sending (4.2.3.2), with the hit and the draw of a collision, or of a reception (4.2.4).
+-- What may happen in half bit t to a station that has so many frames, where a frame has at most so many octets before
+-- its check sequence: the end of a sending (4.2.3.2), with the hit and the draw of a collision, or of a reception
+-- (4.2.4).
 abbrev pub HappensToStation : ℕ → ℕ → ℕ → Body → Type 0
 HappensToStation frames most t (Sent frame start attempt) = IsSendingOf frames t frame start attempt
 HappensToStation frames most t (Collided frame start attempt hit drawn) =
@@ -102,13 +103,15 @@ received_sizes t _ = []
 abbrev pub taken_size : Taken → ℕ × ℕ
 taken_size x = (x.t, length x.octets + check_sequence)
 
--- The rows of a state are those of the plan's devices before its half bit, in their order. Each station has sent or given
--- up its frames 1, 2, 3 and so on up to its sender's place, and has captured the frames that its rows say it received.
+-- The rows of a state are those of the plan's devices before its half bit, in their order. Each station has sent or
+-- given up its frames 1, 2, 3 and so on up to its sender's place, and has captured the frames that its rows say it
+-- received.
 pub record HasRowsOf (plan : Plan) (s : NetState) : Type 0 where
   pub rows : All (IsRowOf plan s.t) s.rows
   pub order : IsLogOrder s.rows
   pub ended : (k : ℕ) (d : SenderState) → k < length plan.layout.stations →
-      flat_map (λ row. ended_frames row.body) (own_rows k s.rows) ≡ range_with_len 1 (slice_index_or s.senders k d).place
+      flat_map (λ row. ended_frames row.body) (own_rows k s.rows)
+      ≡ range_with_len 1 (slice_index_or s.senders k d).place
   pub received : (k : ℕ) → k < length plan.layout.stations →
       flat_map (λ row. received_sizes row.t row.body) (own_rows k s.rows)
       ≡ map taken_size (slice_index_or s.captures k [])

@@ -1,5 +1,5 @@
--- When a network is quiet, so that a run can stop and go on later (profile). Half bits, taps and ports count from 0; the
--- stations' taps come first, then those of the ports.
+-- When a network is quiet, so that a run can stop and go on later (profile). Half bits, taps and ports count from 0;
+-- the stations' taps come first, then those of the ports.
 use Rattle.std.specs.Prelude.{ℕ, ◌≡◌, ◌≢◌, ◌+◌, ◌<◌, ◌≤◌, false, All, [], length, slice_index, slice_index_or}
 use Rattle.manchester_line.specs.declared.Sym.TheVariants.{Idle}
 use Rattle.mac_parameters.specs.Distances.{distance}
@@ -18,8 +18,8 @@ pub record IsStill (r : Receiving) : Type 0 where
   pub awake : r.deaf ≡ false
   pub no_reception : r.halves ≡ []
 
--- Every symbol that was emitted before half bit t and is heard by another tap in t or later is Idle: what tap q emits, each
--- other tap p of its segment hears as many half bits later as it is away (clause 8, in the profile's half bits).
+-- Every symbol that was emitted before half bit t and is heard by another tap in t or later is Idle: what tap q emits,
+-- each other tap p of its segment hears as many half bits later as it is away (clause 8, in the profile's half bits).
 abbrev pub CablesAreQuiet : Plan → ℕ → Type 0
 CablesAreQuiet plan t =
     (p q u : ℕ) (d : PortLine) → p < length (taps_of plan.layout) → q < length (taps_of plan.layout) → p ≢ q
@@ -34,8 +34,8 @@ DelaysAreQuiet plan t =
     (e u : ℕ) → e < length (port_delays plan.layout) → u < t → t ≤ u + slice_index (port_delays plan.layout) e
     → decided plan e u ≡ Idle
 
--- Half bit t of the run is quiet: before it no station is sending, no receiver is deaf or has a reception under way, each
--- repeater is in mode Idle, and of all earlier symbols none but Idle is still to be heard or emitted.
+-- Half bit t of the run is quiet: before it no station is sending, no receiver is deaf or has a reception under way,
+-- each repeater is in mode Idle, and of all earlier symbols none but Idle is still to be heard or emitted.
 pub record IsQuiet (plan : Plan) (t : ℕ) : Type 0 where
   pub within : t < half_bits plan
   pub senders : All (λ s. is_sending s.phase ≡ false) (net plan t).senders

@@ -1,5 +1,5 @@
--- The state of a quiet network, and the network that goes on from a state (profile). Half bits, stations and ports count
--- from 0.
+-- The state of a quiet network, and the network that goes on from a state (profile). Half bits, stations and ports
+-- count from 0.
 use Rattle.std.specs.Prelude.{ℕ, zero, suc, ◌+◌, ◌-◌, List, [], ◌∷◌, ◌++◌, map, flat_map, length, take, drop}
 use Rattle.frame_layout.specs.declared.queue.Ready.{Ready}
 use Rattle.collision_log.specs.declared.row.Row.{Row}
@@ -24,8 +24,8 @@ guards_in n = flat_map (λ r. r.guards) n.repeaters
 abbrev pub rests_in : Net → List ℕ
 rests_in n = flat_map (λ r. map (λ c. c.rest) r.counts) n.repeaters
 
--- The state of a network, if it is quiet: its half bit, what its senders do, the guards of its ports and how long each port
--- still rests, and the rows and captures so far.
+-- The state of a network, if it is quiet: its half bit, what its senders do, the guards of its ports and how long each
+-- port still rests, and the rows and captures so far.
 abbrev pub net_state : Net → NetState
 net_state n =
     record {
@@ -71,20 +71,31 @@ net_of plan s =
       captures = s.captures;
     }
 
--- The same network so many half bits later.
+-- A network so many half bits later.
+abbrev pub later_net : Net → ℕ → Net
+later_net n zero = n
+later_net n (suc k) = next (later_net n k)
+
+-- A network at the end of a run of so many half bits.
+abbrev pub end_net : ℕ → Net → Net
+end_net half_bits n = later_net n (half_bits - n.t)
+
+-- The rows of a network at the end of a run of so many half bits, and last those of the sendings that the end cuts off.
+abbrev pub rows_to : ℕ → Net → List Row
+rows_to half_bits n = (end_net half_bits n).rows ++ cut_rows half_bits 0 (end_net half_bits n).senders
+
+-- The captures of a network at the end of such a run.
+abbrev pub captures_to : ℕ → Net → List (List Taken)
+captures_to half_bits n = (end_net half_bits n).captures
+
+-- The network that goes on from a state, so many half bits later.
 abbrev pub net_from : Plan → NetState → ℕ → Net
-net_from plan s zero = net_of plan s
-net_from plan s (suc k) = next (net_from plan s k)
+net_from plan s k = later_net (net_of plan s) k
 
--- The network that went on from a state, at the end of the run.
-abbrev pub end_from : Plan → NetState → Net
-end_from plan s = net_from plan s (half_bits plan - s.t)
-
--- The rows of a run that went on from a state, the state's own first, and last those of the sendings that the end of the
--- run cuts off.
+-- The rows of a run that went on from a state, the state's own first.
 unfoldable pub rows_from : Plan → NetState → List Row
-rows_from plan s = (end_from plan s).rows ++ cut_rows (half_bits plan) 0 (end_from plan s).senders
+rows_from plan s = rows_to (half_bits plan) (net_of plan s)
 
 -- For each station the frames that it received in such a run, the state's own first.
 unfoldable pub captures_from : Plan → NetState → List (List Taken)
-captures_from plan s = (end_from plan s).captures
+captures_from plan s = captures_to (half_bits plan) (net_of plan s)

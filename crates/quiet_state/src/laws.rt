@@ -1,19 +1,25 @@
 //! Laws of quiet half bits: a call without a body for each.
-ghost use Rattle.quiet_state.specs.Laws.{LastSignalsGoOn, QuietIsAsKept, QuietStatesAreResumable, ResumedCapturesAreWhole, ResumedRowsAreWhole, RunsBeginQuiet, StatesHaveTheirRows, StillAfterSilence};
+ghost use Rattle.quiet_state.specs.Laws.{LastSignalsGoOn, QuietIsAsKept, QuietStatesAreResumable, ResumedCapturesAreWhole, ResumedRowsAreWhole, RunsBeginQuiet, RunsGoOn, StatesHaveTheirRows, StillAfterSilence};
 
 /// Each run begins in a quiet half bit.
 pub fn runs_begin_quiet()
     ensures { RunsBeginQuiet }
 {}
 
-/// A run that stops in a quiet half bit, and goes on later from its state, has the rows and the captures of the whole run.
+/// A run that stops in a quiet half bit and goes on later from its state has the rows and the captures of the whole
+/// run.
 pub fn resumed_runs_are_whole()
     ensures rows { ResumedRowsAreWhole }
     ensures captures { ResumedCapturesAreWhole }
 {}
 
-/// A half bit is quiet exactly where the devices and the last signals of taps and ports tell so; and how the last signals
-/// and the receivers go on, half bit by half bit.
+/// From each of its half bits on the network of a plan comes to the rows and captures of the run.
+pub fn runs_go_on()
+    ensures { RunsGoOn }
+{}
+
+/// A half bit is quiet exactly where the devices, and the last signals of taps and ports, tell so. Both go on half bit
+/// by half bit.
 pub fn quiet_is_as_kept()
     ensures quiet { QuietIsAsKept }
     ensures signals { LastSignalsGoOn }
@@ -25,8 +31,8 @@ pub fn quiet_states_are_resumable()
     ensures { QuietStatesAreResumable }
 {}
 
-/// The state of each half bit has the rows of the devices so far, in their order, and what its senders' places and its
-/// captures are is told by these rows.
+/// The state of each half bit has the rows of the devices so far, in their order, and these rows tell the places of its
+/// senders and the sizes of its captures.
 pub fn states_have_their_rows()
     ensures { StatesHaveTheirRows }
 {}
