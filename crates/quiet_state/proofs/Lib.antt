@@ -14,3 +14,5 @@ pub mod EndedFrames
 pub mod OwnRows
 pub mod BodiesOfRepeaters
 pub mod StateRows
+pub mod StatesStay
+pub mod ResumedNets

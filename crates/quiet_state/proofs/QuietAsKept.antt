@@ -25,16 +25,16 @@ use Rattle.quiet_state.proofs.QuietNets.{taps_stay, time_is, told_in, none_comin
 use Rattle.quiet_state.proofs.ResumedRepeaters.{AreLate, late}
 use Rattle.quiet_state.proofs.SignalsOver.{at_back, is_over, over_none, within_reach, farthest}
 
-many_emitted : (plan : Plan) (t : ℕ) → length (net plan t).emitted ≡ t
+pub many_emitted : (plan : Plan) (t : ℕ) → length (net plan t).emitted ≡ t
 many_emitted plan zero = refl
 many_emitted plan (suc t) = ap suc (many_emitted plan t)
 
-many_decided : (plan : Plan) (t : ℕ) → length (net plan t).decided ≡ t
+pub many_decided : (plan : Plan) (t : ℕ) → length (net plan t).decided ≡ t
 many_decided plan zero = refl
 many_decided plan (suc t) = ap suc (many_decided plan t)
 
 -- what is still to be heard of each tap, over its whole reach
-abbrev CablesAreOver : ℕ → List PortLine → List (List Sym) → Type 0
+abbrev pub CablesAreOver : ℕ → List PortLine → List (List Sym) → Type 0
 CablesAreOver t taps rows = (q : ℕ) (d : PortLine) → q < length taps → IsOverBy t (reach_over (get_or taps q d) taps) (last_signal t rows q)
 
 not_itself : (taps : List PortLine) (p q : ℕ) (d : PortLine) → 0 < distance (get_or taps p d).at (get_or taps q d).at → q ≢ p
@@ -42,7 +42,7 @@ not_itself taps p q d l e =
     let same : distance (get_or taps p d).at (get_or taps q d).at ≡ distance (get_or taps p d).at (get_or taps p d).at = ap (λ k. distance (get_or taps p d).at (get_or taps k d).at) e in
     absurd (omega (arith, l, same))
 
-cables_over : (t : ℕ) (taps : List PortLine) (rows : List (List Sym)) → length rows ≤ t → ((p q b : ℕ) (d : PortLine) → IsAudible taps p q (suc b) d → at_back rows b q ≡ Idle) → CablesAreOver t taps rows
+pub cables_over : (t : ℕ) (taps : List PortLine) (rows : List (List Sym)) → length rows ≤ t → ((p q b : ℕ) (d : PortLine) → IsAudible taps p q (suc b) d → at_back rows b q ≡ Idle) → CablesAreOver t taps rows
 cables_over t taps rows few none q d l =
     is_over t q (reach_over (get_or taps q d) taps) rows few (λ b soon.
     let f = farthest (get_or taps q d) taps d (omega arith) in
@@ -55,7 +55,7 @@ cables_over t taps rows few none q d l =
       near = omega (arith, far, soon);
     }))
 
-cables_none : (t : ℕ) (taps : List PortLine) (rows : List (List Sym)) → length rows ≤ t → CablesAreOver t taps rows → (p q b : ℕ) (d : PortLine) → IsAudible taps p q (suc b) d → at_back rows b q ≡ Idle
+pub cables_none : (t : ℕ) (taps : List PortLine) (rows : List (List Sym)) → length rows ≤ t → CablesAreOver t taps rows → (p q b : ℕ) (d : PortLine) → IsAudible taps p q (suc b) d → at_back rows b q ≡ Idle
 cables_none t taps rows few over p q b d h =
     let within = within_reach (get_or taps q d) taps p d h.hearer (sym h.segment) in
     let near = h.near in
@@ -69,10 +69,10 @@ delays_are (x ∷ ls) [] h up l = absurd up
 delays_are (x ∷ ls) (r ∷ rs) h up l =
     ap₂ (λ (xs ys : List ℕ). xs ++ ys) (ap₂ (λ n k. replicate n k) up.0.guards l.0) (delays_are ls rs _ up.1 l.1)
 
-same_delays : (plan : Plan) (t : ℕ) → line_delays (net plan t).repeaters ≡ port_delays plan.layout
+pub same_delays : (plan : Plan) (t : ℕ) → line_delays (net plan t).repeaters ≡ port_delays plan.layout
 same_delays plan t = delays_are plan.layout.repeaters (net plan t).repeaters (net plan t).decided (shape_of plan t).lines (late plan t)
 
-abbrev DelaysAreOver : ℕ → List ℕ → List (List Sym) → Type 0
+abbrev pub DelaysAreOver : ℕ → List ℕ → List (List Sym) → Type 0
 DelaysAreOver t ds rows = (e : ℕ) → e < length ds → IsOverBy t (get_or ds e 0) (last_signal t rows e)
 
 -- from a quiet half bit

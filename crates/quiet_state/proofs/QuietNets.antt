@@ -43,7 +43,7 @@ time_is plan (suc t) = let more : t + 1 ≡ suc t = omega arith in ap (λ n. n +
 earlier_idle : (f : ℕ → Sym) (t back : ℕ) → (back ≤ t → f (t - back) ≡ Idle) → earlier f t back ≡ Idle
 earlier_idle f t back h = cond_both (leb back t) (f (t - back)) Idle (λ s. s ≡ Idle) (λ e. h (leb-true back t e)) (λ _. refl)
 
-nothing_before : (b q : ℕ) → emitted_before [] b q ≡ Idle
+pub nothing_before : (b q : ℕ) → emitted_before [] b q ≡ Idle
 nothing_before zero q = refl
 nothing_before (suc b) q = refl
 
@@ -75,7 +75,7 @@ begins_alike plan t k = record {
   captures = refl;
 }
 
-goes_alike : (plan : Plan) (t k u : ℕ) → IsQuiet plan t → u ≡ t + k → Alike (net plan u) (net_from plan (state_at plan t) k)
+pub goes_alike : (plan : Plan) (t k u : ℕ) → IsQuiet plan t → u ≡ t + k → Alike (net plan u) (net_from plan (state_at plan t) k)
 goes_alike plan t zero u q e =
     let same : t ≡ u = omega arith in subst (λ v. Alike (net plan v) (net_of plan (state_at plan t))) same (begins_alike plan t q)
 goes_alike plan t (suc k) zero q e = absurd (omega arith)
@@ -121,7 +121,7 @@ none_sends : (seed k : ℕ) (qs : List (List Ready)) → AllByRecursion (λ (s :
 none_sends seed k [] = tt
 none_sends seed k (q ∷ qs) = (refl, none_sends seed (k + 1) qs)
 
-all_still : (most : ℕ) (ss : List StationLine) → AllByRecursion IsStill (map (new_receiver most) ss)
+pub all_still : (most : ℕ) (ss : List StationLine) → AllByRecursion IsStill (map (new_receiver most) ss)
 all_still most [] = tt
 all_still most (s ∷ ss) = (record { awake = refl; no_reception = refl }, all_still most ss)
 

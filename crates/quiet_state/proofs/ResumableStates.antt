@@ -136,7 +136,7 @@ all_rests (r ∷ rs) a =
     (All-from_recursion IsRest (map (λ (c : Count). c.rest) r.counts) (few_rests r.counts a.0.rests)) (all_rests rs a.1)
 
 -- one for each port
-delays_long : (l : RepeaterLine) (ls : List RepeaterLine) → length (delays (l ∷ ls)) ≡ length l.ports + length (delays ls)
+pub delays_long : (l : RepeaterLine) (ls : List RepeaterLine) → length (delays (l ∷ ls)) ≡ length l.ports + length (delays ls)
 delays_long l ls = length-append (replicate (length l.ports) l.delay) (delays ls) ∙ ap (λ n. n + length (delays ls)) (length-replicate (length l.ports) l.delay)
 
 many_guards : (ls : List RepeaterLine) (rs : List State) (h : List (List Sym)) → LinesUp ls rs h → length (flat_map (λ r. r.guards) rs) ≡ length (delays ls)

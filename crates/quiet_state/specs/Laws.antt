@@ -10,7 +10,8 @@ use Rattle.network.specs.Outputs.{half_bits, rows, captures}
 use Rattle.quiet_state.specs.LastSignals.{last_signal, IsQuietAsKept}
 use Rattle.quiet_state.specs.PlanStates.{IsResumable, HasRowsOf}
 use Rattle.quiet_state.specs.Quiet.{IsQuiet, IsStill}
-use Rattle.quiet_state.specs.Resumed.{state_at, rows_from, captures_from, rows_to, captures_to}
+use Rattle.quiet_state.specs.Resumed.{net_state, state_at, net_of, net_from, rows_from, captures_from, rows_to, captures_to}
+use Rattle.quiet_state.specs.declared.state.NetState.{NetState}
 
 -- A run that stops in a quiet half bit and goes on from its state has the rows of the whole run.
 abbrev pub ResumedRowsAreWhole : Type 0
@@ -58,3 +59,21 @@ QuietStatesAreResumable = (plan : Plan) (t : ℕ) → IsQuiet plan t → IsResum
 -- Each half bit of the run, quiet or not, and its end have the rows and captures that a state tells of.
 abbrev pub StatesHaveTheirRows : Type 0
 StatesHaveTheirRows = (plan : Plan) (t : ℕ) → t ≤ half_bits plan → HasRowsOf plan (state_at plan t)
+
+-- The network that begins from a state of which it can go on has that state, and tells that it is quiet.
+abbrev pub StatesAreKept : Type 0
+StatesAreKept =
+    (plan : Plan) (s : NetState) → IsResumable plan s
+    → (net_state (net_of plan s) ≡ s) × IsQuietAsKept (net_of plan s)
+
+-- So many half bits after a quiet half bit t from whose state it went on, a network has the state that the network of
+-- the plan has then.
+abbrev pub ResumedStatesAreTheSame : Type 0
+ResumedStatesAreTheSame =
+    (plan : Plan) (t k : ℕ) → IsQuiet plan t → net_state (net_from plan (state_at plan t) k) ≡ state_at plan (t + k)
+
+-- And it tells exactly whether that half bit of the run is quiet.
+abbrev pub ResumedQuietIsTheSame : Type 0
+ResumedQuietIsTheSame =
+    (plan : Plan) (t k : ℕ) → IsQuiet plan t → t + k < half_bits plan
+    → IsQuiet plan (t + k) ↔ IsQuietAsKept (net_from plan (state_at plan t) k)

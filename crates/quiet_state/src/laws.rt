@@ -1,5 +1,5 @@
 //! Laws of quiet half bits: a call without a body for each.
-ghost use Rattle.quiet_state.specs.Laws.{LastSignalsGoOn, QuietIsAsKept, QuietStatesAreResumable, ResumedCapturesAreWhole, ResumedRowsAreWhole, RunsBeginQuiet, RunsGoOn, StatesHaveTheirRows, StillAfterSilence};
+ghost use Rattle.quiet_state.specs.Laws.{LastSignalsGoOn, QuietIsAsKept, QuietStatesAreResumable, ResumedCapturesAreWhole, ResumedQuietIsTheSame, ResumedRowsAreWhole, ResumedStatesAreTheSame, RunsBeginQuiet, RunsGoOn, StatesAreKept, StatesHaveTheirRows, StillAfterSilence};
 
 /// Each run begins in a quiet half bit.
 pub fn runs_begin_quiet()
@@ -35,4 +35,16 @@ pub fn quiet_states_are_resumable()
 /// senders and the sizes of its captures.
 pub fn states_have_their_rows()
     ensures { StatesHaveTheirRows }
+{}
+
+/// A network begins with the state from which it goes on.
+pub fn states_are_kept()
+    ensures { StatesAreKept }
+{}
+
+/// A network that went on from a quiet half bit can be stopped again in the same half bits, with the same states, as the
+/// network that never stopped.
+pub fn resumed_runs_stop_alike()
+    ensures states { ResumedStatesAreTheSame }
+    ensures quiet { ResumedQuietIsTheSame }
 {}
