@@ -17,7 +17,7 @@ use Rattle.network.specs.Times.{emitted, decided, earlier, port_delays}
 use Rattle.network.proofs.AbsoluteTimes.{emitted_before_is, decided_before_is, earlier_at}
 use Rattle.network.proofs.DelayLines.{LinesUp, delays}
 use Rattle.network.proofs.StationAttempts.{shape_of}
-use Rattle.quiet_state.specs.Laws.{QuietIsAsKept, LastSignalsGoOn, StillAfterSilence}
+use Rattle.quiet_state.specs.Laws.{QuietIsAsKept, LastSignalsGoOn, StillAfterSilence, StillAsKept}
 use Rattle.quiet_state.specs.LastSignals.{last_signal, reach_over, IsOverBy, line_delays, IsQuietAsKept}
 use Rattle.quiet_state.specs.Quiet.{IsQuiet, IsStill, CablesAreQuiet, DelaysAreQuiet}
 use Rattle.quiet_state.proofs.AlikeNets.{IsAudible}
@@ -162,3 +162,14 @@ still_as r Clash false k = absurd (carrier_hears r Clash k)
 
 pub still_after_silence : StillAfterSilence
 still_after_silence r h b = (still_as r h b, λ e. subst (λ s. IsStill (receiver_step r s b).state) (sym e.0) (subst (λ x. IsStill (receiver_step r Idle x).state) (sym e.1) (idle_still r)))
+
+-- what is kept of a receiver
+no_halves : (hs : List Sym) → length hs ≡ 0 → hs ≡ []
+no_halves [] e = refl
+no_halves (s ∷ ss) e = absurd (omega arith)
+
+pub still_as_kept : StillAsKept
+still_as_kept r k h = (
+  λ still. (h.same_deaf ∙ still.awake, h.count ∙ ap length still.no_reception),
+  λ kept. record { awake = sym h.same_deaf ∙ kept.0; no_reception = no_halves r.halves (sym h.count ∙ kept.1) },
+)

@@ -1,5 +1,5 @@
 //! Laws of quiet half bits: a call without a body for each.
-ghost use Rattle.quiet_state.specs.Laws.{LastSignalsGoOn, QuietIsAsKept, QuietStatesAreResumable, ResumedCapturesAreWhole, ResumedQuietIsTheSame, ResumedRowsAreWhole, ResumedStatesAreTheSame, RunsBeginQuiet, RunsGoOn, StatesAreKept, StatesHaveTheirRows, StillAfterSilence};
+ghost use Rattle.quiet_state.specs.Laws.{LastSignalsGoOn, QuietIsAsKept, QuietStatesAreResumable, ResumedCapturesAreWhole, ResumedQuietIsTheSame, ResumedRowsAreWhole, ResumedStatesAreTheSame, RunsBeginQuiet, RunsGoOn, StatesAreKept, StatesHaveTheirRows, StillAfterSilence, StillAsKept};
 
 /// Each run begins in a quiet half bit.
 pub fn runs_begin_quiet()
@@ -24,6 +24,7 @@ pub fn quiet_is_as_kept()
     ensures quiet { QuietIsAsKept }
     ensures signals { LastSignalsGoOn }
     ensures receivers { StillAfterSilence }
+    ensures kept { StillAsKept }
 {}
 
 /// The network of a plan can go on from the state of each quiet half bit.
