@@ -19,7 +19,7 @@ use Rattle.network.specs.Times.{port_delays}
 use Rattle.quiet_state.specs.Laws.{ResumedStatesAreTheSame, ResumedQuietIsTheSame}
 use Rattle.quiet_state.specs.LastSignals.{IsQuietAsKept, line_delays}
 use Rattle.quiet_state.specs.Quiet.{IsQuiet, IsStill}
-use Rattle.quiet_state.specs.Resumed.{guards_in, later_net, net_from, net_of, net_state, rests_in, state_at}
+use Rattle.quiet_state.specs.Resumed.{net_guards, later_net, net_from, net_of, net_state, net_rests, state_at}
 use Rattle.quiet_state.proofs.AlikeNets.{Alike, IsAudible, each_alike}
 use Rattle.quiet_state.proofs.BareRepeaters.{bare_count, bare_state, decided_bare}
 use Rattle.quiet_state.proofs.BareSenders.{bare_sender}
@@ -46,7 +46,7 @@ delays_bare (r ∷ rs) = ap (λ xs. replicate (length r.guards) r.line.delay ++ 
 
 same_states : (n m : Net) → Alike n m → net_state n ≡ net_state m
 same_states n m a =
-    same_state n.t m.t (map state_of n.senders) (map state_of m.senders) (guards_in n) (guards_in m) (rests_in n) (rests_in m) n.rows m.rows n.captures m.captures a.time
+    same_state n.t m.t (map state_of n.senders) (map state_of m.senders) (net_guards n) (net_guards m) (net_rests n) (net_rests m) n.rows m.rows n.captures m.captures a.time
     (states_bare n.senders ∙ ap (map state_of) a.senders ∙ sym (states_bare m.senders))
     (guards_bare n.repeaters ∙ ap (flat_map (λ (r : State). r.guards)) a.repeaters ∙ sym (guards_bare m.repeaters))
     (rests_bare n.repeaters ∙ ap (flat_map (λ (r : State). map (λ (c : Count). c.rest) r.counts)) a.repeaters ∙ sym (rests_bare m.repeaters)) a.rows a.captures

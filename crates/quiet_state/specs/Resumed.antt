@@ -17,12 +17,12 @@ use Rattle.network.specs.declared.outputs.Taken.{Taken}
 use Rattle.quiet_state.specs.declared.state.NetState.{NetState}
 
 -- The guards of the ports of all repeaters, the ports of one repeater after those of the one before.
-abbrev pub guards_in : Net → List Guard
-guards_in n = flat_map (λ r. r.guards) n.repeaters
+abbrev pub net_guards : Net → List Guard
+net_guards n = flat_map (λ r. r.guards) n.repeaters
 
 -- The half bits for which each port still rests (profile, jabber lockup protection), in the same order.
-abbrev pub rests_in : Net → List ℕ
-rests_in n = flat_map (λ r. map (λ c. c.rest) r.counts) n.repeaters
+abbrev pub net_rests : Net → List ℕ
+net_rests n = flat_map (λ r. map (λ c. c.rest) r.counts) n.repeaters
 
 -- The state of a network, if it is quiet: its half bit, what its senders do, the guards of its ports and how long each
 -- port still rests, and the rows and captures so far.
@@ -31,8 +31,8 @@ net_state n =
     record {
       t = n.t;
       senders = map state_of n.senders;
-      guards = guards_in n;
-      rests = rests_in n;
+      guards = net_guards n;
+      rests = net_rests n;
       rows = n.rows;
       captures = n.captures;
     }
