@@ -1,0 +1,5 @@
+pub mod Quiet
+pub mod Resumed
+pub mod LastSignals
+pub mod PlanStates
+pub mod Laws
