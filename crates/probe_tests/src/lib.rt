@@ -1,6 +1,8 @@
-//! Tests of what taps hear: the words that name them, runs, bursts, and runs that are read back.
+//! Tests of what taps hear, with the words that name them, runs, bursts, and runs that are read back, and of pictures.
 #![tactic(auto)]
 
+#[cfg(test)]
+mod pictures;
 #[cfg(test)]
 mod reading;
 #[cfg(test)]

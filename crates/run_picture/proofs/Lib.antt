@@ -1,0 +1,11 @@
+pub mod Joined
+pub mod Ticks
+pub mod BandsSoFar
+pub mod Titles
+pub mod FewLines
+pub mod Plain
+pub mod PlainPieces
+pub mod Readings
+pub mod PieceReadings
+pub mod MarkReadings
+pub mod WholePictures

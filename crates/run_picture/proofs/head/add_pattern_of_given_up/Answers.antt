@@ -1,0 +1,16 @@
+use Rattle.std.proofs.Common.{ℕ, List, ◌+◌, ◌++◌, ◌/◌, ◌∙◌, ap, codes}
+use Rattle.std.specs.Prelude.{decimal}
+use Rattle.std.proofs.lemmas.Result.{on_ok_weaker}
+use Rattle.run_picture.specs.Head.{pattern_of_given_up}
+use Rattle.run_picture.proofs.Joined.{joined_3}
+use Rattle.run_picture.proofs.head.add_pattern_of_given_up.Goals as goal
+
+pub returns : goal.returns
+unfolding pattern_of_given_up
+returns c =
+    on_ok_weaker c.extend-3.result
+    (λ e. joined_3 c.args.text.now
+    (codes "<pattern id='given_up' width='500' height='500' patternUnits='userSpaceOnUse'>") (codes "<path d='M0 0h500v500h-500z' fill='#b79ad6'/>") (codes "<path d='M0 0l500 500M0 500l500 -500' stroke='#3c1361' stroke-width='110'/></pattern>\n")
+    c.extend.new.self c.extend-2.new.self c.extend-3.new.self
+    c.in_ok-extend.ensures.ok c.in_ok-extend-2.ensures.ok e)
+    c.extend-3.ensures.ok

@@ -1,0 +1,14 @@
+pub mod Sizes
+pub mod Times
+pub mod Strangers
+pub mod Lanes
+pub mod Signs
+pub mod Waves
+pub mod Sendings
+pub mod Marks
+pub mod Bands
+pub mod Axis
+pub mod Head
+pub mod Pictures
+pub mod Markup
+pub mod PictureLaws

@@ -1,0 +1,93 @@
+//! The texts of bands and lanes: their names and places.
+ghost use Rattle.std.specs.Prelude.{◌≡◌, ◌≤◌, ◌<◌, ◌^◌, ◌++◌, OnOk, length};
+ghost use Rattle.layout.specs.Sound.{IsSound};
+ghost use Rattle.run_picture.specs.Bands.{bands_text, lane_text, lanes_text, name_of_tap, segment_text, port_name};
+
+use crate::lanes::{Band, Lane};
+use crate::window::add_number;
+use layout::{Layout, SegmentLine, Tap};
+use lists::{List, OutOfMemory};
+
+/// Puts the name of a port, counted from 1, at the end of a text.
+fn add_port_name(text: &mut List<u8>, name: &str, number: u64) -> Result<(), OutOfMemory>
+    ensures { OnOk result (text.new ≡ text.old ++ port_name name.now number) }
+{
+    text.extend(name.as_bytes())?;
+    text.extend(b":")?;
+    add_number(text, number)
+}
+
+/// Puts the name of a tap at the end of a text: the station's, or the repeater's and the port, from 1.
+fn add_name(text: &mut List<u8>, layout: &Layout, tap: Tap) -> Result<(), OutOfMemory>
+    ensures { OnOk result (text.new ≡ text.old ++ name_of_tap layout.now tap) }
+{
+    match tap {
+        Tap::Station(k) => match layout.stations.as_slice().get(k as usize) {
+            Some(station) => text.extend(station.name.as_str().as_bytes()),
+            None => Ok(()),
+        },
+        Tap::Port { repeater, port } => {
+            match layout.repeaters.as_slice().get(repeater as usize) {
+                Some(row) => add_port_name(text, row.name.as_str(), u64::from(port) + 1),
+                None => Ok(()),
+            }
+        }
+    }
+}
+
+/// Puts a lane with its name and its place at the end of a text.
+#[tactic(auto, unfolding(crate::specs::Bands::lane_text))]
+fn add_lane(text: &mut List<u8>, layout: &Layout, lane: &Lane) -> Result<(), OutOfMemory>
+    ensures { OnOk result (text.new ≡ text.old ++ lane_text layout.now lane.now) }
+{
+    text.extend(b"<path class='lane' d='M0 ")?;
+    add_number(text, lane.y)?;
+    text.extend(b"h100000'/><text class='name' x='-3600' y='")?;
+    add_number(text, lane.y)?;
+    text.extend(b"' dy='400'>")?;
+    add_name(text, layout, lane.tap)?;
+    text.extend(b"</text><text class='place' x='-600' y='")?;
+    add_number(text, lane.y)?;
+    text.extend(b"' dy='350'>")?;
+    add_number(text, u64::from(lane.at))?;
+    text.extend(b"</text>\n")
+}
+
+/// Puts lanes with their names and places at the end of a text.
+fn add_lanes(text: &mut List<u8>, layout: &Layout, lanes: &[Lane]) -> Result<(), OutOfMemory>
+    ensures { OnOk result (text.new ≡ text.old ++ lanes_text layout.now lanes.now) }
+{
+    for lane in lanes {
+        add_lane(text, layout, lane)?;
+    }
+    Ok(())
+}
+
+/// Puts the name of a segment at the end of a text.
+#[tactic(auto, unfolding(crate::specs::Bands::segment_text))]
+fn add_segment(text: &mut List<u8>, y: u64, segment: &SegmentLine) -> Result<(), OutOfMemory>
+    ensures { OnOk result (text.new ≡ text.old ++ segment_text y segment.now) }
+{
+    text.extend(b"<text class='segment' x='-25500' y='")?;
+    add_number(text, y)?;
+    text.extend(b"' dy='400'>segment ")?;
+    text.extend(segment.name.as_str().as_bytes())?;
+    text.extend(b"</text>\n")
+}
+
+/// Puts the bands of segments at the end of a text.
+pub fn add_bands(
+    text: &mut List<u8>,
+    layout: &Layout,
+    segments: &[SegmentLine],
+    bands: &[Band],
+) -> Result<(), OutOfMemory>
+    requires { length segments.now ≡ length bands.now }
+    ensures { OnOk result (text.new ≡ text.old ++ bands_text layout.now segments.now bands.now) }
+{
+    'segments: for k in 0..segments.len() {
+        add_segment(text, bands[k].top, &segments[k])?;
+        add_lanes(text, layout, bands[k].lanes.as_slice())?;
+    }
+    Ok(())
+}

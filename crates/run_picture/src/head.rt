@@ -1,0 +1,226 @@
+//! The head of a picture: its size, its style, its patterns and its legend.
+ghost use Rattle.std.specs.Prelude.{◌≡◌, ◌++◌, OnOk};
+ghost use Rattle.run_picture.specs.Head.{clip_of_plot, ground, head, legend, legend_of_repeaters, legend_of_sendings, legend_of_stations, pattern_of_collided, pattern_of_cut, pattern_of_given_up, pattern_of_sent, patterns, size_of_picture, style, style_of_sendings, style_of_signs, style_of_words};
+
+use crate::sizes::HUNDREDTHS;
+use crate::window::add_number;
+use lists::{List, OutOfMemory};
+
+/// Puts the style of words at the end of a text.
+#[tactic(auto, unfolding(crate::specs::Head::style_of_words))]
+fn add_style_of_words(text: &mut List<u8>) -> Result<(), OutOfMemory>
+    ensures { OnOk result (text.new ≡ text.old ++ style_of_words) }
+{
+    text.extend(
+        b"<style>text{font-family:sans-serif;font-size:1150px;fill:#222222}.segment{font-weight:bold}",
+    )?;
+    text.extend(b".name,.place,.axis{text-anchor:end}.place,.word{font-size:950px;fill:#555555}")?;
+    text.extend(b".tick{text-anchor:middle;font-size:1050px}")
+}
+
+/// Puts the style of lines, and of sendings by how they ended at the end of a text.
+#[tactic(auto, unfolding(crate::specs::Head::style_of_sendings))]
+fn add_style_of_sendings(text: &mut List<u8>) -> Result<(), OutOfMemory>
+    ensures { OnOk result (text.new ≡ text.old ++ style_of_sendings) }
+{
+    text.extend(b".lane{stroke:#999999;stroke-width:60}.line{stroke:#dddddd;stroke-width:60}")?;
+    text.extend(b".wave{fill:none;stroke:#555555;stroke-width:90;clip-path:url(#plot)}")?;
+    text.extend(b".sent{fill:url(#sent);stroke:#1b5e9b;stroke-width:80}")?;
+    text.extend(b".collided{fill:url(#collided);stroke:#a02020;stroke-width:80}")?;
+    text.extend(b".given_up{fill:url(#given_up);stroke:#4a2070;stroke-width:80}")?;
+    text.extend(b".cut{fill:url(#cut);stroke:#444444;stroke-width:80}")
+}
+
+/// Puts the style of signs at the end of a text.
+#[tactic(auto, unfolding(crate::specs::Head::style_of_signs))]
+fn add_style_of_signs(text: &mut List<u8>) -> Result<(), OutOfMemory>
+    ensures { OnOk result (text.new ≡ text.old ++ style_of_signs) }
+{
+    text.extend(
+        b".hit{fill:#111111;stroke:#ffffff;stroke-width:60}.received{fill:#2e8b3d;stroke:#ffffff;stroke-width:60}",
+    )?;
+    text.extend(
+        b".dropped{fill:none;stroke:#a02020;stroke-width:200}.clash{fill:#f0a000;stroke:#663c00;stroke-width:70}",
+    )?;
+    text.extend(b".closed{fill:#111111;stroke:#111111;stroke-width:120}")?;
+    text.extend(b".opened{fill:#ffffff;stroke:#111111;stroke-width:120}")?;
+    text.extend(b".halted{fill:#8a4fc0;stroke:#111111;stroke-width:100}</style>\n")
+}
+
+/// Puts the pattern of frames that were sent at the end of a text.
+#[tactic(auto, unfolding(crate::specs::Head::pattern_of_sent))]
+fn add_pattern_of_sent(text: &mut List<u8>) -> Result<(), OutOfMemory>
+    ensures { OnOk result (text.new ≡ text.old ++ pattern_of_sent) }
+{
+    text.extend(b"<pattern id='sent' width='500' height='500' patternUnits='userSpaceOnUse'>")?;
+    text.extend(
+        b"<path d='M0 0h500v500h-500z' fill='#9ecbee'/><path d='M0 250h500' stroke='#5b9bd0' stroke-width='90'/>",
+    )?;
+    text.extend(b"</pattern>\n")
+}
+
+/// Puts the pattern of frames that met a collision at the end of a text.
+#[tactic(auto, unfolding(crate::specs::Head::pattern_of_collided))]
+fn add_pattern_of_collided(text: &mut List<u8>) -> Result<(), OutOfMemory>
+    ensures { OnOk result (text.new ≡ text.old ++ pattern_of_collided) }
+{
+    text.extend(b"<pattern id='collided' width='500' height='500' patternUnits='userSpaceOnUse'>")?;
+    text.extend(b"<path d='M0 0h500v500h-500z' fill='#f6b3a8'/>")?;
+    text.extend(
+        b"<path d='M-100 600l700 -700M-100 100l200 -200M400 600l200 -200' stroke='#b02a2a' stroke-width='130'/>",
+    )?;
+    text.extend(b"</pattern>\n")
+}
+
+/// Puts the pattern of frames that were given up at the end of a text.
+#[tactic(auto, unfolding(crate::specs::Head::pattern_of_given_up))]
+fn add_pattern_of_given_up(text: &mut List<u8>) -> Result<(), OutOfMemory>
+    ensures { OnOk result (text.new ≡ text.old ++ pattern_of_given_up) }
+{
+    text.extend(b"<pattern id='given_up' width='500' height='500' patternUnits='userSpaceOnUse'>")?;
+    text.extend(b"<path d='M0 0h500v500h-500z' fill='#b79ad6'/>")?;
+    text.extend(
+        b"<path d='M0 0l500 500M0 500l500 -500' stroke='#3c1361' stroke-width='110'/></pattern>\n",
+    )
+}
+
+/// Puts the pattern of sendings that the end of the run cut at the end of a text.
+#[tactic(auto, unfolding(crate::specs::Head::pattern_of_cut))]
+fn add_pattern_of_cut(text: &mut List<u8>) -> Result<(), OutOfMemory>
+    ensures { OnOk result (text.new ≡ text.old ++ pattern_of_cut) }
+{
+    text.extend(b"<pattern id='cut' width='500' height='500' patternUnits='userSpaceOnUse'>")?;
+    text.extend(
+        b"<path d='M0 0h500v500h-500z' fill='#eeeeee'/><path d='M150 150h200v200h-200z' fill='#555555'/>",
+    )?;
+    text.extend(b"</pattern>\n")
+}
+
+/// Puts the legend of sendings and their waves at the end of a text.
+#[tactic(auto, unfolding(crate::specs::Head::legend_of_sendings))]
+fn add_legend_of_sendings(text: &mut List<u8>) -> Result<(), OutOfMemory>
+    ensures { OnOk result (text.new ≡ text.old ++ legend_of_sendings) }
+{
+    text.extend(
+        b"<path class='sent' d='M-25500 950h2400v900h-2400z'/><text x='-22600' y='1400' dy='400'>sent</text>\n",
+    )?;
+    text.extend(b"<path class='collided' d='M-12500 950h2400v900h-2400z'/>")?;
+    text.extend(b"<text x='-9600' y='1400' dy='400'>collided</text>\n")?;
+    text.extend(
+        b"<path class='given_up' d='M500 950h2400v900h-2400z'/><text x='3400' y='1400' dy='400'>given up</text>\n",
+    )?;
+    text.extend(
+        b"<path class='cut' d='M13500 950h2400v900h-2400z'/><text x='16400' y='1400' dy='400'>cut</text>\n",
+    )?;
+    text.extend(b"<path class='wave' d='M26500 1400l1200 -700m-1200 700l1200 700'/>")?;
+    text.extend(b"<text x='28500' y='1400' dy='400'>wave front</text>\n")
+}
+
+/// Puts the legend of what stations hear at the end of a text.
+#[tactic(auto, unfolding(crate::specs::Head::legend_of_stations))]
+fn add_legend_of_stations(text: &mut List<u8>) -> Result<(), OutOfMemory>
+    ensures { OnOk result (text.new ≡ text.old ++ legend_of_stations) }
+{
+    text.extend(b"<path class='hit' d='M-24900 4400m0 -450l-350 -650h700z'/>")?;
+    text.extend(b"<text x='-23700' y='3600' dy='400'>collision heard</text>\n")?;
+    text.extend(
+        b"<path class='received' d='M-9900 3600m-380 0a380 380 0 1 0 760 0a380 380 0 1 0 -760 0z'/>",
+    )?;
+    text.extend(b"<text x='-8700' y='3600' dy='400'>received</text>\n")?;
+    text.extend(b"<path class='dropped' d='M1100 3600m-350 -350l700 700m0 -700l-700 700'/>")?;
+    text.extend(b"<text x='2300' y='3600' dy='400'>dropped</text>\n")
+}
+
+/// Puts the legend of what happens at repeaters at the end of a text.
+#[tactic(auto, unfolding(crate::specs::Head::legend_of_repeaters))]
+fn add_legend_of_repeaters(text: &mut List<u8>) -> Result<(), OutOfMemory>
+    ensures { OnOk result (text.new ≡ text.old ++ legend_of_repeaters) }
+{
+    text.extend(b"<path class='clash' d='M12100 3600m0 -700l170 480h500l-400 300l150 490")?;
+    text.extend(b"l-420 -290l-420 290l150 -490l-400 -300h500z'/>")?;
+    text.extend(b"<text x='13300' y='3600' dy='400'>clash</text>\n")?;
+    text.extend(b"<path class='closed' d='M22100 3600m-330 -330h660v660h-660z'/>")?;
+    text.extend(b"<text x='23300' y='3600' dy='400'>port closed</text>\n")?;
+    text.extend(b"<path class='opened' d='M35100 3600m-330 -330h660v660h-660z'/>")?;
+    text.extend(b"<text x='36300' y='3600' dy='400'>port opened</text>\n")?;
+    text.extend(b"<path class='halted' d='M48100 3600m0 -500l500 500l-500 500l-500 -500z'/>")?;
+    text.extend(b"<text x='49300' y='3600' dy='400'>port halted</text>\n")
+}
+
+/// Puts the style at the end of a text.
+#[tactic(auto, unfolding(crate::specs::Head::style))]
+fn add_style(text: &mut List<u8>) -> Result<(), OutOfMemory>
+    ensures { OnOk result (text.new ≡ text.old ++ style) }
+{
+    add_style_of_words(text)?;
+    add_style_of_sendings(text)?;
+    add_style_of_signs(text)
+}
+
+/// Puts the patterns at the end of a text.
+#[tactic(auto, unfolding(crate::specs::Head::patterns))]
+fn add_patterns(text: &mut List<u8>) -> Result<(), OutOfMemory>
+    ensures { OnOk result (text.new ≡ text.old ++ patterns) }
+{
+    add_pattern_of_sent(text)?;
+    add_pattern_of_collided(text)?;
+    add_pattern_of_given_up(text)?;
+    add_pattern_of_cut(text)
+}
+
+/// Puts the legend at the end of a text.
+#[tactic(auto, unfolding(crate::specs::Head::legend))]
+fn add_legend(text: &mut List<u8>) -> Result<(), OutOfMemory>
+    ensures { OnOk result (text.new ≡ text.old ++ legend) }
+{
+    add_legend_of_sendings(text)?;
+    add_legend_of_stations(text)?;
+    add_legend_of_repeaters(text)
+}
+
+/// Puts the tag that opens a picture of this height at the end of a text.
+#[tactic(auto, unfolding(crate::specs::Head::size_of_picture))]
+fn add_size(text: &mut List<u8>, height: u64) -> Result<(), OutOfMemory>
+    ensures { OnOk result (text.new ≡ text.old ++ size_of_picture height) }
+{
+    text.extend(b"<svg xmlns='http://www.w3.org/2000/svg' version='1.1' width='1280' height='")?;
+    add_number(text, height / HUNDREDTHS)?;
+    text.extend(b"' viewBox='-26000 0 128000 ")?;
+    add_number(text, height)?;
+    text.extend(b"'>\n")
+}
+
+/// Puts the plot's outline, to which waves are clipped, at the end of a text.
+#[tactic(auto, unfolding(crate::specs::Head::clip_of_plot))]
+fn add_clip(text: &mut List<u8>, height: u64) -> Result<(), OutOfMemory>
+    ensures { OnOk result (text.new ≡ text.old ++ clip_of_plot height) }
+{
+    text.extend(b"<clipPath id='plot'><path d='M0 0H100000V")?;
+    add_number(text, height)?;
+    text.extend(b"H0z'/></clipPath>\n")
+}
+
+/// Puts the white ground at the end of a text.
+#[tactic(auto, unfolding(crate::specs::Head::ground))]
+fn add_ground(text: &mut List<u8>, height: u64) -> Result<(), OutOfMemory>
+    ensures { OnOk result (text.new ≡ text.old ++ ground height) }
+{
+    text.extend(b"<path d='M-26000 0h128000v")?;
+    add_number(text, height)?;
+    text.extend(b"h-128000z' fill='#ffffff'/>\n")
+}
+
+/// Puts the head of a picture of this height at the end of a text.
+#[tactic(auto, unfolding(crate::specs::Head::head))]
+pub fn add_head(text: &mut List<u8>, height: u64) -> Result<(), OutOfMemory>
+    ensures { OnOk result (text.new ≡ text.old ++ head height) }
+{
+    add_size(text, height)?;
+    add_style(text)?;
+    text.extend(b"<defs>\n")?;
+    add_patterns(text)?;
+    add_clip(text, height)?;
+    text.extend(b"</defs>\n")?;
+    add_ground(text, height)?;
+    add_legend(text)
+}

@@ -1,0 +1,21 @@
+//! The picture of a run: a space-time diagram of what its log tells of some half bits, as SVG.
+#![tactic(auto)]
+
+mod axis;
+mod bands;
+mod drawing;
+mod head;
+mod lanes;
+pub mod laws;
+mod marks;
+mod sending;
+mod signs;
+mod sizes;
+mod strangers;
+mod waves;
+mod window;
+
+pub use drawing::picture;
+pub use lists::OutOfMemory;
+pub use sizes::LONGEST_WINDOW;
+pub use strangers::find_stranger;
