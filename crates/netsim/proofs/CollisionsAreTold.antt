@@ -18,7 +18,7 @@ use Rattle.netsim.specs.Endings.{IsAnswer, IsJudged}
 use Rattle.netsim.specs.LoggedCollisions.{AreCollisionsLogged, AreLogged, HasLine, IsLogged, IsLogHeld, IsWithin, IsWithinSaid, ShowsHit, log_line}
 use Rattle.netsim.specs.LogLaws.{HasCollision, IsEmptyLogRefused, IsInfixRefused, IsLateHitRefused}
 use Rattle.netsim.specs.Moments.{Moment}
-use Rattle.netsim.specs.Requests.{asked}
+use Rattle.program_words.specs.Requests.{asked}
 use Rattle.netsim.specs.Runs.{IsPlanOf, IsSummary, log, run_files}
 use Rattle.netsim.specs.Statuses.{IfFiles, IsRunDone}
 use Rattle.netsim.specs.Texts.{name_of_log}

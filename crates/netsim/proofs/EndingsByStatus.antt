@@ -7,7 +7,7 @@ use Rattle.netsim.specs.declared.texts.TheConstants.{HELP, VERSION}
 use Rattle.netsim.specs.Endings.{IsAnswer, IsCheckEnd, IsDemoEnd, IsEarly, IsEndOf, IsLoadEnd, IsMeterEnd, IsMetered, IsMissed, IsPlainEnd, IsProbed, IsProbeEnd, IsRun, IsSlackEnd, IsText, IsTellingEnd, IsTextEnd, IsUnmetered, IsUnprobed, IsUnrun, status_of}
 use Rattle.netsim.specs.Demos.{IsDemoText}
 use Rattle.netsim.specs.Moments.{Moment}
-use Rattle.netsim.specs.Requests.{Asked, asked, Check, Demo, Meter, Probe, Slack}
+use Rattle.program_words.specs.Requests.{Asked, asked, Check, Demo, Meter, Probe, Slack}
 use Rattle.netsim.specs.SlackTexts.{IsSlackText}
 use Rattle.netsim.specs.Statuses.{AskForFiles, IfTelling, IfText}
 use Rattle.netsim.specs.Verdicts.{IsVerdictLine}

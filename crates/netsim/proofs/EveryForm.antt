@@ -6,7 +6,7 @@ use Rattle.netsim.specs.declared.endings.Ending.{Ending}
 use Rattle.netsim.specs.declared.endings.Ending.TheVariants as ending
 use Rattle.netsim.specs.Endings.{IsAnswer, IsDemoEnd, IsEndOf, IsFiledEnd, IsMeterEnd, IsPlainEnd, IsProbeEnd, status_of}
 use Rattle.netsim.specs.Moments.{Moment}
-use Rattle.netsim.specs.Requests.{Asked, asked, Check, Slack, Plain, Run, Demo, Probe, Meter, Help, Version}
+use Rattle.program_words.specs.Requests.{Asked, asked, Check, Slack, Plain, Run, Demo, Probe, Meter, Help, Version}
 use Rattle.netsim.specs.Statuses.{IsRefusal}
 use Rattle.netsim.proofs.EndingsByStatus.{by_demo, by_meter, by_probe, by_way, end_at}
 

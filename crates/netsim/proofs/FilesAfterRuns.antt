@@ -6,7 +6,7 @@ use Rattle.netsim.specs.declared.endings.Ending.{Ending}
 use Rattle.netsim.specs.declared.endings.Ending.TheVariants as ending
 use Rattle.netsim.specs.Endings.{IsAnswer, IsDemoEnd, IsEarly, IsEndOf, IsPlainEnd, IsRun, IsTellingEnd, IsText, IsTold, IsUnloadedSaid, Says, status_of}
 use Rattle.netsim.specs.Moments.{Moment}
-use Rattle.netsim.specs.Requests.{Asked, asked, Check, Slack, Plain, Run, Demo, Probe, Meter, Help, Version}
+use Rattle.program_words.specs.Requests.{Asked, asked, Check, Slack, Plain, Run, Demo, Probe, Meter, Help, Version}
 use Rattle.netsim.specs.Statuses.{AreSlacksDone, AskForFiles, IfCheck, IfDemo, IfFiles, IfSlack, IfTelling, IsCheckDone, IsDemoCut, IsDemoDone, IsDemoStatus, IsRunBroken, IsRunDone, IsRunRefused, IsSummaryCut, IsTellingCut, IsTellingDone}
 use Rattle.netsim.specs.StatusLaws.{AreDemosCutShort, AreDemosRefused, AreFailuresSilent, AreFilesWhole, AreTellingsCutShort, AreTellingsRefused, AreTextsCutShort, AreTextsFailed, AreTextsWritten, AreWordsSaid, DoDemosKeepFiles, DoTellingsKeepFiles, DoTextsKeepFiles, HaveDemosStatuses}
 use Rattle.netsim.specs.Texts.{line_of_words_fault}

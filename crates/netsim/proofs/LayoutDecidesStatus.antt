@@ -9,7 +9,7 @@ use Rattle.netsim.specs.declared.endings.Ending.TheVariants as ending
 use Rattle.netsim.specs.Moments.{Moment}
 use Rattle.netsim.specs.Endings.{IsDemoEnd, IsEndOf, IsMeterEnd, IsPlainEnd, IsProbeEnd, IsTellingEnd, IsJudged, HasFault, IsEarly, IsFaultSaid, IsUnrun, status_of}
 use Rattle.netsim.specs.Reading.{front_of}
-use Rattle.netsim.specs.Requests.{Asked, asked, Check, Slack, Plain, Run, Demo, Probe, Meter, Help, Version}
+use Rattle.program_words.specs.Requests.{Asked, asked, Check, Slack, Plain, Run, Demo, Probe, Meter, Help, Version}
 use Rattle.netsim.specs.Statuses.{IsFaultStatus, IsLayoutWith, IsUnreadOrMemory}
 use Rattle.netsim.specs.StatusLaws.{AreLayoutFaultsSaid, DoAbsentLayoutsDecide, DoLayoutFaultsDecide}
 use Rattle.netsim.proofs.EndingsByStatus.{by_demo, by_meter, by_probe, by_way, end_at, files_end, of_tellings, probe_end}

@@ -13,7 +13,6 @@ pub mod RunEnds
 pub mod ProbeEnds
 pub mod TapsOfWords
 pub mod TapTexts
-pub mod NumbersInWords
 pub mod DemoTexts
 pub mod DetectionFoundations
 pub mod OctetsOfNames

@@ -19,7 +19,7 @@ use Rattle.netsim.specs.Moments.{Moment}
 use Rattle.netsim.specs.Demos.{IsDemoText}
 use Rattle.netsim.specs.Meters.{HasLogFault, IsMeterText}
 use Rattle.netsim.specs.Probes.{AreTapsOf, HasAim, IsMissLine, IsTextOfTaps}
-use Rattle.netsim.specs.Requests.{Asked, asked, Check, Slack, Plain, Run, Demo, Probe, Meter, Help, Version}
+use Rattle.program_words.specs.Requests.{Asked, asked, Check, Slack, Plain, Run, Demo, Probe, Meter, Help, Version}
 use Rattle.netsim.specs.Runs.{IsPlanOf, run_files, IsSummary}
 use Rattle.netsim.specs.SlackTexts.{IsSlackText}
 use Rattle.netsim.specs.Texts.{line_of_words_fault, line_of_fault, line_of_load_fault, line_of_read_fault}

@@ -2,7 +2,6 @@ pub mod FileLimits
 pub mod Moments
 pub mod Reading
 pub mod Writing
-pub mod Requests
 pub mod Texts
 pub mod Verdicts
 pub mod SlackTexts

@@ -4,7 +4,7 @@ use Rattle.log_meter.specs.declared.line.LogLine.{LogLine}
 use Rattle.outside.specs.Files.{IsAbsent, Rose}
 use Rattle.netsim.specs.Endings.{IsLogFaultSaid}
 use Rattle.netsim.specs.Meters.{HasLog, IsFaultyLog}
-use Rattle.netsim.specs.Requests.{asked}
+use Rattle.program_words.specs.Requests.{asked}
 use Rattle.netsim.specs.StatusLaws.{OfAnswers}
 use Rattle.netsim.specs.Statuses.{IfMeter, IsDoneOrMemory, IsFaultStatus, IsMeterCut, IsMeterWith, IsUnreadOrMemory}
 

@@ -5,7 +5,7 @@ use Rattle.capture_file.specs.declared.fault.CaptureFault.{CaptureFault}
 use Rattle.load_files.specs.Loaded.{IsLoaded, IsFirstAbsent, Faulty, Whole}
 use Rattle.outside.specs.Files.{Rose}
 use Rattle.netsim.specs.Probes.{HasAim, HasNoAim}
-use Rattle.netsim.specs.Requests.{asked}
+use Rattle.program_words.specs.Requests.{asked}
 use Rattle.netsim.specs.StatusLaws.{OfAnswers}
 use Rattle.netsim.specs.Statuses.{IfProbe, IsDoneOrMemory, IsFaultStatus, IsMissSaid, IsNetworkWith, IsProbeCut, IsProbeWith, IsUnreadOrMemory}
 

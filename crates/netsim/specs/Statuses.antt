@@ -11,7 +11,7 @@ use Rattle.netsim.specs.Endings.{IsJudged, IsLoadUnreadSaid, IsPlanned, IsProbeT
 use Rattle.netsim.specs.Meters.{IsMeterText}
 use Rattle.netsim.specs.Moments.{Moment}
 use Rattle.netsim.specs.Probes.{IsMissLine}
-use Rattle.netsim.specs.Requests.{Asked, asked, Check, Slack, Plain, Run, Demo, Probe, Meter, Help, Version}
+use Rattle.program_words.specs.Requests.{Asked, asked, Check, Slack, Plain, Run, Demo, Probe, Meter, Help, Version}
 use Rattle.netsim.specs.Runs.{run_files, IsSummary}
 use Rattle.netsim.specs.SlackTexts.{IsSlackText}
 use Rattle.netsim.specs.Verdicts.{IsVerdictLine}

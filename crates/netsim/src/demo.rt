@@ -3,7 +3,7 @@ ghost use Rattle.std.specs.Prelude.{◌≡◌, ◌≤◌, IfOk};
 ghost use Rattle.layout.specs.Limits.{most_repeaters};
 ghost use Rattle.netsim.specs.Demos.{IsDemoText, line_of_demo};
 ghost use Rattle.netsim.specs.Endings.{IsDemoTold};
-ghost use Rattle.netsim.specs.FileLimits.{most_workers};
+ghost use Rattle.program_words.specs.WordLimits.{most_workers};
 
 use crate::endings::Ending;
 use crate::plans::empty_loads;

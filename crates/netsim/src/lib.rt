@@ -20,8 +20,7 @@ mod tell;
 mod texts;
 mod top_call;
 mod verdict;
-mod words;
 
 pub use endings::Ending;
 pub use top_call::{netsim, run_words};
-pub use words::Words;
+pub use program_words::Words;

@@ -8,7 +8,7 @@ ghost use Rattle.line_probe.specs.declared.tap.Tap.{Tap};
 ghost use Rattle.load_plan.specs.declared.plan.Plan.{Plan};
 ghost use Rattle.network.specs.Outputs.{half_bits};
 ghost use Rattle.netsim.specs.Endings.{AreTapsTold, AreTextsTold, IsProbeEnd};
-ghost use Rattle.netsim.specs.FileLimits.{most_probed, most_taps};
+ghost use Rattle.program_words.specs.WordLimits.{most_probed, most_taps};
 ghost use Rattle.netsim.specs.Moments.{moment};
 ghost use Rattle.netsim.specs.Probes.{AreHeard};
 

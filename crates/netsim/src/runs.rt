@@ -3,7 +3,7 @@ ghost use Rattle.std.specs.Prelude.{◌≡◌, ◌≤◌, IfOk};
 ghost use Rattle.layout.specs.Sound.{IsSound};
 ghost use Rattle.network.specs.Outputs.{captures, rows};
 ghost use Rattle.netsim.specs.Endings.{IsPlainEnd, IsRunEnd};
-ghost use Rattle.netsim.specs.FileLimits.{most_workers};
+ghost use Rattle.program_words.specs.WordLimits.{most_workers};
 ghost use Rattle.netsim.specs.Moments.{moment};
 ghost use Rattle.netsim.specs.Runs.{IsSummary};
 

@@ -4,7 +4,7 @@ ghost use Rattle.outside.specs.Files.{Rose};
 ghost use Rattle.netsim.specs.LoggedCollisions.{AreCollisionsLogged};
 ghost use Rattle.netsim.specs.Endings.{IsAnswer, IsEnd};
 ghost use Rattle.netsim.specs.Moments.{moment};
-ghost use Rattle.netsim.specs.Requests.{asked};
+ghost use Rattle.program_words.specs.Requests.{asked};
 ghost use Rattle.netsim.specs.Statuses.{AreSlacksDone, IfCheck, IfDemo, IfFiles, IfMeter, IfProbe, IfSlack, IsCheckDone, IsDemoDone, IsDoneOrMemory, IsMeterDone, IsProbeDone, IsRefusal, IsRunBroken, IsRunDone, IsRunRefused, IsUnhindered};
 
 use crate::demo::demo;
@@ -15,8 +15,8 @@ use crate::runs::{plain, run};
 use crate::sink_texts::{say, write_line};
 use crate::tell::{Telling, tell};
 use crate::texts::{HELP, VERSION, WORDS_FAULT};
-use crate::words::{Request, Words, read_words};
 use outside::{Gate, Sink, Store};
+use program_words::{Request, Words, read_words};
 use std::alloc::Global;
 use std::sync::Wait;
 use std::thread::Threads;

@@ -1,8 +1,8 @@
 //! The words of the command line.
 ghost use Rattle.std.specs.Prelude.{◌≡◌, ◌≤◌, ◌<◌, ◌^◌, IfSome, length, option_map};
 ghost use Rattle.layout.specs.Limits.{most_half_bits};
-ghost use Rattle.netsim.specs.FileLimits.{most_taps};
-ghost use Rattle.netsim.specs.Requests.{HasNumbersInRange, are_tap_words, asked, asked_demo, asked_file, asked_of, asked_plain, asked_probe, asked_run, asked_stretch, asked_text, asked_three, is_file_name, is_tap_word, number_between};
+ghost use Rattle.program_words.specs.WordLimits.{most_taps};
+ghost use Rattle.program_words.specs.Requests.{HasNumbersInRange, are_tap_words, asked, asked_demo, asked_file, asked_of, asked_plain, asked_probe, asked_run, asked_stretch, asked_text, asked_three, is_file_name, is_tap_word, number_between};
 
 use layout::{MOST_HALF_BITS, MOST_REPEATERS};
 use lists::{List, Text};
@@ -30,7 +30,7 @@ const MOST_PROBED: u32 = 1_000_000;
 
 /// What the words ask for.
 #[derive(Clone, Copy, Debug)]
-pub(crate) enum Request<'a> {
+pub enum Request<'a> {
     /// Says the path verdict of a layout.
     Check {
         layout: &'a str,
@@ -103,7 +103,7 @@ fn read_number(word: &str, least: u32, most: u32) -> Option<u32>
 }
 
 /// The request of the words, or none where they are none of the forms.
-pub(crate) fn read_words(words: &Words) -> Option<Request<'_>>
+pub fn read_words(words: &Words) -> Option<Request<'_>>
     ensures asked { option_map asked_of result ≡ asked words.now }
     ensures range { IfSome result HasNumbersInRange }
 {

@@ -2,9 +2,9 @@
 use Rattle.std.specs.Prelude.{◌≤◌, ◌<◌, ℕ, ◌+◌, ◌-◌, List, [], ◌∷◌, length, Bool, true, ◌&&◌, nat_le, nat_lt, Option, None, Some, option_map, find, decimal, if◌then◌else◌, bytes_eq, codes}
 use Rattle.std.specs.List.{range_with_len}
 use Rattle.layout.specs.Limits.{most_half_bits, most_repeaters}
-use Rattle.netsim.specs.FileLimits.{most_name, most_probed, most_tap_word, most_taps, most_workers}
-use Rattle.netsim.specs.declared.words.Request.{Request}
-use Rattle.netsim.specs.declared.words.Request.TheVariants as request
+use Rattle.program_words.specs.WordLimits.{most_name, most_probed, most_tap_word, most_taps, most_workers}
+use Rattle.program_words.specs.declared.words.Request.{Request}
+use Rattle.program_words.specs.declared.words.Request.TheVariants as request
 
 -- the path verdict of a layout, its slacks, a run by half bits with the names of the layout and of what is written, the
 -- same by windows on so many workers, a run of the layout of demo of a number on so many, what the taps of these words

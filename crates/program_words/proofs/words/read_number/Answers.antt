@@ -2,8 +2,8 @@ use Rattle.std.proofs.Common.{◌≡◌, arith, sym, ap, ◌∙◌, rules}
 use Rattle.std.specs.Prelude.{decimal}
 use Rattle.std.proofs.lemmas.Fmt.{parse-decimal}
 use Rattle.std.proofs.lemmas.Slice.Eq.{bytes_eq-Decides}
-use Rattle.netsim.proofs.NumbersInWords.{number_found, number_unfound}
-use Rattle.netsim.proofs.words.read_number.Goals as goal
+use Rattle.program_words.proofs.NumbersInWords.{number_found, number_unfound}
+use Rattle.program_words.proofs.words.read_number.Goals as goal
 
 pub returns-in_default-clause-number : goal.returns-in_default-clause-number
 returns-in_default-clause-number c =
