@@ -21,8 +21,8 @@ use Rattle.netsim.specs.Moments.{Moment}
 use Rattle.program_words.specs.Requests.{asked}
 use Rattle.netsim.specs.Runs.{IsPlanOf, IsSummary, log, run_files}
 use Rattle.netsim.specs.Statuses.{IfFiles, IsRunDone}
-use Rattle.netsim.specs.Texts.{name_of_log}
-use Rattle.netsim.specs.Verdicts.{line_of_verdict}
+use Rattle.program_texts.specs.Texts.{name_of_log}
+use Rattle.program_texts.specs.Verdicts.{line_of_verdict}
 use Rattle.netsim.specs.Writing.{added, put_all}
 use Rattle.netsim.proofs.DetectedInTheLog.{are_detected, are_logged}
 use Rattle.netsim.proofs.FilesAfterRuns.{done}

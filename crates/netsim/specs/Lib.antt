@@ -2,9 +2,6 @@ pub mod FileLimits
 pub mod Moments
 pub mod Reading
 pub mod Writing
-pub mod Texts
-pub mod Verdicts
-pub mod SlackTexts
 pub mod Runs
 pub mod Demos
 pub mod Meters
@@ -14,5 +11,6 @@ pub mod Statuses
 pub mod StatusLaws
 pub mod MeterLaws
 pub mod ProbeLaws
+pub mod PictureLaws
 pub mod LoggedCollisions
 pub mod LogLaws

@@ -3,20 +3,24 @@ use Rattle.std.specs.Prelude.{◌≤◌, ◌<◌, ℕ, ◌+◌, ◌-◌, List, [
 use Rattle.std.specs.List.{range_with_len}
 use Rattle.layout.specs.Limits.{most_half_bits, most_repeaters}
 use Rattle.program_words.specs.WordLimits.{most_name, most_probed, most_tap_word, most_taps, most_workers}
+use Rattle.program_words.specs.declared.words.Hearing.{Hearing}
+use Rattle.program_words.specs.declared.words.Hearing.TheVariants as hearing
 use Rattle.program_words.specs.declared.words.Request.{Request}
 use Rattle.program_words.specs.declared.words.Request.TheVariants as request
 
 -- the path verdict of a layout, its slacks, a run by half bits with the names of the layout and of what is written, the
 -- same by windows on so many workers, a run of the layout of demo of a number on so many, what the taps of these words
--- hear from one half bit on and before another, the figures of a log, or a fixed text
+-- hear from one half bit on and before another, told so, the figures of a log, the picture of what a log tells of the
+-- half bits from one on and before another, or a fixed text
 pub data Asked : Type 0 where
   Check : (layout : List ℕ) → Asked
   Slack : (layout : List ℕ) → Asked
   Plain : (layout prefix : List ℕ) → Asked
   Run : (layout prefix : List ℕ) (workers : ℕ) → Asked
   Demo : (number workers : ℕ) → Asked
-  Probe : (layout : List ℕ) (from to : ℕ) (taps : List (List ℕ)) → Asked
+  Probe : (told : Hearing) (layout : List ℕ) (from to : ℕ) (taps : List (List ℕ)) → Asked
   Meter : (log : List ℕ) → Asked
+  Picture : (layout log : List ℕ) (from to : ℕ) → Asked
   Help : Asked
   Version : Asked
 
@@ -85,22 +89,42 @@ asked_run word layout prefix workers =
 abbrev pub is_stretch : ℕ → ℕ → Bool
 is_stretch from to = nat_lt from to && nat_le to (from + most_probed)
 
--- what is asked for of a layout and of words for taps by these two half bits, if they are there
-abbrev pub asked_stretch : List ℕ → List (List ℕ) → Option ℕ → Option ℕ → Option Asked
-asked_stretch layout taps (Some from) (Some to) = if is_stretch from to then Some (Probe layout from to taps) else None
-asked_stretch layout taps (Some from) None = None
-asked_stretch layout taps None to = None
+-- these two half bits, if they are there and are such
+abbrev pub stretch_between : Option ℕ → Option ℕ → Option (ℕ × ℕ)
+stretch_between (Some from) (Some to) = if is_stretch from to then Some (from, to) else None
+stretch_between (Some from) None = None
+stretch_between None to = None
 
--- what five words and more ask for: probe LAYOUT FROM TO TAP .. with at most 16 taps
-abbrev pub asked_probe : List ℕ → List ℕ → List ℕ → List ℕ → List (List ℕ) → Option Asked
-asked_probe word layout from to taps =
-    if bytes_eq word (codes "probe") && is_file_name layout && nat_le (length taps) most_taps && are_tap_words taps
-    then asked_stretch layout taps (number_between 0 most_half_bits from) (number_between 0 most_half_bits to)
+-- the two half bits that are written so
+abbrev pub stretch_of : List ℕ → List ℕ → Option (ℕ × ℕ)
+stretch_of from to = stretch_between (number_between 0 most_half_bits from) (number_between 0 most_half_bits to)
+
+-- what the words after probe or waves ask for: LAYOUT FROM TO TAP .. with at most 16 taps
+abbrev pub asked_probe : Hearing → List ℕ → List ℕ → List ℕ → List (List ℕ) → Option Asked
+asked_probe told layout from to taps =
+    if is_file_name layout && nat_le (length taps) most_taps && are_tap_words taps
+    then option_map (λ s. Probe told layout s.0 s.1 taps) (stretch_of from to)
+    else None
+
+-- what the words after picture ask for: LAYOUT LOG FROM TO
+abbrev pub asked_picture : List ℕ → List ℕ → List ℕ → List (List ℕ) → Option Asked
+asked_picture layout log from (to ∷ []) =
+    if is_file_name layout && is_file_name log
+    then option_map (λ s. Picture layout log s.0 s.1) (stretch_of from to)
+    else None
+asked_picture layout log from _ = None
+
+-- what five words and more ask for: probe LAYOUT FROM TO TAP .., waves LAYOUT FROM TO TAP .. or picture LAYOUT LOG FROM TO
+abbrev pub asked_long : List ℕ → List ℕ → List ℕ → List ℕ → List (List ℕ) → Option Asked
+asked_long word layout second third rest =
+    if bytes_eq word (codes "probe") then asked_probe hearing.Runs layout second third rest
+    else if bytes_eq word (codes "waves") then asked_probe hearing.Waves layout second third rest
+    else if bytes_eq word (codes "picture") then asked_picture layout second third rest
     else None
 
 -- what the words of the command line ask for, without the program's own name
 abbrev pub asked : List (List ℕ) → Option Asked
-asked (word ∷ layout ∷ from ∷ to ∷ tap ∷ taps) = asked_probe word layout from to (tap ∷ taps)
+asked (word ∷ layout ∷ second ∷ third ∷ fourth ∷ rest) = asked_long word layout second third (fourth ∷ rest)
 asked (word ∷ layout ∷ prefix ∷ workers ∷ []) = asked_run word layout prefix workers
 asked (word ∷ first ∷ second ∷ []) = asked_three word first second
 asked (word ∷ file ∷ []) = asked_file word file
@@ -114,8 +138,9 @@ asked_of (request.Slack layout) = Slack layout.now
 asked_of (request.Plain layout prefix) = Plain layout.now prefix.now
 asked_of (request.Run layout prefix workers) = Run layout.now prefix.now workers
 asked_of (request.Demo number workers) = Demo number workers
-asked_of (request.Probe layout from to taps) = Probe layout.now from to taps.now
+asked_of (request.Probe told layout from to taps) = Probe told layout.now from to taps.now
 asked_of (request.Meter log) = Meter log.now
+asked_of (request.Picture layout log from to) = Picture layout.now log.now from to
 asked_of request.Help = Help
 asked_of request.Version = Version
 
@@ -127,8 +152,9 @@ HasNumbersInRange (request.Plain layout prefix) = Unit {0}
 HasNumbersInRange (request.Run layout prefix workers) = (1 ≤ workers) × (workers ≤ most_workers)
 HasNumbersInRange (request.Demo number workers) =
     (1 ≤ number) × (number ≤ most_repeaters) × (1 ≤ workers) × (workers ≤ most_workers)
-HasNumbersInRange (request.Probe layout from to taps) =
+HasNumbersInRange (request.Probe told layout from to taps) =
     (from < to) × (to ≤ from + most_probed) × (to ≤ most_half_bits) × (length taps.now ≤ most_taps)
 HasNumbersInRange (request.Meter log) = Unit {0}
+HasNumbersInRange (request.Picture layout log from to) = (from < to) × (to ≤ from + most_probed) × (to ≤ most_half_bits)
 HasNumbersInRange request.Help = Unit {0}
 HasNumbersInRange request.Version = Unit {0}

@@ -13,7 +13,7 @@ most_taps = 16
 abbrev pub most_tap_word : ℕ
 most_tap_word = 40
 
--- the most half bits of a probe
+-- the most half bits of a probe or a picture
 abbrev pub most_probed : ℕ
 most_probed = 1000000
 

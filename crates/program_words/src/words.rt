@@ -1,8 +1,8 @@
 //! The words of the command line.
-ghost use Rattle.std.specs.Prelude.{◌≡◌, ◌≤◌, ◌<◌, ◌^◌, IfSome, length, option_map};
+ghost use Rattle.std.specs.Prelude.{◌≡◌, ◌≤◌, ◌<◌, ◌+◌, ◌^◌, IfSome, length, option_map};
 ghost use Rattle.layout.specs.Limits.{most_half_bits};
-ghost use Rattle.program_words.specs.WordLimits.{most_taps};
-ghost use Rattle.program_words.specs.Requests.{HasNumbersInRange, are_tap_words, asked, asked_demo, asked_file, asked_of, asked_plain, asked_probe, asked_run, asked_stretch, asked_text, asked_three, is_file_name, is_tap_word, number_between};
+ghost use Rattle.program_words.specs.WordLimits.{most_probed, most_taps};
+ghost use Rattle.program_words.specs.Requests.{HasNumbersInRange, are_tap_words, asked, asked_demo, asked_file, asked_long, asked_of, asked_picture, asked_plain, asked_probe, asked_run, asked_text, asked_three, is_file_name, is_tap_word, number_between, stretch_between};
 
 use layout::{MOST_HALF_BITS, MOST_REPEATERS};
 use lists::{List, Text};
@@ -25,8 +25,17 @@ const MOST_TAPS: usize = 16;
 /// The most octets of a word for a tap (profile).
 const MOST_TAP_WORD: usize = 40;
 
-/// The most half bits of a probe (profile).
+/// The most half bits of a probe or a picture (profile).
 const MOST_PROBED: u32 = 1_000_000;
+
+/// How it is told what taps hear.
+#[derive(Clone, Copy, Debug)]
+pub enum Hearing {
+    /// Tap by tap, as runs of one symbol and bursts.
+    Runs,
+    /// As the waves of all taps, in a value change dump.
+    Waves,
+}
 
 /// What the words ask for.
 #[derive(Clone, Copy, Debug)]
@@ -57,6 +66,7 @@ pub enum Request<'a> {
     },
     /// Says what taps hear from one half bit on and before another.
     Probe {
+        hearing: Hearing,
         layout: &'a str,
         from: u32,
         to: u32,
@@ -65,6 +75,13 @@ pub enum Request<'a> {
     /// Says figures of a log.
     Meter {
         log: &'a str,
+    },
+    /// Draws what a log tells of the half bits from one on and before another.
+    Picture {
+        layout: &'a str,
+        log: &'a str,
+        from: u32,
+        to: u32,
     },
     /// What the program is called with.
     Help,
@@ -130,13 +147,31 @@ fn read_long(words: &[Text]) -> Option<Request<'_>>
     ensures asked { option_map asked_of result ≡ asked words.now }
     ensures range { IfSome result HasNumbersInRange }
 {
-    read_probe(
+    read_many(
         words[0].as_str(),
         words[1].as_str(),
         words[2].as_str(),
         words[3].as_str(),
         &words[WORDS_BEFORE_TAPS..],
     )
+}
+
+fn read_many<'a>(
+    word: &str,
+    layout: &'a str,
+    second: &'a str,
+    third: &str,
+    rest: &'a [Text],
+) -> Option<Request<'a>>
+    ensures asked { option_map asked_of result ≡ asked_long word.now layout.now second.now third.now rest.now }
+    ensures range { IfSome result HasNumbersInRange }
+{
+    match word {
+        "probe" => read_probe(Hearing::Runs, layout, second, third, rest),
+        "waves" => read_probe(Hearing::Waves, layout, second, third, rest),
+        "picture" => read_picture(layout, second, third, rest),
+        _ => None,
+    }
 }
 
 fn read_text(word: &str) -> Option<Request<'static>>
@@ -229,16 +264,37 @@ fn are_tap_words(words: &[Text]) -> bool
     true
 }
 
-fn read_stretch<'a>(layout: &'a str, from: &str, to: &str, taps: &'a [Text]) -> Option<Request<'a>>
-    requires { length taps.now ≤ most_taps }
-    ensures asked { option_map asked_of result ≡
-        asked_stretch layout.now taps.now (number_between 0 most_half_bits from.now) (number_between 0 most_half_bits to.now) }
-    ensures range { IfSome result HasNumbersInRange }
+/// Two half bits, the first before the second, and at most a million from one to the other.
+fn read_stretch(from: &str, to: &str) -> Option<(u32, u32)>
+    ensures stretch { result ≡
+        stretch_between (number_between 0 most_half_bits from.now) (number_between 0 most_half_bits to.now) }
+    ensures order { IfSome result (λ s. s.0 < s.1) }
+    ensures short { IfSome result (λ s. s.1 ≤ s.0 + most_probed) }
+    ensures late { IfSome result (λ s. s.1 ≤ most_half_bits) }
 {
     let from = read_number(from, 0, MOST_HALF_BITS as u32)?;
     let to = read_number(to, 0, MOST_HALF_BITS as u32)?;
     if from < to && to <= from + MOST_PROBED {
+        Some((from, to))
+    } else {
+        None
+    }
+}
+
+fn read_probe<'a>(
+    hearing: Hearing,
+    layout: &'a str,
+    from: &str,
+    to: &str,
+    taps: &'a [Text],
+) -> Option<Request<'a>>
+    ensures asked { option_map asked_of result ≡ asked_probe hearing layout.now from.now to.now taps.now }
+    ensures range { IfSome result HasNumbersInRange }
+{
+    if is_file_name(layout) && taps.len() <= MOST_TAPS && are_tap_words(taps) {
+        let (from, to) = read_stretch(from, to)?;
         Some(Request::Probe {
+            hearing,
             layout,
             from,
             to,
@@ -249,18 +305,21 @@ fn read_stretch<'a>(layout: &'a str, from: &str, to: &str, taps: &'a [Text]) -> 
     }
 }
 
-fn read_probe<'a>(
-    word: &str,
-    layout: &'a str,
-    from: &str,
-    to: &str,
-    taps: &'a [Text],
-) -> Option<Request<'a>>
-    ensures asked { option_map asked_of result ≡ asked_probe word.now layout.now from.now to.now taps.now }
+fn read_picture<'a>(layout: &'a str, log: &'a str, from: &str, rest: &[Text]) -> Option<Request<'a>>
+    ensures asked { option_map asked_of result ≡ asked_picture layout.now log.now from.now rest.now }
     ensures range { IfSome result HasNumbersInRange }
 {
-    if word == "probe" && is_file_name(layout) && taps.len() <= MOST_TAPS && are_tap_words(taps) {
-        read_stretch(layout, from, to, taps)
+    let [to] = rest else {
+        return None;
+    };
+    if is_file_name(layout) && is_file_name(log) {
+        let (from, to) = read_stretch(from, to.as_str())?;
+        Some(Request::Picture {
+            layout,
+            log,
+            from,
+            to,
+        })
     } else {
         None
     }
