@@ -18,11 +18,11 @@ use Rattle.netsim.specs.Endings.{IsAnswer, IsJudged}
 use Rattle.netsim.specs.LoggedCollisions.{AreCollisionsLogged, AreLogged, HasLine, IsLogged, IsLogHeld, IsWithin, IsWithinSaid, ShowsHit, log_line}
 use Rattle.netsim.specs.LogLaws.{HasCollision, IsEmptyLogRefused, IsInfixRefused, IsLateHitRefused}
 use Rattle.netsim.specs.Moments.{Moment}
-use Rattle.netsim.specs.Requests.{asked}
+use Rattle.program_words.specs.Requests.{asked}
 use Rattle.netsim.specs.Runs.{IsPlanOf, IsSummary, log, run_files}
 use Rattle.netsim.specs.Statuses.{IfFiles, IsRunDone}
-use Rattle.netsim.specs.Texts.{name_of_log}
-use Rattle.netsim.specs.Verdicts.{line_of_verdict}
+use Rattle.program_texts.specs.Texts.{name_of_log}
+use Rattle.program_texts.specs.Verdicts.{line_of_verdict}
 use Rattle.netsim.specs.Writing.{added, put_all}
 use Rattle.netsim.proofs.DetectedInTheLog.{are_detected, are_logged}
 use Rattle.netsim.proofs.FilesAfterRuns.{done}

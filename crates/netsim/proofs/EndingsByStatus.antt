@@ -3,14 +3,15 @@ use Rattle.std.proofs.Common.{◌≡◌, ℕ, zero, suc, List, Option, Some, ref
 use Rattle.layout.specs.declared.lines.Layout.{Layout}
 use Rattle.netsim.specs.declared.endings.Ending.{Ending}
 use Rattle.netsim.specs.declared.endings.Ending.TheVariants as ending
-use Rattle.netsim.specs.declared.texts.TheConstants.{HELP, VERSION}
-use Rattle.netsim.specs.Endings.{IsAnswer, IsCheckEnd, IsDemoEnd, IsEarly, IsEndOf, IsLoadEnd, IsMeterEnd, IsMetered, IsMissed, IsPlainEnd, IsProbed, IsProbeEnd, IsRun, IsSlackEnd, IsText, IsTellingEnd, IsTextEnd, IsUnmetered, IsUnprobed, IsUnrun, status_of}
+use Rattle.program_texts.specs.declared.texts.TheConstants.{HELP, VERSION}
+use Rattle.netsim.specs.Endings.{ArePictured, IsAnswer, IsCheckEnd, IsDemoEnd, IsDrawn, IsEarly, IsEndOf, IsLoadEnd, IsMeterEnd, IsMetered, IsMissed, IsPictureEnd, IsPlainEnd, IsProbed, IsProbeEnd, IsRun, IsSlackEnd, IsStrangeEnd, IsText, IsTellingEnd, IsTextEnd, IsUnlogged, IsUnmetered, IsUnprobed, IsUnrun, status_of}
 use Rattle.netsim.specs.Demos.{IsDemoText}
 use Rattle.netsim.specs.Moments.{Moment}
-use Rattle.netsim.specs.Requests.{Asked, asked, Check, Demo, Meter, Probe, Slack}
-use Rattle.netsim.specs.SlackTexts.{IsSlackText}
+use Rattle.program_words.specs.Requests.{Asked, asked, Check, Demo, Meter, Picture, Probe, Slack}
+use Rattle.program_words.specs.declared.words.Hearing.{Hearing}
+use Rattle.program_texts.specs.SlackTexts.{IsSlackText}
 use Rattle.netsim.specs.Statuses.{AskForFiles, IfTelling, IfText}
-use Rattle.netsim.specs.Verdicts.{IsVerdictLine}
+use Rattle.program_texts.specs.Verdicts.{IsVerdictLine}
 
 -- the ending of a status
 abbrev pub ending_at : ℕ → Ending
@@ -22,7 +23,8 @@ ending_at (suc (suc (suc (suc zero)))) = ending.Read
 ending_at (suc (suc (suc (suc (suc zero))))) = ending.Write
 ending_at (suc (suc (suc (suc (suc (suc zero)))))) = ending.Memory
 ending_at (suc (suc (suc (suc (suc (suc (suc zero))))))) = ending.Probe
-ending_at (suc (suc (suc (suc (suc (suc (suc (suc n)))))))) = ending.Log
+ending_at (suc (suc (suc (suc (suc (suc (suc (suc zero)))))))) = ending.Log
+ending_at (suc (suc (suc (suc (suc (suc (suc (suc (suc n))))))))) = ending.Stranger
 
 at_status : (e : Ending) → ending_at (status_of e) ≡ e
 at_status ending.Done = refl
@@ -34,6 +36,7 @@ at_status ending.Write = refl
 at_status ending.Memory = refl
 at_status ending.Probe = refl
 at_status ending.Log = refl
+at_status ending.Stranger = refl
 
 -- the end of an answer with this status
 pub end_at : (words : List (List ℕ)) (entry exit : Moment) (status k : ℕ) → IsAnswer words entry exit status → status ≡ k → IsEndOf (asked words) entry exit (ending_at k)
@@ -54,16 +57,29 @@ files_end o layout prefix entry exit e asks end =
 pub demo_end : (o : Option Asked) (number workers : ℕ) (entry exit : Moment) (e : Ending) → o ≡ Some (Demo number workers) → IsEndOf o entry exit e → IsDemoEnd number entry exit e
 demo_end o number workers entry exit e is end = subst (λ a. IsEndOf a entry exit e) is end
 
-pub probe_end : (o : Option Asked) (layout : List ℕ) (from to : ℕ) (taps : List (List ℕ)) (entry exit : Moment) (e : Ending) → o ≡ Some (Probe layout from to taps) → IsEndOf o entry exit e → IsProbeEnd layout from to taps entry exit e
-probe_end o layout from to taps entry exit e is end = subst (λ a. IsEndOf a entry exit e) is end
+pub probe_end : (o : Option Asked) (told : Hearing) (layout : List ℕ) (from to : ℕ) (taps : List (List ℕ)) (entry exit : Moment) (e : Ending) → o ≡ Some (Probe told layout from to taps) → IsEndOf o entry exit e → IsProbeEnd told layout from to taps entry exit e
+probe_end o told layout from to taps entry exit e is end = subst (λ a. IsEndOf a entry exit e) is end
 
 pub meter_end : (o : Option Asked) (log : List ℕ) (entry exit : Moment) (e : Ending) → o ≡ Some (Meter log) → IsEndOf o entry exit e → IsMeterEnd log entry exit e
 meter_end o log entry exit e is end = subst (λ a. IsEndOf a entry exit e) is end
 
+pub picture_end : (o : Option Asked) (layout log : List ℕ) (from to : ℕ) (entry exit : Moment) (e : Ending) → o ≡ Some (Picture layout log from to) → IsEndOf o entry exit e → IsPictureEnd layout log from to entry exit e
+picture_end o layout log from to entry exit e is end = subst (λ a. IsEndOf a entry exit e) is end
+
+-- what comes of each of the four ways in which picture ends comes of its end
+pub by_picture : (X : Type 0) (layout log : List ℕ) (from to : ℕ) (before after : Moment) (e : Ending) → (IsEarly layout before after e → X) → (IsUnlogged layout log before after e → X)
+    → ((d : IsDrawn layout log from to before after e) → IsStrangeEnd d.network d.lines before.written after.written before.refused after.refused e → X)
+    → ((d : IsDrawn layout log from to before after e) → ArePictured d.network d.lines from to before.written after.written before.faults after.faults e → X) → IsPictureEnd layout log from to before after e → X
+by_picture X layout log from to before after e early unlogged strange pictured h =
+    elim h.1 [
+      | inl one ↦ early one
+      | inr later ↦ elim later [ inl two ↦ unlogged two | inr d ↦ elim d.drawn [ inl three ↦ strange d three | inr four ↦ pictured d four ] ]
+    ]
+
 -- what comes of each of the four ways in which probe ends comes of its end
-pub by_probe : (X : Type 0) (layout : List ℕ) (from to : ℕ) (taps : List (List ℕ)) (before after : Moment) (e : Ending) → (IsEarly layout before after e → X) → (IsMissed layout to taps before after e → X)
-    → (IsUnprobed layout to taps before after e → X) → (IsProbed layout from to taps before after e → X) → IsProbeEnd layout from to taps before after e → X
-by_probe X layout from to taps before after e early missed unprobed probed h =
+pub by_probe : (X : Type 0) (told : Hearing) (layout : List ℕ) (from to : ℕ) (taps : List (List ℕ)) (before after : Moment) (e : Ending) → (IsEarly layout before after e → X) → (IsMissed layout to taps before after e → X)
+    → (IsUnprobed layout to taps before after e → X) → (IsProbed told layout from to taps before after e → X) → IsProbeEnd told layout from to taps before after e → X
+by_probe X told layout from to taps before after e early missed unprobed probed h =
     elim h.1 [
       | inl one ↦ early one
       | inr later ↦ elim later [ inl two ↦ missed two | inr last ↦ elim last [ inl three ↦ unprobed three | inr four ↦ probed four ] ]

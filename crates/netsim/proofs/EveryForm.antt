@@ -4,11 +4,12 @@ use Rattle.outside.specs.Files.{Rose}
 use Rattle.load_plan.specs.declared.plan.Plan.{Plan}
 use Rattle.netsim.specs.declared.endings.Ending.{Ending}
 use Rattle.netsim.specs.declared.endings.Ending.TheVariants as ending
-use Rattle.netsim.specs.Endings.{IsAnswer, IsDemoEnd, IsEndOf, IsFiledEnd, IsMeterEnd, IsPlainEnd, IsProbeEnd, status_of}
+use Rattle.netsim.specs.Endings.{IsAnswer, IsDemoEnd, IsEndOf, IsFiledEnd, IsMeterEnd, IsPictureEnd, IsPlainEnd, IsProbeEnd, status_of}
 use Rattle.netsim.specs.Moments.{Moment}
-use Rattle.netsim.specs.Requests.{Asked, asked, Check, Slack, Plain, Run, Demo, Probe, Meter, Help, Version}
+use Rattle.program_words.specs.Requests.{Asked, asked, Check, Slack, Plain, Run, Demo, Probe, Meter, Picture, Help, Version}
+use Rattle.program_words.specs.declared.words.Hearing.{Hearing}
 use Rattle.netsim.specs.Statuses.{IsRefusal}
-use Rattle.netsim.proofs.EndingsByStatus.{by_demo, by_meter, by_probe, by_way, end_at}
+use Rattle.netsim.proofs.EndingsByStatus.{by_demo, by_meter, by_picture, by_probe, by_way, end_at}
 
 words_done : ending.Write ≡ ending.Words → ⊥
 words_done e = cc
@@ -27,12 +28,16 @@ never_words layout prefix entry exit h =
 pub never_demo : (number : ℕ) (entry exit : Moment) → IsDemoEnd number entry exit ending.Words → ⊥
 never_demo number entry exit h = by_demo ⊥ number entry exit ending.Words (λ is written. words_unrun is) (λ text right written. written) h
 
-pub never_probe : (layout : List ℕ) (from to : ℕ) (taps : List (List ℕ)) (entry exit : Moment) → IsProbeEnd layout from to taps entry exit ending.Words → ⊥
-never_probe layout from to taps entry exit h =
-    by_probe ⊥ layout from to taps entry exit ending.Words (λ early. early) (λ missed. missed.missed) (λ unprobed. unprobed.said) (λ probed. probed.written) h
+pub never_probe : (told : Hearing) (layout : List ℕ) (from to : ℕ) (taps : List (List ℕ)) (entry exit : Moment) → IsProbeEnd told layout from to taps entry exit ending.Words → ⊥
+never_probe told layout from to taps entry exit h =
+    by_probe ⊥ told layout from to taps entry exit ending.Words (λ early. early) (λ missed. missed.missed) (λ unprobed. unprobed.said) (λ probed. probed.written) h
 
 pub never_meter : (log : List ℕ) (entry exit : Moment) → IsMeterEnd log entry exit ending.Words → ⊥
 never_meter log entry exit h = by_meter ⊥ log entry exit ending.Words (λ unmetered. unmetered) (λ metered. metered.written) h
+
+pub never_picture : (layout log : List ℕ) (from to : ℕ) (entry exit : Moment) → IsPictureEnd layout log from to entry exit ending.Words → ⊥
+never_picture layout log from to entry exit h =
+    by_picture ⊥ layout log from to entry exit ending.Words (λ early. early) (λ unlogged. unlogged.said) (λ drawn strange. strange) (λ drawn pictured. pictured.text) h
 
 -- words of no form
 none_of : (o : Option Asked) (entry exit : Moment) → IsEndOf o entry exit ending.Words → o ≡ None
@@ -44,8 +49,9 @@ none_of (Some (Slack layout)) entry exit h = elim h.1 [ inl early ↦ absurd ear
 none_of (Some (Plain layout prefix)) entry exit h = absurd (never_words layout prefix entry exit h)
 none_of (Some (Run layout prefix workers)) entry exit h = absurd (never_words layout prefix entry exit h)
 none_of (Some (Demo number workers)) entry exit h = absurd (never_demo number entry exit h)
-none_of (Some (Probe layout from to taps)) entry exit h = absurd (never_probe layout from to taps entry exit h)
+none_of (Some (Probe told layout from to taps)) entry exit h = absurd (never_probe told layout from to taps entry exit h)
 none_of (Some (Meter log)) entry exit h = absurd (never_meter log entry exit h)
+none_of (Some (Picture layout log from to)) entry exit h = absurd (never_picture layout log from to entry exit h)
 
 one_of : (o : Option Asked) (entry exit : Moment) (e : Ending) → o ≡ None → IsEndOf o entry exit e → status_of e ≡ 1
 one_of o entry exit e none end = let h : IsEndOf None entry exit e = subst (λ a. IsEndOf a entry exit e) none end in ap status_of h.0
@@ -68,7 +74,10 @@ not_refusal k other r =
             | inl e ↦ apart k 4 other e (λ h. omega (arith, h)) (λ h. omega (arith, h))
             | inr v ↦ elim v [
               | inl e ↦ apart k 7 other e (λ h. omega (arith, h)) (λ h. omega (arith, h))
-              | inr e ↦ apart k 8 other e (λ h. omega (arith, h)) (λ h. omega (arith, h))
+              | inr w ↦ elim w [
+                | inl e ↦ apart k 8 other e (λ h. omega (arith, h)) (λ h. omega (arith, h))
+                | inr e ↦ apart k 11 other e (λ h. omega (arith, h)) (λ h. omega (arith, h))
+              ]
             ]
           ]
         ]
@@ -89,6 +98,7 @@ filed_no_refusal prefix plan entry exit ending.Write filed r = not_refusal 5 (in
 filed_no_refusal prefix plan entry exit ending.Memory filed r = not_refusal 6 (inr (omega arith, omega arith)) r
 filed_no_refusal prefix plan entry exit ending.Probe filed r = elim filed [ inl all ↦ all.1.2 | inr some ↦ some ]
 filed_no_refusal prefix plan entry exit ending.Log filed r = elim filed [ inl all ↦ all.1.2 | inr some ↦ some ]
+filed_no_refusal prefix plan entry exit ending.Stranger filed r = elim filed [ inl all ↦ all.1.2 | inr some ↦ some ]
 
 plain_kept : (layout prefix : List ℕ) (entry exit : Moment) (e : Ending) → IsPlainEnd layout prefix entry exit e → IsRefusal (status_of e) → exit.held ≡ entry.held
 plain_kept layout prefix entry exit e h r =
@@ -106,10 +116,11 @@ kept_of (Some (Slack layout)) entry exit e h r = h.0
 kept_of (Some (Plain layout prefix)) entry exit e h r = plain_kept layout prefix entry exit e h r
 kept_of (Some (Run layout prefix workers)) entry exit e h r = plain_kept layout prefix entry exit e h r
 kept_of (Some (Demo number workers)) entry exit e h r = h.1
-kept_of (Some (Probe layout from to taps)) entry exit e h r = h.0
+kept_of (Some (Probe told layout from to taps)) entry exit e h r = h.0
 kept_of (Some (Meter log)) entry exit e h r = h.0
+kept_of (Some (Picture layout log from to)) entry exit e h r = h.0
 
--- the statuses 1 to 4, 7 and 8 leave every file as at entry
+-- the statuses 1 to 4, 7, 8 and 11 leave every file as at entry
 pub refused : (words : List (List ℕ)) (entry exit : Moment) (status : ℕ) → IsAnswer words entry exit status → IsRefusal status → exit.held ≡ entry.held
 refused words entry exit status answer r = kept_of (asked words) entry exit answer.by answer.allowed (subst (λ n. IsRefusal n) answer.is r)
 
@@ -122,14 +133,19 @@ demo_failed : (number : ℕ) (entry exit : Moment) → IsDemoEnd number entry ex
 demo_failed number entry exit h =
     by_demo (Rose entry.writes exit.writes ⊎ Rose entry.faults exit.faults) number entry exit ending.Write (λ is written. absurd (write_unrun is)) (λ text right written. inr written.1) h
 
-probe_failed : (layout : List ℕ) (from to : ℕ) (taps : List (List ℕ)) (entry exit : Moment) → IsProbeEnd layout from to taps entry exit ending.Write → Rose entry.writes exit.writes ⊎ Rose entry.faults exit.faults
-probe_failed layout from to taps entry exit h =
-    by_probe (Rose entry.writes exit.writes ⊎ Rose entry.faults exit.faults) layout from to taps entry exit ending.Write (λ early. absurd early) (λ missed. absurd missed.missed) (λ unprobed. absurd unprobed.said)
+probe_failed : (told : Hearing) (layout : List ℕ) (from to : ℕ) (taps : List (List ℕ)) (entry exit : Moment) → IsProbeEnd told layout from to taps entry exit ending.Write → Rose entry.writes exit.writes ⊎ Rose entry.faults exit.faults
+probe_failed told layout from to taps entry exit h =
+    by_probe (Rose entry.writes exit.writes ⊎ Rose entry.faults exit.faults) told layout from to taps entry exit ending.Write (λ early. absurd early) (λ missed. absurd missed.missed) (λ unprobed. absurd unprobed.said)
     (λ probed. inr probed.written.1) h
 
 meter_failed : (log : List ℕ) (entry exit : Moment) → IsMeterEnd log entry exit ending.Write → Rose entry.writes exit.writes ⊎ Rose entry.faults exit.faults
 meter_failed log entry exit h =
     by_meter (Rose entry.writes exit.writes ⊎ Rose entry.faults exit.faults) log entry exit ending.Write (λ unmetered. absurd unmetered) (λ metered. inr metered.written.1) h
+
+picture_failed : (layout log : List ℕ) (from to : ℕ) (entry exit : Moment) → IsPictureEnd layout log from to entry exit ending.Write → Rose entry.writes exit.writes ⊎ Rose entry.faults exit.faults
+picture_failed layout log from to entry exit h =
+    by_picture (Rose entry.writes exit.writes ⊎ Rose entry.faults exit.faults) layout log from to entry exit ending.Write (λ early. absurd early) (λ unlogged. absurd unlogged.said) (λ drawn strange. absurd strange)
+    (λ drawn pictured. inr pictured.text.1) h
 
 failed_of : (o : Option Asked) (entry exit : Moment) → IsEndOf o entry exit ending.Write → Rose entry.writes exit.writes ⊎ Rose entry.faults exit.faults
 failed_of None entry exit h = absurd (words_done h.0)
@@ -140,8 +156,9 @@ failed_of (Some (Slack layout)) entry exit h = elim h.1 [ inl early ↦ absurd e
 failed_of (Some (Plain layout prefix)) entry exit h = plain_failed layout prefix entry exit h
 failed_of (Some (Run layout prefix workers)) entry exit h = plain_failed layout prefix entry exit h
 failed_of (Some (Demo number workers)) entry exit h = demo_failed number entry exit h
-failed_of (Some (Probe layout from to taps)) entry exit h = probe_failed layout from to taps entry exit h
+failed_of (Some (Probe told layout from to taps)) entry exit h = probe_failed told layout from to taps entry exit h
 failed_of (Some (Meter log)) entry exit h = meter_failed log entry exit h
+failed_of (Some (Picture layout log from to)) entry exit h = picture_failed layout log from to entry exit h
 
 -- status 5 comes of a failed write
 pub failed : (words : List (List ℕ)) (entry exit : Moment) (status : ℕ) → IsAnswer words entry exit status → status ≡ 5 → Rose entry.writes exit.writes ⊎ Rose entry.faults exit.faults

@@ -9,7 +9,7 @@ use Rattle.outside.specs.Files.{Files}
 use Rattle.outside.specs.declared.memory.File.{File}
 use Rattle.netsim.specs.Writing.{IsBroken, IsBrokenAmong, put_file, put_all}
 use Rattle.netsim.specs.Runs.{capture_files}
-use Rattle.netsim.specs.Texts.{name_of_capture}
+use Rattle.program_texts.specs.Texts.{name_of_capture}
 use Rattle.run_texts.specs.Captures.{pcap_of_taken}
 
 -- by the name and the text that it is asked for

@@ -7,12 +7,13 @@ use Rattle.layout_file.specs.declared.fault.LayoutFault.{LayoutFault}
 use Rattle.netsim.specs.declared.endings.Ending.{Ending}
 use Rattle.netsim.specs.declared.endings.Ending.TheVariants as ending
 use Rattle.netsim.specs.Moments.{Moment}
-use Rattle.netsim.specs.Endings.{IsDemoEnd, IsEndOf, IsMeterEnd, IsPlainEnd, IsProbeEnd, IsTellingEnd, IsJudged, HasFault, IsEarly, IsFaultSaid, IsUnrun, status_of}
+use Rattle.netsim.specs.Endings.{IsDemoEnd, IsEndOf, IsMeterEnd, IsPictureEnd, IsPlainEnd, IsProbeEnd, IsTellingEnd, IsJudged, HasFault, IsEarly, IsFaultSaid, IsUnrun, status_of}
 use Rattle.netsim.specs.Reading.{front_of}
-use Rattle.netsim.specs.Requests.{Asked, asked, Check, Slack, Plain, Run, Demo, Probe, Meter, Help, Version}
+use Rattle.program_words.specs.Requests.{Asked, asked, Check, Slack, Plain, Run, Demo, Probe, Meter, Picture, Help, Version}
+use Rattle.program_words.specs.declared.words.Hearing.{Hearing}
 use Rattle.netsim.specs.Statuses.{IsFaultStatus, IsLayoutWith, IsUnreadOrMemory}
 use Rattle.netsim.specs.StatusLaws.{AreLayoutFaultsSaid, DoAbsentLayoutsDecide, DoLayoutFaultsDecide}
-use Rattle.netsim.proofs.EndingsByStatus.{by_demo, by_meter, by_probe, by_way, end_at, files_end, of_tellings, probe_end}
+use Rattle.netsim.proofs.EndingsByStatus.{by_demo, by_meter, by_picture, by_probe, by_way, end_at, files_end, of_tellings, picture_end, probe_end}
 
 pub absent_unjudged : (name : List ℕ) (held : Option Files) (verdict : Result Layout LayoutFault) → IsAbsent name held → IsJudged name held verdict → ⊥
 unfolding front_of
@@ -46,6 +47,7 @@ module _ (layout : List ℕ) (before after : Moment) where
   early_absent ending.Memory absent early = inr refl
   early_absent ending.Probe absent early = absurd early
   early_absent ending.Log absent early = absurd early
+  early_absent ending.Stranger absent early = absurd early
 
 -- where a read failed or the layout isn't held
 pub unread_status : (X : Type 0) (layout : List ℕ) (held : Option Files) (reads risen : ℕ) (P : Files → Type 0) → ((files : Files) → IsAbsent layout (Some files) → P files → ⊥) → (Rose reads risen → X)
@@ -70,6 +72,7 @@ early_faulty layout before after ending.Write early = absurd early
 early_faulty layout before after ending.Memory early = some_of before.held _ (λ files fault. inr (inl refl))
 early_faulty layout before after ending.Probe early = absurd early
 early_faulty layout before after ending.Log early = absurd early
+early_faulty layout before after ending.Stranger early = absurd early
 
 unrun_faulty : (fault : ℕ) (P : Files → Type 0) (before after : Moment) (e : Ending) → IsUnrun before after e
     → IfSome before.held (λ files. P files → IsFaultStatus fault (status_of e) before.reads after.reads)
@@ -88,13 +91,21 @@ plain_faulty layout prefix before after e h =
     (λ unrun. unrun_faulty 2 (λ files. HasFault layout (Some files)) before after e unrun)
     (λ run. no_fault_of (IsFaultStatus 2 (status_of e) before.reads after.reads) layout before.held run.planned.network run.planned.judged) h
 
-probe_faulty : (layout : List ℕ) (from to : ℕ) (taps : List (List ℕ)) (before after : Moment) (e : Ending) → IsProbeEnd layout from to taps before after e
+probe_faulty : (told : Hearing) (layout : List ℕ) (from to : ℕ) (taps : List (List ℕ)) (before after : Moment) (e : Ending) → IsProbeEnd told layout from to taps before after e
     → IfSome before.held (λ files. HasFault layout (Some files) → IsFaultStatus 2 (status_of e) before.reads after.reads)
-probe_faulty layout from to taps before after e h =
-    by_probe (IfSome before.held (λ files. HasFault layout (Some files) → IsFaultStatus 2 (status_of e) before.reads after.reads)) layout from to taps before after e (λ early. early_faulty layout before after e early)
+probe_faulty told layout from to taps before after e h =
+    by_probe (IfSome before.held (λ files. HasFault layout (Some files) → IsFaultStatus 2 (status_of e) before.reads after.reads)) told layout from to taps before after e (λ early. early_faulty layout before after e early)
     (λ missed. no_fault_of (IsFaultStatus 2 (status_of e) before.reads after.reads) layout before.held missed.network missed.judged)
     (λ unprobed. no_fault_of (IsFaultStatus 2 (status_of e) before.reads after.reads) layout before.held unprobed.network unprobed.judged)
     (λ probed. no_fault_of (IsFaultStatus 2 (status_of e) before.reads after.reads) layout before.held probed.right.planned.network probed.right.planned.judged) h
+
+picture_faulty : (layout log : List ℕ) (from to : ℕ) (before after : Moment) (e : Ending) → IsPictureEnd layout log from to before after e
+    → IfSome before.held (λ files. HasFault layout (Some files) → IsFaultStatus 2 (status_of e) before.reads after.reads)
+picture_faulty layout log from to before after e h =
+    by_picture (IfSome before.held (λ files. HasFault layout (Some files) → IsFaultStatus 2 (status_of e) before.reads after.reads)) layout log from to before after e (λ early. early_faulty layout before after e early)
+    (λ unlogged. no_fault_of (IsFaultStatus 2 (status_of e) before.reads after.reads) layout before.held unlogged.network unlogged.judged)
+    (λ drawn strange. no_fault_of (IsFaultStatus 2 (status_of e) before.reads after.reads) layout before.held drawn.network drawn.judged)
+    (λ drawn pictured. no_fault_of (IsFaultStatus 2 (status_of e) before.reads after.reads) layout before.held drawn.network drawn.judged) h
 
 -- status 2 where the layout has a fault
 pub layout_faults_decide : DoLayoutFaultsDecide
@@ -103,7 +114,8 @@ layout_faults_decide words entry exit status answer =
       of_tellings (asked words) entry exit answer.by (λ Tells layout. IfSome entry.held (λ files. HasFault layout (Some files) → IsFaultStatus 2 (status_of answer.by) entry.reads exit.reads))
           (λ Tells layout end. telling_faulty Tells layout entry exit answer.by end) answer.allowed,
       λ layout prefix is. plain_faulty layout prefix entry exit answer.by (files_end (asked words) layout prefix entry exit answer.by is answer.allowed),
-      λ layout from to taps is. probe_faulty layout from to taps entry exit answer.by (probe_end (asked words) layout from to taps entry exit answer.by is answer.allowed),
+      λ told layout from to taps is. probe_faulty told layout from to taps entry exit answer.by (probe_end (asked words) told layout from to taps entry exit answer.by is answer.allowed),
+      λ layout log from to is. picture_faulty layout log from to entry exit answer.by (picture_end (asked words) layout log from to entry exit answer.by is answer.allowed),
     )
 
 telling_absent : (Tells : Layout → List ℕ → Type 0) (layout : List ℕ) (before after : Moment) (e : Ending) → IsTellingEnd Tells layout before after e → IsAbsent layout before.held → IsUnreadOrMemory (status_of e)
@@ -116,11 +128,17 @@ plain_absent layout prefix before after e h absent =
     (λ unloaded. absurd (absent_unjudged layout before.held (Ok unloaded.network) absent unloaded.judged)) (λ unrun. inr (ap status_of unrun.0))
     (λ run. absurd (absent_unjudged layout before.held (Ok run.planned.network) absent run.planned.judged)) h
 
-probe_absent : (layout : List ℕ) (from to : ℕ) (taps : List (List ℕ)) (before after : Moment) (e : Ending) → IsProbeEnd layout from to taps before after e → IsAbsent layout before.held → IsUnreadOrMemory (status_of e)
-probe_absent layout from to taps before after e h absent =
-    by_probe (IsUnreadOrMemory (status_of e)) layout from to taps before after e (λ early. early_absent layout before after e absent early)
+probe_absent : (told : Hearing) (layout : List ℕ) (from to : ℕ) (taps : List (List ℕ)) (before after : Moment) (e : Ending) → IsProbeEnd told layout from to taps before after e → IsAbsent layout before.held → IsUnreadOrMemory (status_of e)
+probe_absent told layout from to taps before after e h absent =
+    by_probe (IsUnreadOrMemory (status_of e)) told layout from to taps before after e (λ early. early_absent layout before after e absent early)
     (λ missed. absurd (absent_unjudged layout before.held (Ok missed.network) absent missed.judged)) (λ unprobed. absurd (absent_unjudged layout before.held (Ok unprobed.network) absent unprobed.judged))
     (λ probed. absurd (absent_unjudged layout before.held (Ok probed.right.planned.network) absent probed.right.planned.judged)) h
+
+picture_absent : (layout log : List ℕ) (from to : ℕ) (before after : Moment) (e : Ending) → IsPictureEnd layout log from to before after e → IsAbsent layout before.held → IsUnreadOrMemory (status_of e)
+picture_absent layout log from to before after e h absent =
+    by_picture (IsUnreadOrMemory (status_of e)) layout log from to before after e (λ early. early_absent layout before after e absent early)
+    (λ unlogged. absurd (absent_unjudged layout before.held (Ok unlogged.network) absent unlogged.judged)) (λ drawn strange. absurd (absent_unjudged layout before.held (Ok drawn.network) absent drawn.judged))
+    (λ drawn pictured. absurd (absent_unjudged layout before.held (Ok drawn.network) absent drawn.judged)) h
 
 -- a layout that isn't held is not judged
 pub absent_layouts_decide : DoAbsentLayoutsDecide
@@ -129,7 +147,8 @@ absent_layouts_decide words entry exit status answer =
       of_tellings (asked words) entry exit answer.by (λ Tells layout. IsAbsent layout entry.held → IsUnreadOrMemory (status_of answer.by))
           (λ Tells layout end. telling_absent Tells layout entry exit answer.by end) answer.allowed,
       λ layout prefix is. plain_absent layout prefix entry exit answer.by (files_end (asked words) layout prefix entry exit answer.by is answer.allowed),
-      λ layout from to taps is. probe_absent layout from to taps entry exit answer.by (probe_end (asked words) layout from to taps entry exit answer.by is answer.allowed),
+      λ told layout from to taps is. probe_absent told layout from to taps entry exit answer.by (probe_end (asked words) told layout from to taps entry exit answer.by is answer.allowed),
+      λ layout log from to is. picture_absent layout log from to entry exit answer.by (picture_end (asked words) layout log from to entry exit answer.by is answer.allowed),
     )
 
 layout_unrun : ending.Layout ≡ ending.Memory → ⊥
@@ -146,12 +165,16 @@ plain_said layout prefix entry exit h =
 demo_said : (number : ℕ) (entry exit : Moment) → IsDemoEnd number entry exit ending.Layout → ⊥
 demo_said number entry exit h = by_demo ⊥ number entry exit ending.Layout (λ is written. layout_unrun is) (λ text right written. written) h
 
-probe_said : (layout : List ℕ) (from to : ℕ) (taps : List (List ℕ)) (entry exit : Moment) → IsProbeEnd layout from to taps entry exit ending.Layout → IsFaultSaid layout entry exit
-probe_said layout from to taps entry exit h =
-    by_probe (IsFaultSaid layout entry exit) layout from to taps entry exit ending.Layout (λ early. early) (λ missed. absurd missed.missed) (λ unprobed. absurd unprobed.said) (λ probed. absurd probed.written) h
+probe_said : (told : Hearing) (layout : List ℕ) (from to : ℕ) (taps : List (List ℕ)) (entry exit : Moment) → IsProbeEnd told layout from to taps entry exit ending.Layout → IsFaultSaid layout entry exit
+probe_said told layout from to taps entry exit h =
+    by_probe (IsFaultSaid layout entry exit) told layout from to taps entry exit ending.Layout (λ early. early) (λ missed. absurd missed.missed) (λ unprobed. absurd unprobed.said) (λ probed. absurd probed.written) h
 
 meter_said : (log : List ℕ) (entry exit : Moment) → IsMeterEnd log entry exit ending.Layout → ⊥
 meter_said log entry exit h = by_meter ⊥ log entry exit ending.Layout (λ unmetered. unmetered) (λ metered. metered.written) h
+
+picture_said : (layout log : List ℕ) (from to : ℕ) (entry exit : Moment) → IsPictureEnd layout log from to entry exit ending.Layout → IsFaultSaid layout entry exit
+picture_said layout log from to entry exit h =
+    by_picture (IsFaultSaid layout entry exit) layout log from to entry exit ending.Layout (λ early. early) (λ unlogged. absurd unlogged.said) (λ drawn strange. absurd strange) (λ drawn pictured. absurd pictured.text) h
 
 -- status 2 comes of a layout with a fault
 faulty_of : (o : Option Asked) (entry exit : Moment) → IsEndOf o entry exit ending.Layout → IsLayoutWith o (λ layout. IsFaultSaid layout entry exit)
@@ -163,8 +186,9 @@ faulty_of (Some (Slack layout)) entry exit h = elim h.1 [ inl early ↦ early | 
 faulty_of (Some (Plain layout prefix)) entry exit h = plain_said layout prefix entry exit h
 faulty_of (Some (Run layout prefix workers)) entry exit h = plain_said layout prefix entry exit h
 faulty_of (Some (Demo number workers)) entry exit h = demo_said number entry exit h
-faulty_of (Some (Probe layout from to taps)) entry exit h = probe_said layout from to taps entry exit h
+faulty_of (Some (Probe told layout from to taps)) entry exit h = probe_said told layout from to taps entry exit h
 faulty_of (Some (Meter log)) entry exit h = meter_said log entry exit h
+faulty_of (Some (Picture layout log from to)) entry exit h = picture_said layout log from to entry exit h
 
 pub layout_faults_are_said : AreLayoutFaultsSaid
 layout_faults_are_said words entry exit status answer is = faulty_of (asked words) entry exit (end_at words entry exit status 2 answer is)

@@ -8,12 +8,13 @@ pub mod LoadsDecideStatus
 pub mod FilesAfterRuns
 pub mod MetersAreTold
 pub mod ProbesAreTold
+pub mod PicturesAreTold
 pub mod FilesInTurn
 pub mod RunEnds
 pub mod ProbeEnds
+pub mod PictureEnds
 pub mod TapsOfWords
 pub mod TapTexts
-pub mod NumbersInWords
 pub mod DemoTexts
 pub mod DetectionFoundations
 pub mod OctetsOfNames

@@ -11,11 +11,12 @@ use Rattle.load_plan.specs.declared.plan.Plan.{Plan}
 use Rattle.netsim.specs.declared.endings.Ending.{Ending}
 use Rattle.netsim.specs.declared.endings.Ending.TheVariants as ending
 use Rattle.netsim.specs.Moments.{Moment}
-use Rattle.netsim.specs.Endings.{IsAnswer, IsDemoEnd, IsEndOf, IsMeterEnd, IsPlainEnd, IsProbeEnd, IsTellingEnd, IsJudged, IsEarly, IsLoadFaultSaid, IsUnloadedSaid, IsUnreadSaid, IsUnrun, IsFiledEnd, IsText, status_of}
-use Rattle.netsim.specs.Requests.{Asked, asked, Check, Slack, Plain, Run, Demo, Probe, Meter, Help, Version}
-use Rattle.netsim.specs.Statuses.{HasAbsentLoad, HasLoadFault, IsDoneOrMemory, IsFaultStatus, IsInputFaultSaid, IsLoadedWith, IsNetworkWith, IsReadFaultSaid, IsUnhindered, IsUnreadOrMemory}
+use Rattle.netsim.specs.Endings.{IsAnswer, IsDemoEnd, IsEndOf, IsMeterEnd, IsPictureEnd, IsPlainEnd, IsProbeEnd, IsTellingEnd, IsJudged, IsEarly, IsLoadFaultSaid, IsUnloadedSaid, IsUnreadSaid, IsUnrun, IsFiledEnd, IsText, status_of}
+use Rattle.program_words.specs.Requests.{Asked, asked, Check, Slack, Plain, Run, Demo, Probe, Meter, Picture, Help, Version}
+use Rattle.program_words.specs.declared.words.Hearing.{Hearing}
+use Rattle.netsim.specs.Statuses.{HasAbsentLoad, HasLoadFault, IsDoneOrMemory, IsFaultStatus, IsInputFaultSaid, IsLoadedWith, IsNetworkWith, IsPictureUnreadSaid, IsReadFaultSaid, IsUnhindered, IsUnreadOrMemory}
 use Rattle.netsim.specs.StatusLaws.{AreDemosComplete, AreLoadFaultsSaid, AreReadFaultsSaid, AreTellingsComplete, AreTextsComplete, DoAbsentLoadsDecide, DoLoadFaultsDecide}
-use Rattle.netsim.proofs.EndingsByStatus.{by_demo, by_meter, by_probe, by_way, demo_end, end_at, files_end, of_tellings, of_texts}
+use Rattle.netsim.proofs.EndingsByStatus.{by_demo, by_meter, by_picture, by_probe, by_way, demo_end, end_at, files_end, of_tellings, of_texts}
 use Rattle.netsim.proofs.LayoutDecidesStatus.{absent_unjudged, good_or_faulty, same_network}
 
 -- some network was judged good, and its loads are these
@@ -78,6 +79,7 @@ module _ (X : ℕ → Loaded → Type 0) (layout : List ℕ) (before after : Mom
   early_known ending.Memory early = always layout before.held (X 6) says.memory
   early_known ending.Probe early = absurd early
   early_known ending.Log early = absurd early
+  early_known ending.Stranger early = absurd early
 
   pub unloaded_known : (network : Layout) (e : Ending) → IsJudged layout before.held (Ok network) → IsUnloadedSaid network before after e → IfKnown layout before.held (X (status_of e))
   unloaded_known network ending.Done judged said = absurd said
@@ -89,6 +91,7 @@ module _ (X : ℕ → Loaded → Type 0) (layout : List ℕ) (before after : Mom
   unloaded_known network ending.Memory judged said = always layout before.held (X 6) says.memory
   unloaded_known network ending.Probe judged said = absurd said
   unloaded_known network ending.Log judged said = absurd said
+  unloaded_known network ending.Stranger judged said = absurd said
 
   unrun_known : (e : Ending) → IsUnrun before after e → IfKnown layout before.held (X (status_of e))
   unrun_known e unrun = let six : 6 ≡ status_of e = sym (ap status_of unrun.0) in always layout before.held (X (status_of e)) (λ l. subst (λ n. X n l) six (says.memory l))
@@ -186,6 +189,7 @@ filed_whole prefix plan before after ending.Write filed w f = elim filed [ inl a
 filed_whole prefix plan before after ending.Memory filed w f = inr refl
 filed_whole prefix plan before after ending.Probe filed w f = elim filed [ inl all ↦ absurd all.1.2 | inr some ↦ absurd some ]
 filed_whole prefix plan before after ending.Log filed w f = elim filed [ inl all ↦ absurd all.1.2 | inr some ↦ absurd some ]
+filed_whole prefix plan before after ending.Stranger filed w f = elim filed [ inl all ↦ absurd all.1.2 | inr some ↦ absurd some ]
 
 -- a run that nothing hinders is done
 pub complete : (words : List (List ℕ)) (entry exit : Moment) (status : ℕ) → IsAnswer words entry exit status → IsUnhindered words entry exit → IsDoneOrMemory status
@@ -214,6 +218,7 @@ text_whole text before after ending.Write written never = absurd (never written.
 text_whole text before after ending.Memory written never = inr refl
 text_whole text before after ending.Probe written never = absurd written
 text_whole text before after ending.Log written never = absurd written
+text_whole text before after ending.Stranger written never = absurd written
 
 early_told : (layout : List ℕ) (before after : Moment) (e : Ending) → IsEarly layout before after e → IfKnown layout before.held (TellingSays before.reads after.reads before.faults after.faults (status_of e))
 early_told layout before after ending.Done early = absurd early
@@ -226,6 +231,7 @@ early_told layout before after ending.Write early = absurd early
 early_told layout before after ending.Memory early = always layout before.held (TellingSays before.reads after.reads before.faults after.faults 6) (λ l r f. inr refl)
 early_told layout before after ending.Probe early = absurd early
 early_told layout before after ending.Log early = absurd early
+early_told layout before after ending.Stranger early = absurd early
 
 telling_known : (Tells : Layout → List ℕ → Type 0) (layout : List ℕ) (before after : Moment) (e : Ending) → IsTellingEnd Tells layout before after e → IfKnown layout before.held (TellingSays before.reads after.reads before.faults after.faults (status_of e))
 telling_known Tells layout before after e h =
@@ -271,13 +277,17 @@ load_said layout prefix entry exit h =
 load_demo : (number : ℕ) (entry exit : Moment) → IsDemoEnd number entry exit ending.Load → ⊥
 load_demo number entry exit h = by_demo ⊥ number entry exit ending.Load (λ is written. load_unrun is) (λ text right written. written) h
 
-load_probe : (layout : List ℕ) (from to : ℕ) (taps : List (List ℕ)) (entry exit : Moment) → IsProbeEnd layout from to taps entry exit ending.Load → IsNetworkWith layout entry.held (λ network. IsLoadFaultSaid network entry exit)
-load_probe layout from to taps entry exit h =
-    by_probe (IsNetworkWith layout entry.held (λ network. IsLoadFaultSaid network entry exit)) layout from to taps entry exit ending.Load (λ early. absurd early) (λ missed. absurd missed.missed)
+load_probe : (told : Hearing) (layout : List ℕ) (from to : ℕ) (taps : List (List ℕ)) (entry exit : Moment) → IsProbeEnd told layout from to taps entry exit ending.Load → IsNetworkWith layout entry.held (λ network. IsLoadFaultSaid network entry exit)
+load_probe told layout from to taps entry exit h =
+    by_probe (IsNetworkWith layout entry.held (λ network. IsLoadFaultSaid network entry exit)) told layout from to taps entry exit ending.Load (λ early. absurd early) (λ missed. absurd missed.missed)
     (λ unprobed. (unprobed.network, unprobed.judged, unprobed.said)) (λ probed. absurd probed.written) h
 
 load_meter : (log : List ℕ) (entry exit : Moment) → IsMeterEnd log entry exit ending.Load → ⊥
 load_meter log entry exit h = by_meter ⊥ log entry exit ending.Load (λ unmetered. unmetered) (λ metered. metered.written) h
+
+load_picture : (layout log : List ℕ) (from to : ℕ) (entry exit : Moment) → IsPictureEnd layout log from to entry exit ending.Load → ⊥
+load_picture layout log from to entry exit h =
+    by_picture ⊥ layout log from to entry exit ending.Load (λ early. early) (λ unlogged. unlogged.said) (λ drawn strange. strange) (λ drawn pictured. pictured.text) h
 
 load_faulty_of : (o : Option Asked) (entry exit : Moment) → IsEndOf o entry exit ending.Load → IsLoadedWith o (λ layout. IsNetworkWith layout entry.held (λ network. IsLoadFaultSaid network entry exit))
 load_faulty_of None entry exit h = absurd (words_load h.0)
@@ -288,8 +298,9 @@ load_faulty_of (Some (Slack layout)) entry exit h = elim h.1 [ inl early ↦ abs
 load_faulty_of (Some (Plain layout prefix)) entry exit h = load_said layout prefix entry exit h
 load_faulty_of (Some (Run layout prefix workers)) entry exit h = load_said layout prefix entry exit h
 load_faulty_of (Some (Demo number workers)) entry exit h = absurd (load_demo number entry exit h)
-load_faulty_of (Some (Probe layout from to taps)) entry exit h = load_probe layout from to taps entry exit h
+load_faulty_of (Some (Probe told layout from to taps)) entry exit h = load_probe told layout from to taps entry exit h
 load_faulty_of (Some (Meter log)) entry exit h = absurd (load_meter log entry exit h)
+load_faulty_of (Some (Picture layout log from to)) entry exit h = absurd (load_picture layout log from to entry exit h)
 
 -- status 3 comes of a load with a fault
 pub load_faults_are_said : AreLoadFaultsSaid
@@ -303,13 +314,18 @@ unread_said layout prefix entry exit h =
 unread_demo : (number : ℕ) (entry exit : Moment) → IsDemoEnd number entry exit ending.Read → ⊥
 unread_demo number entry exit h = by_demo ⊥ number entry exit ending.Read (λ is written. read_unrun is) (λ text right written. written) h
 
-unread_probe : (layout : List ℕ) (from to : ℕ) (taps : List (List ℕ)) (entry exit : Moment) → IsProbeEnd layout from to taps entry exit ending.Read → IsInputFaultSaid layout entry exit
-unread_probe layout from to taps entry exit h =
-    by_probe (IsInputFaultSaid layout entry exit) layout from to taps entry exit ending.Read (λ early. inl early) (λ missed. absurd missed.missed) (λ unprobed. inr (unprobed.network, unprobed.judged, unprobed.said))
+unread_probe : (told : Hearing) (layout : List ℕ) (from to : ℕ) (taps : List (List ℕ)) (entry exit : Moment) → IsProbeEnd told layout from to taps entry exit ending.Read → IsInputFaultSaid layout entry exit
+unread_probe told layout from to taps entry exit h =
+    by_probe (IsInputFaultSaid layout entry exit) told layout from to taps entry exit ending.Read (λ early. inl early) (λ missed. absurd missed.missed) (λ unprobed. inr (unprobed.network, unprobed.judged, unprobed.said))
     (λ probed. absurd probed.written) h
 
 unread_meter : (log : List ℕ) (entry exit : Moment) → IsMeterEnd log entry exit ending.Read → IsUnreadSaid log entry exit
 unread_meter log entry exit h = by_meter (IsUnreadSaid log entry exit) log entry exit ending.Read (λ unmetered. unmetered) (λ metered. absurd metered.written) h
+
+unread_picture : (layout log : List ℕ) (from to : ℕ) (entry exit : Moment) → IsPictureEnd layout log from to entry exit ending.Read → IsPictureUnreadSaid layout log entry exit
+unread_picture layout log from to entry exit h =
+    by_picture (IsPictureUnreadSaid layout log entry exit) layout log from to entry exit ending.Read (λ early. inl early) (λ unlogged. inr (unlogged.network, unlogged.judged, unlogged.said)) (λ drawn strange. absurd strange)
+    (λ drawn pictured. absurd pictured.text) h
 
 unread_of : (o : Option Asked) (entry exit : Moment) → IsEndOf o entry exit ending.Read → IsReadFaultSaid o entry exit
 unread_of None entry exit h = absurd (words_read h.0)
@@ -320,8 +336,9 @@ unread_of (Some (Slack layout)) entry exit h = elim h.1 [ inl early ↦ early | 
 unread_of (Some (Plain layout prefix)) entry exit h = unread_said layout prefix entry exit h
 unread_of (Some (Run layout prefix workers)) entry exit h = unread_said layout prefix entry exit h
 unread_of (Some (Demo number workers)) entry exit h = unread_demo number entry exit h
-unread_of (Some (Probe layout from to taps)) entry exit h = unread_probe layout from to taps entry exit h
+unread_of (Some (Probe told layout from to taps)) entry exit h = unread_probe told layout from to taps entry exit h
 unread_of (Some (Meter log)) entry exit h = unread_meter log entry exit h
+unread_of (Some (Picture layout log from to)) entry exit h = unread_picture layout log from to entry exit h
 
 -- status 4 comes of a file that isn't held or of a failed read
 pub read_faults_are_said : AreReadFaultsSaid

@@ -10,7 +10,7 @@ use Rattle.network.specs.declared.outputs.Taken.{Taken}
 use Rattle.outside.specs.Files.{Files, file_of, with_file}
 use Rattle.outside.specs.declared.memory.File.{File}
 use Rattle.netsim.specs.Runs.{capture_files, counters, log, run_files}
-use Rattle.netsim.specs.Texts.{name_of_capture, name_of_counters, name_of_log}
+use Rattle.program_texts.specs.Texts.{name_of_capture, name_of_counters, name_of_log}
 use Rattle.netsim.specs.Writing.{put_all}
 use Rattle.netsim.proofs.WrittenByPieces.{file_of-with_file}
 

@@ -14,9 +14,9 @@ use Rattle.netsim.specs.MeterLaws.{AreLogFaultsSaid, AreMetersComplete, AreMeter
 use Rattle.netsim.specs.Meters.{HasLog, HasLogFault, IsFaultOfLog, IsFaultyLog, IsMeterText, IsReadLog}
 use Rattle.netsim.specs.Moments.{Moment}
 use Rattle.netsim.specs.Reading.{front_of}
-use Rattle.netsim.specs.Requests.{Asked, asked, Check, Slack, Plain, Run, Demo, Probe, Meter, Help, Version}
-use Rattle.netsim.specs.Statuses.{IfMeter, IsDoneOrMemory, IsFaultStatus, IsMeterCut, IsMeterDone, IsMeterWith, IsUnreadOrMemory}
-use Rattle.netsim.proofs.EndingsByStatus.{by_demo, by_meter, by_probe, by_way, end_at, meter_end}
+use Rattle.program_words.specs.Requests.{Asked, asked, Check, Slack, Plain, Run, Demo, Probe, Meter, Picture, Help, Version}
+use Rattle.netsim.specs.Statuses.{IfMeter, IsDoneOrMemory, IsFaultStatus, IsMeterCut, IsMeterDone, IsLogWith, IsUnreadOrMemory}
+use Rattle.netsim.proofs.EndingsByStatus.{by_demo, by_meter, by_picture, by_probe, by_way, end_at, meter_end}
 use Rattle.netsim.proofs.LayoutDecidesStatus.{some_of, unread_status}
 use Rattle.netsim.proofs.LoadsDecideStatus.{text_whole}
 
@@ -28,15 +28,15 @@ faultless octets (fault.Order n) lines few log faulty = let e = one_judgement oc
 faultless octets fault.OutOfMemory lines few log faulty = faulty
 
 -- what is read of a log is only ever the same
-same_octets : (log : List ℕ) (files : Files) (a b : List ℕ) → IsReadLog log (Some files) a → IsReadLog log (Some files) b → a ≡ b
+pub same_octets : (log : List ℕ) (files : Files) (a b : List ℕ) → IsReadLog log (Some files) a → IsReadLog log (Some files) b → a ≡ b
 same_octets log files a b one two = cc
 
-log_or_fault : (log : List ℕ) (files : Files) (octets : List ℕ) (lines : List LogLine) → IsReadLog log (Some files) octets → length octets ≤ most_log_octets → IsLogOf octets lines → IsFaultyLog log (Some files) → ⊥
+pub log_or_fault : (log : List ℕ) (files : Files) (octets : List ℕ) (lines : List LogLine) → IsReadLog log (Some files) octets → length octets ≤ most_log_octets → IsLogOf octets lines → IsFaultyLog log (Some files) → ⊥
 log_or_fault log files octets lines read few is has =
     faultless octets has.0 lines few is (subst (λ (xs : List ℕ). IsFaultOfLog xs has.0) (same_octets log files has.1.octets octets has.1.read read) has.1.faulty)
 
 -- a log that isn't held isn't read
-absent_unread : (log : List ℕ) (held : Option Files) (octets : List ℕ) → IsAbsent log held → IsReadLog log held octets → ⊥
+pub absent_unread : (log : List ℕ) (held : Option Files) (octets : List ℕ) → IsAbsent log held → IsReadLog log held octets → ⊥
 unfolding front_of
 absent_unread log None octets absent read = absent
 absent_unread log (Some files) octets absent read = let e = rw absent at read in cc
@@ -46,7 +46,7 @@ told_faultless : (X : Type 0) (log : List ℕ) (held : Option Files) (text : Lis
 told_faultless X log None text right = tt
 told_faultless X log (Some files) text right = λ has. absurd (log_or_fault log files right.octets right.figures.lines right.read right.few right.figures.log has)
 
-absent_faulty : (log : List ℕ) (files : Files) → IsAbsent log (Some files) → IsFaultyLog log (Some files) → ⊥
+pub absent_faulty : (log : List ℕ) (files : Files) → IsAbsent log (Some files) → IsFaultyLog log (Some files) → ⊥
 absent_faulty log files absent has = absent_unread log (Some files) has.1.octets absent has.1.read
 
 module _ (log : List ℕ) (before after : Moment) where
@@ -61,6 +61,7 @@ module _ (log : List ℕ) (before after : Moment) where
   unmetered_faulty ending.Memory h = some_of before.held _ (λ files has. inr (inl refl))
   unmetered_faulty ending.Probe h = absurd h
   unmetered_faulty ending.Log h = some_of before.held _ (λ files has. inl refl)
+  unmetered_faulty ending.Stranger h = absurd h
 
   unmetered_absent : (e : Ending) → IsUnmetered log before after e → IsAbsent log before.held → IsUnreadOrMemory (status_of e)
   unmetered_absent ending.Done h absent = absurd h
@@ -72,6 +73,7 @@ module _ (log : List ℕ) (before after : Moment) where
   unmetered_absent ending.Memory h absent = inr refl
   unmetered_absent ending.Probe h absent = absurd h
   unmetered_absent ending.Log h absent = absurd (absent_unread log before.held h.1.octets absent h.1.read)
+  unmetered_absent ending.Stranger h absent = absurd h
 
 -- status 8 where the log has a fault
 pub log_faults_decide : DoLogFaultsDecide
@@ -93,7 +95,7 @@ log_unrun : ending.Log ≡ ending.Memory → ⊥
 log_unrun e = cc
 
 -- status 8 comes of a log with a fault
-log_faulty_of : (o : Option Asked) (entry exit : Moment) → IsEndOf o entry exit ending.Log → IsMeterWith o (λ log. IsLogFaultSaid log entry exit)
+log_faulty_of : (o : Option Asked) (entry exit : Moment) → IsEndOf o entry exit ending.Log → IsLogWith o (λ log. IsLogFaultSaid log entry exit)
 log_faulty_of None entry exit h = absurd (words_log h.0)
 log_faulty_of (Some Help) entry exit h = absurd h.0
 log_faulty_of (Some Version) entry exit h = absurd h.0
@@ -104,9 +106,11 @@ log_faulty_of (Some (Plain layout prefix)) entry exit h =
 log_faulty_of (Some (Run layout prefix workers)) entry exit h =
     by_way ⊥ layout prefix entry exit ending.Log (λ early. early) (λ unloaded. unloaded.said) (λ unrun. log_unrun unrun.0) (λ run. elim run.filed [ inl all ↦ all.1.2 | inr some ↦ some ]) h
 log_faulty_of (Some (Demo number workers)) entry exit h = by_demo ⊥ number entry exit ending.Log (λ is written. log_unrun is) (λ text right written. written) h
-log_faulty_of (Some (Probe layout from to taps)) entry exit h =
-    by_probe ⊥ layout from to taps entry exit ending.Log (λ early. early) (λ missed. missed.missed) (λ unprobed. unprobed.said) (λ probed. probed.written) h
+log_faulty_of (Some (Probe told layout from to taps)) entry exit h =
+    by_probe ⊥ told layout from to taps entry exit ending.Log (λ early. early) (λ missed. missed.missed) (λ unprobed. unprobed.said) (λ probed. probed.written) h
 log_faulty_of (Some (Meter log)) entry exit h = by_meter (IsLogFaultSaid log entry exit) log entry exit ending.Log (λ unmetered. unmetered) (λ metered. absurd metered.written) h
+log_faulty_of (Some (Picture layout log from to)) entry exit h =
+    by_picture (IsLogFaultSaid log entry exit) layout log from to entry exit ending.Log (λ early. absurd early) (λ unlogged. unlogged.said) (λ drawn strange. absurd strange) (λ drawn pictured. absurd pictured.text) h
 
 pub log_faults_are_said : AreLogFaultsSaid
 log_faults_are_said words entry exit status answer is = log_faulty_of (asked words) entry exit (end_at words entry exit status 8 answer is)
@@ -154,6 +158,7 @@ module _ (log : List ℕ) (before after : Moment) where
   unmetered_whole ending.Memory h = some_of before.held _ (λ files lines has r f. inr refl)
   unmetered_whole ending.Probe h = absurd h
   unmetered_whole ending.Log h = faulty_whole log before.held h.0 before.reads after.reads before.faults after.faults h.1
+  unmetered_whole ending.Stranger h = absurd h
 
 -- meter is done where nothing hinders it
 pub meters_are_complete : AreMetersComplete

@@ -15,9 +15,10 @@ use Rattle.netsim.specs.Endings.{IsAimEnd, IsAnswer, IsEarly, IsEndOf, IsJudged,
 use Rattle.netsim.specs.Moments.{Moment}
 use Rattle.netsim.specs.ProbeLaws.{AreMissesSaid, AreProbesComplete, AreProbesCutShort, AreProbesRefused, DoMissesDecide, DoProbedAbsentLoadsDecide, DoProbedLoadFaultsDecide, DoProbesKeepFiles}
 use Rattle.netsim.specs.Probes.{AreTapsOf, HasAim, HasNoAim}
-use Rattle.netsim.specs.Requests.{Asked, asked, Check, Slack, Plain, Run, Demo, Probe, Meter, Help, Version}
-use Rattle.netsim.specs.Statuses.{IfProbe, IsDoneOrMemory, IsFaultStatus, IsMissSaid, IsNetworkWith, IsProbeCut, IsProbeDone, IsProbeWith, IsUnreadOrMemory}
-use Rattle.netsim.proofs.EndingsByStatus.{by_demo, by_meter, by_probe, by_way, end_at, probe_end}
+use Rattle.program_words.specs.Requests.{Asked, asked, Check, Slack, Plain, Run, Demo, Probe, Meter, Picture, Help, Version}
+use Rattle.program_words.specs.declared.words.Hearing.{Hearing}
+use Rattle.netsim.specs.Statuses.{IfHeard, IsDoneOrMemory, IsFaultStatus, IsMissSaid, IsNetworkWith, IsProbeCut, IsProbeDone, IsProbeWith, IsUnreadOrMemory}
+use Rattle.netsim.proofs.EndingsByStatus.{by_demo, by_meter, by_picture, by_probe, by_way, end_at, probe_end}
 use Rattle.netsim.proofs.LayoutDecidesStatus.{absent_unjudged, good_or_faulty, same_network, some_of, unread_status}
 use Rattle.netsim.proofs.LoadsDecideStatus.{IfKnown, IsKnown, Says, absent_says, early_known, fault_says, known_loads, text_whole, unloaded_known}
 
@@ -49,6 +50,7 @@ missed_of network to taps written now refused risen ending.Write h = absurd h
 missed_of network to taps written now refused risen ending.Memory h = inr refl
 missed_of network to taps written now refused risen ending.Probe h = inl (elim h.1 [ inl unknown ↦ inl (unknown.0, unknown.1) | inr past ↦ inr past.2 ])
 missed_of network to taps written now refused risen ending.Log h = absurd h
+missed_of network to taps written now refused risen ending.Stranger h = absurd h
 
 missed_status : (network : Layout) (to : ℕ) (taps : List (List ℕ)) (written now : Option (List ℕ)) (refused risen : ℕ) (e : Ending) → IsAimEnd network to taps written now refused risen e → (status_of e ≡ 7) ⊎ (status_of e ≡ 6)
 missed_status network to taps written now refused risen ending.Done h = absurd h
@@ -60,6 +62,7 @@ missed_status network to taps written now refused risen ending.Write h = absurd 
 missed_status network to taps written now refused risen ending.Memory h = inr refl
 missed_status network to taps written now refused risen ending.Probe h = inl refl
 missed_status network to taps written now refused risen ending.Log h = absurd h
+missed_status network to taps written now refused risen ending.Stranger h = absurd h
 
 -- this network was judged good and misses something
 abbrev IsMissing : List ℕ → ℕ → List (List ℕ) → Files → Type 0
@@ -90,23 +93,24 @@ module _ (layout : List ℕ) (to : ℕ) (taps : List (List ℕ)) (before after :
   early_missing ending.Memory early = some_of before.held _ (λ files miss. inr (inl refl))
   early_missing ending.Probe early = absurd early
   early_missing ending.Log early = absurd early
+  early_missing ending.Stranger early = absurd early
 
   missed_missing : (e : Ending) → IsMissed layout to taps before after e → IfSome before.held (λ files. IsMissing layout to taps files → IsFaultStatus 7 (status_of e) before.reads after.reads)
   missed_missing e missed =
       some_of before.held _ (λ files miss. elim (missed_status missed.network to taps before.written after.written before.refused after.refused e missed.missed) [ inl seven ↦ inl seven | inr six ↦ inr (inl six) ])
 
-aim_of : (layout : List ℕ) (from to : ℕ) (taps : List (List ℕ)) (before after : Moment) (e : Ending) (probed : IsProbed layout from to taps before after e) → HasAim probed.right.planned.network to taps
-aim_of layout from to taps before after e probed =
+aim_of : (told : Hearing) (layout : List ℕ) (from to : ℕ) (taps : List (List ℕ)) (before after : Moment) (e : Ending) (probed : IsProbed told layout from to taps before after e) → HasAim probed.right.planned.network to taps
+aim_of told layout from to taps before after e probed =
     subst (λ (n : Layout). HasAim n to taps) probed.right.planned.is.layout (record { taps = probed.right.taps; named = probed.right.named; within = probed.right.within })
 
 -- status 7 where the layout has no fault, and not what the probe aims at
 pub misses_decide : DoMissesDecide
-misses_decide words entry exit status answer layout from to taps is =
-    rw answer.is (by_probe (IfSome entry.held (λ files. IsMissing layout to taps files → IsFaultStatus 7 (status_of answer.by) entry.reads exit.reads)) layout from to taps entry exit answer.by
+misses_decide words entry exit status answer told layout from to taps is =
+    rw answer.is (by_probe (IfSome entry.held (λ files. IsMissing layout to taps files → IsFaultStatus 7 (status_of answer.by) entry.reads exit.reads)) told layout from to taps entry exit answer.by
     (early_missing layout to taps entry exit answer.by) (missed_missing layout to taps entry exit answer.by)
     (λ unprobed. found_in (IsFaultStatus 7 (status_of answer.by) entry.reads exit.reads) layout to taps entry.held unprobed.network unprobed.judged unprobed.aim)
-    (λ probed. found_in (IsFaultStatus 7 (status_of answer.by) entry.reads exit.reads) layout to taps entry.held probed.right.planned.network probed.right.planned.judged (aim_of layout from to taps entry exit answer.by probed))
-    (probe_end (asked words) layout from to taps entry exit answer.by is answer.allowed))
+    (λ probed. found_in (IsFaultStatus 7 (status_of answer.by) entry.reads exit.reads) layout to taps entry.held probed.right.planned.network probed.right.planned.judged (aim_of told layout from to taps entry exit answer.by probed))
+    (probe_end (asked words) told layout from to taps entry exit answer.by is answer.allowed))
 
 words_probe : ending.Probe ≡ ending.Words → ⊥
 words_probe e = cc
@@ -127,10 +131,12 @@ missed_said_of (Some (Plain layout prefix)) entry exit h =
 missed_said_of (Some (Run layout prefix workers)) entry exit h =
     by_way ⊥ layout prefix entry exit ending.Probe (λ early. early) (λ unloaded. unloaded.said) (λ unrun. probe_unrun unrun.0) (λ run. elim run.filed [ inl all ↦ all.1.2 | inr some ↦ some ]) h
 missed_said_of (Some (Demo number workers)) entry exit h = by_demo ⊥ number entry exit ending.Probe (λ is written. probe_unrun is) (λ text right written. written) h
-missed_said_of (Some (Probe layout from to taps)) entry exit h =
-    by_probe (IsNetworkWith layout entry.held (λ network. IsMissSaid network to taps entry exit)) layout from to taps entry exit ending.Probe (λ early. absurd early) (λ missed. (missed.network, missed.judged, missed.missed))
+missed_said_of (Some (Probe told layout from to taps)) entry exit h =
+    by_probe (IsNetworkWith layout entry.held (λ network. IsMissSaid network to taps entry exit)) told layout from to taps entry exit ending.Probe (λ early. absurd early) (λ missed. (missed.network, missed.judged, missed.missed))
     (λ unprobed. absurd unprobed.said) (λ probed. absurd probed.written) h
 missed_said_of (Some (Meter log)) entry exit h = by_meter ⊥ log entry exit ending.Probe (λ unmetered. unmetered) (λ metered. metered.written) h
+missed_said_of (Some (Picture layout log from to)) entry exit h =
+    by_picture ⊥ layout log from to entry exit ending.Probe (λ early. early) (λ unlogged. unlogged.said) (λ drawn strange. strange) (λ drawn pictured. pictured.text) h
 
 pub misses_are_said : AreMissesSaid
 misses_are_said words entry exit status answer is = missed_said_of (asked words) entry exit (end_at words entry exit status 7 answer is)
@@ -155,16 +161,16 @@ aimed_missed layout to taps (Some files) X network e judged miss memory =
     ]
 
 -- what an end of a probe says of its loads, where it is known what it says of one that is done
-probe_known : (X : ℕ → Loaded → Type 0) (layout : List ℕ) (from to : ℕ) (taps : List (List ℕ)) (before after : Moment) (e : Ending) → Says X before.reads after.reads
-    → ((loads : List (List Record)) → IsProbed layout from to taps before after e → X (status_of e) (Whole loads)) → IsProbeEnd layout from to taps before after e → IfAimed layout to taps before.held (X (status_of e))
-probe_known X layout from to taps before after e says told h =
-    by_probe (IfAimed layout to taps before.held (X (status_of e))) layout from to taps before after e
+probe_known : (X : ℕ → Loaded → Type 0) (told : Hearing) (layout : List ℕ) (from to : ℕ) (taps : List (List ℕ)) (before after : Moment) (e : Ending) → Says X before.reads after.reads
+    → ((loads : List (List Record)) → IsProbed told layout from to taps before after e → X (status_of e) (Whole loads)) → IsProbeEnd told layout from to taps before after e → IfAimed layout to taps before.held (X (status_of e))
+probe_known X told layout from to taps before after e says done h =
+    by_probe (IfAimed layout to taps before.held (X (status_of e))) told layout from to taps before after e
     (λ early. aimed_known layout to taps before.held (X (status_of e)) (early_known X layout before after says e early))
     (λ missed. aimed_missed layout to taps before.held (X (status_of e)) missed.network e missed.judged (missed_of missed.network to taps before.written after.written before.refused after.refused e missed.missed)
     (λ six l. subst (λ (a : Ending). X (status_of a) l) (symmetric six) (says.memory l)))
     (λ unprobed. aimed_known layout to taps before.held (X (status_of e)) (unloaded_known X layout before after says unprobed.network e unprobed.judged unprobed.said))
     (λ probed. aimed_known layout to taps before.held (X (status_of e))
-    (known_loads layout before.held probed.right.planned.network (Whole probed.right.planned.is.loads) (X (status_of e)) probed.right.planned.judged probed.right.planned.is.loaded (told probed.right.planned.is.loads probed))) h
+    (known_loads layout before.held probed.right.planned.network (Whole probed.right.planned.is.loads) (X (status_of e)) probed.right.planned.judged probed.right.planned.is.loaded (done probed.right.planned.is.loads probed))) h
   where
     symmetric : e ≡ ending.Memory → ending.Memory ≡ e
     symmetric is = cc
@@ -183,10 +189,10 @@ whole_or : (X : Type 0) (loads : List (List Record)) (station : ℕ) (f : Captur
 whole_or X loads station f is = absurd (cc)
 
 pub probed_load_faults_decide : DoProbedLoadFaultsDecide
-probed_load_faults_decide words entry exit status answer layout from to taps is =
+probed_load_faults_decide words entry exit status answer told layout from to taps is =
     rw answer.is (aimed_fault layout to taps entry.held (status_of answer.by) entry.reads exit.reads
-    (probe_known (ProbedFaultSays entry.reads exit.reads) layout from to taps entry exit answer.by (fault_says entry.reads exit.reads) (λ loads probed station f w. whole_or _ loads station f w)
-    (probe_end (asked words) layout from to taps entry exit answer.by is answer.allowed)))
+    (probe_known (ProbedFaultSays entry.reads exit.reads) told layout from to taps entry exit answer.by (fault_says entry.reads exit.reads) (λ loads probed station f w. whole_or _ loads station f w)
+    (probe_end (asked words) told layout from to taps entry exit answer.by is answer.allowed)))
 
 -- a load that isn't held has its status
 abbrev ProbedAbsentSays : ℕ → Loaded → Type 0
@@ -201,30 +207,30 @@ whole_absent : (X : Type 0) (loads : List (List Record)) (name : List ℕ) → W
 whole_absent X loads name is = absurd (cc)
 
 pub probed_absent_loads_decide : DoProbedAbsentLoadsDecide
-probed_absent_loads_decide words entry exit status answer layout from to taps is =
+probed_absent_loads_decide words entry exit status answer told layout from to taps is =
     rw answer.is (aimed_absent layout to taps entry.held (status_of answer.by)
-    (probe_known ProbedAbsentSays layout from to taps entry exit answer.by (absent_says entry.reads exit.reads) (λ loads probed name w. whole_absent _ loads name w)
-    (probe_end (asked words) layout from to taps entry exit answer.by is answer.allowed)))
+    (probe_known ProbedAbsentSays told layout from to taps entry exit answer.by (absent_says entry.reads exit.reads) (λ loads probed name w. whole_absent _ loads name w)
+    (probe_end (asked words) told layout from to taps entry exit answer.by is answer.allowed)))
 
 -- status 0 of probe
-pub probed : (words : List (List ℕ)) (entry exit : Moment) (status : ℕ) → IsAnswer words entry exit status → status ≡ 0 → IfProbe (asked words) (λ layout from to taps. IsProbeDone layout from to taps entry exit)
-probed words entry exit status answer zero layout from to taps is =
-    let end : IsProbeEnd layout from to taps entry exit ending.Done = probe_end (asked words) layout from to taps entry exit ending.Done is (end_at words entry exit status 0 answer zero) in
-    by_probe (IsProbeDone layout from to taps entry exit) layout from to taps entry exit ending.Done (λ early. absurd early) (λ missed. absurd missed.missed) (λ unprobed. absurd unprobed.said)
+pub probed : (words : List (List ℕ)) (entry exit : Moment) (status : ℕ) → IsAnswer words entry exit status → status ≡ 0 → IfHeard (asked words) (λ told layout from to taps. IsProbeDone told layout from to taps entry exit)
+probed words entry exit status answer zero told layout from to taps is =
+    let end : IsProbeEnd told layout from to taps entry exit ending.Done = probe_end (asked words) told layout from to taps entry exit ending.Done is (end_at words entry exit status 0 answer zero) in
+    by_probe (IsProbeDone told layout from to taps entry exit) told layout from to taps entry exit ending.Done (λ early. absurd early) (λ missed. absurd missed.missed) (λ unprobed. absurd unprobed.said)
     (λ p. record { text = p.text; right = p.right; written = p.written; held = end.0 }) end
 
 pub probes_are_cut_short : AreProbesCutShort
-probes_are_cut_short words entry exit status answer five layout from to taps is =
-    by_probe (Rose entry.faults exit.faults × IsProbeCut layout from to taps entry exit) layout from to taps entry exit ending.Write (λ early. absurd early) (λ missed. absurd missed.missed) (λ unprobed. absurd unprobed.said)
-    (λ p. (p.written.1, record { text = p.text; right = p.right; cut = p.written.0 })) (probe_end (asked words) layout from to taps entry exit ending.Write is (end_at words entry exit status 5 answer five))
+probes_are_cut_short words entry exit status answer five told layout from to taps is =
+    by_probe (Rose entry.faults exit.faults × IsProbeCut told layout from to taps entry exit) told layout from to taps entry exit ending.Write (λ early. absurd early) (λ missed. absurd missed.missed) (λ unprobed. absurd unprobed.said)
+    (λ p. (p.written.1, record { text = p.text; right = p.right; cut = p.written.0 })) (probe_end (asked words) told layout from to taps entry exit ending.Write is (end_at words entry exit status 5 answer five))
 
 pub probes_are_refused : AreProbesRefused
-probes_are_refused words entry exit status answer six layout from to taps is =
-    by_probe ((exit.written ≡ entry.written) ⊎ IsProbeCut layout from to taps entry exit) layout from to taps entry exit ending.Memory (λ early. inl early) (λ missed. inl missed.missed) (λ unprobed. inl unprobed.said)
-    (λ p. inr (record { text = p.text; right = p.right; cut = p.written })) (probe_end (asked words) layout from to taps entry exit ending.Memory is (end_at words entry exit status 6 answer six))
+probes_are_refused words entry exit status answer six told layout from to taps is =
+    by_probe ((exit.written ≡ entry.written) ⊎ IsProbeCut told layout from to taps entry exit) told layout from to taps entry exit ending.Memory (λ early. inl early) (λ missed. inl missed.missed) (λ unprobed. inl unprobed.said)
+    (λ p. inr (record { text = p.text; right = p.right; cut = p.written })) (probe_end (asked words) told layout from to taps entry exit ending.Memory is (end_at words entry exit status 6 answer six))
 
 pub probes_keep_files : DoProbesKeepFiles
-probes_keep_files words entry exit status answer layout from to taps is = (probe_end (asked words) layout from to taps entry exit answer.by is answer.allowed).0
+probes_keep_files words entry exit status answer told layout from to taps is = (probe_end (asked words) told layout from to taps entry exit answer.by is answer.allowed).0
 
 -- whole loads, and no fault of the outside
 abbrev ProbedWholeSays : ℕ → ℕ → ℕ → ℕ → ℕ → Loaded → Type 0
@@ -246,7 +252,7 @@ aimed_whole layout to taps (Some files) n reads read faults faulted known =
 
 -- a probe that nothing hinders is done
 pub probes_are_complete : AreProbesComplete
-probes_are_complete words entry exit status answer layout from to taps is =
+probes_are_complete words entry exit status answer told layout from to taps is =
     rw answer.is (aimed_whole layout to taps entry.held (status_of answer.by) entry.reads exit.reads entry.faults exit.faults
-    (probe_known (ProbedWholeSays entry.reads exit.reads entry.faults exit.faults) layout from to taps entry exit answer.by (probed_whole_says entry.reads exit.reads entry.faults exit.faults)
-    (λ loads p again w r f. text_whole p.text entry exit answer.by p.written f) (probe_end (asked words) layout from to taps entry exit answer.by is answer.allowed)))
+    (probe_known (ProbedWholeSays entry.reads exit.reads entry.faults exit.faults) told layout from to taps entry exit answer.by (probed_whole_says entry.reads exit.reads entry.faults exit.faults)
+    (λ loads p again w r f. text_whole p.text entry exit answer.by p.written f) (probe_end (asked words) told layout from to taps entry exit answer.by is answer.allowed)))

@@ -25,6 +25,7 @@ unfiled_by prefix plan before after ending.Write broken end silent = (broken, en
 unfiled_by prefix plan before after ending.Memory broken end silent = (broken, silent)
 unfiled_by prefix plan before after ending.Probe broken end silent = absurd end
 unfiled_by prefix plan before after ending.Log broken end silent = absurd end
+unfiled_by prefix plan before after ending.Stranger broken end silent = absurd end
 
 -- a file could not be written
 pub run-unfiled : (plan : Plan) (prefix : List ℕ) (before after : Moment) (e : Ending) → IsBrokenAmong (run_files prefix plan) before.held after.held → IsFileEnd before.writes after.writes e → after.written ≡ before.written
@@ -45,6 +46,7 @@ unfiled_before prefix plan before mid after ending.Write read un =
 unfiled_before prefix plan before mid after ending.Memory read un = (rw read.held at un.0, rw read.written at un.1)
 unfiled_before prefix plan before mid after ending.Probe read un = un
 unfiled_before prefix plan before mid after ending.Log read un = un
+unfiled_before prefix plan before mid after ending.Stranger read un = un
 
 filed_before : (prefix : List ℕ) (plan : Plan) (before mid after : Moment) (e : Ending) → HasOnlyRead before mid → IsFiledEnd prefix plan mid after e → IsFiledEnd prefix plan before after e
 filed_before prefix plan before mid after e read filed =
@@ -82,6 +84,7 @@ unloaded_before network before mid after ending.Write read said = said
 unloaded_before network before mid after ending.Memory read said = rw read.written at said
 unloaded_before network before mid after ending.Probe read said = said
 unloaded_before network before mid after ending.Log read said = said
+unloaded_before network before mid after ending.Stranger read said = said
 
 -- the loads of a layout could not be read
 pub plan-unloaded : (layout : List ℕ) (network : Layout) (before mid after : Moment) (e : Ending) → HasOnlyRead before mid → IsJudged layout before.held (Ok network) → after.held ≡ mid.held → IsUnloadedSaid network mid after e

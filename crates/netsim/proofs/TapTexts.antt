@@ -16,8 +16,8 @@ use Rattle.line_probe.specs.declared.run.Run.{Run}
 use Rattle.line_probe.specs.declared.tap.Tap.{Tap}
 use Rattle.line_probe.proofs.RunsSoFar.{first_run, longer, run_begins, run_goes_on}
 use Rattle.line_probe.proofs.SameSymbols.{other_symbols, same_symbols}
-use Rattle.netsim.specs.Probes.{IsTextOfTap, IsTextOfTaps, text_of_bursts}
-use Rattle.netsim.specs.Texts.{line_of_tap}
+use Rattle.program_texts.specs.HeardTexts.{IsTextOfTap, IsTextOfTaps, text_of_bursts}
+use Rattle.program_texts.specs.Texts.{line_of_tap}
 use Rattle.netsim.specs.Writing.{IsCutShort, added}
 
 -- ---- there are runs of all symbols
@@ -41,16 +41,6 @@ some_runs from [] = ([], record { joined = tt; maximal = tt; symbols_are = refl 
 some_runs from (s ∷ ss) = grown from ss (s ∷ []) [] (record { start = from; count = 1; symbol = s }) (first_run from s)
 
 -- ---- there is a text of what taps hear
-
--- a tap hears a symbol in each half bit
-pub heard_long : (plan : Plan) (tap : Tap) (from n : ℕ) → length (heard_from plan tap from n) ≡ n
-heard_long plan tap from zero = refl
-heard_long plan tap from (suc n) = ap suc (heard_long plan tap (from + 1) n)
-
--- a line, and then two texts
-pub text_joined : (new mid after done line a b runs bursts : List ℕ) → new ≡ [] → mid ≡ new ++ line → after ≡ mid ++ a → done ≡ after ++ b → a ≡ runs → b ≡ bursts → done ≡ line ++ runs ++ bursts
-text_joined new mid after done line a b runs bursts none one two three same_runs same_bursts =
-    rw (← same_runs, ← same_bursts) (three ∙ ap (λ (xs : List ℕ). xs ++ b) (two ∙ ap (λ (xs : List ℕ). xs ++ a) (one ∙ ap (λ (xs : List ℕ). xs ++ line) none)))
 
 some_text : (plan : Plan) (from n : ℕ) (word : List ℕ) (tap : Tap) → (text : List ℕ) × IsTextOfTap plan from n word tap text
 some_text plan from n word tap =

@@ -11,24 +11,31 @@ use Rattle.load_files.specs.Loaded.{IsLoaded, IsFirstAbsent, Faulty, load_of}
 use Rattle.load_plan.specs.declared.plan.Plan.{Plan}
 use Rattle.log_meter.specs.FigureTexts.{line_of_log_with}
 use Rattle.log_meter.specs.declared.fault.LogFault.{LogFault}
+use Rattle.log_meter.specs.declared.line.LogLine.{LogLine}
 use Rattle.network.specs.Outputs.{half_bits}
 use Rattle.netsim.specs.FileLimits.{most_layout}
 use Rattle.netsim.specs.Reading.{front_of}
 use Rattle.netsim.specs.Writing.{put_all, added, IsBrokenAmong, IsSaid, IsCutShort}
 use Rattle.netsim.specs.Moments.{Moment}
 use Rattle.netsim.specs.Demos.{IsDemoText}
-use Rattle.netsim.specs.Meters.{HasLogFault, IsMeterText}
-use Rattle.netsim.specs.Probes.{AreTapsOf, HasAim, IsMissLine, IsTextOfTaps}
-use Rattle.netsim.specs.Requests.{Asked, asked, Check, Slack, Plain, Run, Demo, Probe, Meter, Help, Version}
+use Rattle.netsim.specs.Meters.{HasLog, HasLogFault, IsMeterText}
+use Rattle.netsim.specs.Probes.{AreTapsOf, HasAim, IsMissLine}
+use Rattle.program_texts.specs.HeardTexts.{IsTextOfTaps}
+use Rattle.program_words.specs.Requests.{Asked, asked, Check, Slack, Plain, Run, Demo, Probe, Meter, Picture, Help, Version}
+use Rattle.program_words.specs.declared.words.Hearing.{Hearing}
+use Rattle.program_words.specs.declared.words.Hearing.TheVariants as hearing
 use Rattle.netsim.specs.Runs.{IsPlanOf, run_files, IsSummary}
-use Rattle.netsim.specs.SlackTexts.{IsSlackText}
-use Rattle.netsim.specs.Texts.{line_of_words_fault, line_of_fault, line_of_load_fault, line_of_read_fault}
-use Rattle.netsim.specs.Verdicts.{IsVerdictLine}
+use Rattle.run_picture.specs.Pictures.{picture_of}
+use Rattle.run_picture.specs.Strangers.{first_stranger}
+use Rattle.wave_dump.specs.Heard.{waves_of_plan}
+use Rattle.program_texts.specs.SlackTexts.{IsSlackText}
+use Rattle.program_texts.specs.Texts.{line_of_words_fault, line_of_fault, line_of_load_fault, line_of_read_fault, line_of_stranger}
+use Rattle.program_texts.specs.Verdicts.{IsVerdictLine}
 use Rattle.netsim.specs.declared.endings.Ending.{Ending}
 use Rattle.netsim.specs.declared.endings.Ending.TheVariants as ending
 use Rattle.netsim.specs.declared.tell.Telling.{Telling}
 use Rattle.netsim.specs.declared.tell.Telling.TheVariants as telling
-use Rattle.netsim.specs.declared.texts.TheConstants.{HELP, VERSION}
+use Rattle.program_texts.specs.declared.texts.TheConstants.{HELP, VERSION}
 
 -- where the store tells its files, the layout was there and was judged so, whole or at one octet past the most that
 -- it may have
@@ -83,6 +90,7 @@ IsEarly name before after ending.Write = ⊥
 IsEarly name before after ending.Memory = after.written ≡ before.written
 IsEarly name before after ending.Probe = ⊥
 IsEarly name before after ending.Log = ⊥
+IsEarly name before after ending.Stranger = ⊥
 
 -- what is said of the load of a station, from 0, with a fault: its line, and nothing without memory; the last two
 -- numbers count what the sink refused
@@ -113,6 +121,7 @@ IsUnloadedSaid network before after ending.Write = ⊥
 IsUnloadedSaid network before after ending.Memory = after.written ≡ before.written
 IsUnloadedSaid network before after ending.Probe = ⊥
 IsUnloadedSaid network before after ending.Log = ⊥
+IsUnloadedSaid network before after ending.Stranger = ⊥
 
 -- the call ended before the loads of a layout without fault were read
 pub record IsLoadEnd (layout : List ℕ) (before after : Moment) (e : Ending) : Type 0 where
@@ -131,6 +140,7 @@ IsText text written now faults risen ending.Write = IsCutShort text written now 
 IsText text written now faults risen ending.Memory = IsCutShort text written now
 IsText text written now faults risen ending.Probe = ⊥
 IsText text written now faults risen ending.Log = ⊥
+IsText text written now faults risen ending.Stranger = ⊥
 
 -- all files of a plan's run are whole; the summary was written, or a front of it
 abbrev pub AreFiled : List ℕ → Plan → Moment → Moment → Ending → Type 0
@@ -152,6 +162,7 @@ IsUnfiled prefix plan before after ending.Memory =
     IsBrokenAmong (run_files prefix plan) before.held after.held × (after.written ≡ before.written)
 IsUnfiled prefix plan before after ending.Probe = ⊥
 IsUnfiled prefix plan before after ending.Log = ⊥
+IsUnfiled prefix plan before after ending.Stranger = ⊥
 
 -- a file could not be written: a write to the store failed, or there was no memory
 abbrev pub IsFileEnd : ℕ → ℕ → Ending → Type 0
@@ -270,22 +281,28 @@ pub record IsUnprobed (layout : List ℕ) (to : ℕ) (words : List (List ℕ)) (
   pub aim : HasAim network to words
   pub said : IsUnloadedSaid network before after e
 
+-- this text tells so what the taps of these words hear from one half bit on and before another: runs and bursts, tap by
+-- tap, or the waves of all taps
+abbrev pub IsTextHeard : Hearing → Plan → ℕ → ℕ → List (List ℕ) → List Tap → List ℕ → Type 0
+IsTextHeard hearing.Runs plan from to words taps text = IsTextOfTaps plan from (to - from) words taps text
+IsTextHeard hearing.Waves plan from to words taps text = text ≡ waves_of_plan plan words taps from to
+
 -- the layout and its loads have no fault, its network has a tap for each of these words, its run has the half bits of
--- the probe, and this is the text of what they hear
-pub record IsProbeText (layout : List ℕ) (held : Option Files) (from to : ℕ) (words : List (List ℕ)) (text : List ℕ)
-    : Type 0 where
+-- the probe, and this text tells so what they hear
+pub record IsProbeText (told : Hearing) (layout : List ℕ) (held : Option Files) (from to : ℕ) (words : List (List ℕ))
+    (text : List ℕ) : Type 0 where
   pub plan : Plan
   pub planned : IsPlanned layout held plan
   pub taps : List Tap
   pub named : AreTapsOf plan.layout words taps
   pub within : to ≤ half_bits plan
-  pub lines : IsTextOfTaps plan from (to - from) words taps text
+  pub lines : IsTextHeard told plan from to words taps text
 
 -- the text of a probe was written, or a front of it
-pub record IsProbed (layout : List ℕ) (from to : ℕ) (words : List (List ℕ)) (before after : Moment) (e : Ending)
-    : Type 0 where
+pub record IsProbed (told : Hearing) (layout : List ℕ) (from to : ℕ) (words : List (List ℕ)) (before after : Moment)
+    (e : Ending) : Type 0 where
   pub text : List ℕ
-  pub right : IsProbeText layout before.held from to words text
+  pub right : IsProbeText told layout before.held from to words text
   pub written : IsText text before.written after.written before.faults after.faults e
 
 -- the text of what the taps of these words hear in so many half bits from this one on was written, or a front of it;
@@ -295,19 +312,20 @@ abbrev pub AreTextsTold :
 AreTextsTold plan from n words taps written now faults risen e =
     (text : List ℕ) × IsTextOfTaps plan from n words taps text × IsText text written now faults risen e
 
--- what taps of a plan hear was written, or a front of it, or there was no memory for it; the last two numbers count the
--- failed writes
+-- what taps of a plan hear was written, told so, or a front of it, or there was no memory for it; the last two numbers
+-- count the failed writes
 abbrev pub AreTapsTold :
-    Plan → ℕ → ℕ → List (List ℕ) → List Tap → Option (List ℕ) → Option (List ℕ) → ℕ → ℕ → Ending → Type 0
-AreTapsTold plan from to words taps written now faults risen e =
-    ((e ≡ ending.Memory) × (now ≡ written)) ⊎ AreTextsTold plan from (to - from) words taps written now faults risen e
+    Hearing → Plan → ℕ → ℕ → List (List ℕ) → List Tap → Option (List ℕ) → Option (List ℕ) → ℕ → ℕ → Ending → Type 0
+AreTapsTold told plan from to words taps written now faults risen e =
+    ((e ≡ ending.Memory) × (now ≡ written))
+    ⊎ ((text : List ℕ) × IsTextHeard told plan from to words taps text × IsText text written now faults risen e)
 
--- the end of the form probe LAYOUT FROM TO TAP ..: it writes no file
-abbrev pub IsProbeEnd : List ℕ → ℕ → ℕ → List (List ℕ) → Moment → Moment → Ending → Type 0
-IsProbeEnd layout from to words before after e =
+-- the end of the forms probe LAYOUT FROM TO TAP .. and waves LAYOUT FROM TO TAP ..: they write no file
+abbrev pub IsProbeEnd : Hearing → List ℕ → ℕ → ℕ → List (List ℕ) → Moment → Moment → Ending → Type 0
+IsProbeEnd told layout from to words before after e =
     (after.held ≡ before.held)
     × (IsEarly layout before after e ⊎ IsMissed layout to words before after e
-    ⊎ IsUnprobed layout to words before after e ⊎ IsProbed layout from to words before after e)
+    ⊎ IsUnprobed layout to words before after e ⊎ IsProbed told layout from to words before after e)
 
 -- the log has a fault, and its line was said
 abbrev pub IsLogFaultSaid : List ℕ → Moment → Moment → Type 0
@@ -332,6 +350,52 @@ abbrev pub IsMeterEnd : List ℕ → Moment → Moment → Ending → Type 0
 IsMeterEnd log before after e =
     (after.held ≡ before.held) × (IsUnmetered log before after e ⊎ IsMetered log before after e)
 
+-- the layout has no fault, and the call ended before a log without fault was read
+pub record IsUnlogged (layout log : List ℕ) (before after : Moment) (e : Ending) : Type 0 where
+  pub network : Layout
+  pub judged : IsJudged layout before.held (Ok network)
+  pub said : IsUnmetered log before after e
+
+-- what is said of the first of these lines, from 1, that names what a network lacks: its line, and nothing without memory;
+-- the last two numbers count what the sink refused
+abbrev pub IsStrangeEnd : Layout → List LogLine → Option (List ℕ) → Option (List ℕ) → ℕ → ℕ → Ending → Type 0
+IsStrangeEnd network lines written now refused risen ending.Stranger =
+    (n : ℕ) × (first_stranger network lines ≡ Some n) × IsSaid (line_of_stranger n) written now refused risen
+IsStrangeEnd network lines written now refused risen ending.Memory = now ≡ written
+IsStrangeEnd network lines written now refused risen _ = ⊥
+
+-- the picture of what these lines, none of which names what a network lacks, tell of the half bits from one on and before
+-- another was written, or a front of it; the last two numbers count the failed writes
+pub record ArePictured (network : Layout) (lines : List LogLine) (from to : ℕ) (written now : Option (List ℕ))
+    (faults risen : ℕ) (e : Ending) : Type 0 where
+  pub known : first_stranger network lines ≡ None
+  pub text : IsText (picture_of network lines from to) written now faults risen e
+
+-- these lines were drawn, or one of them names what the network lacks, or there was no memory; of the last four numbers
+-- two count the failed writes, and two what the sink refused
+abbrev pub IsDrawnEnd :
+    Layout → List LogLine → ℕ → ℕ → Option (List ℕ) → Option (List ℕ) → ℕ → ℕ → ℕ → ℕ → Ending → Type 0
+IsDrawnEnd network lines from to written now faults faulted refused risen e =
+    IsStrangeEnd network lines written now refused risen e
+    ⊎ ArePictured network lines from to written now faults faulted e
+
+-- the layout and the log have no fault, and the log's lines were drawn, or one names what the layout lacks
+pub record IsDrawn (layout log : List ℕ) (from to : ℕ) (before after : Moment) (e : Ending) : Type 0 where
+  pub network : Layout
+  pub judged : IsJudged layout before.held (Ok network)
+  pub lines : List LogLine
+  pub read : HasLog log before.held lines
+  pub drawn :
+      IsDrawnEnd network lines from to before.written after.written before.faults after.faults before.refused
+      after.refused e
+
+-- the end of the form picture LAYOUT LOG FROM TO: it writes no file
+abbrev pub IsPictureEnd : List ℕ → List ℕ → ℕ → ℕ → Moment → Moment → Ending → Type 0
+IsPictureEnd layout log from to before after e =
+    (after.held ≡ before.held)
+    × (IsEarly layout before after e ⊎ IsUnlogged layout log before after e
+    ⊎ IsDrawn layout log from to before after e)
+
 -- the end of words that ask for this; the words are none of the forms where they ask for nothing
 abbrev pub IsEndOf : Option Asked → Moment → Moment → Ending → Type 0
 IsEndOf None before after e = (e ≡ ending.Words) × (after.held ≡ before.held) × Says line_of_words_fault before after
@@ -340,8 +404,9 @@ IsEndOf (Some (Slack layout)) before after e = IsSlackEnd layout before after e
 IsEndOf (Some (Plain layout prefix)) before after e = IsPlainEnd layout prefix before after e
 IsEndOf (Some (Run layout prefix workers)) before after e = IsPlainEnd layout prefix before after e
 IsEndOf (Some (Demo number workers)) before after e = IsDemoEnd number before after e
-IsEndOf (Some (Probe layout from to words)) before after e = IsProbeEnd layout from to words before after e
+IsEndOf (Some (Probe told layout from to words)) before after e = IsProbeEnd told layout from to words before after e
 IsEndOf (Some (Meter log)) before after e = IsMeterEnd log before after e
+IsEndOf (Some (Picture layout log from to)) before after e = IsPictureEnd layout log from to before after e
 IsEndOf (Some Help) before after e = IsTextEnd HELP.now before after e
 IsEndOf (Some Version) before after e = IsTextEnd VERSION.now before after e
 
@@ -360,6 +425,7 @@ status_of ending.Write = 5
 status_of ending.Memory = 6
 status_of ending.Probe = 7
 status_of ending.Log = 8
+status_of ending.Stranger = 11
 
 -- the status is that of an ending which these words allow between entry and exit
 pub record IsAnswer (words : List (List ℕ)) (entry exit : Moment) (status : ℕ) : Type 0 where

@@ -2,10 +2,6 @@ pub mod FileLimits
 pub mod Moments
 pub mod Reading
 pub mod Writing
-pub mod Requests
-pub mod Texts
-pub mod Verdicts
-pub mod SlackTexts
 pub mod Runs
 pub mod Demos
 pub mod Meters
@@ -15,5 +11,6 @@ pub mod Statuses
 pub mod StatusLaws
 pub mod MeterLaws
 pub mod ProbeLaws
+pub mod PictureLaws
 pub mod LoggedCollisions
 pub mod LogLaws

@@ -13,7 +13,7 @@ use Rattle.netsim.specs.Endings.{IsJudged}
 use Rattle.netsim.specs.LoggedCollisions.{AreCollisionsLogged, AreDetected, IsWithin, IsWithinSaid, log_line}
 use Rattle.netsim.specs.Moments.{Moment}
 use Rattle.netsim.specs.Runs.{IsPlanOf}
-use Rattle.netsim.specs.Texts.{name_of_log}
+use Rattle.program_texts.specs.Texts.{name_of_log}
 
 -- where a layout is within, the rows of its run with the loads held at entry tell of its collisions, and the run's log
 -- has their lines

@@ -18,7 +18,7 @@ use Rattle.run_texts.specs.Texts.{line_of_row}
 use Rattle.netsim.specs.Endings.{IsJudged}
 use Rattle.netsim.specs.Moments.{Moment}
 use Rattle.netsim.specs.Runs.{IsPlanOf, log}
-use Rattle.netsim.specs.Texts.{name_of_log}
+use Rattle.program_texts.specs.Texts.{name_of_log}
 
 -- the attempt that started in half bit start collided, or ended in excessive collisions, with a hit below this
 -- position of the sending, counted in half bits from 0

@@ -4,15 +4,15 @@ use Rattle.log_meter.specs.declared.line.LogLine.{LogLine}
 use Rattle.outside.specs.Files.{IsAbsent, Rose}
 use Rattle.netsim.specs.Endings.{IsLogFaultSaid}
 use Rattle.netsim.specs.Meters.{HasLog, IsFaultyLog}
-use Rattle.netsim.specs.Requests.{asked}
+use Rattle.program_words.specs.Requests.{asked}
 use Rattle.netsim.specs.StatusLaws.{OfAnswers}
-use Rattle.netsim.specs.Statuses.{IfMeter, IsDoneOrMemory, IsFaultStatus, IsMeterCut, IsMeterWith, IsUnreadOrMemory}
+use Rattle.netsim.specs.Statuses.{IfMeter, IsDoneOrMemory, IsFaultStatus, IsMeterCut, IsLogWith, IsUnreadOrMemory}
 
 -- with status 8 the log held at entry has a fault, and its line was said
 abbrev pub AreLogFaultsSaid : Type 0
 AreLogFaultsSaid =
     OfAnswers (λ words entry exit status.
-    status ≡ 8 → IsMeterWith (asked words) (λ log. IsLogFaultSaid log entry exit))
+    status ≡ 8 → IsLogWith (asked words) (λ log. IsLogFaultSaid log entry exit))
 
 -- where the log held at entry has a fault the status is 8, but for a failed read and want of memory
 abbrev pub DoLogFaultsDecide : Type 0

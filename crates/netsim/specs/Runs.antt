@@ -14,8 +14,8 @@ use Rattle.path_checker.specs.Verdicts.{IsVerdict}
 use Rattle.path_checker.specs.declared.verdict.PathVerdict.{PathVerdict}
 use Rattle.run_texts.specs.Captures.{pcap_of_taken}
 use Rattle.run_texts.specs.Texts.{log_of_rows, counters_of_rows, totals_of_rows}
-use Rattle.netsim.specs.Texts.{name_of_log, name_of_counters, name_of_capture}
-use Rattle.netsim.specs.Verdicts.{line_of_verdict}
+use Rattle.program_texts.specs.Texts.{name_of_log, name_of_counters, name_of_capture}
+use Rattle.program_texts.specs.Verdicts.{line_of_verdict}
 
 -- the plan of a layout, whose loads are those that the store held, where it tells them
 pub record IsPlanOf (held : Option Files) (network : Layout) (plan : Plan) : Type 0 where

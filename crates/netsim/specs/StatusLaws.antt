@@ -5,9 +5,9 @@ use Rattle.outside.specs.Files.{IsAbsent, Rose}
 use Rattle.layout.specs.declared.lines.Layout.{Layout}
 use Rattle.netsim.specs.Endings.{HasFault, IsAnswer, IsFaultSaid, IsJudged, IsLoadFaultSaid, Says}
 use Rattle.netsim.specs.Moments.{Moment}
-use Rattle.netsim.specs.Requests.{asked}
+use Rattle.program_words.specs.Requests.{asked}
 use Rattle.netsim.specs.Statuses.{AreRunFilesHeld, HasAbsentLoad, HasLoadFault, IfDemo, IfFiles, IfLayout, IfTelling, IfText, IsDemoCut, IsDemoStatus, IsDoneOrMemory, IsFaultStatus, IsLayoutWith, IsLoadedWith, IsNetworkWith, IsReadFaultSaid, IsTellingCut, IsUnreadOrMemory}
-use Rattle.netsim.specs.Texts.{line_of_words_fault}
+use Rattle.program_texts.specs.Texts.{line_of_words_fault}
 use Rattle.netsim.specs.Writing.{added, IsCutShort}
 
 -- this holds of the answer of every call

@@ -6,17 +6,23 @@ use Rattle.outside.specs.Files.{Files, Rose}
 use Rattle.layout.specs.declared.lines.Layout.{Layout}
 use Rattle.load_files.specs.Loaded.{IsLoaded, IsFirstAbsent, Faulty, Whole}
 use Rattle.load_plan.specs.declared.plan.Plan.{Plan}
+use Rattle.log_meter.specs.declared.line.LogLine.{LogLine}
 use Rattle.netsim.specs.Demos.{IsDemoText}
 use Rattle.netsim.specs.Endings.{IsJudged, IsLoadUnreadSaid, IsPlanned, IsProbeText, IsUnreadSaid, Says}
-use Rattle.netsim.specs.Meters.{IsMeterText}
+use Rattle.netsim.specs.Meters.{HasLog, IsMeterText}
 use Rattle.netsim.specs.Moments.{Moment}
 use Rattle.netsim.specs.Probes.{IsMissLine}
-use Rattle.netsim.specs.Requests.{Asked, asked, Check, Slack, Plain, Run, Demo, Probe, Meter, Help, Version}
+use Rattle.program_words.specs.Requests.{Asked, asked, Check, Slack, Plain, Run, Demo, Probe, Meter, Picture, Help, Version}
+use Rattle.program_words.specs.declared.words.Hearing.{Hearing}
+use Rattle.program_words.specs.declared.words.Hearing.TheVariants as hearing
+use Rattle.run_picture.specs.Pictures.{picture_of}
+use Rattle.run_picture.specs.Strangers.{first_stranger}
 use Rattle.netsim.specs.Runs.{run_files, IsSummary}
-use Rattle.netsim.specs.SlackTexts.{IsSlackText}
-use Rattle.netsim.specs.Verdicts.{IsVerdictLine}
+use Rattle.program_texts.specs.SlackTexts.{IsSlackText}
+use Rattle.program_texts.specs.Texts.{line_of_stranger}
+use Rattle.program_texts.specs.Verdicts.{IsVerdictLine}
 use Rattle.netsim.specs.Writing.{put_all, added, IsBrokenAmong, IsCutShort}
-use Rattle.netsim.specs.declared.texts.TheConstants.{HELP, VERSION}
+use Rattle.program_texts.specs.declared.texts.TheConstants.{HELP, VERSION}
 
 -- if the words are check LAYOUT, this holds of the name
 abbrev pub IfCheck : Option Asked → (List ℕ → Type 0) → Type 0
@@ -44,21 +50,39 @@ IfFiles o P = (layout prefix : List ℕ) → AskForFiles o layout prefix → P l
 abbrev pub IfDemo : Option Asked → (ℕ → Type 0) → Type 0
 IfDemo o P = (number workers : ℕ) → o ≡ Some (Demo number workers) → P number
 
+-- if the words are of a form that tells what taps hear, this holds of how it tells it, of the layout's name, of the two
+-- half bits and of the words for taps
+abbrev pub IfHeard : Option Asked → (Hearing → List ℕ → ℕ → ℕ → List (List ℕ) → Type 0) → Type 0
+IfHeard o P =
+    (told : Hearing) (layout : List ℕ) (from to : ℕ) (taps : List (List ℕ)) → o ≡ Some (Probe told layout from to taps)
+    → P told layout from to taps
+
 -- if the words are probe LAYOUT FROM TO TAP .., this holds of the name, of the two half bits and of the words for taps
 abbrev pub IfProbe : Option Asked → (List ℕ → ℕ → ℕ → List (List ℕ) → Type 0) → Type 0
 IfProbe o P =
-    (layout : List ℕ) (from to : ℕ) (taps : List (List ℕ)) → o ≡ Some (Probe layout from to taps)
+    (layout : List ℕ) (from to : ℕ) (taps : List (List ℕ)) → o ≡ Some (Probe hearing.Runs layout from to taps)
+    → P layout from to taps
+
+-- if the words are waves LAYOUT FROM TO TAP .., this holds of the same
+abbrev pub IfWaves : Option Asked → (List ℕ → ℕ → ℕ → List (List ℕ) → Type 0) → Type 0
+IfWaves o P =
+    (layout : List ℕ) (from to : ℕ) (taps : List (List ℕ)) → o ≡ Some (Probe hearing.Waves layout from to taps)
     → P layout from to taps
 
 -- if the words are meter LOG, this holds of the name
 abbrev pub IfMeter : Option Asked → (List ℕ → Type 0) → Type 0
 IfMeter o P = (log : List ℕ) → o ≡ Some (Meter log) → P log
 
+-- if the words are picture LAYOUT LOG FROM TO, this holds of the two names and of the two half bits
+abbrev pub IfPicture : Option Asked → (List ℕ → List ℕ → ℕ → ℕ → Type 0) → Type 0
+IfPicture o P =
+    (layout log : List ℕ) (from to : ℕ) → o ≡ Some (Picture layout log from to) → P layout log from to
+
 -- if the words are of a form with a layout, this holds of its name
 abbrev pub IfLayout : Option Asked → (List ℕ → Type 0) → Type 0
 IfLayout o P =
     IfTelling o (λ Tells layout. P layout) × IfFiles o (λ layout prefix. P layout)
-    × IfProbe o (λ layout from to taps. P layout)
+    × IfHeard o (λ told layout from to taps. P layout) × IfPicture o (λ layout log from to. P layout)
 
 -- if the words ask for a fixed text, this holds of it
 abbrev pub IfText : Option Asked → (List ℕ → Type 0) → Type 0
@@ -71,8 +95,9 @@ IsLayoutWith (Some (Slack layout)) P = P layout
 IsLayoutWith (Some (Plain layout prefix)) P = P layout
 IsLayoutWith (Some (Run layout prefix workers)) P = P layout
 IsLayoutWith (Some (Demo number workers)) P = ⊥
-IsLayoutWith (Some (Probe layout from to taps)) P = P layout
+IsLayoutWith (Some (Probe told layout from to taps)) P = P layout
 IsLayoutWith (Some (Meter log)) P = ⊥
+IsLayoutWith (Some (Picture layout log from to)) P = P layout
 IsLayoutWith (Some Help) P = ⊥
 IsLayoutWith (Some Version) P = ⊥
 IsLayoutWith None P = ⊥
@@ -84,42 +109,60 @@ IsLoadedWith (Some (Slack layout)) P = ⊥
 IsLoadedWith (Some (Plain layout prefix)) P = P layout
 IsLoadedWith (Some (Run layout prefix workers)) P = P layout
 IsLoadedWith (Some (Demo number workers)) P = ⊥
-IsLoadedWith (Some (Probe layout from to taps)) P = P layout
+IsLoadedWith (Some (Probe told layout from to taps)) P = P layout
 IsLoadedWith (Some (Meter log)) P = ⊥
+IsLoadedWith (Some (Picture layout log from to)) P = ⊥
 IsLoadedWith (Some Help) P = ⊥
 IsLoadedWith (Some Version) P = ⊥
 IsLoadedWith None P = ⊥
 
--- the words are probe LAYOUT FROM TO TAP .., and this holds of the name, of the end and of the words for taps
+-- the words are probe or waves with LAYOUT FROM TO TAP .., and this holds of the name, of the end and of the words for
+-- taps
 abbrev pub IsProbeWith : Option Asked → (List ℕ → ℕ → List (List ℕ) → Type 0) → Type 0
 IsProbeWith (Some (Check layout)) P = ⊥
 IsProbeWith (Some (Slack layout)) P = ⊥
 IsProbeWith (Some (Plain layout prefix)) P = ⊥
 IsProbeWith (Some (Run layout prefix workers)) P = ⊥
 IsProbeWith (Some (Demo number workers)) P = ⊥
-IsProbeWith (Some (Probe layout from to taps)) P = P layout to taps
+IsProbeWith (Some (Probe told layout from to taps)) P = P layout to taps
 IsProbeWith (Some (Meter log)) P = ⊥
+IsProbeWith (Some (Picture layout log from to)) P = ⊥
 IsProbeWith (Some Help) P = ⊥
 IsProbeWith (Some Version) P = ⊥
 IsProbeWith None P = ⊥
 
--- the words are meter LOG, and this holds of the name
-abbrev pub IsMeterWith : Option Asked → (List ℕ → Type 0) → Type 0
-IsMeterWith (Some (Check layout)) P = ⊥
-IsMeterWith (Some (Slack layout)) P = ⊥
-IsMeterWith (Some (Plain layout prefix)) P = ⊥
-IsMeterWith (Some (Run layout prefix workers)) P = ⊥
-IsMeterWith (Some (Demo number workers)) P = ⊥
-IsMeterWith (Some (Probe layout from to taps)) P = ⊥
-IsMeterWith (Some (Meter log)) P = P log
-IsMeterWith (Some Help) P = ⊥
-IsMeterWith (Some Version) P = ⊥
-IsMeterWith None P = ⊥
+-- the words are of a form that reads a log, meter LOG or picture LAYOUT LOG FROM TO, and this holds of the log's name
+abbrev pub IsLogWith : Option Asked → (List ℕ → Type 0) → Type 0
+IsLogWith (Some (Check layout)) P = ⊥
+IsLogWith (Some (Slack layout)) P = ⊥
+IsLogWith (Some (Plain layout prefix)) P = ⊥
+IsLogWith (Some (Run layout prefix workers)) P = ⊥
+IsLogWith (Some (Demo number workers)) P = ⊥
+IsLogWith (Some (Probe told layout from to taps)) P = ⊥
+IsLogWith (Some (Meter log)) P = P log
+IsLogWith (Some (Picture layout log from to)) P = P log
+IsLogWith (Some Help) P = ⊥
+IsLogWith (Some Version) P = ⊥
+IsLogWith None P = ⊥
+
+-- the words are picture LAYOUT LOG FROM TO, and this holds of the two names
+abbrev pub IsPictureWith : Option Asked → (List ℕ → List ℕ → Type 0) → Type 0
+IsPictureWith (Some (Check layout)) P = ⊥
+IsPictureWith (Some (Slack layout)) P = ⊥
+IsPictureWith (Some (Plain layout prefix)) P = ⊥
+IsPictureWith (Some (Run layout prefix workers)) P = ⊥
+IsPictureWith (Some (Demo number workers)) P = ⊥
+IsPictureWith (Some (Probe told layout from to taps)) P = ⊥
+IsPictureWith (Some (Meter log)) P = ⊥
+IsPictureWith (Some (Picture layout log from to)) P = P layout log
+IsPictureWith (Some Help) P = ⊥
+IsPictureWith (Some Version) P = ⊥
+IsPictureWith None P = ⊥
 
 -- the statuses of a call that begins no file and writes its line alone
 abbrev pub IsRefusal : ℕ → Type 0
 IsRefusal status =
-    (status ≡ 1) ⊎ (status ≡ 2) ⊎ (status ≡ 3) ⊎ (status ≡ 4) ⊎ (status ≡ 7) ⊎ (status ≡ 8)
+    (status ≡ 1) ⊎ (status ≡ 2) ⊎ (status ≡ 3) ⊎ (status ≡ 4) ⊎ (status ≡ 7) ⊎ (status ≡ 8) ⊎ (status ≡ 11)
 
 -- the statuses of a call that the outside didn't hinder; 6 is want of memory
 abbrev pub IsDoneOrMemory : ℕ → Type 0
@@ -153,6 +196,11 @@ IsInputFaultSaid layout entry exit =
     IsUnreadSaid layout entry exit
     ⊎ IsNetworkWith layout entry.held (λ network. IsLoadUnreadSaid network entry exit)
 
+-- the layout isn't held or a read failed, or the layout has no fault and so it is with the log, and the name was said
+abbrev pub IsPictureUnreadSaid : List ℕ → List ℕ → Moment → Moment → Type 0
+IsPictureUnreadSaid layout log entry exit =
+    IsUnreadSaid layout entry exit ⊎ IsNetworkWith layout entry.held (λ network. IsUnreadSaid log entry exit)
+
 -- a file to be read, which is the log, or the layout or, for a run and a probe, one of its loads, isn't held or a read
 -- failed, and its name was said
 abbrev pub IsReadFaultSaid : Option Asked → Moment → Moment → Type 0
@@ -161,8 +209,9 @@ IsReadFaultSaid (Some (Slack layout)) entry exit = IsUnreadSaid layout entry exi
 IsReadFaultSaid (Some (Plain layout prefix)) entry exit = IsInputFaultSaid layout entry exit
 IsReadFaultSaid (Some (Run layout prefix workers)) entry exit = IsInputFaultSaid layout entry exit
 IsReadFaultSaid (Some (Demo number workers)) entry exit = ⊥
-IsReadFaultSaid (Some (Probe layout from to taps)) entry exit = IsInputFaultSaid layout entry exit
+IsReadFaultSaid (Some (Probe told layout from to taps)) entry exit = IsInputFaultSaid layout entry exit
 IsReadFaultSaid (Some (Meter log)) entry exit = IsUnreadSaid log entry exit
+IsReadFaultSaid (Some (Picture layout log from to)) entry exit = IsPictureUnreadSaid layout log entry exit
 IsReadFaultSaid (Some Help) entry exit = ⊥
 IsReadFaultSaid (Some Version) entry exit = ⊥
 IsReadFaultSaid None entry exit = ⊥
@@ -251,18 +300,20 @@ pub record IsDemoCut (number : ℕ) (entry exit : Moment) : Type 0 where
 abbrev pub IsDemoStatus : ℕ → Type 0
 IsDemoStatus status = (status ≡ 0) ⊎ (status ≡ 5) ⊎ (status ≡ 6)
 
--- a probe is done: the sink got the text of what the taps of these words hear from one half bit on and before another,
--- in the network of the layout with the loads held at entry, and every file is as at entry
-pub record IsProbeDone (layout : List ℕ) (from to : ℕ) (taps : List (List ℕ)) (entry exit : Moment) : Type 0 where
+-- a probe is done: the sink got the text that tells so what the taps of these words hear from one half bit on and before
+-- another, in the network of the layout with the loads held at entry, and every file is as at entry
+pub record IsProbeDone (told : Hearing) (layout : List ℕ) (from to : ℕ) (taps : List (List ℕ)) (entry exit : Moment)
+    : Type 0 where
   pub text : List ℕ
-  pub right : IsProbeText layout entry.held from to taps text
+  pub right : IsProbeText told layout entry.held from to taps text
   pub written : exit.written ≡ added text entry.written
   pub held : exit.held ≡ entry.held
 
 -- the sink got a front of that text
-pub record IsProbeCut (layout : List ℕ) (from to : ℕ) (taps : List (List ℕ)) (entry exit : Moment) : Type 0 where
+pub record IsProbeCut (told : Hearing) (layout : List ℕ) (from to : ℕ) (taps : List (List ℕ)) (entry exit : Moment)
+    : Type 0 where
   pub text : List ℕ
-  pub right : IsProbeText layout entry.held from to taps text
+  pub right : IsProbeText told layout entry.held from to taps text
   pub cut : IsCutShort text entry.written exit.written
 
 -- what a probe aims at isn't in this network, and that was said
@@ -281,6 +332,41 @@ pub record IsMeterCut (log : List ℕ) (entry exit : Moment) : Type 0 where
   pub text : List ℕ
   pub right : IsMeterText log entry.held text
   pub cut : IsCutShort text entry.written exit.written
+
+-- the layout and the log have no fault, no line of the log names what the layout lacks, and this is the picture of what
+-- the log tells of the half bits from one on and before another
+pub record IsPictureText (layout log : List ℕ) (held : Option Files) (from to : ℕ) (text : List ℕ) : Type 0 where
+  pub network : Layout
+  pub judged : IsJudged layout held (Ok network)
+  pub lines : List LogLine
+  pub read : HasLog log held lines
+  pub known : first_stranger network lines ≡ None
+  pub is : text ≡ picture_of network lines from to
+
+-- a picture is drawn: the sink got the picture of what the log held at entry tells of the half bits, in the network of
+-- the layout held then, and every file is as at entry
+pub record IsPictureDone (layout log : List ℕ) (from to : ℕ) (entry exit : Moment) : Type 0 where
+  pub text : List ℕ
+  pub right : IsPictureText layout log entry.held from to text
+  pub written : exit.written ≡ added text entry.written
+  pub held : exit.held ≡ entry.held
+
+-- the sink got a front of that picture
+pub record IsPictureCut (layout log : List ℕ) (from to : ℕ) (entry exit : Moment) : Type 0 where
+  pub text : List ℕ
+  pub right : IsPictureText layout log entry.held from to text
+  pub cut : IsCutShort text entry.written exit.written
+
+-- the log has no fault, and of its lines the one with this number, from 1, is the first that names what a network lacks
+pub record HasStranger (network : Layout) (log : List ℕ) (held : Option Files) (n : ℕ) : Type 0 where
+  pub lines : List LogLine
+  pub read : HasLog log held lines
+  pub first : first_stranger network lines ≡ Some n
+
+-- a line of the log names what a network lacks, and the first such line was said
+abbrev pub IsStrangerSaid : Layout → List ℕ → Moment → Moment → Type 0
+IsStrangerSaid network log entry exit =
+    (n : ℕ) × HasStranger network log entry.held n × Says (line_of_stranger n) entry exit
 
 -- a run that nothing hinders: the words are of a form that writes the files of a run, the store tells its files, the
 -- layout and the loads are held without fault, and no count of faults has risen

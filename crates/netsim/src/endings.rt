@@ -22,6 +22,8 @@ pub enum Ending {
     Probe,
     /// A log has a fault.
     Log,
+    /// A line of a log names what the layout lacks.
+    Stranger,
 }
 
 impl Ending {
@@ -41,6 +43,7 @@ impl Ending {
             Ending::Memory => 6,
             Ending::Probe => 7,
             Ending::Log => 8,
+            Ending::Stranger => 11,
         }
     }
 }

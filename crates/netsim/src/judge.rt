@@ -4,16 +4,16 @@ ghost use Rattle.layout.specs.Sound.{IsSound};
 ghost use Rattle.netsim.specs.Endings.{IsJudged, IsEarly};
 ghost use Rattle.netsim.specs.Moments.{moment};
 ghost use Rattle.netsim.specs.Writing.{IsSaid};
-ghost use Rattle.netsim.specs.Texts.{line_of_fault, line_of_read_fault};
+ghost use Rattle.program_texts.specs.Texts.{line_of_fault, line_of_read_fault};
 
 use crate::endings::Ending;
 use crate::files::read_file;
 use crate::sink_texts::say;
-use crate::texts::{line_of_fault, line_of_read_fault};
 use layout::Layout;
 use layout_file::{LayoutCode, LayoutFault, read_layout};
 use lists::OutOfMemory;
 use outside::{Sink, Store, StoreFail};
+use program_texts::{line_of_fault, line_of_read_fault};
 use std::alloc::Global;
 
 /// The most octets of a layout file without a fault (profile).

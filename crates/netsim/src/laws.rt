@@ -1,6 +1,7 @@
 //! What each status says beyond the clauses of the top call: laws of every answer, each a call without a body.
 ghost use Rattle.netsim.specs.LogLaws.{AreRunCollisionsDetected, IsEmptyLogRefused, IsInfixRefused, IsLateHitRefused};
 ghost use Rattle.netsim.specs.MeterLaws.{AreLogFaultsSaid, AreMetersComplete, AreMetersCutShort, AreMetersRefused, DoAbsentLogsDecide, DoLogFaultsDecide, DoMetersKeepFiles};
+ghost use Rattle.netsim.specs.PictureLaws.{ArePicturesComplete, ArePicturesCutShort, ArePicturesRefused, AreStrangersSaid, DoPicturedAbsentLogsDecide, DoPicturedLogFaultsDecide, DoPicturesKeepFiles, DoStrangersDecide};
 ghost use Rattle.netsim.specs.ProbeLaws.{AreMissesSaid, AreProbesComplete, AreProbesCutShort, AreProbesRefused, DoMissesDecide, DoProbedAbsentLoadsDecide, DoProbedLoadFaultsDecide, DoProbesKeepFiles};
 ghost use Rattle.netsim.specs.StatusLaws.{AreDemosComplete, AreDemosCutShort, AreDemosRefused, AreFailuresSilent, AreFilesWhole, AreLayoutFaultsSaid, AreLoadFaultsSaid, AreReadFaultsSaid, AreTellingsComplete, AreTellingsCutShort, AreTellingsRefused, AreTextsComplete, AreTextsCutShort, AreTextsFailed, AreTextsWritten, AreWordsSaid, DoAbsentLayoutsDecide, DoAbsentLoadsDecide, DoDemosKeepFiles, DoLayoutFaultsDecide, DoLoadFaultsDecide, DoTellingsKeepFiles, DoTextsKeepFiles, HaveDemosStatuses};
 
@@ -70,8 +71,8 @@ pub fn probed_loads_decide()
     ensures absent { DoProbedAbsentLoadsDecide }
 {}
 
-/// `probe` leaves a front of its text on the sink where it isn't done, and every file as at entry; with 5 a write to the
-/// sink failed. One that nothing hinders has the status 0 or 6.
+/// `probe` and `waves` leave a front of their text on the sink where they aren't done, and every file as at entry; with 5 a write
+/// to the sink failed. One that nothing hinders has the status 0 or 6.
 pub fn probes_are_told()
     ensures failed { AreProbesCutShort }
     ensures refused { AreProbesRefused }
@@ -94,6 +95,28 @@ pub fn meters_are_told()
     ensures refused { AreMetersRefused }
     ensures held { DoMetersKeepFiles }
     ensures complete { AreMetersComplete }
+{}
+
+/// Status 11 comes exactly of a picture of a layout and a log without fault where a line of the log names what the layout
+/// lacks, but for a failed read and want of memory, and the first such line is on the sink.
+pub fn strangers_decide()
+    ensures said { AreStrangersSaid }
+    ensures only { DoStrangersDecide }
+{}
+
+/// Statuses 8 and 4 of a picture whose layout has no fault come of its log as those of `meter` do.
+pub fn pictured_logs_decide()
+    ensures fault { DoPicturedLogFaultsDecide }
+    ensures absent { DoPicturedAbsentLogsDecide }
+{}
+
+/// `picture` leaves a front of its text on the sink where it isn't done, and every file as at entry; with 5 a write to the
+/// sink failed. One that nothing hinders has the status 0 or 6.
+pub fn pictures_are_told()
+    ensures failed { ArePicturesCutShort }
+    ensures refused { ArePicturesRefused }
+    ensures held { DoPicturesKeepFiles }
+    ensures complete { ArePicturesComplete }
 {}
 
 /// A form with a fixed text writes it, or a front of it, and leaves every file as at entry; with 5 a write to the sink

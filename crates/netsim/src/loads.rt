@@ -6,18 +6,18 @@ ghost use Rattle.netsim.specs.Endings.{IsFaultyEnd, IsUnloadedSaid, IsUnreadEnd}
 ghost use Rattle.netsim.specs.Moments.{moment};
 ghost use Rattle.netsim.specs.FileLimits.{most_load_records};
 ghost use Rattle.netsim.specs.Writing.{IsSaid};
-ghost use Rattle.netsim.specs.Texts.{line_of_load_fault};
+ghost use Rattle.program_texts.specs.Texts.{line_of_load_fault};
 
 use crate::endings::Ending;
 use crate::judge::say_read_fault;
 use crate::sink_texts::say;
-use crate::texts::line_of_load_fault;
 use capture_file::CaptureFault;
 use layout::{Layout, StationLine};
 use lists::OutOfMemory;
 use load_files::{LoadStop, read_loads};
 use load_plan::RecordsList;
 use outside::{Sink, Store};
+use program_texts::line_of_load_fault;
 use std::alloc::Global;
 
 /// Says that the load of a station has a fault.

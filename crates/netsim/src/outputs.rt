@@ -7,16 +7,16 @@ ghost use Rattle.run_texts.specs.Counts.{AreLeft, counts_of};
 ghost use Rattle.netsim.specs.Endings.{IsFileEnd};
 ghost use Rattle.netsim.specs.Writing.{IsBroken, IsBrokenAmong, put_file, put_all};
 ghost use Rattle.netsim.specs.Runs.{capture_files, counters, run_files, log};
-ghost use Rattle.netsim.specs.Texts.{name_of_capture, name_of_counters, name_of_log};
+ghost use Rattle.program_texts.specs.Texts.{name_of_capture, name_of_counters, name_of_log};
 
 use crate::endings::Ending;
 use crate::files::write_file;
-use crate::texts::{name_of_capture, name_of_counters, name_of_log};
 use layout::StationLine;
 use lists::{List, OutOfMemory};
 use load_plan::Plan;
 use network::{Outputs, TakenList};
 use outside::{Store, StoreFail};
+use program_texts::{name_of_capture, name_of_counters, name_of_log};
 use run_texts::{counters_of_rows, log_of_rows, pcap_of};
 use std::alloc::Global;
 

@@ -8,21 +8,23 @@ ghost use Rattle.line_probe.specs.declared.tap.Tap.{Tap};
 ghost use Rattle.load_plan.specs.declared.plan.Plan.{Plan};
 ghost use Rattle.network.specs.Outputs.{half_bits};
 ghost use Rattle.netsim.specs.Endings.{AreTapsTold, AreTextsTold, IsProbeEnd};
-ghost use Rattle.netsim.specs.FileLimits.{most_probed, most_taps};
+ghost use Rattle.program_words.specs.declared.words.Hearing.TheVariants as hearing;
+ghost use Rattle.program_words.specs.WordLimits.{most_probed, most_taps};
 ghost use Rattle.netsim.specs.Moments.{moment};
-ghost use Rattle.netsim.specs.Probes.{AreHeard};
+ghost use Rattle.program_texts.specs.HeardTexts.{AreHeard};
 
 use crate::aim::aim;
 use crate::endings::Ending;
 use crate::judge::read_network;
 use crate::plans::plan_network;
-use crate::probe_texts::text_of_tap;
-use crate::sink_texts::write_text;
+use crate::sink_texts::{write_line, write_text};
 use line_probe::{Tap, heard_at_taps};
 use lists::{List, OutOfMemory, Text};
 use load_plan::Plan;
 use manchester_line::Sym;
 use outside::{Sink, SinkFail, Store};
+use program_texts::{text_of_tap, text_of_waves};
+use program_words::Hearing;
 use std::alloc::Global;
 
 /// Writes what the taps of these words hear, of what they all hear from half bit `from` on, tap by tap.
@@ -52,8 +54,9 @@ fn write_taps<K: Sink>(
     Ending::Done
 }
 
-/// Writes what these taps of a plan's network hear from half bit `from` on and before half bit `to`.
-fn tell_taps<K: Sink>(
+/// Writes the runs and bursts of what these taps of a plan's network hear from half bit `from` on and before half bit
+/// `to`, tap by tap.
+fn tell_runs<K: Sink>(
     alloc: Global,
     plan: &Plan,
     words: &[Text],
@@ -69,7 +72,7 @@ fn tell_taps<K: Sink>(
     requires short { to ≤ from + most_probed }
     requires end { to ≤ half_bits plan.now }
     requires late { to ≤ most_half_bits }
-    ensures { AreTapsTold plan.now from to words.now taps.now (K.written out.old) (K.written out.new) (K.faults out.old) (K.faults out.new) result }
+    ensures { AreTapsTold hearing.Runs plan.now from to words.now taps.now (K.written out.old) (K.written out.new) (K.faults out.old) (K.faults out.new) result }
 {
     let from = u64::from(from);
     match heard_at_taps(alloc, plan, taps, from, u64::from(to)) {
@@ -78,10 +81,61 @@ fn tell_taps<K: Sink>(
     }
 }
 
+/// Writes the waves of what these taps of a plan's network hear from half bit `from` on and before half bit `to`.
+fn tell_waves<K: Sink>(
+    alloc: Global,
+    plan: &Plan,
+    words: &[Text],
+    taps: &[Tap],
+    from: u32,
+    to: u32,
+    out: &mut K,
+) -> Ending
+    requires taps { All (HasTap plan.now.layout) taps.now }
+    requires named { length taps.now ≡ length words.now }
+    requires few { length taps.now ≤ most_taps }
+    requires order { from < to }
+    requires end { to ≤ half_bits plan.now }
+    requires late { to ≤ most_half_bits }
+    ensures { AreTapsTold hearing.Waves plan.now from to words.now taps.now (K.written out.old) (K.written out.new) (K.faults out.old) (K.faults out.new) result }
+{
+    match text_of_waves(alloc, plan, words, taps, u64::from(from), u64::from(to)) {
+        Ok(text) => write_line(out, text.as_slice()),
+        Err(OutOfMemory) => Ending::Memory,
+    }
+}
+
+/// Writes what these taps of a plan's network hear from half bit `from` on and before half bit `to`, told so.
+fn tell_taps<K: Sink>(
+    alloc: Global,
+    hearing: Hearing,
+    plan: &Plan,
+    words: &[Text],
+    taps: &[Tap],
+    from: u32,
+    to: u32,
+    out: &mut K,
+) -> Ending
+    requires taps { All (HasTap plan.now.layout) taps.now }
+    requires named { length taps.now ≡ length words.now }
+    requires few { length taps.now ≤ most_taps }
+    requires order { from < to }
+    requires short { to ≤ from + most_probed }
+    requires end { to ≤ half_bits plan.now }
+    requires late { to ≤ most_half_bits }
+    ensures { AreTapsTold hearing plan.now from to words.now taps.now (K.written out.old) (K.written out.new) (K.faults out.old) (K.faults out.new) result }
+{
+    match hearing {
+        Hearing::Runs => tell_runs(alloc, plan, words, taps, from, to, out),
+        Hearing::Waves => tell_waves(alloc, plan, words, taps, from, to, out),
+    }
+}
+
 /// Says what the taps of these words hear in the network of a layout file with its loads, from half bit `from` on and
-/// before half bit `to`.
+/// before half bit `to`, told so.
 pub(crate) fn probe<S: Store, K: Sink>(
     alloc: Global,
+    hearing: Hearing,
     layout: &str,
     from: u32,
     to: u32,
@@ -93,7 +147,7 @@ pub(crate) fn probe<S: Store, K: Sink>(
     requires short { to ≤ from + most_probed }
     requires late { to ≤ most_half_bits }
     requires few { length words.now ≤ most_taps }
-    ensures { IsProbeEnd layout.now from to words.now
+    ensures { IsProbeEnd hearing layout.now from to words.now
         (moment S.held S.read_faults S.write_faults K.written K.faults K.refused store.old out.old)
         (moment S.held S.read_faults S.write_faults K.written K.faults K.refused store.new out.new)
         result }
@@ -110,5 +164,5 @@ pub(crate) fn probe<S: Store, K: Sink>(
         Ok(plan) => plan,
         Err(ended) => return ended,
     };
-    tell_taps(alloc, &plan, words, taps.as_slice(), from, to, out)
+    tell_taps(alloc, hearing, &plan, words, taps.as_slice(), from, to, out)
 }

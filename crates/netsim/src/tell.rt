@@ -7,11 +7,10 @@ ghost use Rattle.netsim.specs.Moments.{moment};
 use crate::endings::Ending;
 use crate::judge::read_network;
 use crate::sink_texts::write_line;
-use crate::slack_texts::slack_text;
-use crate::verdict::verdict_line;
 use layout::Layout;
 use lists::{List, OutOfMemory};
 use outside::{Sink, Store};
+use program_texts::{slack_text, verdict_line};
 use std::alloc::Global;
 
 /// What is told of a layout.

@@ -4,19 +4,21 @@ ghost use Rattle.outside.specs.Files.{Rose};
 ghost use Rattle.netsim.specs.LoggedCollisions.{AreCollisionsLogged};
 ghost use Rattle.netsim.specs.Endings.{IsAnswer, IsEnd};
 ghost use Rattle.netsim.specs.Moments.{moment};
-ghost use Rattle.netsim.specs.Requests.{asked};
-ghost use Rattle.netsim.specs.Statuses.{AreSlacksDone, IfCheck, IfDemo, IfFiles, IfMeter, IfProbe, IfSlack, IsCheckDone, IsDemoDone, IsDoneOrMemory, IsMeterDone, IsProbeDone, IsRefusal, IsRunBroken, IsRunDone, IsRunRefused, IsUnhindered};
+ghost use Rattle.program_words.specs.Requests.{asked};
+ghost use Rattle.program_words.specs.declared.words.Hearing.TheVariants as hearing;
+ghost use Rattle.netsim.specs.Statuses.{AreSlacksDone, IfCheck, IfDemo, IfFiles, IfMeter, IfPicture, IfProbe, IfSlack, IfWaves, IsCheckDone, IsDemoDone, IsDoneOrMemory, IsMeterDone, IsPictureDone, IsProbeDone, IsRefusal, IsRunBroken, IsRunDone, IsRunRefused, IsUnhindered};
 
 use crate::demo::demo;
 use crate::endings::Ending;
 use crate::meter::meter;
+use crate::picture::picture;
 use crate::probe::probe;
 use crate::runs::{plain, run};
 use crate::sink_texts::{say, write_line};
 use crate::tell::{Telling, tell};
-use crate::texts::{HELP, VERSION, WORDS_FAULT};
-use crate::words::{Request, Words, read_words};
 use outside::{Gate, Sink, Store};
+use program_texts::{HELP, VERSION, WORDS_FAULT};
+use program_words::{Request, Words, read_words};
 use std::alloc::Global;
 use std::sync::Wait;
 use std::thread::Threads;
@@ -50,13 +52,22 @@ pub fn run_words<X: Threads + Wait + Sync, S: Store, K: Sink, G: Gate>(
         Some(Request::Demo { number, workers }) => demo(rt, alloc, number, workers, gate, out),
         Some(
             Request::Probe {
+                hearing,
                 layout,
                 from,
                 to,
                 taps,
             },
-        ) => probe(alloc, layout, from, to, taps, store, out),
+        ) => probe(alloc, hearing, layout, from, to, taps, store, out),
         Some(Request::Meter { log }) => meter(alloc, log, store, out),
+        Some(
+            Request::Picture {
+                layout,
+                log,
+                from,
+                to,
+            },
+        ) => picture(alloc, layout, log, from, to, store, out),
         Some(Request::Help) => write_line(out, HELP.as_bytes()),
         Some(Request::Version) => write_line(out, VERSION.as_bytes()),
         None => {
@@ -74,12 +85,14 @@ pub fn run_words<X: Threads + Wait + Sync, S: Store, K: Sink, G: Gate>(
 /// the summary to the sink. `run LAYOUT PREFIX WORKERS` does the same by windows, on 1 to 64 workers, and
 /// `demo NUMBER WORKERS` runs the layout of demo of 1 to 128 so, and writes its size and the summary to the sink.
 /// `probe LAYOUT FROM TO TAP ..` runs the network by half bits and writes to the sink what 1 to 16 taps hear from half bit
-/// FROM on and before TO, as runs of one symbol and bursts. `meter LOG` writes the figures of a log to the sink.
-/// `--help` and `--version` write a fixed text to the sink.
+/// FROM on and before TO, as runs of one symbol and bursts, and `waves LAYOUT FROM TO TAP ..` the same as a value change
+/// dump. `meter LOG` writes the figures of a log to the sink, and `picture LAYOUT LOG FROM TO` what the log tells of the
+/// half bits from FROM on and before TO as a picture. `--help` and `--version` write a fixed text to the sink.
 /// LAYOUT, PREFIX and LOG have 1 to 200 octets, and a TAP 1 to 40; FROM is below TO, which is at most 2,000,000,000 and at
 /// most 1,000,000 more. The statuses are 0 for done, 1 for words of no form, 2 for a layout with a fault, 3 for a load
 /// with a fault, 4 for a file that can't be read, 5 for a failed write, 6 for want of memory, which alone is free, 7 for
-/// a tap that the layout hasn't or a TO past the run, and 8 for a log with a fault. The forms `run` and `demo` may wait.
+/// a tap that the layout hasn't or a TO past the run, 8 for a log with a fault, and 11 for a log that names what the layout
+/// lacks. The forms `run` and `demo` may wait.
 pub fn netsim<X: Threads + Wait + Sync, S: Store, K: Sink, G: Gate>(
     rt: &X,
     alloc: Global,
@@ -129,7 +142,13 @@ pub fn netsim<X: Threads + Wait + Sync, S: Store, K: Sink, G: Gate>(
 
     // A probe is done: the sink got the runs and the bursts of what each tap hears in the network of the layout and the
     // loads held at entry, and nothing else is changed.
-    ensures probed { result ≡ 0 → IfProbe (asked words.now) (λ layout from to taps. IsProbeDone layout from to taps
+    ensures probed { result ≡ 0 → IfProbe (asked words.now) (λ layout from to taps. IsProbeDone hearing.Runs layout from to taps
+        (moment S.held S.read_faults S.write_faults K.written K.faults K.refused store.old out.old)
+        (moment S.held S.read_faults S.write_faults K.written K.faults K.refused store.new out.new)) }
+
+    // The waves are told: the sink got the value change dump of what the taps hear in that network, and nothing else is
+    // changed.
+    ensures waved { result ≡ 0 → IfWaves (asked words.now) (λ layout from to taps. IsProbeDone hearing.Waves layout from to taps
         (moment S.held S.read_faults S.write_faults K.written K.faults K.refused store.old out.old)
         (moment S.held S.read_faults S.write_faults K.written K.faults K.refused store.new out.new)) }
 
@@ -138,7 +157,13 @@ pub fn netsim<X: Threads + Wait + Sync, S: Store, K: Sink, G: Gate>(
         (moment S.held S.read_faults S.write_faults K.written K.faults K.refused store.old out.old)
         (moment S.held S.read_faults S.write_faults K.written K.faults K.refused store.new out.new)) }
 
-    // With the statuses 1 to 4, 7 and 8 every file is as at entry.
+    // A picture is drawn: the sink got the picture of what the log held at entry tells of the half bits in the network of
+    // the layout held then, and nothing else is changed.
+    ensures pictured { result ≡ 0 → IfPicture (asked words.now) (λ layout log from to. IsPictureDone layout log from to
+        (moment S.held S.read_faults S.write_faults K.written K.faults K.refused store.old out.old)
+        (moment S.held S.read_faults S.write_faults K.written K.faults K.refused store.new out.new)) }
+
+    // With the statuses 1 to 4, 7, 8 and 11 every file is as at entry.
     ensures refused { IsRefusal result → S.held store.new ≡ S.held store.old }
 
     // Status 5 only where a write to the store or to the sink failed.

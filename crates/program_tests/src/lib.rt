@@ -8,8 +8,12 @@ mod loads;
 #[cfg(test)]
 mod meters;
 #[cfg(test)]
+mod pictures;
+#[cfg(test)]
 mod plain;
 #[cfg(test)]
 mod probes;
 #[cfg(test)]
 mod runs;
+#[cfg(test)]
+mod waves;

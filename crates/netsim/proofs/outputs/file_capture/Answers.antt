@@ -1,6 +1,6 @@
 use Rattle.std.proofs.Common.{◌≡◌, rules}
 use Rattle.netsim.specs.declared.endings.Ending.{Ending}
-use Rattle.netsim.specs.Texts.{name_of_capture}
+use Rattle.program_texts.specs.Texts.{name_of_capture}
 use Rattle.run_texts.specs.Captures.{pcap_of_taken}
 use Rattle.netsim.proofs.FilesInTurn.{broken-same}
 use Rattle.netsim.proofs.outputs.file_capture.Goals as goal

@@ -1,7 +1,7 @@
 use Rattle.std.proofs.Common.{◌≡◌, rules}
 use Rattle.netsim.specs.declared.endings.Ending.{Ending}
 use Rattle.netsim.specs.Runs.{counters}
-use Rattle.netsim.specs.Texts.{name_of_counters}
+use Rattle.program_texts.specs.Texts.{name_of_counters}
 use Rattle.netsim.proofs.FilesInTurn.{broken-same}
 use Rattle.netsim.proofs.outputs.file_counters.Goals as goal
 

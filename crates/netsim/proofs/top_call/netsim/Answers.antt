@@ -3,7 +3,9 @@ use Rattle.netsim.proofs.FilesAfterRuns.{done, checked, slacks_done, demonstrate
 use Rattle.netsim.proofs.LoadsDecideStatus.{complete}
 use Rattle.netsim.proofs.CollisionsAreTold.{collisions_are_told}
 use Rattle.netsim.proofs.MetersAreTold.{metered}
+use Rattle.netsim.proofs.PicturesAreTold.{pictured}
 use Rattle.netsim.proofs.ProbesAreTold.{probed}
+use Rattle.program_words.specs.declared.words.Hearing.TheVariants as hearing
 use Rattle.netsim.proofs.top_call.netsim.Goals as goal
 
 pub returns-clause-detected : goal.returns-clause-detected
@@ -25,7 +27,13 @@ pub returns-clause-demonstrated : goal.returns-clause-demonstrated
 returns-clause-demonstrated g c = demonstrated c.args.words.now _ _ _ (record { by = c.run_words.result; is = c.status.ensures; allowed = c.run_words.ensures })
 
 pub returns-clause-probed : goal.returns-clause-probed
-returns-clause-probed g c = probed c.args.words.now _ _ _ (record { by = c.run_words.result; is = c.status.ensures; allowed = c.run_words.ensures })
+returns-clause-probed g c zero = probed c.args.words.now _ _ _ (record { by = c.run_words.result; is = c.status.ensures; allowed = c.run_words.ensures }) zero hearing.Runs
+
+pub returns-clause-waved : goal.returns-clause-waved
+returns-clause-waved g c zero = probed c.args.words.now _ _ _ (record { by = c.run_words.result; is = c.status.ensures; allowed = c.run_words.ensures }) zero hearing.Waves
+
+pub returns-clause-pictured : goal.returns-clause-pictured
+returns-clause-pictured g c = pictured c.args.words.now _ _ _ (record { by = c.run_words.result; is = c.status.ensures; allowed = c.run_words.ensures })
 
 pub returns-clause-metered : goal.returns-clause-metered
 returns-clause-metered g c = metered c.args.words.now _ _ _ (record { by = c.run_words.result; is = c.status.ensures; allowed = c.run_words.ensures })

@@ -1,0 +1,66 @@
+-- The end of a picture, from what was read and what was written.
+use Rattle.std.proofs.Common.{◌≡◌, ℕ, ◌+◌, ◌<◌, ◌≤◌, ◌^◌, Option, Ok, List, [], ◌∷◌, ◌++◌, length, length-append, append_assoc, ap, ◌∙◌, inl, inr, arith}
+use Rattle.std.specs.Prelude.{codes}
+use Rattle.log_meter.proofs.WholeLines.{bare_line}
+use Rattle.layout.specs.declared.lines.Layout.{Layout}
+use Rattle.log_meter.specs.Lines.{entry_text}
+use Rattle.log_meter.specs.Logs.{log_text}
+use Rattle.log_meter.specs.declared.line.LogLine.{LogLine}
+use Rattle.outside.specs.Files.{Files}
+use Rattle.netsim.specs.declared.endings.Ending.{Ending}
+use Rattle.netsim.specs.declared.endings.Ending.TheVariants as ending
+use Rattle.netsim.specs.Endings.{HasOnlyRead, IsDrawnEnd, IsEarly, IsJudged, IsPictureEnd, IsUnmetered}
+use Rattle.netsim.specs.Meters.{HasLog}
+use Rattle.netsim.specs.Moments.{Moment}
+use Rattle.netsim.proofs.RunEnds.{rose-before, said_before}
+
+-- the layout could not be read
+pub picture-early : (layout log : List ℕ) (from to : ℕ) (before after : Moment) (e : Ending) → after.held ≡ before.held → IsEarly layout before after e → IsPictureEnd layout log from to before after e
+picture-early layout log from to before after e held early = (held, inl early)
+
+unmetered_before : (log : List ℕ) (before mid after : Moment) (e : Ending) → HasOnlyRead before mid → IsUnmetered log mid after e → IsUnmetered log before after e
+unmetered_before log before mid after ending.Done read said = said
+unmetered_before log before mid after ending.Words read said = said
+unmetered_before log before mid after ending.Layout read said = said
+unmetered_before log before mid after ending.Load read said = said
+unmetered_before log before mid after ending.Read read said =
+    (elim said.0 [ inl absent ↦ inl (rw read.held at absent) | inr rose ↦ inr (rose-before before.reads mid.reads after.reads read.reads rose) ], said_before _ before mid after read said.1)
+unmetered_before log before mid after ending.Write read said = said
+unmetered_before log before mid after ending.Memory read said = rw read.written at said
+unmetered_before log before mid after ending.Probe read said = said
+unmetered_before log before mid after ending.Log read said = (said.0, rw read.held at said.1, said_before _ before mid after read said.2)
+unmetered_before log before mid after ending.Stranger read said = said
+
+-- the log could not be read
+pub picture-unlogged : (layout log : List ℕ) (from to : ℕ) (network : Layout) (before mid after : Moment) (e : Ending) → HasOnlyRead before mid → IsJudged layout before.held (Ok network) → after.held ≡ mid.held → IsUnmetered log mid after e
+    → IsPictureEnd layout log from to before after e
+picture-unlogged layout log from to network before mid after e read judged held said =
+    (held ∙ read.held, inr (inl (record { network = network; judged = judged; said = unmetered_before log before mid after e read said })))
+
+log_before : (log : List ℕ) (held now : Option Files) (lines : List LogLine) → now ≡ held → HasLog log now lines → HasLog log held lines
+log_before log held now lines is has = rw is at has
+
+drawn_before : (network : Layout) (lines : List LogLine) (from to : ℕ) (before mid after : Moment) (e : Ending) → HasOnlyRead before mid
+    → IsDrawnEnd network lines from to mid.written after.written mid.faults after.faults mid.refused after.refused e
+    → IsDrawnEnd network lines from to before.written after.written before.faults after.faults before.refused after.refused e
+drawn_before network lines from to before mid after e read h = rw (read.written, read.faults, read.refused) at h
+
+-- the lines were drawn, or one of them names what the layout lacks
+pub picture-drawn : (layout log : List ℕ) (from to : ℕ) (network : Layout) (lines : List LogLine) (before aimed mid after : Moment) (e : Ending) → HasOnlyRead before aimed → HasOnlyRead before mid → IsJudged layout before.held (Ok network)
+    → HasLog log aimed.held lines → after.held ≡ mid.held → IsDrawnEnd network lines from to mid.written after.written mid.faults after.faults mid.refused after.refused e → IsPictureEnd layout log from to before after e
+picture-drawn layout log from to network lines before aimed mid after e first read judged has held drawn = (
+  held ∙ read.held,
+  inr (inr (record { network = network; judged = judged; lines = lines; read = log_before log before.held aimed.held lines first.held has; drawn = drawn_before network lines from to before mid after e read drawn })),
+)
+
+-- a line and its line feed, before more octets
+fed_onto : (l : LogLine) (more : List ℕ) → entry_text l ++ more ≡ bare_line l ++ 10 ∷ more
+fed_onto l more = append_assoc (bare_line l) (codes "\n") more
+
+-- a log has no more lines than octets
+pub lines_long : (lines : List LogLine) → length lines ≤ length (log_text lines)
+lines_long [] = omega arith
+lines_long (l ∷ ls) = omega (arith, ap length (fed_onto l (log_text ls)), length-append (bare_line l) (10 ∷ log_text ls), lines_long ls)
+
+pub lines_few : (log : List ℕ) (held : Option Files) (lines : List LogLine) → HasLog log held lines → length lines < 2 ^ 32
+lines_few log held lines has = omega (arith, lines_long lines, ap length has.log_of.text, has.few)

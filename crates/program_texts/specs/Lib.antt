@@ -1,0 +1,4 @@
+pub mod Texts
+pub mod Verdicts
+pub mod SlackTexts
+pub mod HeardTexts

@@ -1,0 +1,2 @@
+pub mod WordLimits
+pub mod Requests

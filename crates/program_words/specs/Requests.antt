@@ -1,0 +1,160 @@
+-- What the words of the command line ask for (profile).
+use Rattle.std.specs.Prelude.{◌≤◌, ◌<◌, ℕ, ◌+◌, ◌-◌, List, [], ◌∷◌, length, Bool, true, ◌&&◌, nat_le, nat_lt, Option, None, Some, option_map, find, decimal, if◌then◌else◌, bytes_eq, codes}
+use Rattle.std.specs.List.{range_with_len}
+use Rattle.layout.specs.Limits.{most_half_bits, most_repeaters}
+use Rattle.program_words.specs.WordLimits.{most_name, most_probed, most_tap_word, most_taps, most_workers}
+use Rattle.program_words.specs.declared.words.Hearing.{Hearing}
+use Rattle.program_words.specs.declared.words.Hearing.TheVariants as hearing
+use Rattle.program_words.specs.declared.words.Request.{Request}
+use Rattle.program_words.specs.declared.words.Request.TheVariants as request
+
+-- the path verdict of a layout, its slacks, a run by half bits with the names of the layout and of what is written, the
+-- same by windows on so many workers, a run of the layout of demo of a number on so many, what the taps of these words
+-- hear from one half bit on and before another, told so, the figures of a log, the picture of what a log tells of the
+-- half bits from one on and before another, or a fixed text
+pub data Asked : Type 0 where
+  Check : (layout : List ℕ) → Asked
+  Slack : (layout : List ℕ) → Asked
+  Plain : (layout prefix : List ℕ) → Asked
+  Run : (layout prefix : List ℕ) (workers : ℕ) → Asked
+  Demo : (number workers : ℕ) → Asked
+  Probe : (told : Hearing) (layout : List ℕ) (from to : ℕ) (taps : List (List ℕ)) → Asked
+  Meter : (log : List ℕ) → Asked
+  Picture : (layout log : List ℕ) (from to : ℕ) → Asked
+  Help : Asked
+  Version : Asked
+
+-- a name of a file has 1 to 200 octets
+abbrev pub is_file_name : List ℕ → Bool
+is_file_name word = nat_le 1 (length word) && nat_le (length word) most_name
+
+-- the number from the first of these to the second that is written so in decimal, without a sign or a leading zero
+unfoldable pub number_between : ℕ → ℕ → List ℕ → Option ℕ
+number_between least most word = find (λ n. bytes_eq word (decimal n)) (range_with_len least (most + 1 - least))
+
+-- a word for a tap has 1 to 40 octets
+abbrev pub is_tap_word : List ℕ → Bool
+is_tap_word word = nat_le 1 (length word) && nat_le (length word) most_tap_word
+
+-- words for taps
+abbrev pub are_tap_words : List (List ℕ) → Bool
+are_tap_words [] = true
+are_tap_words (word ∷ words) = is_tap_word word && are_tap_words words
+
+-- what one word asks for: --help or --version
+abbrev pub asked_text : List ℕ → Option Asked
+asked_text word =
+    if bytes_eq word (codes "--help") then Some Help
+    else if bytes_eq word (codes "--version") then Some Version
+    else None
+
+-- what two words ask for: check LAYOUT, slack LAYOUT or meter LOG
+abbrev pub asked_file : List ℕ → List ℕ → Option Asked
+asked_file word file =
+    if bytes_eq word (codes "check") && is_file_name file then Some (Check file)
+    else if bytes_eq word (codes "slack") && is_file_name file then Some (Slack file)
+    else if bytes_eq word (codes "meter") && is_file_name file then Some (Meter file)
+    else None
+
+-- what the words after plain ask for: LAYOUT PREFIX
+abbrev pub asked_plain : List ℕ → List ℕ → Option Asked
+asked_plain layout prefix = if is_file_name layout && is_file_name prefix then Some (Plain layout prefix) else None
+
+-- what is asked for by these two numbers, if they are there
+abbrev pub asked_numbers : Option ℕ → Option ℕ → Option Asked
+asked_numbers (Some number) (Some workers) = Some (Demo number workers)
+asked_numbers (Some number) None = None
+asked_numbers None workers = None
+
+-- what the words after demo ask for: NUMBER WORKERS
+abbrev pub asked_demo : List ℕ → List ℕ → Option Asked
+asked_demo number workers =
+    asked_numbers (number_between 1 most_repeaters number) (number_between 1 most_workers workers)
+
+-- what three words ask for: plain LAYOUT PREFIX or demo NUMBER WORKERS
+abbrev pub asked_three : List ℕ → List ℕ → List ℕ → Option Asked
+asked_three word first second =
+    if bytes_eq word (codes "plain") then asked_plain first second
+    else if bytes_eq word (codes "demo") then asked_demo first second
+    else None
+
+-- what four words ask for: run LAYOUT PREFIX WORKERS
+abbrev pub asked_run : List ℕ → List ℕ → List ℕ → List ℕ → Option Asked
+asked_run word layout prefix workers =
+    if bytes_eq word (codes "run") && is_file_name layout && is_file_name prefix
+    then option_map (Run layout prefix) (number_between 1 most_workers workers)
+    else None
+
+-- one half bit comes before another, and at most a million lie between them
+abbrev pub is_stretch : ℕ → ℕ → Bool
+is_stretch from to = nat_lt from to && nat_le to (from + most_probed)
+
+-- these two half bits, if they are there and are such
+abbrev pub stretch_between : Option ℕ → Option ℕ → Option (ℕ × ℕ)
+stretch_between (Some from) (Some to) = if is_stretch from to then Some (from, to) else None
+stretch_between (Some from) None = None
+stretch_between None to = None
+
+-- the two half bits that are written so
+abbrev pub stretch_of : List ℕ → List ℕ → Option (ℕ × ℕ)
+stretch_of from to = stretch_between (number_between 0 most_half_bits from) (number_between 0 most_half_bits to)
+
+-- what the words after probe or waves ask for: LAYOUT FROM TO TAP .. with at most 16 taps
+abbrev pub asked_probe : Hearing → List ℕ → List ℕ → List ℕ → List (List ℕ) → Option Asked
+asked_probe told layout from to taps =
+    if is_file_name layout && nat_le (length taps) most_taps && are_tap_words taps
+    then option_map (λ s. Probe told layout s.0 s.1 taps) (stretch_of from to)
+    else None
+
+-- what the words after picture ask for: LAYOUT LOG FROM TO
+abbrev pub asked_picture : List ℕ → List ℕ → List ℕ → List (List ℕ) → Option Asked
+asked_picture layout log from (to ∷ []) =
+    if is_file_name layout && is_file_name log
+    then option_map (λ s. Picture layout log s.0 s.1) (stretch_of from to)
+    else None
+asked_picture layout log from _ = None
+
+-- what five words and more ask for: probe LAYOUT FROM TO TAP .., waves LAYOUT FROM TO TAP .. or picture LAYOUT LOG FROM TO
+abbrev pub asked_long : List ℕ → List ℕ → List ℕ → List ℕ → List (List ℕ) → Option Asked
+asked_long word layout second third rest =
+    if bytes_eq word (codes "probe") then asked_probe hearing.Runs layout second third rest
+    else if bytes_eq word (codes "waves") then asked_probe hearing.Waves layout second third rest
+    else if bytes_eq word (codes "picture") then asked_picture layout second third rest
+    else None
+
+-- what the words of the command line ask for, without the program's own name
+abbrev pub asked : List (List ℕ) → Option Asked
+asked (word ∷ layout ∷ second ∷ third ∷ fourth ∷ rest) = asked_long word layout second third (fourth ∷ rest)
+asked (word ∷ layout ∷ prefix ∷ workers ∷ []) = asked_run word layout prefix workers
+asked (word ∷ first ∷ second ∷ []) = asked_three word first second
+asked (word ∷ file ∷ []) = asked_file word file
+asked (word ∷ []) = asked_text word
+asked words = None
+
+-- what a request of the program asks for
+abbrev pub asked_of : Request → Asked
+asked_of (request.Check layout) = Check layout.now
+asked_of (request.Slack layout) = Slack layout.now
+asked_of (request.Plain layout prefix) = Plain layout.now prefix.now
+asked_of (request.Run layout prefix workers) = Run layout.now prefix.now workers
+asked_of (request.Demo number workers) = Demo number workers
+asked_of (request.Probe told layout from to taps) = Probe told layout.now from to taps.now
+asked_of (request.Meter log) = Meter log.now
+asked_of (request.Picture layout log from to) = Picture layout.now log.now from to
+asked_of request.Help = Help
+asked_of request.Version = Version
+
+-- the numbers of a request are in their ranges
+abbrev pub HasNumbersInRange : Request → Type 0
+HasNumbersInRange (request.Check layout) = Unit {0}
+HasNumbersInRange (request.Slack layout) = Unit {0}
+HasNumbersInRange (request.Plain layout prefix) = Unit {0}
+HasNumbersInRange (request.Run layout prefix workers) = (1 ≤ workers) × (workers ≤ most_workers)
+HasNumbersInRange (request.Demo number workers) =
+    (1 ≤ number) × (number ≤ most_repeaters) × (1 ≤ workers) × (workers ≤ most_workers)
+HasNumbersInRange (request.Probe told layout from to taps) =
+    (from < to) × (to ≤ from + most_probed) × (to ≤ most_half_bits) × (length taps.now ≤ most_taps)
+HasNumbersInRange (request.Meter log) = Unit {0}
+HasNumbersInRange (request.Picture layout log from to) = (from < to) × (to ≤ from + most_probed) × (to ≤ most_half_bits)
+HasNumbersInRange request.Help = Unit {0}
+HasNumbersInRange request.Version = Unit {0}
