@@ -356,16 +356,16 @@ pub record IsUnlogged (layout log : List ℕ) (before after : Moment) (e : Endin
   pub judged : IsJudged layout before.held (Ok network)
   pub said : IsUnmetered log before after e
 
--- what is said of the first of these lines, from 1, that names what a network lacks: its line, and nothing without memory;
--- the last two numbers count what the sink refused
+-- what is said of the first of these lines, from 1, that names what a network lacks: its line, and nothing without
+-- memory; the last two numbers count what the sink refused
 abbrev pub IsStrangeEnd : Layout → List LogLine → Option (List ℕ) → Option (List ℕ) → ℕ → ℕ → Ending → Type 0
 IsStrangeEnd network lines written now refused risen ending.Stranger =
     (n : ℕ) × (first_stranger network lines ≡ Some n) × IsSaid (line_of_stranger n) written now refused risen
 IsStrangeEnd network lines written now refused risen ending.Memory = now ≡ written
 IsStrangeEnd network lines written now refused risen _ = ⊥
 
--- the picture of what these lines, none of which names what a network lacks, tell of the half bits from one on and before
--- another was written, or a front of it; the last two numbers count the failed writes
+-- the picture of what these lines, none of which names what a network lacks, tell of the half bits from one on and
+-- before another was written, or a front of it; the last two numbers count the failed writes
 pub record ArePictured (network : Layout) (lines : List LogLine) (from to : ℕ) (written now : Option (List ℕ))
     (faults risen : ℕ) (e : Ending) : Type 0 where
   pub known : first_stranger network lines ≡ None

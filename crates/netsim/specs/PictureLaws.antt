@@ -17,8 +17,8 @@ AreStrangersSaid =
     → IsPictureWith (asked words) (λ layout log.
     IsNetworkWith layout entry.held (λ network. IsStrangerSaid network log entry exit)))
 
--- where the layout and the log held at entry have no fault and a line of the log names what the layout lacks the status is
--- 11, but for a failed read and want of memory
+-- where the layout and the log held at entry have no fault and a line of the log names what the layout lacks the
+-- status is 11, but for a failed read and want of memory
 abbrev pub DoStrangersDecide : Type 0
 DoStrangersDecide =
     OfAnswers (λ words entry exit status.

@@ -300,8 +300,8 @@ pub record IsDemoCut (number : ℕ) (entry exit : Moment) : Type 0 where
 abbrev pub IsDemoStatus : ℕ → Type 0
 IsDemoStatus status = (status ≡ 0) ⊎ (status ≡ 5) ⊎ (status ≡ 6)
 
--- a probe is done: the sink got the text that tells so what the taps of these words hear from one half bit on and before
--- another, in the network of the layout with the loads held at entry, and every file is as at entry
+-- a probe is done: the sink got the text that tells so what the taps of these words hear from one half bit on and
+-- before another, in the network of the layout with the loads held at entry, and every file is as at entry
 pub record IsProbeDone (told : Hearing) (layout : List ℕ) (from to : ℕ) (taps : List (List ℕ)) (entry exit : Moment)
     : Type 0 where
   pub text : List ℕ

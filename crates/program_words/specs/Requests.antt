@@ -114,7 +114,8 @@ asked_picture layout log from (to ∷ []) =
     else None
 asked_picture layout log from _ = None
 
--- what five words and more ask for: probe LAYOUT FROM TO TAP .., waves LAYOUT FROM TO TAP .. or picture LAYOUT LOG FROM TO
+-- what five words and more ask for: probe LAYOUT FROM TO TAP .., waves LAYOUT FROM TO TAP .. or picture LAYOUT LOG
+-- FROM TO
 abbrev pub asked_long : List ℕ → List ℕ → List ℕ → List ℕ → List (List ℕ) → Option Asked
 asked_long word layout second third rest =
     if bytes_eq word (codes "probe") then asked_probe hearing.Runs layout second third rest
