@@ -1,7 +1,7 @@
 -- A log has no more lines than octets.
-use Rattle.std.proofs.Common.{◌≡◌, ℕ, suc, ◌+◌, ◌≤◌, List, [], ◌∷◌, ◌++◌, length, codes, ap, arith, length-append}
+use Rattle.std.proofs.Common.{◌≡◌, ◌+◌, ◌≤◌, List, [], ◌∷◌, ◌++◌, length, codes, ap, arith, length-append}
 use Rattle.log_meter.specs.Lines.{entry_text}
-use Rattle.log_meter.specs.Logs.{IsLogOf, log_text}
+use Rattle.log_meter.specs.Logs.{log_text}
 use Rattle.log_meter.specs.declared.line.LogLine.{LogLine}
 use Rattle.run_picture.specs.Marks.{title_of}
 use Rattle.run_picture.specs.PictureLaws.{LinesAreFew}

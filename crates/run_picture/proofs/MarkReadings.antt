@@ -1,27 +1,24 @@
 -- How the reader of XML goes over the marks of a picture, and what titles it finds in them.
-use Rattle.std.proofs.Common.{◌≡◌, ℕ, ◌+◌, ◌==◌, ◌&&◌, Bool, true, false, cond, List, [], ◌∷◌, ◌++◌, map, filter, flat_map, codes, Some, None, refl, sym, ap, subst, ◌∙◌, append_assoc, append-nil}
-use Rattle.std.specs.List.{AllByRecursion, find}
+use Rattle.std.proofs.Common.{ℕ, ◌+◌, ◌&&◌, Bool, true, false, cond, List, [], ◌∷◌, ◌++◌, map, filter, codes, Some, None, refl, sym, subst, append_assoc, append-nil}
+use Rattle.std.specs.List.{AllByRecursion}
 use Rattle.std.specs.Prelude.{Option, slice_get, nat_lt}
 use Rattle.collision_log.specs.declared.row.Body.{Body}
 use Rattle.collision_log.specs.declared.row.Body.TheVariants as body
 use Rattle.layout.specs.NameOctets.{is_name_octet}
 use Rattle.layout.specs.declared.lines.Layout.{Layout}
 use Rattle.layout.specs.declared.lines.PortLine.{PortLine}
-use Rattle.layout.specs.declared.lines.RepeaterLine.{RepeaterLine}
-use Rattle.layout.specs.declared.lines.StationLine.{StationLine}
 use Rattle.layout.specs.declared.ways.Tap.TheVariants.{Station, Port}
 use Rattle.log_meter.specs.Lines.{IsLogLine}
 use Rattle.log_meter.specs.declared.line.LogLine.{LogLine}
 use Rattle.run_picture.specs.Markup.{TagReader}
-use Rattle.run_picture.specs.Marks.{shown, lane_of, lane_shapes, lanes_of_segment, mark, mark_of_line, marks, port_shapes, reception, repeater_shapes, shapes_at_station, shapes_of_line, shapes_on_lane, sign_of_port, signs_of_ports, station_shapes, title_of, word_of_drop}
-use Rattle.run_picture.specs.Sendings.{does_end, does_meet, hit_sign, hit_sign_at, is_in_window, last_wave, sending_of, sending_shapes}
-use Rattle.run_picture.specs.Signs.{bar, sign}
+use Rattle.run_picture.specs.Marks.{shown, lane_of, lane_shapes, lanes_of_segment, mark, marks, port_shapes, reception, repeater_shapes, shapes_at_station, shapes_on_lane, sign_of_port, signs_of_ports, station_shapes, title_of}
+use Rattle.run_picture.specs.Sendings.{does_end, does_meet, hit_sign_at, is_in_window, sending_of, sending_shapes}
+use Rattle.run_picture.specs.Signs.{sign}
 use Rattle.run_picture.specs.Strangers.{number_of_repeater, number_of_station}
 use Rattle.run_picture.specs.Waves.{wave}
 use Rattle.run_picture.specs.declared.lanes.Band.{Band}
 use Rattle.run_picture.specs.declared.lanes.Lane.{Lane}
 use Rattle.run_picture.specs.declared.sending.Sending.{Sending}
-use Rattle.run_picture.specs.declared.signs.Sign.{Sign}
 use Rattle.run_picture.specs.declared.signs.Sign.TheVariants as the_sign
 use Rattle.run_picture.specs.declared.window.Window.{Window}
 use Rattle.run_picture.proofs.PieceReadings.{bar_leads, sign_leads, wave_leads, word_of_drop_leads}

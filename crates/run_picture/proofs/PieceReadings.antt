@@ -7,7 +7,7 @@ use Rattle.collision_log.specs.declared.row.Why.{Why}
 use Rattle.layout.specs.NameOctets.{is_name_octet}
 use Rattle.layout.specs.declared.lines.Layout.{Layout}
 use Rattle.layout.specs.declared.lines.SegmentLine.{SegmentLine}
-use Rattle.run_picture.specs.Axis.{axis, microseconds, tenths, tick, tick_at, tick_step, words_of_axis}
+use Rattle.run_picture.specs.Axis.{axis, microseconds, tick, tick_at, tick_step, words_of_axis}
 use Rattle.run_picture.specs.Bands.{lane_text, name_of_tap, segment_text}
 use Rattle.run_picture.specs.Head.{clip_of_plot, ground, legend_of_repeaters, legend_of_sendings, legend_of_stations, pattern_of_collided, pattern_of_cut, pattern_of_given_up, pattern_of_sent, size_of_picture, style_of_sendings, style_of_signs, style_of_words}
 use Rattle.run_picture.specs.Markup.{is_plain}

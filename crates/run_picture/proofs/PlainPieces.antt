@@ -1,7 +1,6 @@
 -- Pieces of a picture in which no octet means something in XML.
-use Rattle.std.proofs.Common.{◌≡◌, ℕ, suc, ◌+◌, ◌-◌, ◌*◌, ◌/◌, ◌<◌, Bool, true, false, cond, List, [], ◌∷◌, ◌++◌, flat_map, codes, Some, None, refl, ap, All}
-use Rattle.std.specs.List.{AllByRecursion}
-use Rattle.std.specs.Prelude.{decimal, nat_lt, Option, slice_get}
+use Rattle.std.proofs.Common.{◌≡◌, ℕ, ◌+◌, ◌-◌, ◌*◌, ◌/◌, Bool, true, false, cond, List, [], ◌∷◌, ◌++◌, codes, Some, None, refl}
+use Rattle.std.specs.Prelude.{decimal, nat_lt, Option}
 use Rattle.mac_parameters.specs.Distances.{distance}
 use Rattle.collision_log.specs.Rows.{body_text, device_word, hit_text, why_text}
 use Rattle.collision_log.specs.declared.row.Body.{Body}

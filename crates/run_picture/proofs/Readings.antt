@@ -1,10 +1,9 @@
 -- How the reader of XML goes over pieces of texts.
-use Rattle.std.proofs.Common.{◌≡◌, ℕ, ◌==◌, ◌||◌, ◌&&◌, not, Bool, true, false, cond, List, [], ◌∷◌, ◌++◌, flat_map, codes, Some, None, refl, sym, ap, ◌∙◌, append_assoc, append-nil}
-use Rattle.std.specs.List.{fold, list_all}
+use Rattle.std.proofs.Common.{◌≡◌, ℕ, ◌==◌, ◌||◌, not, Bool, true, false, cond, List, [], ◌∷◌, ◌++◌, flat_map, codes, Some, None, refl, sym, ap, ◌∙◌, append_assoc, append-nil}
 use Rattle.std.specs.Prelude.{decimal, Option}
 use Rattle.std.proofs.lemmas.List.Sums.{fold-append}
 use Rattle.std.proofs.lemmas.Bool.{and_parts, not-true, true≢false}
-use Rattle.run_picture.specs.Markup.{TagReader, Standing, Begun, Between, StartTag, Value, after_next_octet, after_octet_at, after_word_octet, after_octets, is_in_title, is_markup, is_plain}
+use Rattle.run_picture.specs.Markup.{TagReader, Begun, Between, StartTag, Value, after_next_octet, after_octet_at, after_word_octet, after_octets, is_in_title, is_markup, is_plain}
 use Rattle.run_picture.proofs.Plain.{decimal_plain}
 
 -- from reader r these octets lead to reader s

@@ -1,7 +1,6 @@
 -- A line of the log without its line feed.
 use Rattle.std.proofs.Common.{◌≡◌, ℕ, ◌+◌, ◌-◌, ◌≤◌, List, [], ◌∷◌, ◌++◌, length, take, codes, refl, sym, ap, ◌∙◌, arith, length-append}
 use Rattle.std.proofs.lemmas.List.{length-take-le, take-take, take_at}
-use Rattle.collision_log.specs.Rows.{row_line}
 use Rattle.log_meter.specs.Lines.{entry_text}
 use Rattle.log_meter.specs.declared.line.LogLine.{LogLine}
 use Rattle.run_picture.specs.Marks.{title_of}

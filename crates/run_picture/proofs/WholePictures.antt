@@ -1,5 +1,5 @@
 -- How the reader of XML goes over a whole picture.
-use Rattle.std.proofs.Common.{◌≡◌, ℕ, zero, suc, ◌+◌, true, List, [], ◌∷◌, ◌++◌, map, filter, length, codes, Some, None, refl, ap, All}
+use Rattle.std.proofs.Common.{◌≡◌, ℕ, zero, suc, ◌+◌, true, List, [], ◌∷◌, ◌++◌, map, filter, length, codes, refl, ap}
 use Rattle.std.specs.List.{AllByRecursion}
 use Rattle.std.specs.Prelude.{slice_get, decimal}
 use Rattle.std.proofs.lemmas.List.Elements.{recursion_from_All}
@@ -13,14 +13,13 @@ use Rattle.layout.specs.declared.ways.Tap.{Tap}
 use Rattle.layout.specs.declared.ways.Tap.TheVariants.{Station, Port}
 use Rattle.log_meter.specs.Lines.{IsLogLine}
 use Rattle.log_meter.specs.declared.line.LogLine.{LogLine}
-use Rattle.run_picture.specs.Axis.{axis}
 use Rattle.run_picture.specs.Bands.{bands_text, lane_text, name_at_station, name_of_port, name_of_tap}
 use Rattle.run_picture.specs.Head.{head, legend, patterns, style}
 use Rattle.run_picture.specs.Lanes.{page_of}
 use Rattle.run_picture.specs.Markup.{TagReader, is_plain, titles_in, titles_of_reader}
 use Rattle.run_picture.specs.Marks.{title_of}
 use Rattle.run_picture.specs.PictureLaws.{PicturesAreClosed, TitlesAreLines}
-use Rattle.run_picture.specs.Pictures.{picture_of, picture_on}
+use Rattle.run_picture.specs.Pictures.{picture_on}
 use Rattle.run_picture.specs.Sendings.{does_meet}
 use Rattle.run_picture.specs.declared.lanes.Band.{Band}
 use Rattle.run_picture.specs.declared.lanes.Page.{Page}

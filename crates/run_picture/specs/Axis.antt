@@ -1,5 +1,5 @@
 -- The axis of times (profile). Half bits count from 0; heights are hundredths of a pixel from the top.
-use Rattle.std.specs.Prelude.{ℕ, ◌+◌, ◌-◌, ◌*◌, ◌/◌, ◌%◌, ◌==◌, nat_le, if◌then◌else◌, List, [], ◌∷◌, ◌++◌, find, unwrap_or, flat_map, codes, decimal}
+use Rattle.std.specs.Prelude.{ℕ, ◌+◌, ◌-◌, ◌/◌, ◌%◌, ◌==◌, nat_le, if◌then◌else◌, List, [], ◌∷◌, ◌++◌, find, unwrap_or, flat_map, codes, decimal}
 use Rattle.std.specs.List.{range_with_len}
 use Rattle.run_picture.specs.Sizes.{half_bits_a_microsecond, half_bits_a_tenth, longest_step, most_steps}
 use Rattle.run_picture.specs.Times.{x_of}

@@ -8,8 +8,6 @@ use Rattle.collision_log.specs.declared.row.Body.TheVariants.{Received, Dropped,
 use Rattle.collision_log.specs.declared.row.Why.{Why}
 use Rattle.layout.specs.declared.lines.Layout.{Layout}
 use Rattle.layout.specs.declared.lines.PortLine.{PortLine}
-use Rattle.layout.specs.declared.lines.RepeaterLine.{RepeaterLine}
-use Rattle.layout.specs.declared.lines.StationLine.{StationLine}
 use Rattle.layout.specs.declared.ways.Tap.{Tap}
 use Rattle.layout.specs.declared.ways.Tap.TheVariants.{Station, Port}
 use Rattle.log_meter.specs.declared.line.LogLine.{LogLine}

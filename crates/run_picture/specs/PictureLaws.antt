@@ -10,7 +10,6 @@ use Rattle.run_picture.specs.Markup.{titles_in}
 use Rattle.run_picture.specs.Marks.{title_of}
 use Rattle.run_picture.specs.Pictures.{picture_of}
 use Rattle.run_picture.specs.Sendings.{does_meet}
-use Rattle.run_picture.specs.declared.window.Window.{Window}
 
 -- the lines that meet the half bits from `from` to below `to`, in their order
 abbrev pub lines_of_window : ℕ → ℕ → List LogLine → List LogLine

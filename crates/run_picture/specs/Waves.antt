@@ -1,6 +1,6 @@
 -- The fronts of waves: lines over the lanes of a segment, from its least to its greatest place (profile). Half bits
 -- count from 0; places are half bits from the cable's end.
-use Rattle.std.specs.Prelude.{ℕ, ◌+◌, nat_le, nat_lt, ◌&&◌, Bool, if◌then◌else◌, List, [], ◌∷◌, ◌++◌, codes, decimal, flat_map}
+use Rattle.std.specs.Prelude.{ℕ, ◌+◌, nat_le, nat_lt, ◌&&◌, Bool, if◌then◌else◌, List, [], ◌++◌, codes, decimal, flat_map}
 use Rattle.mac_parameters.specs.Distances.{distance}
 use Rattle.mac_parameters.specs.Parameters.{greatest_place}
 use Rattle.run_picture.specs.Times.{place_of_time}

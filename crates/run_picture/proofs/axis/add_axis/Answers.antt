@@ -1,4 +1,3 @@
-use Rattle.run_picture.specs.Axis.{axis}
 use Rattle.run_picture.proofs.Ticks.{more_ticks}
 use Rattle.run_picture.proofs.axis.add_axis.Goals as goal
 

@@ -1,5 +1,4 @@
-use Rattle.std.proofs.Common.{ℕ, List, ◌+◌, ◌++◌, ◌/◌, ◌∙◌, ap, codes}
-use Rattle.std.specs.Prelude.{decimal}
+use Rattle.std.proofs.Common.{codes}
 use Rattle.std.proofs.lemmas.Result.{on_ok_weaker}
 use Rattle.run_picture.specs.Head.{pattern_of_collided}
 use Rattle.run_picture.proofs.Joined.{joined_4}

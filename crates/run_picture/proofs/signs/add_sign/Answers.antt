@@ -1,4 +1,4 @@
-use Rattle.std.proofs.Common.{ℕ, List, ◌+◌, ◌++◌, ◌/◌, ◌∙◌, ap, codes}
+use Rattle.std.proofs.Common.{ℕ, List, ◌++◌, ◌∙◌, ap, codes}
 use Rattle.std.specs.Prelude.{decimal}
 use Rattle.std.proofs.lemmas.Result.{on_ok_weaker}
 use Rattle.run_picture.specs.Signs.{sign, sign_path, sign_word}
