@@ -1,5 +1,5 @@
 -- The first frame of a station is taken away.
-use Rattle.std.proofs.Common.{◌≡◌, ℕ, ◌<◌, List, drop, length, map, set, get_or, slice_get, slice_set, Some, ap, sym, ◌∙◌, refl}
+use Rattle.std.proofs.Common.{◌≡◌, ℕ, ◌<◌, List, drop, length, map, set, get_or, slice_get, Some, ap, ◌∙◌, refl}
 use Rattle.std.specs.Option.{option_map}
 use Rattle.std.proofs.lemmas.List.{map-set}
 use Rattle.std.proofs.lemmas.Option.{slice_get-get_or, slice_get-map}

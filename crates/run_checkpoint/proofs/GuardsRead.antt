@@ -1,7 +1,7 @@
 -- The line of a port: what is written is read back, and what is read with its numbers in range is its line.
-use Rattle.std.proofs.Common.{◌≡◌, ℕ, ◌^◌, ◌<◌, ◌≤◌, Bool, true, false, ◌&&◌, ◌||◌, not, List, [], ◌∷◌, ◌++◌, refl, sym, ap, subst, ◌∙◌, arith, Some, None}
+use Rattle.std.proofs.Common.{◌≡◌, ℕ, ◌^◌, ◌<◌, ◌≤◌, Bool, true, false, ◌&&◌, ◌||◌, not, List, ◌++◌, refl, sym, ap, subst, ◌∙◌, arith, Some}
 use Rattle.std.specs.Fmt.{decimal}
-use Rattle.std.specs.Prelude.{Option, codes, nat_le, nat_lt}
+use Rattle.std.specs.Prelude.{codes, nat_le, nat_lt}
 use Rattle.std.proofs.lemmas.Bool.{and_parts, leb-true, ltb-true, le-leb, lt-ltb}
 use Rattle.std.proofs.lemmas.Option.{same_Some}
 use Rattle.log_meter.specs.Reading.{after_word}

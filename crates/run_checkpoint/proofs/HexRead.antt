@@ -1,6 +1,5 @@
 -- Hexadecimal digits, two by two.
-use Rattle.std.proofs.Common.{◌≡◌, ℕ, suc, ◌+◌, ◌<◌, ◌≤◌, Bool, true, false, List, [], ◌∷◌, ◌++◌, length, drop, slice_index, Some, None, refl, ap, sym, ◌∙◌, arith}
-use Rattle.std.specs.Prelude.{Option}
+use Rattle.std.proofs.Common.{◌≡◌, ℕ, ◌<◌, ◌≤◌, List, [], ◌∷◌, ◌++◌, length, drop, slice_index, Some, None, refl, arith}
 use Rattle.run_checkpoint.specs.Fields.{whole_line}
 use Rattle.run_checkpoint.specs.LineForms.{hex_octet, hex_octets_on}
 

@@ -2,12 +2,11 @@
 use Rattle.std.proofs.Common.{◌≡◌, ℕ, List, [], ◌∷◌, ◌++◌, Some, None, refl, sym, ap, ◌∙◌, append-nil}
 use Rattle.std.specs.Prelude.{Option, codes, ◌≢◌}
 use Rattle.log_meter.specs.Lines.{IsLogLine, entry_text}
-use Rattle.log_meter.specs.Reading.{◌>>=◌, log_line_at}
+use Rattle.log_meter.specs.Reading.{log_line_at}
 use Rattle.log_meter.specs.declared.line.LogLine.{LogLine}
 use Rattle.log_meter.proofs.FoundFields.{bind_some}
 use Rattle.log_meter.proofs.LinesApart.{front_is_read}
 use Rattle.log_meter.proofs.WholeLines.{bare_line, line_found}
-use Rattle.run_checkpoint.specs.Fields.{whole_line}
 use Rattle.run_checkpoint.specs.LineForms.{log_line_form}
 use Rattle.run_checkpoint.proofs.Figures.{whole_text}
 

@@ -1,13 +1,12 @@
 -- The line of octets that was read is the line of what was read.
-use Rattle.std.proofs.Common.{◌≡◌, ℕ, suc, ◌+◌, ◌-◌, ◌*◌, ◌/◌, ◌%◌, ◌^◌, ◌<◌, ◌≤◌, Bool, true, false, ◌&&◌, List, [], ◌∷◌, ◌++◌, flat_map, refl, sym, ap, subst, ◌∙◌, arith, inl, inr, Some, None, append_assoc, append-nil}
+use Rattle.std.proofs.Common.{◌≡◌, ℕ, ◌+◌, ◌-◌, ◌*◌, ◌/◌, ◌%◌, ◌^◌, ◌<◌, ◌≤◌, List, [], ◌∷◌, ◌++◌, flat_map, refl, sym, ap, ◌∙◌, arith, inl, inr, Some, append_assoc, append-nil}
 use Rattle.std.specs.List.{AllByRecursion}
-use Rattle.std.specs.Prelude.{Option, codes, nat_le, nat_lt}
+use Rattle.std.specs.Prelude.{codes, nat_le}
 use Rattle.std.proofs.lemmas.Bool.{cases_Bool, and_parts, leb-true, lt-ltb, le-ltb}
 use Rattle.std.proofs.lemmas.Option.{same_Some}
 use Rattle.layout.specs.NameOctets.{is_between}
 use Rattle.log_meter.specs.Reading.{after_word}
 use Rattle.log_meter.proofs.FoundFields.{bind_some, word_text}
-use Rattle.run_checkpoint.specs.Fields.{whole_line}
 use Rattle.run_checkpoint.specs.LineForms.{hex_octet, hex_octets_on, hex_value, octets_form}
 use Rattle.run_checkpoint.specs.LineTexts.{hex_digit, hex_digits, line_of_octets}
 use Rattle.run_checkpoint.proofs.Figures.{whole_text}

@@ -1,17 +1,13 @@
 -- The line of octets: what is written is read back, and what is read is the line of what was read.
-use Rattle.std.proofs.Common.{◌≡◌, ℕ, suc, ◌+◌, ◌-◌, ◌*◌, ◌/◌, ◌%◌, ◌^◌, ◌<◌, ◌≤◌, Bool, true, false, ◌&&◌, List, [], ◌∷◌, ◌++◌, flat_map, refl, sym, ap, subst, ◌∙◌, arith, inl, inr, Some, None, append_assoc}
+use Rattle.std.proofs.Common.{◌≡◌, ℕ, ◌+◌, ◌-◌, ◌*◌, ◌/◌, ◌%◌, ◌^◌, ◌<◌, List, [], ◌∷◌, ◌++◌, flat_map, refl, sym, ap, ◌∙◌, arith, inl, inr, Some, append_assoc}
 use Rattle.std.specs.List.{AllByRecursion}
-use Rattle.std.specs.Prelude.{Option, codes, nat_le, nat_lt}
-use Rattle.std.proofs.lemmas.Bool.{cases_Bool, cases_lt, lt-ltb, le-ltb}
+use Rattle.std.specs.Prelude.{codes}
+use Rattle.std.proofs.lemmas.Bool.{cases_lt, lt-ltb, le-ltb}
 use Rattle.std.proofs.lemmas.Bool.Decides.{nat_tests}
 use Rattle.std.proofs.lemmas.List.{append-nil}
-use Rattle.std.proofs.lemmas.Option.{same_Some}
-use Rattle.log_meter.specs.Reading.{◌>>=◌, after_word}
-use Rattle.log_meter.proofs.FoundFields.{bind_is, bind_some, word_again, word_text}
-use Rattle.run_checkpoint.specs.Fields.{whole_line}
+use Rattle.log_meter.proofs.FoundFields.{bind_is, word_again}
 use Rattle.run_checkpoint.specs.LineForms.{hex_octet, hex_octets_on, hex_value, octets_form}
 use Rattle.run_checkpoint.specs.LineTexts.{hex_digit, hex_digits, line_of_octets}
-use Rattle.run_checkpoint.proofs.Figures.{whole_text}
 
 -- a digit is read back
 digit_again : (n : ℕ) → n < 16 → hex_value (hex_digit n) ≡ Some n

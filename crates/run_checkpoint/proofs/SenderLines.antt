@@ -1,11 +1,9 @@
 -- The line of a sender: what is written is read back, and what is read with its numbers in range is its line.
-use Rattle.std.proofs.Common.{◌≡◌, ℕ, ◌^◌, ◌<◌, ◌≤◌, Bool, true, false, ◌&&◌, List, [], ◌∷◌, ◌++◌, refl, sym, ap, subst, ◌∙◌, arith, Some, None, append_assoc}
+use Rattle.std.proofs.Common.{◌≡◌, ℕ, ◌^◌, ◌<◌, Bool, true, false, List, ◌++◌, refl, sym, ap, ◌∙◌, Some, None, append_assoc}
 use Rattle.std.specs.Fmt.{decimal}
-use Rattle.std.specs.Prelude.{Option, codes, nat_le, nat_lt, ⊤}
-use Rattle.std.proofs.lemmas.Bool.{and_parts, leb-true, ltb-true}
-use Rattle.std.proofs.lemmas.Option.{same_Some}
-use Rattle.log_meter.specs.Reading.{Read, ◌>>=◌, after_word, else_read}
-use Rattle.log_meter.proofs.FoundFields.{bind_some, word_again, word_text}
+use Rattle.std.specs.Prelude.{Option, codes, ⊤}
+use Rattle.log_meter.specs.Reading.{◌>>=◌, else_read}
+use Rattle.log_meter.proofs.FoundFields.{bind_some, word_again}
 use Rattle.log_meter.proofs.Numbers.{begins_with_digit}
 use Rattle.mac_transmit.specs.declared.deference.Defer.{Defer}
 use Rattle.mac_transmit.specs.declared.deference.Defer.TheVariants.{Watch, Busy, Gap}
@@ -13,10 +11,10 @@ use Rattle.mac_transmit.specs.declared.phase.Phase.{Phase}
 use Rattle.mac_transmit.specs.declared.phase.Phase.TheVariants.{Rest, Waiting, Sending, Backoff}
 use Rattle.mac_transmit.specs.declared.state.SenderState.{SenderState}
 use Rattle.run_checkpoint.specs.Fields.{beyond_ranges, figure_at, truth_at, yes_or_no_at}
-use Rattle.run_checkpoint.specs.LineForms.{backoff_found, busy_found, defer_at, gap_at, phase_at, phase_found, sender_form, time_form, watch_found}
+use Rattle.run_checkpoint.specs.LineForms.{backoff_found, defer_at, gap_at, phase_at, sender_form, time_form}
 use Rattle.run_checkpoint.specs.LineTexts.{defer_words, line_of_sender, line_of_time_kept, phase_words, yes_or_no}
 use Rattle.run_checkpoint.proofs.Pieces.{five, sender_line_is, sender_pieces}
-use Rattle.run_checkpoint.proofs.Figures.{figure_again, figure_text, truth_again, truth_text, whole_text}
+use Rattle.run_checkpoint.proofs.Figures.{figure_again, figure_text, whole_text}
 
 pub time_again : (t : ℕ) → t < 2 ^ 32 → time_form (line_of_time_kept t) ≡ Some t
 unfolding time_form

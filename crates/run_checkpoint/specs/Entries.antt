@@ -1,7 +1,7 @@
 -- Rows with the octets that came with them, and how the captures of stations are spread over them (profile). Stations
 -- count from 0.
-use Rattle.std.specs.Prelude.{◌≡◌, ℕ, ◌+◌, ◌<◌, ◌==◌, ◌&&◌, Bool, true, false, if◌then◌else◌, List, [], ◌∷◌, ◌++◌, map, drop, flat_map, length, slice_get, slice_set, Option, None, Some, ⊤}
-use Rattle.std.specs.List.{AllByRecursion, range_with_len}
+use Rattle.std.specs.Prelude.{ℕ, ◌+◌, ◌==◌, ◌&&◌, Bool, true, false, if◌then◌else◌, List, [], ◌∷◌, map, drop, flat_map, slice_get, slice_set, Option, None, Some}
+use Rattle.std.specs.List.{range_with_len}
 use Rattle.collision_log.specs.declared.row.Body.{Body}
 use Rattle.collision_log.specs.declared.row.Body.TheVariants.{Received}
 use Rattle.collision_log.specs.declared.row.Row.{Row}

@@ -1,6 +1,6 @@
 -- The forms of the lines of a state's text: what a line says, where it is of the form (profile). Numbers may have any
 -- value here, but for those of the lines of rows.
-use Rattle.std.specs.Prelude.{ℕ, ◌+◌, ◌-◌, ◌*◌, ◌==◌, Bool, List, [], ◌∷◌, ◌++◌, decimal, codes, Option, None, Some, if◌then◌else◌}
+use Rattle.std.specs.Prelude.{ℕ, ◌+◌, ◌-◌, ◌*◌, Bool, List, [], ◌∷◌, ◌++◌, decimal, codes, Option, None, Some, if◌then◌else◌}
 use Rattle.std.specs.Str.{bytes_eq}
 use Rattle.collision_log.specs.declared.row.Row.{Row}
 use Rattle.layout.specs.NameOctets.{is_between}

@@ -7,12 +7,11 @@ use Rattle.collision_log.specs.declared.row.Row.{Row}
 use Rattle.frame_layout.specs.declared.queue.Ready.{Ready}
 use Rattle.layout.specs.Limits.{most_half_bits}
 use Rattle.layout.specs.NameOctets.{is_between}
-use Rattle.layout.specs.declared.lines.Layout.{Layout}
 use Rattle.layout.specs.declared.lines.RepeaterLine.{RepeaterLine}
 use Rattle.load_plan.specs.declared.plan.Plan.{Plan}
 use Rattle.mac_parameters.specs.Parameters.{attempt_limit, check_sequence, interframe_gap, jabber_rest, least_frame, most_octets, partition_collision, partition_in_a_row, reconnection}
 use Rattle.mac_transmit.specs.declared.deference.Defer.{Defer}
-use Rattle.mac_transmit.specs.declared.deference.Defer.TheVariants.{Watch, Busy, Gap}
+use Rattle.mac_transmit.specs.declared.deference.Defer.TheVariants.{Gap}
 use Rattle.mac_transmit.specs.declared.phase.Phase.{Phase}
 use Rattle.mac_transmit.specs.declared.phase.Phase.TheVariants.{Rest, Waiting, Sending, Backoff}
 use Rattle.mac_transmit.specs.declared.state.SenderState.{SenderState}

@@ -1,9 +1,8 @@
 -- The states of a plan, and their text (profile). Half bits count from 0.
-use Rattle.std.specs.Prelude.{◌≡◌, ℕ, ◌+◌, ◌<◌, ◌^◌, true, List, [], ◌∷◌, ◌++◌, length, ⊤}
+use Rattle.std.specs.Prelude.{◌≡◌, ℕ, ◌<◌, ◌^◌, true, List, [], ◌∷◌, ◌++◌, length, ⊤}
 use Rattle.std.specs.List.{AllByRecursion, flat_map}
 use Rattle.collision_log.specs.declared.row.Row.{Row}
 use Rattle.frame_layout.specs.declared.queue.Ready.{Ready}
-use Rattle.layout.specs.declared.lines.Layout.{Layout}
 use Rattle.layout.specs.declared.lines.StationLine.{StationLine}
 use Rattle.load_plan.specs.declared.plan.Plan.{Plan}
 use Rattle.log_meter.specs.LoggedRows.{IsLoggable}

@@ -1,4 +1,4 @@
-use Rattle.std.proofs.Common.{List, ℕ, sym, ◌∙◌, arith}
+use Rattle.std.proofs.Common.{sym, ◌∙◌, arith}
 use Rattle.layout.specs.declared.lines.StationLine.{StationLine}
 use Rattle.run_checkpoint.proofs.NamesFound.{name_after, name_here, no_name_left}
 use Rattle.run_checkpoint.proofs.places.station_named.Goals as goal

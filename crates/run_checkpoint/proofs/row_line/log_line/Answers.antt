@@ -1,4 +1,4 @@
-use Rattle.std.proofs.Common.{◌∷◌, [], None, Some, Err, ap, sym, ◌∙◌, refl}
+use Rattle.std.proofs.Common.{◌∷◌, [], None, Some, Err, ap, sym, ◌∙◌}
 use Rattle.std.proofs.lemmas.Bool.Decides.{Decides-eqb}
 use Rattle.std.proofs.lemmas.Result.{IfOk-weaker}
 use Rattle.std.proofs.lemmas.Slice.Eq.{strip_suffix_is}
