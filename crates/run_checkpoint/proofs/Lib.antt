@@ -1,0 +1,13 @@
+pub mod HexRead
+pub mod NamesFound
+pub mod Figures
+pub mod SenderLines
+pub mod SendersFound
+pub mod GuardsRead
+pub mod OctetsRead
+pub mod PortsPushed
+pub mod FirstTaken
+pub mod LogLines
+pub mod Pieces
+pub mod OctetsFound
+pub mod StateLengths

@@ -1,0 +1,12 @@
+pub mod Entries
+pub mod Faults
+pub mod Fields
+pub mod GuardLines
+pub mod LineForms
+pub mod LineLaws
+pub mod LineTexts
+pub mod Places
+pub mod PortNames
+pub mod Ranges
+pub mod SenderLines
+pub mod States

@@ -1,0 +1,19 @@
+//! Laws of the lines of a state: calls without a body, whose contracts are the laws.
+ghost use Rattle.run_checkpoint.specs.LineLaws.{GuardsAreReadBack, GuardsHaveOneLine, OctetsAreReadBack, OctetsHaveOneLine, SendersAreReadBack, SendersHaveOneLine, TimesAreReadBack, TimesHaveOneLine};
+
+/// What is written of a state's half bit, of senders, of ports and of octets is read back, with values that keep the
+/// rules.
+pub fn lines_are_read_back()
+    ensures times { TimesAreReadBack }
+    ensures senders { SendersAreReadBack }
+    ensures guards { GuardsAreReadBack }
+    ensures octets { OctetsAreReadBack }
+{}
+
+/// A line whose values keep the rules is the one line of the half bit, the sender, the port or the octets that it says.
+pub fn one_line_each()
+    ensures times { TimesHaveOneLine }
+    ensures senders { SendersHaveOneLine }
+    ensures guards { GuardsHaveOneLine }
+    ensures octets { OctetsHaveOneLine }
+{}
