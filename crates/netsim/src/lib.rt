@@ -23,5 +23,6 @@ mod verdict;
 mod words;
 
 pub use endings::Ending;
+pub use texts::HELP;
 pub use top_call::{netsim, run_words};
 pub use words::Words;
