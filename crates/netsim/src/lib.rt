@@ -20,5 +20,5 @@ mod top_call;
 
 pub use endings::Ending;
 pub use program_texts::HELP;
-pub use top_call::{netsim, run_words};
 pub use program_words::Words;
+pub use top_call::{netsim, run_words};

@@ -15,7 +15,11 @@ use outside::{Sink, Store, StoreFail};
 use std::alloc::Global;
 
 /// Says that a log has a fault.
-pub(crate) fn say_log_fault<K: Sink>(alloc: Global, fault: &LogFault, out: &mut K) -> Result<(), OutOfMemory>
+pub(crate) fn say_log_fault<K: Sink>(
+    alloc: Global,
+    fault: &LogFault,
+    out: &mut K,
+) -> Result<(), OutOfMemory>
     ensures said { OnOk result (IsSaid (line_of_log_with fault.now) (K.written out.old) (K.written out.new) (K.refused out.old) (K.refused out.new)) }
     ensures silent { OnErr result (K.written out.new ≡ K.written out.old) }
 {

@@ -1,11 +1,19 @@
-//! The program: the words of the command line, over real files and the standard output.
+//! The program: the words of the command line, over real files and the standard output. Standard error shows the forms
+//! where the words are none of them, and how much of a run is done.
 #![tactic(auto)]
 
+mod progress;
+
 use lists::{OutOfMemory, Text};
-use netsim::{Words, netsim};
-use outside::{FolderStore, OpenGate, OutSink};
+use netsim::{HELP, Words, netsim};
+use outside::{FolderStore, OutSink};
+use progress::Progress;
+use std::io::IsTerminal;
 use std::process::ExitCode;
 use std::{env, io};
+
+/// The status for words that are none of the forms.
+const WORDS: u8 = 1;
 
 /// The status for want of memory.
 const MEMORY: u8 = 6;
@@ -33,5 +41,11 @@ fn main(rt: HostRuntime) -> ExitCode {
     };
     let mut store = FolderStore::new(&rt);
     let mut out = OutSink::new(&rt);
-    ExitCode::from(netsim(&rt, rt.alloc(), &words, &mut store, &mut out, &OpenGate))
+    let progress = Progress::new(&rt, rt.stderr().is_terminal());
+    let status = netsim(&rt, rt.alloc(), &words, &mut store, &mut out, &progress);
+    progress.clear();
+    if status == WORDS {
+        let _ = eprint!(rt; "{HELP}");
+    }
+    ExitCode::from(status)
 }

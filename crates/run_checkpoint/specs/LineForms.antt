@@ -75,8 +75,8 @@ sender_form name line = do
   place ← figure_at (codes " place ") attempt.1
   drawn ← figure_at (codes " drawn ") place.1
   whole_line
-    (record { phase = phase.0; defer = defer.0; attempt = attempt.0; place = place.0; drawn = drawn.0 })
-    drawn.1
+      (record { phase = phase.0; defer = defer.0; attempt = attempt.0; place = place.0; drawn = drawn.0 })
+      drawn.1
 
 -- the octets after the words that name a port
 unfoldable pub after_port_name : List ℕ → ℕ → List ℕ → Option (List ℕ)
