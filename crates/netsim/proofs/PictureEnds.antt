@@ -1,6 +1,6 @@
 -- The end of a picture, from what was read and what was written.
-use Rattle.std.proofs.Common.{◌≡◌, ℕ, ◌+◌, ◌<◌, ◌≤◌, ◌^◌, Option, Ok, List, [], ◌∷◌, ◌++◌, length, length-append, append_assoc, ap, ◌∙◌, inl, inr, arith}
-use Rattle.std.specs.Prelude.{codes}
+use Rattle.std.proofs.Common.{◌≡◌, ℕ, ◌+◌, ◌<◌, ◌≤◌, ◌^◌, Option, Ok, List, [], ◌∷◌, ◌++◌, length, length-append, append_assoc, ap, ap₂, sym, subst, ◌∙◌, inl, inr, arith}
+use Rattle.std.specs.Prelude.{None, codes}
 use Rattle.log_meter.proofs.WholeLines.{bare_line}
 use Rattle.layout.specs.declared.lines.Layout.{Layout}
 use Rattle.log_meter.specs.Lines.{entry_text}
@@ -9,8 +9,10 @@ use Rattle.log_meter.specs.declared.line.LogLine.{LogLine}
 use Rattle.outside.specs.Files.{Files}
 use Rattle.netsim.specs.declared.endings.Ending.{Ending}
 use Rattle.netsim.specs.declared.endings.Ending.TheVariants as ending
-use Rattle.netsim.specs.Endings.{HasOnlyRead, IsDrawnEnd, IsEarly, IsJudged, IsPictureEnd, IsUnmetered}
+use Rattle.netsim.specs.Endings.{HasOnlyRead, IsDrawnEnd, IsEarly, IsJudged, IsPictureEnd, IsText, IsUnmetered}
 use Rattle.netsim.specs.Meters.{HasLog}
+use Rattle.run_picture.specs.Pictures.{picture_of}
+use Rattle.run_picture.specs.Strangers.{first_stranger}
 use Rattle.netsim.specs.Moments.{Moment}
 use Rattle.netsim.proofs.RunEnds.{rose-before, said_before}
 
@@ -52,6 +54,12 @@ picture-drawn layout log from to network lines before aimed mid after e first re
   held ∙ read.held,
   inr (inr (record { network = network; judged = judged; lines = lines; read = log_before log before.held aimed.held lines first.held has; drawn = drawn_before network lines from to before mid after e read drawn })),
 )
+
+-- this text, which is the picture of the lines, was written, or a front of it
+pub lines_pictured : (network : Layout) (lines : List LogLine) (from to first last : ℕ) (written now : Option (List ℕ)) (faults faulted refused risen : ℕ) (e : Ending) (text : List ℕ) → None ≡ first_stranger network lines
+    → text ≡ picture_of network lines first last → first ≡ from → last ≡ to → IsText text written now faults faulted e → IsDrawnEnd network lines from to written now faults faulted refused risen e
+lines_pictured network lines from to first last written now faults faulted refused risen e text known is begins ends told =
+    inr (record { known = sym known; text = subst (λ octets. IsText octets written now faults faulted e) (is ∙ ap₂ (picture_of network lines) begins ends) told })
 
 -- a line and its line feed, before more octets
 fed_onto : (l : LogLine) (more : List ℕ) → entry_text l ++ more ≡ bare_line l ++ 10 ∷ more
