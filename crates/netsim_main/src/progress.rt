@@ -61,6 +61,7 @@ impl<R: Eprint + Clock> Progress<R> {
     }
 
     /// Writes a line where the last one is old enough, and blanks it where the last window begins.
+    #[cold]
     fn look(&self, window: u64) {
         let windows = self.windows.load(Ordering::SeqCst);
         let last = windows.saturating_sub(1);
