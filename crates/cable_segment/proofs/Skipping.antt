@@ -11,7 +11,8 @@ use Rattle.cable_segment.specs.Bus.{heard_among}
 use Rattle.mac_parameters.specs.Distances.{distance}
 use Rattle.cable_segment.specs.Skips.{Skips}
 
-mix_assoc : (a b c : Sym) → mix_of (mix_of a b) c ≡ mix_of a (mix_of b c)
+-- a mix of three
+pub mix_assoc : (a b c : Sym) → mix_of (mix_of a b) c ≡ mix_of a (mix_of b c)
 mix_assoc Idle b c = refl
 mix_assoc Hi Idle c = refl
 mix_assoc Hi Hi Idle = refl

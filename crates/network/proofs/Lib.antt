@@ -10,3 +10,4 @@ pub mod SegmentsCarry
 pub mod PortsRepeat
 pub mod StationAttempts
 pub mod LoggedAttempts
+pub mod SortedRows

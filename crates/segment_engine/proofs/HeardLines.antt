@@ -5,55 +5,13 @@ use Rattle.std.proofs.lemmas.Bool.{cases_lt}
 use Rattle.manchester_line.specs.declared.Sym.{Sym}
 use Rattle.manchester_line.specs.declared.Sym.TheVariants.{Idle, Hi, Lo, Clash}
 use Rattle.manchester_line.specs.Line.{mix_of}
+use Rattle.cable_segment.proofs.Skipping.{mix_assoc}
 use Rattle.network.specs.Times.{earlier}
 use Rattle.net_parts.specs.Machines.{span}
 use Rattle.net_parts.proofs.LateRows.{if_true, if_false}
 use Rattle.net_parts.proofs.RepeaterSteps.{length-span, get_or-span}
 use Rattle.segment_engine.specs.TapLines.{TapLine, no_line, symbol_on, half_bits_back, heard_of_line, heard_of_lines, heard_by_lines, IsReachOf}
 use Rattle.segment_engine.proofs.StationsStep.{rest_of}
-
--- a mix of three
-pub mix_assoc : (a b c : Sym) → mix_of (mix_of a b) c ≡ mix_of a (mix_of b c)
-mix_assoc Idle b c = refl
-mix_assoc Hi Idle c = refl
-mix_assoc Hi Hi Idle = refl
-mix_assoc Hi Hi Hi = refl
-mix_assoc Hi Hi Lo = refl
-mix_assoc Hi Hi Clash = refl
-mix_assoc Hi Lo Idle = refl
-mix_assoc Hi Lo Hi = refl
-mix_assoc Hi Lo Lo = refl
-mix_assoc Hi Lo Clash = refl
-mix_assoc Hi Clash Idle = refl
-mix_assoc Hi Clash Hi = refl
-mix_assoc Hi Clash Lo = refl
-mix_assoc Hi Clash Clash = refl
-mix_assoc Lo Idle c = refl
-mix_assoc Lo Hi Idle = refl
-mix_assoc Lo Hi Hi = refl
-mix_assoc Lo Hi Lo = refl
-mix_assoc Lo Hi Clash = refl
-mix_assoc Lo Lo Idle = refl
-mix_assoc Lo Lo Hi = refl
-mix_assoc Lo Lo Lo = refl
-mix_assoc Lo Lo Clash = refl
-mix_assoc Lo Clash Idle = refl
-mix_assoc Lo Clash Hi = refl
-mix_assoc Lo Clash Lo = refl
-mix_assoc Lo Clash Clash = refl
-mix_assoc Clash Idle c = refl
-mix_assoc Clash Hi Idle = refl
-mix_assoc Clash Hi Hi = refl
-mix_assoc Clash Hi Lo = refl
-mix_assoc Clash Hi Clash = refl
-mix_assoc Clash Lo Idle = refl
-mix_assoc Clash Lo Hi = refl
-mix_assoc Clash Lo Lo = refl
-mix_assoc Clash Lo Clash = refl
-mix_assoc Clash Clash Idle = refl
-mix_assoc Clash Clash Hi = refl
-mix_assoc Clash Clash Lo = refl
-mix_assoc Clash Clash Clash = refl
 
 pub mix_idle : (s : Sym) → mix_of s Idle ≡ s
 mix_idle Idle = refl
