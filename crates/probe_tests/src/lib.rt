@@ -1,4 +1,5 @@
-//! Tests of what taps hear, with the words that name them, runs, bursts, and runs that are read back, and of pictures.
+//! Tests of what taps hear, with the words that name them, runs, bursts, and runs that are read back, of value change
+//! dumps and of pictures.
 #![tactic(auto)]
 
 #[cfg(test)]
@@ -9,3 +10,5 @@ mod reading;
 mod runs;
 #[cfg(test)]
 mod taps;
+#[cfg(test)]
+mod waves;

@@ -1,5 +1,5 @@
 -- The axis of times (profile). Half bits count from 0; heights are hundredths of a pixel from the top.
-use Rattle.std.specs.Prelude.{ℕ, ◌+◌, ◌-◌, ◌/◌, ◌%◌, ◌==◌, nat_le, if◌then◌else◌, List, [], ◌∷◌, ◌++◌, find, unwrap_or, flat_map, codes, decimal}
+use Rattle.std.specs.Prelude.{ℕ, ◌+◌, ◌-◌, ◌/◌, ◌%◌, ◌==◌, nat_lt, if◌then◌else◌, List, [], ◌∷◌, ◌++◌, find, unwrap_or, flat_map, codes, decimal}
 use Rattle.std.specs.List.{range_with_len}
 use Rattle.run_picture.specs.Sizes.{half_bits_a_microsecond, half_bits_a_tenth, longest_step, most_steps}
 use Rattle.run_picture.specs.Times.{x_of}
@@ -14,9 +14,9 @@ abbrev pub short_steps : List ℕ
 short_steps =
     2 ∷ 4 ∷ 10 ∷ 20 ∷ 40 ∷ 100 ∷ 200 ∷ 400 ∷ 1000 ∷ hundred_microseconds ∷ 4000 ∷ 10000 ∷ 20000 ∷ 40000 ∷ []
 
--- the first of these steps of which so many half bits have few, and where there is none, the longest
+-- the first of these steps of which so many half bits have at most `most_steps`, and where there is none, the longest
 abbrev pub first_step : List ℕ → ℕ → ℕ
-first_step steps width = unwrap_or (find (λ step. nat_le (width / most_steps) step) steps) longest_step
+first_step steps width = unwrap_or (find (λ step. nat_lt ((width - 1) / most_steps) step) steps) longest_step
 
 -- the half bits from tick to tick of a window with so many half bits
 abbrev pub tick_step : ℕ → ℕ

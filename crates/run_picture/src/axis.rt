@@ -10,14 +10,14 @@ use crate::sizes::{
 use crate::window::{Window, add_number, x_of};
 use lists::{List, OutOfMemory};
 
-/// The first of these steps of which so many half bits have few, and where there is none, the longest.
+/// The first of these steps of which so many half bits have at most `MOST_STEPS`, and where there is none, the longest.
 fn first_step(steps: &[u64], width: u64) -> u64
     requires { list_all (λ step. nat_le 1 step) steps.now ≡ true }
     ensures step { result ≡ first_step steps.now width }
     ensures some { 1 ≤ result }
 {
     for step in steps {
-        if width / MOST_STEPS <= *step {
+        if width.saturating_sub(1) / MOST_STEPS < *step {
             return *step;
         }
     }

@@ -10,6 +10,3 @@ mod waiting;
 pub use dump::waves_text;
 pub use lists::OutOfMemory;
 pub use values::MOST_TAPS;
-
-#[cfg(test)]
-mod tests;

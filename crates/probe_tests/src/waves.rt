@@ -1,10 +1,10 @@
 //! What taps hear, as value change dumps.
-use crate::{MOST_TAPS, waves_text};
 use line_probe::{Run, Runs, RunsList};
 use lists::{List, OutOfMemory, Text};
 use manchester_line::Sym;
 use std::alloc::Global;
 use std::test::Fail;
+use wave_dump::{MOST_TAPS, waves_text};
 
 /// What a tap hears: symbols that follow each other, each with its half bits.
 type Heard<'a> = &'a [(Sym, u64)];
