@@ -11,7 +11,7 @@ set ylabel "share of the channel"
 set key outside right top title "octets of a frame"
 set grid
 plot for [i=1:words(lengths)] "efficiency.csv" \
-       using ($1 == word(lengths, i) + 0 ? $2 : NaN):8 with linespoints lt i pt 7 ps 0.6 title word(lengths, i), \
+       using ($1 == word(lengths, i) + 0 ? $2 : NaN):7 with linespoints lt i pt 7 ps 0.6 title word(lengths, i), \
      for [i=1:words(lengths)] "efficiency.csv" \
-       using ($1 == word(lengths, i) + 0 ? $2 : NaN):12 with lines lt i dt 2 notitle, \
+       using ($1 == word(lengths, i) + 0 ? $2 : NaN):9 with lines lt i dt 2 notitle, \
      NaN with lines lc "black" dt 2 title "formula, with gap"
