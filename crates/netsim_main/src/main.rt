@@ -34,6 +34,12 @@ fn read_words(rt: &HostRuntime) -> Result<Words, OutOfMemory> {
     }
 }
 
+/// Whether it is shown how much of a run is done: on a terminal, and wherever the variable NETSIM_PROGRESS is 1.
+fn is_watched(rt: &HostRuntime) -> bool {
+    rt.stderr().is_terminal()
+        || env::var(rt, "NETSIM_PROGRESS").is_ok_and(|value| value.as_str() == "1")
+}
+
 fn main(rt: HostRuntime) -> ExitCode {
     let words = match read_words(&rt) {
         Ok(words) => words,
@@ -41,7 +47,7 @@ fn main(rt: HostRuntime) -> ExitCode {
     };
     let mut store = FolderStore::new(&rt);
     let mut out = OutSink::new(&rt);
-    let progress = Progress::new(&rt, rt.stderr().is_terminal());
+    let progress = Progress::new(&rt, is_watched(&rt));
     let status = netsim(&rt, rt.alloc(), &words, &mut store, &mut out, &progress);
     progress.clear();
     if status == WORDS {
