@@ -1,5 +1,5 @@
 -- Where a run is stopped so that it can go on later (profile). Half bits count from 0.
-use Rattle.std.specs.Prelude.{ℕ, ◌<◌, ◌≤◌, ⊥}
+use Rattle.std.specs.Prelude.{ℕ, ◌<◌, ◌≤◌}
 use Rattle.load_plan.specs.declared.plan.Plan.{Plan}
 use Rattle.quiet_state.specs.Quiet.{IsQuiet}
 
