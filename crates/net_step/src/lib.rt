@@ -8,6 +8,8 @@ mod plain;
 mod relay;
 mod rows;
 mod segment;
+mod settling;
+mod states;
 mod stops;
 
 pub use places::taps_of;
