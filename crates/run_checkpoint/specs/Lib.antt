@@ -2,11 +2,15 @@ pub mod Entries
 pub mod Faults
 pub mod Fields
 pub mod GuardLines
+pub mod Judging
 pub mod LineForms
 pub mod LineLaws
 pub mod LineTexts
 pub mod Places
 pub mod PortNames
+pub mod Progress
 pub mod Ranges
 pub mod SenderLines
+pub mod StateLaws
 pub mod States
+pub mod TextLines
