@@ -19,6 +19,7 @@ pub fn hear_piece(lines: &[Line], p: usize, lookahead: u32, far: u64, t: u64, pi
 {
     let from = t.saturating_sub(far);
     let at = lines[p].place();
+    let mut fresh = true;
     piece.fill(Sym::Idle);
     for q in 0..lines.len() {
         if q == p {
@@ -27,7 +28,8 @@ pub fn hear_piece(lines: &[Line], p: usize, lookahead: u32, far: u64, t: u64, pi
         if lines[q].is_quiet_from(from) {
             continue;
         }
-        lines[q].mix_over(at, lookahead, t, piece);
+        lines[q].mix_over(at, lookahead, t, piece, fresh);
+        fresh = false;
     }
 }
 
