@@ -91,6 +91,18 @@ fn copy_from(piece: &mut [Sym], symbols: &[Sym], from: u64)
     piece[..count].copy_from_slice(&symbols[first..first + count]);
 }
 
+/// Whether all symbols of a piece are Idle.
+fn is_idle(piece: &[Sym]) -> bool
+    ensures { result ≡ true → piece.now ≡ replicate (length piece.now) Idle }
+{
+    for j in 0..piece.len() {
+        if piece[j] != Sym::Idle {
+            return false;
+        }
+    }
+    true
+}
+
 impl Line {
     /// The empty line of a tap from half bit 0 on, with room for so many symbols.
     pub fn new(alloc: Global, at: u32, delay: u32, room: usize) -> Result<Line, OutOfMemory>
@@ -222,6 +234,10 @@ impl Line {
         requires { length piece.now ≤ self.old.room }
         ensures { self.new ≡ line_extended self.old piece.now }
     {
+        if is_idle(piece) {
+            self.rest(piece.len());
+            return;
+        }
         for i in 0..piece.len() {
             self.push(piece[i]);
         }

@@ -1,4 +1,4 @@
-use Rattle.std.proofs.Common.{◌≡◌, ◌+◌, ◌<◌, cond, true, false, eqb, sym, subst, ap, ap₂, ◌∙◌, arith, rules, get_or}
+use Rattle.std.proofs.Common.{◌≡◌, ◌+◌, cond, true, false, sym, ap, ap₂, ◌∙◌, arith, rules, get_or}
 use Rattle.std.proofs.lemmas.List.{get_or_read}
 use Rattle.std.proofs.lemmas.Bool.{ne_eqb}
 use Rattle.manchester_line.specs.declared.Sym.TheVariants.{Idle}

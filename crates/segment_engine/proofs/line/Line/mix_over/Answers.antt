@@ -1,4 +1,4 @@
-use Rattle.std.proofs.Common.{◌≡◌, ◌+◌, ◌-◌, ◌≤◌, ◌++◌, replicate, length, ◌<◌, sym, get_or, vec_len, vec_capacity, refl, ap, ap₂, ◌∙◌, rules}
+use Rattle.std.proofs.Common.{◌+◌, ◌-◌, ◌≤◌, ◌++◌, replicate, length, ◌<◌, sym, get_or, vec_len, vec_capacity, refl, ap, ap₂, ◌∙◌, rules}
 use Rattle.manchester_line.specs.declared.Sym.TheVariants.{Idle}
 use Rattle.manchester_line.specs.Line.{mix_of}
 use Rattle.network.specs.Times.{earlier}
