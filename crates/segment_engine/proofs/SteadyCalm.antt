@@ -1,5 +1,5 @@
 -- Stations to which nothing happens for several half bits, and what their lines tell ahead.
-use Rattle.std.proofs.Common.{◌≡◌, ℕ, ◌+◌, ◌-◌, ◌<◌, ◌≤◌, Bool, true, false, List, length, replicate, refl, sym, subst, ap, ap₂, ◌∙◌, arith}
+use Rattle.std.proofs.Common.{◌≡◌, ℕ, ◌+◌, ◌-◌, ◌<◌, ◌≤◌, Bool, false, List, length, replicate, sym, subst, ap, ap₂, ◌∙◌, arith}
 use Rattle.std.specs.Prelude.{◌↔◌, Option}
 use Rattle.manchester_line.specs.declared.Sym.{Sym}
 use Rattle.manchester_line.specs.declared.Sym.TheVariants.{Idle}
@@ -9,7 +9,6 @@ use Rattle.mac_transmit.specs.declared.phase.Phase.TheVariants.{Sending}
 use Rattle.mac_transmit.specs.Sender.{Sender, is_sending, frame_at, symbol_of}
 use Rattle.mac_transmit.specs.Calm.{AllHeardAs, AreCalm, calm_of}
 use Rattle.mac_transmit.specs.Emissions.{emission_by}
-use Rattle.net_parts.specs.Machines.{span}
 use Rattle.segment_engine.specs.TapLines.{TapLine, line_extended}
 use Rattle.segment_engine.specs.SteadyPieces.{IsCalmAs, IsToldAhead, sent_ahead}
 use Rattle.segment_engine.proofs.QuietHalfBits.{emits_idle, span_same}

@@ -1,6 +1,6 @@
 -- Where each station of a segment hears a signal all the time, or Idle all the time, and goes on, what its line tells ahead
 -- comes true, and so does what the taps hear by it.
-use Rattle.std.proofs.Common.{◌≡◌, ℕ, zero, suc, ◌+◌, ◌-◌, ◌<◌, ◌≤◌, All, Bool, true, false, inl, inr, List, [], ◌∷◌, ◌++◌, map, length, get_or, None, refl, sym, subst, ap, ap₂, ◌∙◌, arith}
+use Rattle.std.proofs.Common.{◌≡◌, ℕ, ◌+◌, ◌<◌, ◌≤◌, Bool, inl, inr, List, [], ◌∷◌, ◌++◌, map, length, get_or, None, refl, sym, subst, ap, ap₂, ◌∙◌, arith}
 use Rattle.std.proofs.lemmas.Bool.{cases_lt}
 use Rattle.std.proofs.lemmas.List.{get_or-map}
 use Rattle.manchester_line.specs.declared.Sym.{Sym}
@@ -16,14 +16,14 @@ use Rattle.network.specs.Times.{heard, emitted}
 use Rattle.net_parts.specs.Windows.{lookahead}
 use Rattle.net_parts.specs.Machines.{span}
 use Rattle.net_parts.specs.SegmentParts.{Wiring, wiring}
-use Rattle.net_parts.specs.Standing.{arrives, port_hears}
+use Rattle.net_parts.specs.Standing.{port_hears}
 use Rattle.net_parts.proofs.RepeaterSteps.{length-span, get_or-span}
 use Rattle.segment_engine.specs.TapLines.{TapLine, no_line, symbol_on, line_extended, heard_by_lines}
-use Rattle.segment_engine.specs.PartStates.{IsLineOf, AreLinesAt}
+use Rattle.segment_engine.specs.PartStates.{AreLinesAt}
 use Rattle.segment_engine.specs.SteadyPieces.{heard_for, sent_ahead, IsToldAhead, IsCalmAs}
-use Rattle.segment_engine.proofs.HeldLines.{line_size, line_at}
+use Rattle.segment_engine.proofs.HeldLines.{line_size}
 use Rattle.segment_engine.proofs.LinesAhead.{span_alike, symbol_before, symbol_ahead, places_same}
-use Rattle.segment_engine.proofs.LinesHear.{KnowLines, known, begins_all}
+use Rattle.segment_engine.proofs.LinesHear.{KnowLines, known}
 use Rattle.segment_engine.proofs.PiecesAhead.{ahead_emitted, ahead_heard, ahead_ports}
 use Rattle.segment_engine.proofs.Spans.{span_more}
 use Rattle.segment_engine.proofs.StationsLater.{sender_runs, station, last_calm}

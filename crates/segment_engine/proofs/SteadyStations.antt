@@ -1,9 +1,8 @@
 -- A segment whose stations go on stands in the network several half bits later.
-use Rattle.std.proofs.Common.{◌≡◌, ℕ, zero, suc, ◌+◌, ◌-◌, ◌*◌, ◌<◌, ◌≤◌, All, Bool, false, inl, inr, List, [], ◌∷◌, ◌++◌, take, drop, map, length, length-append, get_or, None, refl, sym, subst, ap, ap₂, ◌∙◌, arith, append_assoc}
+use Rattle.std.proofs.Common.{◌≡◌, ℕ, suc, ◌+◌, ◌-◌, ◌*◌, ◌<◌, ◌≤◌, All, Bool, false, inl, inr, List, [], ◌∷◌, ◌++◌, take, drop, map, length, length-append, get_or, None, refl, sym, subst, ap, ap₂, ◌∙◌, arith, append_assoc}
 use Rattle.std.proofs.lemmas.List.{get_or-map, length-map, same_lists}
 use Rattle.std.proofs.lemmas.Bool.{cases_lt}
 use Rattle.std.proofs.lemmas.List.{take-append-le, take_all}
-use Rattle.std.proofs.Math.Seq.{drop-append_seam}
 use Rattle.manchester_line.specs.declared.Sym.{Sym}
 use Rattle.manchester_line.specs.Line.{is_signal}
 use Rattle.collision_log.specs.declared.row.Row.{Row}
@@ -31,7 +30,7 @@ use Rattle.segment_engine.proofs.HalfBits.{lines_later, lines_room_later}
 use Rattle.segment_engine.proofs.HeldLines.{line_size}
 use Rattle.segment_engine.proofs.KeptParts.{hear_each}
 use Rattle.segment_engine.proofs.LinesAhead.{span_alike, cut_ahead}
-use Rattle.segment_engine.proofs.Spans.{span_two, span_more, take-span, drop-span}
+use Rattle.segment_engine.proofs.Spans.{span_two, span_more, drop-span}
 use Rattle.segment_engine.proofs.StationsLater.{receiver_runs, station, with_none, last_still, rows_stay, captures_stay}
 use Rattle.segment_engine.proofs.SteadyHalfBits.{GoesAhead, all_emit, all_signal, all_hear, hears_all, port_hears_all, heard_as, heard_size, senders_later, no_sending}
 

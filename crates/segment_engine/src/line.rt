@@ -81,6 +81,28 @@ fn mix_from(piece: &mut [Sym], symbols: &[Sym], from: u64)
     }
 }
 
+/// Writes the symbols from place `from` on, from 0, into a piece in which all is Idle.
+fn copy_from(piece: &mut [Sym], symbols: &[Sym], from: u64)
+    requires { (j : ℕ) (d : Sym) → j < length piece.old → slice_index_or piece.old j d ≡ Idle }
+    ensures { (j : ℕ) (d : Sym) → j < length piece.new → slice_index_or piece.new j d ≡ slice_index_or symbols.now (from + j) Idle }
+{
+    let first = from.min(symbols.len() as u64) as usize;
+    let count = piece.len().min(symbols.len() - first);
+    piece[..count].copy_from_slice(&symbols[first..first + count]);
+}
+
+/// Whether all symbols of a piece are Idle.
+fn is_idle(piece: &[Sym]) -> bool
+    ensures { result ≡ true → piece.now ≡ replicate (length piece.now) Idle }
+{
+    for j in 0..piece.len() {
+        if piece[j] != Sym::Idle {
+            return false;
+        }
+    }
+    true
+}
+
 impl Line {
     /// The empty line of a tap from half bit 0 on, with room for so many symbols.
     pub fn new(alloc: Global, at: u32, delay: u32, room: usize) -> Result<Line, OutOfMemory>
@@ -167,8 +189,10 @@ impl Line {
     }
 
     /// Adds to what a tap at a place hears in the half bits from `t` on, as many as the piece has, what reaches it of the line.
-    pub fn mix_over(&self, at: u32, lookahead: u32, t: u64, piece: &mut [Sym])
-        requires { t + length piece.old < 2 ^ 64 }
+    /// Only where that was nothing so far may `fresh` be set.
+    pub fn mix_over(&self, at: u32, lookahead: u32, t: u64, piece: &mut [Sym], fresh: bool)
+        requires in_time { t + length piece.old < 2 ^ 64 }
+        requires fresh { fresh ≡ true → (j : ℕ) (d : Sym) → j < length piece.old → slice_index_or piece.old j d ≡ Idle }
         ensures { (j : ℕ) (d : Sym) → j < length piece.new → slice_index_or piece.new j d
             ≡ mix_of (slice_index_or piece.old j d) (earlier (symbol_on self.now) (t + j) (half_bits_back lookahead at self.now)) }
     {
@@ -177,7 +201,11 @@ impl Line {
             self.mix_back(back, t, piece);
             return;
         }
-        mix_from(piece, &self.symbols, t - back - self.base);
+        if fresh {
+            copy_from(piece, &self.symbols, t - back - self.base);
+        } else {
+            mix_from(piece, &self.symbols, t - back - self.base);
+        }
     }
 
     /// Whether nothing but Idle stands on it from half bit `u` on.
@@ -206,6 +234,10 @@ impl Line {
         requires { length piece.now ≤ self.old.room }
         ensures { self.new ≡ line_extended self.old piece.now }
     {
+        if is_idle(piece) {
+            self.rest(piece.len());
+            return;
+        }
         for i in 0..piece.len() {
             self.push(piece[i]);
         }

@@ -19,6 +19,7 @@ pub fn hear_piece(lines: &[Line], p: usize, lookahead: u32, far: u64, t: u64, pi
 {
     let from = t.saturating_sub(far);
     let at = lines[p].place();
+    let mut fresh = true;
     piece.fill(Sym::Idle);
     for q in 0..lines.len() {
         if q == p {
@@ -27,21 +28,9 @@ pub fn hear_piece(lines: &[Line], p: usize, lookahead: u32, far: u64, t: u64, pi
         if lines[q].is_quiet_from(from) {
             continue;
         }
-        lines[q].mix_over(at, lookahead, t, piece);
+        lines[q].mix_over(at, lookahead, t, piece, fresh);
+        fresh = false;
     }
-}
-
-/// Whether all symbols of a piece are a signal, or all are Idle, as `carrier` says.
-fn is_steady(piece: &[Sym], carrier: bool) -> bool
-    ensures { result ≡ true → (j : ℕ) → j < length piece.now → is_signal_of (slice_index_or piece.now j Idle) ≡ carrier }
-{
-    let mut same = true;
-    for j in 0..piece.len() {
-        if is_signal(piece[j]) != carrier {
-            same = false;
-        }
-    }
-    same
 }
 
 /// How many of the first symbols of a piece are all a signal, or are all Idle, as `carrier` says.
@@ -49,9 +38,6 @@ fn steady_first(piece: &[Sym], carrier: bool) -> usize
     ensures within { result ≤ length piece.now }
     ensures steady { (j : ℕ) → j < result → is_signal_of (slice_index_or piece.now j Idle) ≡ carrier }
 {
-    if is_steady(piece, carrier) {
-        return piece.len();
-    }
     for j in 0..piece.len() {
         if is_signal(piece[j]) != carrier {
             return j;

@@ -15,6 +15,9 @@ use crate::segment::Segment;
 use crate::steady::{calm_ahead, leap_steady};
 use net_parts::Parcel;
 
+/// The half bits that are told ahead at first, and after a piece that was cut.
+const FEW_AHEAD: u32 = 64;
+
 /// What came in for the ports in a window is put on their lines, and there is room for what the stations emit in it.
 fn begin(of: &Segment, window: u64, state: &mut Running, parcels: &[Parcel])
     requires at { IsRunningAt of.now.plan.value of.now.number (window * of.now.lookahead) state.old }
@@ -34,12 +37,13 @@ fn begin(of: &Segment, window: u64, state: &mut Running, parcels: &[Parcel])
 }
 
 /// Half bits of a window of a segment from half bit `k` on, from 0, at most `most`, in which each station goes on with what it
-/// does. It answers how many.
+/// does: what they emit is told ahead for at most `ahead` of them. It answers how many.
 fn go_steadily(
     of: &Segment,
     window: u64,
     k: u32,
     most: u32,
+    ahead: u32,
     state: &mut Running,
     parcels: &mut [Parcel],
 ) -> u32
@@ -64,7 +68,7 @@ fn go_steadily(
 {
     let t = state.t;
     hear_all(&state.lines, of.lookahead, state.far, t, &mut state.heard);
-    let most = (most as usize).min(state.piece.len()) as u32;
+    let most = (most.min(ahead) as usize).min(state.piece.len()) as u32;
     let calm = calm_ahead(t, &state.heard, &state.senders, &state.receivers, most);
     if calm == 0 {
         return 0;
@@ -73,12 +77,13 @@ fn go_steadily(
 }
 
 /// Half bits of a window of a segment from half bit `k` on, from 0, at least one and at most `most`: as many as nothing
-/// happens in, and else one. It answers how many.
+/// happens in, of which at most `ahead` are told ahead, and else one. It answers how many.
 fn go_on(
     of: &Segment,
     window: u64,
     k: u32,
     most: u32,
+    ahead: u32,
     state: &mut Running,
     parcels: &mut [Parcel],
 ) -> u32
@@ -108,12 +113,22 @@ fn go_on(
         leap_quiet(of, window, quiet, state);
         return quiet;
     }
-    let steady = go_steadily(of, window, k, most, state, parcels);
+    let steady = go_steadily(of, window, k, most, ahead, state, parcels);
     if steady > 0 {
         return steady;
     }
     half_bit(of, window, k, state, parcels);
     1
+}
+
+/// How many half bits are told ahead after `made` half bits were made where `ahead` were told: twice as many if all that were
+/// told stood, and else as few as at first.
+fn next_ahead(ahead: u32, made: u32) -> u32 {
+    if made < ahead {
+        FEW_AHEAD
+    } else {
+        ahead.saturating_mul(2)
+    }
 }
 
 /// A window of a segment, which refills the parcels and turns them.
@@ -129,9 +144,12 @@ pub fn run(of: &Segment, window: u64, state: &mut Running, parcels: &mut [Parcel
 {
     begin(of, window, state, parcels);
     let count = u64::from(of.lookahead).min(of.half_bits - state.t) as u32;
+    let mut ahead = FEW_AHEAD;
     let mut k = 0;
     while k < count {
-        k += go_on(of, window, k, count - k, state, parcels);
+        let made = go_on(of, window, k, count - k, ahead, state, parcels);
+        ahead = next_ahead(ahead, made);
+        k += made;
     }
     turn(parcels, count as usize);
 }

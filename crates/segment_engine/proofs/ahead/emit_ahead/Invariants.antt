@@ -1,4 +1,4 @@
-use Rattle.std.proofs.Common.{◌≡◌, ℕ, ◌+◌, ◌<◌, ◌≤◌, length, slice_index_or}
+use Rattle.std.proofs.Common.{◌≡◌, ℕ, ◌<◌, ◌≤◌, length, slice_index_or}
 use Rattle.mac_transmit.specs.Sender.{Sender}
 use Rattle.segment_engine.specs.TapLines.{TapLine}
 use Rattle.segment_engine.specs.SteadyPieces.{IsToldAhead}

@@ -1,4 +1,4 @@
-use Rattle.std.proofs.Common.{◌≡◌, ℕ, ◌+◌, ◌<◌, ◌≤◌, true}
+use Rattle.std.proofs.Common.{◌≡◌, ℕ, ◌+◌, ◌<◌, true}
 use Rattle.manchester_line.specs.Line.{is_signal}
 use Rattle.mac_transmit.specs.Sender.{symbol_of}
 use Rattle.net_parts.specs.Machines.{span}

@@ -1,4 +1,4 @@
-use Rattle.std.proofs.Common.{◌≡◌, ◌≤◌, sym, ap, ◌∙◌, arith, rules}
+use Rattle.std.proofs.Common.{◌≡◌, ◌≤◌, ap, ◌∙◌, rules}
 use Rattle.manchester_line.specs.Line.{is_signal}
 use Rattle.mac_transmit.specs.declared.phase.Phase.TheVariants.{Sending}
 use Rattle.mac_transmit.specs.Sender.{frame_at}

@@ -1,4 +1,4 @@
-use Rattle.std.proofs.Common.{◌≡◌, ◌+◌, ◌<◌, cond, eqb, sym, subst, ap, ap₂, ◌∙◌, arith, get_or}
+use Rattle.std.proofs.Common.{◌≡◌, ◌+◌, cond, true, false, sym, ap, ap₂, ◌∙◌, arith, rules, get_or}
 use Rattle.std.proofs.lemmas.List.{get_or_read}
 use Rattle.std.proofs.lemmas.Bool.{ne_eqb}
 use Rattle.manchester_line.specs.declared.Sym.TheVariants.{Idle}
@@ -18,6 +18,7 @@ loop-q-preserved-then-is_quiet_from c =
     let from = c.saturating_sub-from.ensures in
     record {
       len = c.loop-q.invariant.len;
+      fresh = c.loop-q.invariant.fresh;
       heard = λ j h.
           let s = get_or c.loop-q.piece j Idle in
           let none = silent_line c.args.lookahead (c.args.t + j) c.args.far p q ls c.requires.reach c.requires.tap in_it
@@ -38,6 +39,7 @@ loop-q-preserved c =
     let at : c.place-at.result ≡ (get_or ls p no_line).at = c.place-at.ensures ∙ ap (λ (l : TapLine). l.at) tap in
     record {
       len = len;
+      fresh = λ (e : false ≡ true). absurd (search rules);
       heard = λ j h.
           let s = get_or c.loop-q.piece j Idle in
           let u = c.args.t + j in

@@ -1,4 +1,4 @@
-use Rattle.std.proofs.Common.{◌≡◌, ℕ, ◌+◌, ◌*◌, ◌<◌, ◌≤◌, ◌++◌, All, Bool, [], false, List, map, take, drop, length, length-append, length-drop, length-take-le, get_or, sym, subst, ap, ap₂, ◌∙◌, arith, rules}
+use Rattle.std.proofs.Common.{◌≡◌, ℕ, ◌+◌, ◌*◌, ◌<◌, ◌≤◌, ◌++◌, All, Bool, [], false, List, map, take, drop, length, length-take-le, get_or, sym, subst, ap, ap₂, ◌∙◌, arith, rules}
 use Rattle.std.specs.Vec.{with_items}
 use Rattle.std.proofs.lemmas.List.{with_items_is, length-map}
 use Rattle.manchester_line.specs.declared.Sym.{Sym}
@@ -18,7 +18,7 @@ use Rattle.net_parts.specs.Standing.{receiver_at}
 use Rattle.net_parts.specs.declared.parcel.Parcel.{Parcel}
 use Rattle.segment_engine.specs.TapLines.{TapLine, no_line, heard_by_lines, IsReachOf}
 use Rattle.segment_engine.specs.PartStates.{AreLinesAt, AreStationsAt, half_filled}
-use Rattle.segment_engine.specs.SteadyPieces.{IsToldAhead, IsCalmAs, heard_for, line_cut, with_piece_at}
+use Rattle.segment_engine.specs.SteadyPieces.{IsToldAhead, heard_for, line_cut, with_piece_at}
 use Rattle.segment_engine.proofs.LinesHear.{same_reach}
 use Rattle.segment_engine.proofs.LinesAhead.{cut_fits, cut_size, cut_size_twice}
 use Rattle.segment_engine.proofs.QuietRoom.{GoesOn, room_later_each}

@@ -1,5 +1,4 @@
-use Rattle.std.proofs.Common.{◌≡◌, ◌≢◌, ℕ, ◌+◌, All, [], true, false, List, length, replicate, sym, subst, ap, ◌∙◌, arith, rules}
-use Rattle.manchester_line.specs.declared.Sym.{Sym}
+use Rattle.std.proofs.Common.{◌≡◌, ◌≢◌, ℕ, All, true, false, length, replicate, sym, subst, ap, ◌∙◌, rules}
 use Rattle.manchester_line.specs.declared.Sym.TheVariants.{Idle}
 use Rattle.mac_receive.specs.KeptReceiver.{Hears}
 use Rattle.mac_receive.specs.Receiver.{receiver_after, receiver_bodies}

@@ -41,26 +41,26 @@ loop-k-init c =
       lines = λ r h. let enough = c.begin.ensures.lines r h in omega (arith, enough);
     }
 
-pub go_on-k-requires-clause-within : goal.go_on-k-requires-clause-within
-go_on-k-requires-clause-within c =
+pub go_on-made-requires-clause-within : goal.go_on-made-requires-clause-within
+go_on-made-requires-clause-within c =
     let few = within_window c.args.of.now c.args.window c.args.state.now.t c.requires.below c.requires.time c.from.result c.min-count.result c.begin.new.state.t c.from.ensures c.begin.ensures.time c.min-count.ensures in
     let in_it = c.loop-k.invariant.within in
     omega (arith, few, in_it)
 
-pub go_on-k-requires-clause-in_time : goal.go_on-k-requires-clause-in_time
-go_on-k-requires-clause-in_time c =
+pub go_on-made-requires-clause-in_time : goal.go_on-made-requires-clause-in_time
+go_on-made-requires-clause-in_time c =
     within_run c.args.of.now c.args.window c.args.state.now.t c.requires.below c.requires.time c.from.result c.min-count.result c.begin.new.state.t c.from.ensures c.begin.ensures.time c.min-count.ensures
     c.loop-k.state.t c.loop-k.k c.loop-k.invariant.time c.loop-k.invariant.within
 
-pub go_on-k-requires-clause-room : goal.go_on-k-requires-clause-room
-go_on-k-requires-clause-room c =
+pub go_on-made-requires-clause-room : goal.go_on-made-requires-clause-room
+go_on-made-requires-clause-room c =
     let a = c.loop-k.state in
     let few = within_window c.args.of.now c.args.window c.args.state.now.t c.requires.below c.requires.time c.from.result c.min-count.result c.begin.new.state.t c.from.ensures c.begin.ensures.time c.min-count.ensures in
     let enough : c.min-count.result - c.loop-k.k ≤ c.args.of.now.lookahead - c.loop-k.k = omega (arith, few) in
     covers_fewer a.senders.items a.receivers.items (c.min-count.result - c.loop-k.k) (c.args.of.now.lookahead - c.loop-k.k) a.room enough c.loop-k.invariant.room
 
-pub go_on-k-requires-clause-lines : goal.go_on-k-requires-clause-lines
-go_on-k-requires-clause-lines c = λ r h.
+pub go_on-made-requires-clause-lines : goal.go_on-made-requires-clause-lines
+go_on-made-requires-clause-lines c = λ r h.
     let few = within_window c.args.of.now c.args.window c.args.state.now.t c.requires.below c.requires.time c.from.result c.min-count.result c.begin.new.state.t c.from.ensures c.begin.ensures.time c.min-count.ensures in
     let enough = c.loop-k.invariant.lines r h in
     omega (arith, few, enough)
@@ -68,10 +68,10 @@ go_on-k-requires-clause-lines c = λ r h.
 pub loop-k-preserved : goal.loop-k-preserved
 loop-k-preserved c =
     let k = c.loop-k.k in
-    let n = c.go_on-k.result in
+    let n = c.go_on-made.result in
     let a = c.loop-k.state in
     let inv = c.loop-k.invariant in
-    let one = c.go_on-k.ensures in
+    let one = c.go_on-made.ensures in
     let made = one.within in
     let in_it = inv.within in
     let long = c.args.of.now.lookahead in
