@@ -1,2 +1,3 @@
 pub mod KeptPlans
 pub mod GatheredParts
+pub mod SteppedParts

@@ -1,3 +1,4 @@
 pub mod PlannedShares
 pub mod FinishedParts
 pub mod PartMakers
+pub mod SteppedShares

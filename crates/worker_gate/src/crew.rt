@@ -1,5 +1,5 @@
 //! The kits of a run.
-ghost use Rattle.std.specs.Prelude.{◌≡◌, ◌<◌, ◌+◌, ◌≤◌, Some, length};
+ghost use Rattle.std.specs.Prelude.{◌≡◌, ◌<◌, ◌+◌, ◌≤◌, IfOk, Some, length};
 ghost use Rattle.worker_gate.specs.PartMakers.{MakesSegments, MakesRepeaters};
 
 use crate::dealing::{outlets_of, owner_of, owners};
@@ -28,6 +28,7 @@ pub fn make_kits<
     requires boxed { Some plan.now ≡ P.plan }
     requires segments { MakesSegments S.plan S.number S.at plan.now (F.pre segment.now) (F.post segment.now) }
     requires repeaters { MakesRepeaters R.plan R.number R.at plan.now (H.pre repeater.now) (H.post repeater.now) }
+    ensures { IfOk result (λ kits. length kits.items ≡ workers) }
 {
     let owners = owners(alloc, &plan.layout, workers)?;
     let mut kits = Vec::new(alloc);

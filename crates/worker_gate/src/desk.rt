@@ -1,9 +1,10 @@
 //! What a worker owns of the plan that a type carries.
-ghost use Rattle.std.specs.Prelude.{◌≡◌, ◌<◌, ◌≤◌, ◌+◌, ◌↔◌, [], true, false, All, IfSome, IsTrue, Some, length};
-ghost use Rattle.net_parts.specs.Parcels.{IsTrueParcel};
-ghost use Rattle.exchange_core.specs.Holdings.{IsHoldingReady, IsHoldingClean};
-ghost use Rattle.exchange_core.specs.Shares.{rack, owns, part_of};
+ghost use Rattle.std.specs.Prelude.{◌≡◌, ◌<◌, ◌≤◌, ◌+◌, ◌↔◌, [], true, false, All, IfSome, IsTrue, None, OnErr, OnOk, Some, if◌then◌else◌, length};
+ghost use Rattle.net_parts.specs.Parcels.{IsTrueParcel, arrived};
+ghost use Rattle.exchange_core.specs.Holdings.{IsHoldingReady, IsHoldingClean, added_repeater, added_segment};
+ghost use Rattle.exchange_core.specs.Shares.{has_place_for, is_refilled, nothing_held, owns, part_of, post_held, posted_parcel, rack, take_held, with_repeater, with_segment};
 ghost use Rattle.worker_gate.specs.PlannedShares.{IsPlannedShare, StaysPlanned};
+ghost use Rattle.worker_gate.specs.SteppedShares.{IsReadyIn, IsStepped};
 
 use exchange_core::Share;
 use lists::OutOfMemory;
@@ -32,19 +33,23 @@ pub struct Desk<P: Planned, S: Part, R: Part> {
 
 impl<P: Planned, S: Part, R: Part> Segments<P, S, R> {
     /// No parts.
-    pub fn new(alloc: Global) -> Segments<P, S, R> {
+    pub fn new(alloc: Global) -> Segments<P, S, R>
+        ensures { result.share ≡ nothing_held }
+    {
         Segments {
             share: Share::new(alloc),
             of: PhantomData,
         }
     }
 
-    /// Adds a segment with the parcels of the first window.
+    /// Adds a segment with the parcels of the first window. On refusal both are dropped.
     pub fn add(&mut self, alloc: Global, plan: &Plan, part: S) -> Result<(), OutOfMemory>
         requires boxed { Some plan.now ≡ P.plan }
         requires plan { S.plan part ≡ plan.now }
         requires number { S.number part < length plan.now.layout.segments }
         requires start { S.at part ≡ 0 }
+        ensures ok { OnOk result (self.new.share ≡ with_segment (added_segment (S.plan part) (S.number part) (S.at part) (arrived plan.now (S.number part) 0)) self.old.share) }
+        ensures err { OnErr result (self.new.share ≡ self.old.share) }
     {
         let number = part.part();
         if self.share.owns(number) {
@@ -55,7 +60,9 @@ impl<P: Planned, S: Part, R: Part> Segments<P, S, R> {
     }
 
     /// The same parts, which may get repeaters.
-    pub fn into_desk(self) -> Desk<P, S, R> {
+    pub fn into_desk(self) -> Desk<P, S, R>
+        ensures { result.share ≡ self.share }
+    {
         let Segments { share, of: _ } = self;
         Desk {
             share,
@@ -66,16 +73,20 @@ impl<P: Planned, S: Part, R: Part> Segments<P, S, R> {
 
 impl<P: Planned, S: Part, R: Part> Desk<P, S, R> {
     /// No parts.
-    pub fn new(alloc: Global) -> Desk<P, S, R> {
+    pub fn new(alloc: Global) -> Desk<P, S, R>
+        ensures { result.share ≡ nothing_held }
+    {
         let none: Segments<P, S, R> = Segments::new(alloc);
         none.into_desk()
     }
 
-    /// Adds a repeater.
+    /// Adds a repeater, whose parcels are all away. On refusal it is dropped.
     pub fn add_repeater(&mut self, plan: &Plan, part: R) -> Result<(), OutOfMemory>
         requires boxed { Some plan.now ≡ P.plan }
         requires plan { R.plan part ≡ plan.now }
         requires number { length plan.now.layout.segments ≤ R.number part }
+        ensures ok { OnOk result (self.new.share ≡ with_repeater (added_repeater (R.plan part) (R.number part) (R.at part)) self.old.share) }
+        ensures err { OnErr result (self.new.share ≡ self.old.share) }
     {
         if self.share.owns(part.part()) {
             return Err(OutOfMemory);
@@ -83,14 +94,20 @@ impl<P: Planned, S: Part, R: Part> Desk<P, S, R> {
         self.share.add_repeater(part)
     }
 
-    /// Makes the part's window, or gives the part up after want of memory, if all its parcels are here. Says whether they are.
-    pub fn step(&mut self, part: u32) -> bool {
+    /// Makes the part's window, or gives the part up after want of memory, if it is ready here. Says whether it is.
+    pub fn step(&mut self, part: u32) -> bool
+        ensures when { IsTrue result ↔ IsReadyIn part self.old.share }
+        ensures waits { result ≡ false → self.new.share ≡ self.old.share }
+        ensures goes { result ≡ true → IsStepped part self.old.share self.new.share }
+    {
         step(&mut self.share, part)
     }
 
     /// Hands out the parcel of an edge, if it is here and goes to where it isn't.
     pub fn post(&mut self, edge: u32) -> Option<Parcel>
-        ensures { IfSome result (λ parcel. IfSome P.plan (λ plan. IsTrueParcel plan parcel)) }
+        ensures value { result ≡ (if is_refilled edge self.old.share then Some (posted_parcel edge self.old.share) else None) }
+        ensures honest { IfSome result (λ parcel. IfSome P.plan (λ plan. IsTrueParcel plan parcel)) }
+        ensures new { self.new.share ≡ (if is_refilled edge self.old.share then post_held edge self.old.share else self.old.share) }
     {
         if self.share.refilled(edge) {
             Some(self.share.post(edge))
@@ -102,6 +119,7 @@ impl<P: Planned, S: Part, R: Part> Desk<P, S, R> {
     /// Puts a parcel to its part, if that is here, and drops it otherwise.
     pub fn take(&mut self, parcel: Parcel)
         requires { IfSome P.plan (λ plan. IsTrueParcel plan parcel) }
+        ensures { self.new.share ≡ (if has_place_for parcel self.old.share then take_held parcel self.old.share else self.old.share) }
     {
         if self.share.awaits(&parcel) {
             self.share.take(parcel);
@@ -133,9 +151,12 @@ impl<P: Planned, S: Part, R: Part> Desk<P, S, R> {
     }
 }
 
-/// Makes the part's window, or gives the part up after want of memory, if all its parcels are here. Says whether they are.
+/// Makes the part's window, or gives the part up after want of memory, if it is ready here. Says whether it is.
 fn step<S: Part, R: Part>(share: &mut Share<S, R>, part: u32) -> bool
-    ensures { StaysPlanned share.old share.new }
+    ensures planned { StaysPlanned share.old share.new }
+    ensures when { IsTrue result ↔ IsReadyIn part share.old }
+    ensures waits { result ≡ false → share.new ≡ share.old }
+    ensures goes { result ≡ true → IsStepped part share.old share.new }
 {
     if !share.owns(part) || !share.ready(part) {
         return false;
@@ -158,7 +179,8 @@ fn make<S: Part, R: Part>(share: &mut Share<S, R>, part: u32)
     requires ready { IfSome (part_of part share.old) IsHoldingReady }
     requires clean { IfSome (part_of part share.old) IsHoldingClean }
     requires kept { IfSome (part_of part share.old) (λ h. h.lost ≡ false) }
-    ensures { StaysPlanned share.old share.new }
+    ensures planned { StaysPlanned share.old share.new }
+    ensures goes { IsStepped part share.old share.new }
 {
     match share.reserve(part) {
         Ok(()) => share.run(part),

@@ -1,8 +1,11 @@
 //! What a worker works on.
-ghost use Rattle.std.specs.Prelude.{◌≡◌, true, All, IfSome, Some};
+ghost use Rattle.std.specs.Prelude.{◌≡◌, ◌≤◌, ◌↔◌, false, true, All, IfSome, IsTrue, Some, [], if◌then◌else◌};
 ghost use Rattle.load_plan.specs.declared.plan.Plan.{Plan};
 ghost use Rattle.net_parts.specs.Parcels.{IsTrueParcel};
+ghost use Rattle.net_parts.specs.Windows.{windows};
+ghost use Rattle.exchange_core.specs.Shares.{has_place_for, nothing_held, part_of, take_held};
 ghost use Rattle.worker_gate.specs.PlannedShares.{has_plan, the_plan};
+ghost use Rattle.worker_gate.specs.declared.kit.Duty.{Duty};
 
 use crate::dealing::Outlet;
 use crate::desk::Desk;
@@ -48,6 +51,10 @@ impl<P: Planned + Send, S: Part, R: Part> Kit<P, S, R> {
     #[tactic(auto, using(crate::proofs::KeptPlans::plan_is_there))]
     pub fn new(number: u32, plan: &Plan, desk: Desk<P, S, R>, duties: Vec<Duty>) -> Kit<P, S, R>
         requires { Some plan.now ≡ P.plan }
+        ensures number { result.number ≡ number }
+        ensures windows { result.windows ≡ windows plan.now }
+        ensures desk { result.desk.share ≡ desk.share }
+        ensures duties { result.duties ≡ duties }
     {
         Kit {
             number,
@@ -60,6 +67,9 @@ impl<P: Planned + Send, S: Part, R: Part> Kit<P, S, R> {
     /// No parts, with which a worker ends.
     pub fn idle(alloc: Global, number: u32, plan: &Plan) -> Kit<P, S, R>
         requires { Some plan.now ≡ P.plan }
+        ensures number { result.number ≡ number }
+        ensures desk { result.desk.share ≡ nothing_held }
+        ensures duties { result.duties.items ≡ [] }
     {
         Kit::new(number, plan, Desk::new(alloc), Vec::new(alloc))
     }
@@ -85,28 +95,23 @@ impl<P: Planned + Send, S: Part, R: Part> Kit<P, S, R> {
     /// Puts a parcel to its part, if that is here, and drops it otherwise.
     pub fn take(&mut self, parcel: Parcel)
         requires { IfSome P.plan (λ plan. IsTrueParcel plan parcel) }
+        ensures { self.new.desk.share ≡ (if has_place_for parcel self.old.desk.share then take_held parcel self.old.desk.share else self.old.desk.share) }
     {
         self.desk.take(parcel);
     }
 
-    /// Whether all windows of all parts are made.
-    pub fn is_done(&self) -> bool {
-        for i in 0..self.duties.len() {
-            if !self.desk.is_past(self.duties[i].part, self.windows) {
-                return false;
-            }
-        }
-        true
+    /// Whether all windows of all parts are made, or the parts were given up for them.
+    pub fn is_done(&self) -> bool
+        ensures { IsTrue result ↔ All (λ (duty : Duty). IfSome (part_of duty.part self.now.desk.share) (λ h. self.now.windows ≤ h.window)) self.now.duties.items }
+    {
+        are_past(&self.desk, self.duties.as_slice(), self.windows)
     }
 
-    /// Whether a part was given up.
-    pub fn has_lost(&self) -> bool {
-        for i in 0..self.duties.len() {
-            if self.desk.is_lost(self.duties[i].part) {
-                return true;
-            }
-        }
-        false
+    /// Whether no part was given up.
+    pub fn is_kept(&self) -> bool
+        ensures { IsTrue result ↔ All (λ (duty : Duty). IfSome (part_of duty.part self.now.desk.share) (λ h. h.lost ≡ false)) self.now.duties.items }
+    {
+        are_kept(&self.desk, self.duties.as_slice())
     }
 
     /// The parts alone.
@@ -122,6 +127,24 @@ impl<P: Planned + Send, S: Part, R: Part> Kit<P, S, R> {
         } = self;
         desk.into_parts()
     }
+}
+
+/// Whether so many windows of all these parts are made, or the parts were given up for them.
+fn are_past<P: Planned, S: Part, R: Part>(
+    desk: &Desk<P, S, R>,
+    duties: &[Duty],
+    windows: u64,
+) -> bool
+    ensures { IsTrue result ↔ All (λ (duty : Duty). IfSome (part_of duty.part desk.now.share) (λ h. windows ≤ h.window)) duties.now }
+{
+    duties.iter().all(|duty| desk.is_past(duty.part, windows))
+}
+
+/// Whether none of these parts was given up.
+fn are_kept<P: Planned, S: Part, R: Part>(desk: &Desk<P, S, R>, duties: &[Duty]) -> bool
+    ensures { IsTrue result ↔ All (λ (duty : Duty). IfSome (part_of duty.part desk.now.share) (λ h. h.lost ≡ false)) duties.now }
+{
+    duties.iter().all(|duty| !desk.is_lost(duty.part))
 }
 
 /// Makes one window of each part whose parcels are here, and hands its parcels on. Says whether it made one.

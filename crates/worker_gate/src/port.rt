@@ -1,9 +1,9 @@
 //! Boxes with passes of them.
-ghost use Rattle.std.specs.Prelude.{◌≡◌, ◌<◌, []};
+ghost use Rattle.std.specs.Prelude.{◌≡◌, ◌<◌, ◌++◌, ◌∷◌, []};
 ghost use Rattle.std.specs.Arc.{arc_value};
 ghost use Rattle.crossbeam_queue.specs.Passes.{view, IsPassOf};
 ghost use Rattle.window_exchange.specs.Balance.{name_lists};
-ghost use Rattle.window_exchange.specs.MailNames.{IsHonest};
+ghost use Rattle.window_exchange.specs.MailNames.{IsHonest, mail_name};
 
 use lists::OutOfMemory;
 use std::alloc::Global;
@@ -49,13 +49,15 @@ impl<P: Planned, U: Named> Port<P, U> {
     /// Puts mail into the box.
     pub fn send<X: Wait>(&mut self, rt: &X, mail: Mail<U>)
         requires { IsHonest U.plan P.plan mail }
+        ensures { view self.new.pass.pass ≡ name_lists ((view self.old.pass.pass).put ++ mail_name U.name mail ∷ []) (view self.old.pass.pass).taken }
     {
         self.mailbox.send(rt, &mut self.pass, mail);
     }
 
     /// Takes the oldest mail out of the box.
     pub fn receive<X: Wait>(&mut self, rt: &X) -> Mail<U>
-        ensures { IsHonest U.plan P.plan result }
+        ensures honest { IsHonest U.plan P.plan result }
+        ensures lists { view self.new.pass.pass ≡ name_lists (view self.old.pass.pass).put ((view self.old.pass.pass).taken ++ mail_name U.name result ∷ []) }
     {
         self.mailbox.receive(rt, &mut self.pass)
     }

@@ -140,7 +140,7 @@ fn whole<P: Planned + Send, S: Part, R: Part>(
     let mut segments = Vec::new(alloc);
     let mut repeaters = Vec::new(alloc);
     for kit in kits {
-        if kit.has_lost() {
+        if !kit.is_kept() {
             return Err(OutOfMemory);
         }
         let (some, more) = kit.into_parts();
