@@ -20,4 +20,6 @@ mod refusals;
 #[cfg(test)]
 mod slacks;
 #[cfg(test)]
+mod states;
+#[cfg(test)]
 mod stores;
