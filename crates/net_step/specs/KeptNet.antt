@@ -76,8 +76,8 @@ abbrev pub over_from : ℕ → List ℕ → List Sym → ℕ
 over_from t (n ∷ ns) (s ∷ ss) = max (if is_signal s then t + n + 1 else 0) (over_from t ns ss)
 over_from t _ _ = 0
 
--- In half bit t the signals of these rows are over, which were sent before half bit u, that of half bit u - 1 first, and
--- whose symbols need so many half bits each.
+-- In half bit t the signals of these rows are over, which were sent before half bit u, that of half bit u - 1 first,
+-- and whose symbols need so many half bits each.
 abbrev pub AreOver : ℕ → ℕ → List ℕ → List (List Sym) → Type 0
 AreOver t u needs rows = (i : ℕ) → i < length needs → IsOverBy t (slice_index needs i) (last_signal u rows i)
 
