@@ -2,6 +2,7 @@ pub mod Entries
 pub mod Faults
 pub mod Fields
 pub mod GuardLines
+pub mod Judging
 pub mod LineForms
 pub mod LineLaws
 pub mod LineTexts
@@ -10,3 +11,4 @@ pub mod PortNames
 pub mod Ranges
 pub mod SenderLines
 pub mod States
+pub mod TextLines

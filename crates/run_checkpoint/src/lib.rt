@@ -1,4 +1,4 @@
-//! The text of a network's state, from which a run can go on, and the reading of its lines.
+//! The text of a network's state, from which a run can go on, and the reading of it.
 #![tactic(auto)]
 
 mod fault;
@@ -8,6 +8,7 @@ pub mod laws;
 mod octets_line;
 mod places;
 mod ranges;
+mod reading;
 mod row_line;
 mod sender_line;
 mod waiting;
@@ -18,6 +19,7 @@ pub use guard_line::{GuardLine, guard_of};
 pub use lists::OutOfMemory;
 pub use octets_line::octets_of;
 pub use ranges::{is_guard_in, is_sender_in};
+pub use reading::{MOST_STATE_OCTETS, read_state};
 pub use row_line::{is_end_line, row_of};
 pub use sender_line::{DeferLine, SenderLine, sender_of, time_of};
 pub use writing::state_text;

@@ -1,0 +1,34 @@
+//! The state whose text this is.
+ghost use Rattle.std.specs.Prelude.{◌≡◌, ◌<◌, ◌≤◌, ◌⊎◌, ◌↔◌, ℕ, Ok, Err, IfOk, length};
+ghost use Rattle.quiet_state.specs.PlanStates.{IsResumable};
+ghost use Rattle.quiet_state.specs.Quiet.{IsQuiet};
+ghost use Rattle.quiet_state.specs.Resumed.{state_at};
+ghost use Rattle.quiet_state.specs.declared.state.NetState.{NetState};
+ghost use Rattle.run_checkpoint.specs.Judging.{IsJudgement, IsTextOfState, judged_state, most_state_octets};
+ghost use Rattle.run_checkpoint.specs.States.{text_of_state};
+ghost use Rattle.run_checkpoint.specs.declared.fault.StateFault.TheVariants.{OutOfMemory, TooLarge};
+
+use crate::StateFault;
+use load_plan::Plan;
+use quiet_state::NetState;
+use std::alloc::Global;
+
+/// The most octets that the text of a state may have.
+pub const MOST_STATE_OCTETS: usize = 268_435_456;
+
+/// The state of this plan whose text the octets are, at most 268,435,456 of them, or the text's first fault.
+pub fn read_state(alloc: Global, plan: &Plan, bytes: &[u8]) -> Result<NetState, StateFault>
+    ensures judged { IsJudgement (judged_state plan.now bytes.now) result }
+    ensures too_large { (result ≡ Err TooLarge) ↔ (most_state_octets < length bytes.now) }
+    ensures state { IfOk result (λ s. IsTextOfState plan.now s bytes.now) }
+    ensures states { (s : NetState) → IsTextOfState plan.now s bytes.now → length bytes.now ≤ most_state_octets →
+        IsJudgement (Ok s) result }
+    ensures quiet { (t : ℕ) → IsQuiet plan.now t → bytes.now ≡ text_of_state plan.now (state_at plan.now t) →
+        length bytes.now ≤ most_state_octets → IsJudgement (Ok (state_at plan.now t)) result }
+    ensures resumable { IfOk result (λ s. IsResumable plan.now s) }
+{
+    if bytes.len() > MOST_STATE_OCTETS {
+        return Err(StateFault::TooLarge);
+    }
+    Err(StateFault::OutOfMemory)
+}
