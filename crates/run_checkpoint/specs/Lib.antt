@@ -8,7 +8,9 @@ pub mod LineLaws
 pub mod LineTexts
 pub mod Places
 pub mod PortNames
+pub mod Progress
 pub mod Ranges
 pub mod SenderLines
+pub mod StateLaws
 pub mod States
 pub mod TextLines

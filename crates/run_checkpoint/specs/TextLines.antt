@@ -1,5 +1,5 @@
 -- The lines of a text (profile). A line feed is octet 10.
-use Rattle.std.specs.Prelude.{ℕ, ◌==◌, if◌then◌else◌, List, [], ◌∷◌}
+use Rattle.std.specs.Prelude.{ℕ, Bool, not, ◌==◌, if◌then◌else◌, List, [], ◌∷◌}
 
 -- an octet in front of the first of these lines
 abbrev pub onto_first_line : ℕ → List (List ℕ) → List (List ℕ)
@@ -10,3 +10,7 @@ onto_first_line c (line ∷ lines) = (c ∷ line) ∷ lines
 abbrev pub text_lines : List ℕ → List (List ℕ)
 text_lines [] = []
 text_lines (c ∷ cs) = if c == 10 then (c ∷ []) ∷ text_lines cs else onto_first_line c (text_lines cs)
+
+-- whether an octet is no line feed
+abbrev pub is_within_line : ℕ → Bool
+is_within_line c = not (c == 10)

@@ -1,6 +1,7 @@
 //! The text of a network's state, from which a run can go on, and the reading of it.
 #![tactic(auto)]
 
+mod entries_read;
 mod fault;
 mod fields;
 mod guard_line;
@@ -10,7 +11,11 @@ mod places;
 mod ranges;
 mod reading;
 mod row_line;
+mod row_order;
 mod sender_line;
+mod states_read;
+mod text_line;
+mod told;
 mod waiting;
 mod writing;
 

@@ -24,7 +24,7 @@ pub const MOST_DRAWS: u64 = 2_000_000_000;
 pub const GREATEST_DRAW: u32 = 1_023;
 
 /// Whether a number is in a range.
-fn is_between(least: u64, most: u64, n: u64) -> bool
+pub fn is_between(least: u64, most: u64, n: u64) -> bool
     ensures { result ≡ is_between least most n }
 {
     least <= n && n <= most

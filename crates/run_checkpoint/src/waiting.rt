@@ -12,7 +12,7 @@ use network::{Captures, Taken};
 use std::alloc::Global;
 
 /// Whether a frame was received.
-fn is_reception(body: &Body) -> bool
+pub fn is_reception(body: &Body) -> bool
     ensures { result ≡ is_reception body.now }
 {
     matches!(body, Body::Received { .. })
