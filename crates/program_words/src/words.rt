@@ -255,12 +255,7 @@ fn read_demo(number: &str, workers: &str) -> Option<Request<'static>>
     Some(Request::Demo { number, workers })
 }
 
-fn read_four<'a>(
-    word: &str,
-    layout: &'a str,
-    prefix: &'a str,
-    number: &str,
-) -> Option<Request<'a>>
+fn read_four<'a>(word: &str, layout: &'a str, prefix: &'a str, number: &str) -> Option<Request<'a>>
     ensures asked { option_map asked_of result ≡ asked_four word.now layout.now prefix.now number.now }
     ensures range { IfSome result HasNumbersInRange }
 {
