@@ -1,5 +1,5 @@
 -- The end of a picture, from what was read and what was written.
-use Rattle.std.proofs.Common.{◌≡◌, ℕ, ◌+◌, ◌<◌, ◌≤◌, ◌^◌, Option, Ok, List, [], ◌∷◌, ◌++◌, length, length-append, append_assoc, ap, ap₂, sym, subst, ◌∙◌, inl, inr, arith}
+use Rattle.std.proofs.Common.{◌≡◌, ℕ, ◌<◌, ◌≤◌, ◌^◌, Option, Ok, List, [], ◌∷◌, ◌++◌, length, length-append, append_assoc, ap, ap₂, sym, subst, ◌∙◌, inl, inr, arith}
 use Rattle.std.specs.Prelude.{None, codes}
 use Rattle.log_meter.proofs.WholeLines.{bare_line}
 use Rattle.layout.specs.declared.lines.Layout.{Layout}

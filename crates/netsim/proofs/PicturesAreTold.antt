@@ -1,5 +1,5 @@
 -- The status of picture is that of its layout and of its log, and what it leaves.
-use Rattle.std.proofs.Common.{◌≡◌, ◌⊎◌, ℕ, Option, None, Some, Ok, Err, List, refl, sym, subst, inl, inr}
+use Rattle.std.proofs.Common.{◌≡◌, ◌⊎◌, ℕ, Option, None, Some, Ok, Err, List, refl, subst, inl, inr}
 use Rattle.std.specs.Prelude.{IfSome}
 use Rattle.layout.specs.declared.lines.Layout.{Layout}
 use Rattle.layout_file.specs.declared.fault.LayoutFault.{LayoutFault}
@@ -13,12 +13,11 @@ use Rattle.run_picture.specs.Pictures.{picture_of}
 use Rattle.run_picture.specs.Strangers.{first_stranger}
 use Rattle.netsim.specs.declared.endings.Ending.{Ending}
 use Rattle.netsim.specs.declared.endings.Ending.TheVariants as ending
-use Rattle.netsim.specs.Endings.{ArePictured, IsAnswer, IsDrawn, IsEarly, IsEndOf, IsJudged, IsPictureEnd, IsStrangeEnd, IsUnlogged, IsUnmetered, status_of}
+use Rattle.netsim.specs.Endings.{ArePictured, IsAnswer, IsDrawn, IsEarly, IsEndOf, IsJudged, IsPictureEnd, IsStrangeEnd, IsUnmetered, status_of}
 use Rattle.netsim.specs.Meters.{HasLog, HasLogFault, IsFaultyLog}
 use Rattle.netsim.specs.Moments.{Moment}
 use Rattle.netsim.specs.PictureLaws.{ArePicturesComplete, ArePicturesCutShort, ArePicturesRefused, AreStrangersSaid, DoPicturedAbsentLogsDecide, DoPicturedLogFaultsDecide, DoPicturesKeepFiles, DoStrangersDecide}
 use Rattle.netsim.specs.Statuses.{HasStranger, IfPicture, IsDoneOrMemory, IsFaultStatus, IsNetworkWith, IsPictureCut, IsPictureDone, IsPictureText, IsPictureWith, IsStrangerSaid, IsUnreadOrMemory}
-use Rattle.netsim.specs.Writing.{IsSaid}
 use Rattle.netsim.proofs.EndingsByStatus.{by_demo, by_meter, by_picture, by_probe, by_resume, by_stop, by_way, end_at, picture_end}
 use Rattle.netsim.proofs.LayoutDecidesStatus.{absent_unjudged, good_or_faulty, same_network}
 use Rattle.netsim.proofs.LoadsDecideStatus.{text_whole}

@@ -1,16 +1,14 @@
 -- A run that stopped and then went on leaves what the run that never stopped leaves.
 use Rattle.std.proofs.Common.{◌≡◌, ℕ, ◌+◌, ◌≤◌, Bool, true, false, cond, Option, None, Some, Result, Ok, Err, List, take, length, refl, sym, ap, ap₂, subst, ◌∙◌, arith}
 use Rattle.std.specs.Prelude.{IfSome, min, nat_lt, option_map, unwrap_or}
-use Rattle.std.proofs.lemmas.Bool.{cases_Bool, ltb-false}
+use Rattle.std.proofs.lemmas.Bool.{ltb-false}
 use Rattle.std.proofs.lemmas.List.{length-take, take_all}
 use Rattle.load_plan.specs.declared.plan.Plan.{Plan}
-use Rattle.outside.specs.Files.{Files, file_of, with_file}
-use Rattle.outside.specs.declared.memory.File.{File}
+use Rattle.outside.specs.Files.{Files, with_file}
 use Rattle.program_texts.specs.Texts.{name_of_state}
-use Rattle.program_words.specs.Requests.{asked, Resume, Stop}
 use Rattle.quiet_state.proofs.QuietNets.{resumed_captures, resumed_rows}
 use Rattle.quiet_state.specs.Quiet.{IsQuiet}
-use Rattle.quiet_state.specs.Resumed.{captures_from, rows_from, state_at}
+use Rattle.quiet_state.specs.Resumed.{rows_from, state_at}
 use Rattle.quiet_state.specs.declared.state.NetState.{NetState}
 use Rattle.run_checkpoint.proofs.ResumableTexts.{quiet_states}
 use Rattle.run_checkpoint.proofs.StatesJudged.{state_again}

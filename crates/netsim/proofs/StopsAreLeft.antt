@@ -1,6 +1,5 @@
 -- What stop and resume leave where they aren't done, and when they are.
-use Rattle.std.proofs.Common.{◌≡◌, ◌⊎◌, ℕ, Option, None, Some, List, refl, subst, inl, inr}
-use Rattle.std.specs.Prelude.{IfSome}
+use Rattle.std.proofs.Common.{◌≡◌, ◌⊎◌, ℕ, Option, None, Some, List, refl, inl, inr}
 use Rattle.capture_file.specs.declared.entries.Record.{Record}
 use Rattle.load_files.specs.Loaded.{Loaded, Whole}
 use Rattle.load_plan.specs.declared.plan.Plan.{Plan}
@@ -22,7 +21,7 @@ use Rattle.netsim.specs.StopLaws.{AreStopFilesWhole, AreStopsBroken, AreStopsCom
 use Rattle.netsim.proofs.EndingsByStatus.{by_resume, by_stop, end_at, resume_end, stop_end}
 use Rattle.netsim.proofs.LayoutDecidesStatus.{unread_status}
 use Rattle.netsim.proofs.LoadsDecideStatus.{IfKnown, Says as SaysOfLoads, early_known, filed_whole, unloaded_known}
-use Rattle.netsim.proofs.StopsAreTold.{IfPlanned, absent_front, always_planned, faultless, never_planned, same_planned, told_faulty, unrun_status}
+use Rattle.netsim.proofs.StopsAreTold.{IfPlanned, absent_front, always_planned, faultless, never_planned, told_faulty, unrun_status}
 
 write_unrun : ending.Write ≡ ending.Memory → ⊥
 write_unrun e = cc

@@ -1,21 +1,21 @@
 -- The statuses of stop and of resume, and what they leave.
-use Rattle.std.proofs.Common.{◌≡◌, ◌⊎◌, ℕ, Option, None, Some, Ok, Err, List, refl, sym, ap, subst, ◌∙◌, inl, inr}
+use Rattle.std.proofs.Common.{◌≡◌, ℕ, Option, None, Some, Err, List, refl, sym, ap, subst, ◌∙◌, inl, inr}
 use Rattle.std.specs.Prelude.{IfSome}
 use Rattle.capture_file.specs.declared.entries.Record.{Record}
 use Rattle.layout.specs.declared.lines.Layout.{Layout}
-use Rattle.load_files.specs.Loaded.{Loaded, Whole, loaded}
+use Rattle.load_files.specs.Loaded.{Loaded, Whole}
 use Rattle.load_plan.specs.declared.plan.Plan.{Plan}
-use Rattle.outside.specs.Files.{Files, IsAbsent, Rose}
-use Rattle.program_texts.specs.Texts.{line_of_no_quiet, line_of_stopped, name_of_state}
+use Rattle.outside.specs.Files.{Files, IsAbsent}
+use Rattle.program_texts.specs.Texts.{line_of_no_quiet, name_of_state}
 use Rattle.program_words.specs.Requests.{Asked, asked, Check, Slack, Plain, Run, Stop, Resume, Demo, Probe, Meter, Picture, Help, Version}
 use Rattle.quiet_state.specs.declared.state.NetState.{NetState}
 use Rattle.run_checkpoint.specs.Judging.{judged_state, most_state_octets}
 use Rattle.run_checkpoint.specs.declared.fault.StateFault.{StateFault}
-use Rattle.run_stops.specs.Stops.{HasNoQuiet, IsFirstQuiet}
+use Rattle.run_stops.specs.Stops.{HasNoQuiet}
 use Rattle.netsim.specs.declared.endings.Ending.{Ending}
 use Rattle.netsim.specs.declared.endings.Ending.TheVariants as ending
 use Rattle.netsim.specs.CheckpointFiles.{HasState, IsStateFaulty}
-use Rattle.netsim.specs.Endings.{IsAnswer, IsEndOf, IsPlanned, IsResumeEnd, HasResumed, IsStateFaultSaid, IsStopEnd, HasStopped, IsUnquietEnd, IsUnrun, IsUnstated, Says, status_of}
+use Rattle.netsim.specs.Endings.{IsAnswer, IsEndOf, IsPlanned, HasResumed, IsStateFaultSaid, HasStopped, IsUnquietEnd, IsUnrun, IsUnstated, Says, status_of}
 use Rattle.netsim.specs.Moments.{Moment}
 use Rattle.netsim.specs.Reading.{IsFront, front_of}
 use Rattle.netsim.specs.Runs.{IsPlanOf}
@@ -23,7 +23,7 @@ use Rattle.netsim.specs.Statuses.{IfResume, IfStop, IsFaultStatus, IsPlannedWith
 use Rattle.netsim.specs.StopLaws.{AreStateFaultsSaid, AreUnquietSaid, DoAbsentStatesDecide, DoStateFaultsDecide, DoUnquietDecide}
 use Rattle.netsim.specs.Writing.{added}
 use Rattle.netsim.proofs.EndingsByStatus.{by_demo, by_meter, by_picture, by_probe, by_resume, by_stop, by_way, end_at, resume_end, stop_end}
-use Rattle.netsim.proofs.LayoutDecidesStatus.{same_network, some_of, unread_status}
+use Rattle.netsim.proofs.LayoutDecidesStatus.{same_network, unread_status}
 use Rattle.netsim.proofs.LoadsDecideStatus.{IfKnown, Says as SaysOfLoads, early_known, unloaded_known}
 use Rattle.netsim.proofs.OnePlan.{one_plan}
 
