@@ -137,3 +137,8 @@ given-alike hs hs' es es' ks ks' kn kn' os eh ee ek en given rs h =
 pub All-one : (k : Kept) → k.steps ≡ 0 → All (λ (r : Kept). r.steps ≡ 0) (k ∷ [])
 All-one k h zero d l = h
 All-one k h (suc i) d l = absurd (omega arith)
+
+-- one receiver that has made so many steps
+pub All-stepped : (k : Kept) (t : ℕ) → k.steps ≡ t → All (λ (r : Kept). r.steps ≡ t) (k ∷ [])
+All-stepped k t h zero d l = h
+All-stepped k t h (suc i) d l = absurd (omega arith)

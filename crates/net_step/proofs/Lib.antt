@@ -5,3 +5,8 @@ pub mod RepeatersInARow
 pub mod StandsForNet
 pub mod WholeNet
 pub mod CablePlaces
+pub mod SignalsSettle
+pub mod QuietAndKept
+pub mod GoingOn
+pub mod ResumedDevices
+pub mod StoppedRuns

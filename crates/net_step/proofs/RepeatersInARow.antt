@@ -47,6 +47,21 @@ lines_step g emitted out rs from k n r new h e m fits is =
     ∙ ap (λ xs. take from emitted ++ (xs ++ flat_map g (drop (k + 1) rs))) is
     ∙ ap (λ xs. take from emitted ++ xs) (sym (lines_more g rs k r h e))
 
+-- what is decided for the ports of one repeater more
+pub decided_step : (f : List Sym → State → List Sym) (heard row out : List Sym) (rs : List State) (from k n : ℕ) (r new : State) → k < length rs → r ≡ get_or rs k r → n ≡ from + length r.guards → length out ≡ length r.guards → from ≤ length row →
+    out ≡ f (take (n - from) (drop from heard)) r →
+    take n (put_mid from (n - from) row out) ++ flat_map (λ symbols. symbols) (each_repeater f (drop n heard) (drop (k + 1) (set rs k new)))
+    ≡ take from row ++ flat_map (λ symbols. symbols) (each_repeater f (drop from heard) (drop k rs))
+decided_step f heard row out rs from k n r new h e m many fits ex =
+    let place : n - from ≡ length r.guards = omega arith in
+    let is : out ≡ f (take (length r.guards) (drop from heard)) r = ex ∙ ap (λ j. f (take j (drop from heard)) r) place in
+    let rest = each_repeater f (drop (from + length r.guards) heard) (drop (k + 1) rs) in
+    ap₂ (λ (xs : List Sym) (ys : List (List Sym)). xs ++ flat_map (λ (symbols : List Sym). symbols) ys) (take-put_mid from (n - from) row out n (omega (arith, m, many)) fits)
+    (ap₂ (each_repeater f) (ap (λ i. drop i heard) m) (drop-set-lt (k + 1) rs k new (omega arith)))
+    ∙ append_assoc (take from row) out _
+    ∙ ap (λ (xs : List Sym). take from row ++ (xs ++ flat_map (λ (symbols : List Sym). symbols) rest)) is
+    ∙ ap (λ (ys : List (List Sym)). take from row ++ flat_map (λ (symbols : List Sym). symbols) ys) (sym (each_more f heard rs from k r h e))
+
 -- what happens at one repeater more
 all_told-snoc : (rs : List State) (es : List RepeaterEvents) (r : State) (e : RepeaterEvents) → length rs ≡ length es → all_told (rs ++ r ∷ []) (es ++ e ∷ []) ≡ all_told rs es ++ told_bodies (length r.guards) e ∷ []
 all_told-snoc [] [] r e l = refl

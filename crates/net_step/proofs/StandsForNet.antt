@@ -1,5 +1,6 @@
 -- What is kept goes on standing for the network.
-use Rattle.std.proofs.Common.{◌≡◌, ℕ, zero, suc, ◌+◌, ◌-◌, ◌*◌, ◌<◌, ◌≤◌, All, List, [], ◌∷◌, ◌++◌, map, take, drop, eqb, length, get_or, replicate, Option, refl, sym, subst, ap, ap₂, ◌∙◌, arith, mul-le-mul_right, mul-suc, append_assoc, length-append}
+use Rattle.std.proofs.Common.{◌≡◌, ℕ, zero, suc, ◌+◌, ◌-◌, ◌*◌, ◌<◌, ◌≤◌, max, All, List, [], ◌∷◌, ◌++◌, map, take, drop, eqb, length, get_or, replicate, Option, refl, sym, subst, ap, ap₂, ◌∙◌, arith, mul-le-mul_right, mul-suc, append_assoc, length-append}
+use Rattle.std.specs.Prelude.{◌↔◌}
 use Rattle.std.specs.List.{flat_map, range_with_len}
 use Rattle.std.proofs.lemmas.List.{length-map, length-replicate, get_or-map}
 use Rattle.std.proofs.lemmas.List.FromFn.{get_or-map-range_with_len, length-map-range_with_len}
@@ -18,23 +19,25 @@ use Rattle.collision_log.specs.declared.row.Row.{Row}
 use Rattle.mac_transmit.specs.Sender.{Sender, SendOutcome}
 use Rattle.mac_receive.specs.Receiver.{Receiving, Reception}
 use Rattle.mac_receive.specs.KeptReceiver.{kept_octets}
-use Rattle.repeater_core.specs.Step.{State, after, emitted_by}
+use Rattle.repeater_core.specs.Step.{State, after, decided_by, emitted_by}
 use Rattle.network.specs.declared.outputs.Taken.{Taken}
 use Rattle.net_step.specs.declared.places.Place.{Place}
 use Rattle.network.specs.Hearing.{heard_of, heard_by}
 use Rattle.layout.specs.Taps.{taps_of, tap_of}
-use Rattle.network.specs.Net.{Net, next, emitted_before, heard_in, stations_hear, ports_hear, sendings, sendings_in, emitted_in, receptions, each_repeater, new_net, new_senders, new_receiver, new_repeater}
-use Rattle.mac_parameters.specs.Parameters.{greatest_place, most_octets}
+use Rattle.network.specs.Net.{Net, next, emitted_before, heard_in, stations_hear, ports_hear, sendings, sendings_in, emitted_in, decided_in, receptions, each_repeater}
+use Rattle.mac_parameters.specs.Parameters.{greatest_place}
 use Rattle.network.specs.Captures.{captured}
 use Rattle.network.specs.Rows.{repeater_rows, repeater_bodies, rows_of}
 use Rattle.network.specs.Runnable.{IsRunnable}
 use Rattle.net_step.specs.Wires.{Wire, no_wire, wire_at, symbols_of, told_from, carried, heard_at_place, cable_places, new_wire, places_from}
 use Rattle.network.specs.TapsOnSegments.{positions_on, count_on}
-use Rattle.net_step.specs.KeptNet.{KeptNet, heard_kept, stations_hear_kept, ports_hear_kept, sendings_kept, stations_emit_kept, emitted_kept, receptions_kept, AllHear, AllGive, IsNextKept, IsWire, Stands}
+use Rattle.net_step.specs.KeptNet.{KeptNet, heard_kept, stations_hear_kept, ports_hear_kept, sendings_kept, stations_emit_kept, emitted_kept, decided_kept, over_from, receptions_kept, AllHear, AllGive, IsNextKept, IsSilentNet, IsWire, Stands}
+use Rattle.quiet_state.specs.LastSignals.{reach_over, line_delays}
 use Rattle.net_step.proofs.KeptReceivers.{AllHear-given, events-given, captured-given}
 use Rattle.network.proofs.HearingOnSegments.{hears_alike}
 use Rattle.network.proofs.TapsOnSegments.{position_at, number_at, count_below, length-numbers, same_number}
 use Rattle.net_step.proofs.CablePlaces.{places_some}
+use Rattle.net_step.proofs.SignalsSettle.{AllOver, delays_after, settled_first, settled_on}
 use Rattle.net_step.proofs.CableHistory.{told_at-told_from, told_at-told_from_earlier, told_at-advanced, told_at-advanced_now, positions-told_from, ahead-told_from, length-rows-told_from, length-rows-advanced}
 
 -- the place of a tap
@@ -179,6 +182,31 @@ captures_alike : (xs ys : List (List Taken)) (m t : ℕ) (hs hs' : List Sym) (os
     ≡ captured t (map (λ r. r.event) (receptions hs' (map (λ s. s.emitted) os') rs)) (map (λ r. r.octets) (receptions hs' (map (λ s. s.emitted) os') rs)) ys
 captures_alike xs ys m t hs hs' os os' rs ex et eh eo = cc
 
+decided_alike : (n : Net) (k : KeptNet) → Stands n k → decided_kept k ≡ decided_in n
+decided_alike n k st = ap₂ (λ (hs : List Sym) (rs : List State). flat_map (λ (symbols : List Sym). symbols) (each_repeater decided_by hs rs)) (ports_alike n k st) st.repeaters
+
+-- the ports of the repeaters stay
+same_ports : (n : Net) (k kn : KeptNet) → Stands n k → IsNextKept k kn → map (λ (r : State). length r.guards) (each_repeater after (ports_hear n) n.repeaters) ≡ map (λ (r : State). length r.guards) n.repeaters
+same_ports n k kn st g =
+    ap (map (λ (r : State). length r.guards)) (sym (g.repeaters ∙ ap₂ (each_repeater after) (ports_alike n k st) st.repeaters)) ∙ g.ports ∙ ap (map (λ (r : State). length r.guards)) st.repeaters
+
+-- from which half bit on all signals are over, with those of this half bit
+settled_by : (n : Net) (k kn : KeptNet) → Stands n k → IsNextKept k kn → kn.settled ≡ max (max k.settled (over_from n.t kn.reaches (emitted_in n))) (over_from n.t kn.delays (decided_in n))
+settled_by n k kn st g =
+    g.settled
+    ∙ ap₂ (λ e d. max (max k.settled e) d)
+    (over_alike k.t n.t k.reaches kn.reaches (emitted_kept k) (emitted_in n) st.time (sym g.reaches) (emitted_alike n k st))
+    (over_alike k.t n.t k.delays kn.delays (decided_kept k) (decided_in n) st.time (sym g.delays) (decided_alike n k st))
+  where
+    over_alike : (t u : ℕ) (xs ys : List ℕ) (es fs : List Sym) → t ≡ u → xs ≡ ys → es ≡ fs → over_from t xs es ≡ over_from u ys fs
+    over_alike t u xs ys es fs et ex ee = cc
+
+settled_before : (n : Net) (k kn : KeptNet) → Stands n k → IsNextKept k kn → (t : ℕ)
+    → (max (max k.settled (over_from n.t kn.reaches (emitted_in n))) (over_from n.t kn.delays (decided_in n)) ≤ t) ↔ AllOver t (n.t + 1) kn.reaches kn.delays (emitted_in n ∷ n.emitted) (decided_in n ∷ n.decided)
+settled_before n k kn st g t =
+    settled_on k.settled n.t kn.reaches kn.delays (emitted_in n) (decided_in n) n.emitted n.decided
+    (λ u. subst (λ (xs : List ℕ). (k.settled ≤ u) ↔ AllOver u n.t kn.reaches xs n.emitted n.decided) (sym g.delays) (subst (λ (xs : List ℕ). (k.settled ≤ u) ↔ AllOver u n.t xs k.delays n.emitted n.decided) (sym g.reaches) (st.settled u))) t
+
 pub stands_next : (n : Net) (k kn : KeptNet) → Stands n k → IsNextKept k kn → Stands (next n) kn
 stands_next n k kn st g =
     let heard = stations_alike n k st in
@@ -200,15 +228,19 @@ stands_next n k kn st g =
       places = g.places ∙ st.places;
       wired = λ s h. subst (λ ws. IsWire n.taps s (wire_at ws s)) (sym wires) (let lt : s < length k.wires = omega (arith, size) in subst (IsWire n.taps s) (sym (wire_at-carried row k.wires s lt)) (carried_wire row n.taps s (wire_at k.wires s) (st.wired s lt)));
       told = λ back q d b h. ap (λ ws. told_at (wire_at ws (get_or n.taps q d).segment).cable back (count_on (get_or n.taps q d).segment (take q n.taps))) wires ∙ told_next n k row st back q d b h;
+      reaches = g.reaches ∙ st.reaches;
+      delays = g.delays ∙ st.delays ∙ sym (delays_after (ports_hear n) n.repeaters (same_ports n k kn st g));
+      settled = λ t. subst (λ s. (s ≤ t) ↔ AllOver t (n.t + 1) kn.reaches kn.delays (row ∷ n.emitted) (decided_in n ∷ n.decided)) (sym (settled_by n k kn st g)) (settled_before n k kn st g t);
     }
 
 -- what the passes of a half bit make, put together
 pub goes_on : (k kn : KeptNet) (heard ports es pes : List Sym) (sent received : List (Option Body)) (bodies : List (List Body)) →
     heard ≡ stations_hear_kept k → ports ≡ ports_hear_kept k → kn.t ≡ k.t + 1 → kn.senders ≡ map (λ s. s.state) (sendings heard k.senders) → es ≡ map (λ s. s.emitted) (sendings heard k.senders) → sent ≡ map (λ s. s.event) (sendings heard k.senders) →
     ((rs : List Receiving) → AllHear rs k.receivers → AllGive (receptions heard es rs) kn.receivers received) → kn.repeaters ≡ each_repeater after ports k.repeaters → pes ≡ flat_map emitted_by k.repeaters →
-    kn.wires ≡ map (carried (es ++ pes)) k.wires → kn.places ≡ k.places → bodies ≡ each_repeater repeater_bodies ports k.repeaters →
+    kn.wires ≡ map (carried (es ++ pes)) k.wires → kn.places ≡ k.places → map (λ r. length r.guards) kn.repeaters ≡ map (λ r. length r.guards) k.repeaters → kn.reaches ≡ k.reaches → kn.delays ≡ k.delays →
+    (ds : List Sym) → ds ≡ flat_map (λ symbols. symbols) (each_repeater decided_by ports k.repeaters) → kn.settled ≡ max (max k.settled (over_from k.t k.reaches (es ++ pes))) (over_from k.t k.delays ds) → bodies ≡ each_repeater repeater_bodies ports k.repeaters →
     kn.rows ≡ (k.rows ++ rows_of k.t 0 sent received) ++ repeater_rows k.t (length k.senders) bodies → kn.captures ≡ captured k.t received (map kept_octets kn.receivers) k.captures → IsNextKept k kn
-goes_on k kn heard ports es pes sent received bodies eh ep time senders ee en given repeaters epe wires places eb rows captures =
+goes_on k kn heard ports es pes sent received bodies eh ep time senders ee en given repeaters epe wires places counts reaches delays ds eds settled eb rows captures =
     let outcomes : sendings heard k.senders ≡ sendings_kept k = ap (λ hs. sendings hs k.senders) eh in
     let emits : es ≡ stations_emit_kept k = ee ∙ ap (λ (os : List SendOutcome). map (λ o. o.emitted) os) outcomes in
     let events : sent ≡ map (λ (o : SendOutcome). o.event) (sendings_kept k) = en ∙ ap (λ (os : List SendOutcome). map (λ o. o.event) os) outcomes in
@@ -219,6 +251,13 @@ goes_on k kn heard ports es pes sent received bodies eh ep time senders ee en gi
       repeaters = repeaters ∙ ap (λ hs. each_repeater after hs k.repeaters) ep;
       wires = wires ∙ ap₂ (λ (xs ys : List Sym). map (carried (xs ++ ys)) k.wires) emits epe;
       places = places;
+      ports = counts;
+      reaches = reaches;
+      delays = delays;
+      settled =
+          settled
+          ∙ ap₂ (λ m n. max (max k.settled m) n) (ap₂ (λ (xs ys : List Sym). over_from k.t k.reaches (xs ++ ys)) emits epe)
+          (ap (over_from k.t k.delays) (eds ∙ ap (λ hs. flat_map (λ (symbols : List Sym). symbols) (each_repeater decided_by hs k.repeaters)) ep));
       hearing = λ rs h.
           let heard_so : AllGive (receptions (stations_hear_kept k) es rs) kn.receivers received = subst (λ hs. AllGive (receptions hs es rs) kn.receivers received) eh (given rs h) in
           let g : AllGive (receptions_kept k rs) kn.receivers received = subst (λ row. AllGive (receptions (stations_hear_kept k) row rs) kn.receivers received) emits heard_so in
@@ -247,15 +286,14 @@ new_wire_at all n s h = get_or-map-range_with_len (new_wire all) 0 n s s no_wire
 is_new_wire : (all : List PortLine) (s : ℕ) → IsWire all s (new_wire all s)
 is_new_wire all s = record { positions = refl; taps = refl; ahead = refl; window = length-replicate ((0 + (greatest_place + 1)) * length (cable_places (positions_on s all))) Idle }
 
--- what is kept of a new network
-pub stands_new : (plan : Plan) (k : KeptNet) → All (λ x. x.at ≤ greatest_place) (taps_of plan.layout) → All (λ x. x.segment < length plan.layout.segments) (taps_of plan.layout) →
-    k.t ≡ 0 → k.senders ≡ new_senders plan.layout.seed 0 plan.queues → AllHear (map (new_receiver (most_octets (eqb plan.layout.format 2))) plan.layout.stations) k.receivers →
-    k.repeaters ≡ map new_repeater plan.layout.repeaters → k.wires ≡ map (new_wire (taps_of plan.layout)) (range_with_len 0 (length plan.layout.segments)) →
-    k.places ≡ places_from 0 (taps_of plan.layout) (taps_of plan.layout) → k.rows ≡ [] → k.captures ≡ map (λ s. []) plan.layout.stations → Stands (new_net plan) k
-stands_new plan k near on time senders receivers repeaters wires places rows captures =
+-- what is kept of a network in which nothing was emitted or decided
+pub stands_silent : (plan : Plan) (n : Net) (k : KeptNet) → n.taps ≡ taps_of plan.layout → n.emitted ≡ [] → n.decided ≡ [] →
+    All (λ x. x.at ≤ greatest_place) (taps_of plan.layout) → All (λ x. x.segment < length plan.layout.segments) (taps_of plan.layout) → IsSilentNet plan k →
+    k.t ≡ n.t → k.senders ≡ n.senders → AllHear n.receivers k.receivers → k.repeaters ≡ n.repeaters → k.rows ≡ n.rows → k.captures ≡ n.captures → Stands n k
+stands_silent plan n k taps emitted decided near on silent time senders receivers repeaters rows captures =
     let all = taps_of plan.layout in
-    let n = length plan.layout.segments in
-    let size : length k.wires ≡ n = ap length wires ∙ length-map-range_with_len (new_wire all) 0 n in
+    let m = length plan.layout.segments in
+    let size : length k.wires ≡ m = ap length silent.wires ∙ length-map-range_with_len (new_wire all) 0 m in
     record {
       time = time;
       senders = senders;
@@ -263,18 +301,26 @@ stands_new plan k near on time senders receivers repeaters wires places rows cap
       repeaters = repeaters;
       rows = rows;
       captures = captures;
-      near = near;
-      placed = λ q d h. let in_all = on q d h in omega (arith, in_all, size);
-      places = places;
-      wired = λ s h. subst (λ ws. IsWire all s (wire_at ws s)) (sym wires) (subst (IsWire all s) (sym (new_wire_at all n s (omega (arith, size)))) (is_new_wire all s));
-      told = λ back q d b h.
-          let s = (get_or all q d).segment in
-          let c = (new_wire all s).cable in
-          ap (λ ws. told_at (wire_at ws s).cable back (count_on s (take q all))) wires
-          ∙ ap (λ (w : Wire). told_at w.cable back (count_on s (take q all))) (new_wire_at all n s (on q d h))
-          ∙ silent_rows ((0 + (greatest_place + 1)) * length (cable_places (positions_on s all))) ((0 + back) * length (cable_places (positions_on s all)) + count_on s (take q all))
-          ∙ nothing_before back q;
+      near = subst (All (λ (x : PortLine). x.at ≤ greatest_place)) (sym taps) near;
+      placed = subst (All (λ (x : PortLine). x.segment < length k.wires)) (sym taps) (λ q d h. let in_all = on q d h in omega (arith, in_all, size));
+      places = silent.places ∙ ap (λ ts. places_from 0 ts ts) (sym taps);
+      wired = λ s h. subst (λ (ts : List PortLine). IsWire ts s (wire_at k.wires s)) (sym taps) (subst (λ ws. IsWire all s (wire_at ws s)) (sym silent.wires) (subst (IsWire all s) (sym (new_wire_at all m s (omega (arith, h, size)))) (is_new_wire all s)));
+      told = subst (λ (ts : List PortLine). (back q : ℕ) (d : PortLine) → back ≤ greatest_place → q < length ts → told_at (wire_at k.wires (get_or ts q d).segment).cable back (count_on (get_or ts q d).segment (take q ts)) ≡ emitted_before n.emitted back q) (sym taps)
+          (subst (λ (h : List (List Sym)). (back q : ℕ) (d : PortLine) → back ≤ greatest_place → q < length all → told_at (wire_at k.wires (get_or all q d).segment).cable back (count_on (get_or all q d).segment (take q all)) ≡ emitted_before h back q) (sym emitted) (silent_told plan k on silent));
+      reaches = silent.reaches ∙ ap (λ (ts : List PortLine). map (λ (x : PortLine). reach_over x ts) ts) (sym taps);
+      delays = silent.delays ∙ ap line_delays repeaters;
+      settled = λ t. subst (λ (ds : List (List Sym)). (k.settled ≤ t) ↔ AllOver t n.t k.reaches k.delays n.emitted ds) (sym decided) (subst (λ (es : List (List Sym)). (k.settled ≤ t) ↔ AllOver t n.t k.reaches k.delays es []) (sym emitted) (settled_first k.settled n.t k.reaches k.delays silent.settled t));
     }
+  where
+    silent_told : (plan : Plan) (k : KeptNet) → All (λ x. x.segment < length plan.layout.segments) (taps_of plan.layout) → IsSilentNet plan k → (back q : ℕ) (d : PortLine) → back ≤ greatest_place → q < length (taps_of plan.layout) →
+        told_at (wire_at k.wires (get_or (taps_of plan.layout) q d).segment).cable back (count_on (get_or (taps_of plan.layout) q d).segment (take q (taps_of plan.layout))) ≡ emitted_before [] back q
+    silent_told plan k on silent back q d b h =
+        let all = taps_of plan.layout in
+        let s = (get_or all q d).segment in
+        ap (λ ws. told_at (wire_at ws s).cable back (count_on s (take q all))) silent.wires
+        ∙ ap (λ (w : Wire). told_at w.cable back (count_on s (take q all))) (new_wire_at all (length plan.layout.segments) s (on q d h))
+        ∙ silent_rows ((0 + (greatest_place + 1)) * length (cable_places (positions_on s all))) ((0 + back) * length (cable_places (positions_on s all)) + count_on s (take q all))
+        ∙ nothing_before back q
 
 -- what a layout says of all its taps
 flat_All : {X : Type 0} (P : PortLine → Type 0) (ports : X → List PortLine) (rs : List X) → All (λ r. All P (ports r)) rs → All P (flat_map ports rs)

@@ -1,7 +1,7 @@
 -- What is kept of a network is whole, and stays so.
 use Rattle.std.proofs.Common.{◌≡◌, ℕ, zero, suc, ◌+◌, ◌-◌, ◌<◌, ◌≤◌, inl, inr, All, List, [], ◌∷◌, map, take, length, length-append, get_or, sum_by, refl, sym, subst, ap, ap₂, ◌∙◌, arith}
 use Rattle.std.specs.List.{flat_map, range_with_len}
-use Rattle.std.proofs.lemmas.List.{length-map, length-replicate, get_or-map, get_or_default}
+use Rattle.std.proofs.lemmas.List.{length-map, get_or-map, get_or_default}
 use Rattle.std.proofs.lemmas.List.Elements.{All-map}
 use Rattle.std.proofs.lemmas.List.Sums.{sum_by-cons, sum_by_more, sum_by-take-le}
 use Rattle.std.proofs.lemmas.List.FromFn.{get_or-map-range_with_len, length-map-range_with_len}
@@ -14,16 +14,15 @@ use Rattle.cable_segment.specs.Cable.{told_at}
 use Rattle.layout.specs.declared.lines.Layout.{Layout}
 use Rattle.layout.specs.declared.lines.PortLine.{PortLine}
 use Rattle.layout.specs.declared.lines.RepeaterLine.{RepeaterLine}
-use Rattle.layout.specs.declared.lines.StationLine.{StationLine}
-use Rattle.port_partition.specs.Guard.{new_guard}
+use Rattle.load_plan.specs.declared.plan.Plan.{Plan}
 use Rattle.repeater_core.specs.Step.{State, new_state}
 use Rattle.net_step.specs.declared.places.Place.{Place}
 use Rattle.network.specs.Runnable.{IsRunnable}
 use Rattle.layout.specs.Taps.{taps_of, tap_of}
-use Rattle.network.specs.Net.{new_repeater, ports_of}
+use Rattle.network.specs.Net.{ports_of}
 use Rattle.net_step.specs.Wires.{Wire, no_wire, wire_at, symbols_of, carried, heard_at_place, IsPlaced, new_wire, places_from}
 use Rattle.network.specs.TapsOnSegments.{positions_on, numbers_on, count_on}
-use Rattle.net_step.specs.KeptNet.{KeptNet, heard_kept, IsKeptTap, kept_tap_number, IsWhole}
+use Rattle.net_step.specs.KeptNet.{KeptNet, heard_kept, IsKeptTap, IsSilentNet, kept_tap_number, IsWhole}
 use Rattle.network.proofs.TapsOnSegments.{numbers-here, numbers-there, count_below}
 use Rattle.net_step.proofs.CablePlaces.{places_some}
 use Rattle.net_step.proofs.StandsForNet.{wire_at-carried, place_of, taps_on, few_taps}
@@ -62,11 +61,11 @@ pub kept_of : {X Y : Type 0} (f : List X → Y) {whole new old items : List X} �
 kept_of f whole kept items = ap f whole ∙ kept ∙ ap f items
 
 -- a half bit later
-pub whole_next : (k kn : KeptNet) (row : List Sym) (h e p r s v n h' e' p' r' s' v' n' : ℕ) → IsWhole k h e p r s v n →
+pub whole_next : (k kn : KeptNet) (row : List Sym) (h e p c r s v n h' e' p' c' r' s' v' n' : ℕ) → IsWhole k h e p c r s v n →
     kn.places ≡ k.places → kn.wires ≡ map (carried row) k.wires → length kn.senders ≡ length k.senders → length kn.receivers ≡ length k.receivers → length kn.captures ≡ length k.captures →
-    map (λ x. length x.guards) kn.repeaters ≡ map (λ x. length x.guards) k.repeaters → h' ≡ h → e' ≡ e → p' ≡ p → r' ≡ r → s' ≡ s → v' ≡ v → n' ≡ n →
-    All (λ x. x.t ≡ kn.t) kn.senders → All (λ x. x.steps ≡ kn.t) kn.receivers → IsWhole kn h' e' p' r' s' v' n'
-whole_next k kn row h e p r s v n h' e' p' r' s' v' n' w places wires senders receivers captures guards eh ee ep er es ev en times steps =
+    map (λ x. length x.guards) kn.repeaters ≡ map (λ x. length x.guards) k.repeaters → h' ≡ h → e' ≡ e → p' ≡ p → c' ≡ c → r' ≡ r → s' ≡ s → v' ≡ v → n' ≡ n →
+    All (λ x. x.t ≡ kn.t) kn.senders → All (λ x. x.steps ≡ kn.t) kn.receivers → IsWhole kn h' e' p' c' r' s' v' n'
+whole_next k kn row h e p c r s v n h' e' p' c' r' s' v' n' w places wires senders receivers captures guards eh ee ep ec er es ev en times steps =
     let many = many_alike kn.repeaters k.repeaters guards in
     let ports = ports_alike kn.repeaters k.repeaters guards in
     let all = ap length places in
@@ -79,6 +78,7 @@ whole_next k kn row h e p r s v n h' e' p' r' s' v' n' w places wires senders re
       hearing = omega (arith, eh, all, w.hearing);
       emitting = omega (arith, ee, senders, w.emitting);
       port_emitting = omega (arith, ep, ports, w.port_emitting);
+      deciding = omega (arith, ec, ports, w.deciding);
       carrying = omega (arith, er, all, w.carrying);
       sending = omega (arith, es, senders, w.sending);
       hearing_out = omega (arith, ev, senders, w.hearing_out);
@@ -110,12 +110,23 @@ numbers_below s k n (x ∷ xs) h = elim (cases_eq x.segment s) [
     below_cons rest zero d l = omega arith
     below_cons rest (suc i) d l = rest i d (omega arith)
 
-ports_new : (rs : List RepeaterLine) → length (flat_map (λ r. r.ports) rs) ≡ ports_of (map new_repeater rs)
+ports_new : (rs : List RepeaterLine) → length (flat_map (λ r. r.ports) rs) ≡ sum_by (λ r. length r.ports) rs
 ports_new [] = refl
 ports_new (r ∷ rs) =
     length-append r.ports (flat_map (λ (x : RepeaterLine). x.ports) rs)
-    ∙ ap₂ (λ m n. m + n) (sym (length-replicate (length r.ports) new_guard)) (ports_new rs)
-    ∙ sym (sum_by-cons (λ (x : State). length x.guards) (new_repeater r) (map new_repeater rs))
+    ∙ ap (λ n. length r.ports + n) (ports_new rs)
+    ∙ sym (sum_by-cons (λ (x : RepeaterLine). length x.ports) r rs)
+
+-- repeaters with the ports of these lines
+ports_of_lines : (rs : List State) (ls : List RepeaterLine) → map (λ r. length r.guards) rs ≡ map (λ l. length l.ports) ls → ports_of rs ≡ sum_by (λ l. length l.ports) ls
+ports_of_lines rs ls e = ports_are rs _ e ∙ sym (sums ls)
+  where
+    sums : (ls : List RepeaterLine) → sum_by (λ l. length l.ports) ls ≡ sum_by (λ n. n) (map (λ (l : RepeaterLine). length l.ports) ls)
+    sums [] = refl
+    sums (l ∷ ls) =
+        sum_by-cons (λ (x : RepeaterLine). length x.ports) l ls
+        ∙ ap (λ n. length l.ports + n) (sums ls)
+        ∙ sym (sum_by-cons (λ n. n) (length l.ports) (map (λ (x : RepeaterLine). length x.ports) ls))
 
 placed_new : (l : Layout) → IsRunnable l → All (IsPlaced (map (new_wire (taps_of l)) (range_with_len 0 (length l.segments)))) (places_from 0 (taps_of l) (taps_of l))
 placed_new l run = λ i d h.
@@ -136,35 +147,37 @@ placed_new l run = λ i d h.
     no_tap : PortLine
     no_tap = record { segment = 0; at = 0 }
 
--- before half bit 0
-pub whole_new : (l : Layout) (k : KeptNet) (h e p r s v n : ℕ) → IsRunnable l → length k.senders ≡ length l.stations → length k.receivers ≡ length l.stations → k.captures ≡ map (λ x. []) l.stations →
-    k.repeaters ≡ map new_repeater l.repeaters → k.wires ≡ map (new_wire (taps_of l)) (range_with_len 0 (length l.segments)) → k.places ≡ places_from 0 (taps_of l) (taps_of l) →
-    h ≡ length (taps_of l) → e ≡ length l.stations → length l.stations + p ≡ length (taps_of l) → r ≡ length (taps_of l) → s ≡ length l.stations → v ≡ length l.stations → n ≡ length l.repeaters →
-    All (λ x. x.t ≡ k.t) k.senders → All (λ x. x.steps ≡ k.t) k.receivers → IsWhole k h e p r s v n
-whole_new l k h e p r s v n run senders receivers captures repeaters wires places eh ee ep er es ev en times steps =
+-- where nothing was emitted or decided
+pub whole_silent : (plan : Plan) (k : KeptNet) (h e p c r s v n : ℕ) → IsRunnable plan.layout → IsSilentNet plan k → length k.senders ≡ length plan.layout.stations → length k.receivers ≡ length plan.layout.stations → length k.captures ≡ length plan.layout.stations →
+    map (λ r. length r.guards) k.repeaters ≡ map (λ r. length r.ports) plan.layout.repeaters →
+    h ≡ length (taps_of plan.layout) → e ≡ length plan.layout.stations → p ≡ length (taps_of plan.layout) - length plan.layout.stations → c ≡ length (taps_of plan.layout) - length plan.layout.stations →
+    r ≡ length (taps_of plan.layout) → s ≡ length plan.layout.stations → v ≡ length plan.layout.stations → n ≡ length k.repeaters →
+    All (λ x. x.t ≡ k.t) k.senders → All (λ x. x.steps ≡ k.t) k.receivers → IsWhole k h e p c r s v n
+whole_silent plan k h e p c r s v n run silent senders receivers captures guards eh ee ep ec er es ev en times steps =
+    let l = plan.layout in
     let all = taps_of l in
     let few = few_taps l run in
-    let many : length k.places ≡ length all = ap length places ∙ length-places 0 all all in
-    let ports : ports_of k.repeaters ≡ length (flat_map (λ (x : RepeaterLine). x.ports) l.repeaters) = ap ports_of repeaters ∙ sym (ports_new l.repeaters) in
+    let many : length k.places ≡ length all = ap length silent.places ∙ length-places 0 all all in
+    let ports : ports_of k.repeaters ≡ length (flat_map (λ (x : RepeaterLine). x.ports) l.repeaters) = ports_of_lines k.repeaters l.repeaters guards ∙ sym (ports_new l.repeaters) in
     let joined : length all ≡ length l.stations + length (flat_map (λ (x : RepeaterLine). x.ports) l.repeaters) =
     length-append (map tap_of l.stations) (flat_map (λ (x : RepeaterLine). x.ports) l.repeaters) ∙ ap (λ m. m + length (flat_map (λ (x : RepeaterLine). x.ports) l.repeaters)) (length-map l.stations tap_of) in
-    let relays : length k.repeaters ≡ length l.repeaters = ap length repeaters ∙ length-map l.repeaters new_repeater in
-    let taken : length k.captures ≡ length l.stations = ap length captures ∙ length-map l.stations (λ (x : StationLine). []) in
+    let relays : length k.repeaters ≡ length l.repeaters = sym (length-map k.repeaters (λ (x : State). length x.guards)) ∙ ap length guards ∙ length-map l.repeaters (λ (x : RepeaterLine). length x.ports) in
     record {
       few = omega (arith, many, few);
       few_devices = omega (arith, senders, relays, run.few_stations, run.few_repeaters);
       taps = omega (arith, many, joined, ports, senders);
       receiving = omega (arith, receivers, senders);
-      capturing = omega (arith, taken, senders);
+      capturing = omega (arith, captures, senders);
       hearing = omega (arith, eh, many);
       emitting = omega (arith, ee, senders);
       port_emitting = omega (arith, ep, joined, ports);
+      deciding = omega (arith, ec, joined, ports);
       carrying = omega (arith, er, many);
       sending = omega (arith, es, senders);
       hearing_out = omega (arith, ev, senders);
-      happening = omega (arith, en, relays);
-      placed = subst (λ ws. All (IsPlaced ws) k.places) (sym wires) (subst (All (IsPlaced (map (new_wire all) (range_with_len 0 (length l.segments))))) (sym places) (placed_new l run));
-      known = subst (λ (ws : List Wire). All (λ x. All (λ q. q < length k.places) x.taps) ws) (sym wires)
+      happening = en;
+      placed = subst (λ ws. All (IsPlaced ws) k.places) (sym silent.wires) (subst (All (IsPlaced (map (new_wire all) (range_with_len 0 (length l.segments))))) (sym silent.places) (placed_new l run));
+      known = subst (λ (ws : List Wire). All (λ x. All (λ q. q < length k.places) x.taps) ws) (sym silent.wires)
           (All-map (λ (x : Wire). All (λ q. q < length k.places) x.taps) (new_wire all) (range_with_len 0 (length l.segments)) (λ i d m. numbers_below (get_or (range_with_len 0 (length l.segments)) i d) 0 (length k.places) all (omega (arith, many))));
       times = times;
       steps = steps;
@@ -199,7 +212,7 @@ tap_is_numbered k s device port tap stations rs same asked many them told = reco
 }
 
 -- and so it stands at a place
-module _ (k : KeptNet) (h e p r s v n : ℕ) (w : IsWhole k h e p r s v n) (device port tap : ℕ) (named : IsTapNumber k device port tap) where
+module _ (k : KeptNet) (h e p c r s v n : ℕ) (w : IsWhole k h e p c r s v n) (device port tap : ℕ) (named : IsTapNumber k device port tap) where
   pub tap_in_places : tap < length k.places
   tap_in_places = let inside = tap_within k device port named.is_tap in omega (arith, named.number, inside, w.taps)
 

@@ -1,28 +1,34 @@
 -- What the code keeps of a network, and when it stands for a state of it (profile). Half bits, devices, taps and
 -- segments count from 0, and so do the ports of a repeater here.
-use Rattle.std.specs.Prelude.{ℕ, ◌≡◌, ◌+◌, ◌-◌, ◌*◌, ◌<◌, ◌≤◌, ◌^◌, ◌⊎◌, nat_lt, if◌then◌else◌, All, List, [], ◌∷◌, ◌++◌, map, flat_map, length, take, drop, slice_index_or, Option, Some}
+use Rattle.std.specs.Prelude.{ℕ, ◌≡◌, ◌+◌, ◌-◌, ◌*◌, ◌<◌, ◌≤◌, ◌^◌, ◌⊎◌, ◌↔◌, max, nat_lt, if◌then◌else◌, All, List, [], ◌∷◌, ◌++◌, map, flat_map, length, take, drop, slice_index, slice_index_or, Option, Some}
+use Rattle.std.specs.List.{range_with_len}
 use Rattle.mac_parameters.specs.Parameters.{greatest_place}
 use Rattle.manchester_line.specs.declared.Sym.{Sym}
+use Rattle.manchester_line.specs.Line.{is_signal}
 use Rattle.collision_log.specs.declared.row.Body.{Body}
 use Rattle.collision_log.specs.declared.row.Body.TheVariants.{Received}
 use Rattle.collision_log.specs.declared.row.Row.{Row}
 use Rattle.cable_segment.specs.Cable.{told_at}
 use Rattle.layout.specs.declared.lines.PortLine.{PortLine}
+use Rattle.layout.specs.Taps.{taps_of}
+use Rattle.load_plan.specs.declared.plan.Plan.{Plan}
 use Rattle.mac_transmit.specs.Sender.{Sender, SendOutcome}
 use Rattle.mac_receive.specs.Receiver.{Receiving, Reception}
 use Rattle.mac_receive.specs.KeptReceiver.{Kept, Hears, kept_octets}
 use Rattle.repeater_core.specs.declared.repeater.RepeaterEvents.{RepeaterEvents}
-use Rattle.repeater_core.specs.Step.{State, new_state, after, emitted_by}
+use Rattle.repeater_core.specs.Step.{State, new_state, after, decided_by, emitted_by}
 use Rattle.network.specs.declared.outputs.Taken.{Taken}
 use Rattle.net_step.specs.declared.places.Place.{Place}
-use Rattle.net_step.specs.Wires.{Wire, wire_at, heard_at_place, carried, cable_places, places_from, IsPlaced}
+use Rattle.net_step.specs.Wires.{Wire, wire_at, heard_at_place, carried, cable_places, new_wire, places_from, IsPlaced}
 use Rattle.network.specs.TapsOnSegments.{positions_on, numbers_on, count_on}
 use Rattle.network.specs.Net.{Net, emitted_before, sendings, receptions, each_repeater, ports_of}
 use Rattle.network.specs.Captures.{captured}
 use Rattle.network.specs.Rows.{repeater_rows, told_bodies, repeater_bodies, rows_of}
+use Rattle.quiet_state.specs.LastSignals.{last_signal, reach_over, IsOverBy, line_delays}
 
 -- What is kept of a network before half bit t: its stations' senders and receivers, its repeaters, its segments, the
--- place of each tap, and the rows and captures so far.
+-- place of each tap, the rows and captures so far, how many half bits the symbols of each tap take to the farthest
+-- other tap, the delay of each port, and the half bit from which on all signals so far are over.
 pub record KeptNet : Type 0 where
   pub t : ℕ
   pub senders : List Sender
@@ -32,6 +38,9 @@ pub record KeptNet : Type 0 where
   pub places : List Place
   pub rows : List Row
   pub captures : List (List Taken)
+  pub reaches : List ℕ
+  pub delays : List ℕ
+  pub settled : ℕ
 
 -- What all taps hear in the half bit, the stations' taps before the ports.
 abbrev pub heard_kept : KeptNet → List Sym
@@ -56,6 +65,21 @@ stations_emit_kept k = map (λ s. s.emitted) (sendings_kept k)
 -- What all taps emit in the half bit, the stations' taps before the ports.
 abbrev pub emitted_kept : KeptNet → List Sym
 emitted_kept k = stations_emit_kept k ++ flat_map emitted_by k.repeaters
+
+-- What is decided in the half bit for the ports.
+abbrev pub decided_kept : KeptNet → List Sym
+decided_kept k = flat_map (λ symbols. symbols) (each_repeater decided_by (ports_hear_kept k) k.repeaters)
+
+-- The half bit from which on the signals of this row are over, where its symbols were sent in half bit t and each needs
+-- so many half bits; 0 where it has none.
+abbrev pub over_from : ℕ → List ℕ → List Sym → ℕ
+over_from t (n ∷ ns) (s ∷ ss) = max (if is_signal s then t + n + 1 else 0) (over_from t ns ss)
+over_from t _ _ = 0
+
+-- In half bit t the signals of these rows are over, which were sent before half bit u, that of half bit u - 1 first,
+-- and whose symbols need so many half bits each.
+abbrev pub AreOver : ℕ → ℕ → List ℕ → List (List Sym) → Type 0
+AreOver t u needs rows = (i : ℕ) → i < length needs → IsOverBy t (slice_index needs i) (last_signal u rows i)
 
 -- There is such a tap: of a station, which has port 0, or of a repeater's port, counted from 0; the repeaters' devices
 -- follow the stations'.
@@ -123,6 +147,12 @@ pub record IsNextKept (k next : KeptNet) : Type 0 where
   pub repeaters : next.repeaters ≡ each_repeater after (ports_hear_kept k) k.repeaters
   pub wires : next.wires ≡ map (carried (emitted_kept k)) k.wires
   pub places : next.places ≡ k.places
+  pub ports : map (λ r. length r.guards) next.repeaters ≡ map (λ r. length r.guards) k.repeaters
+  pub reaches : next.reaches ≡ k.reaches
+  pub delays : next.delays ≡ k.delays
+  pub settled :
+      next.settled
+      ≡ max (max k.settled (over_from k.t k.reaches (emitted_kept k))) (over_from k.t k.delays (decided_kept k))
   pub hearing : (rs : List Receiving) → AllHear rs k.receivers → HearOn k next rs
 
 -- This is what is kept of segment s: its cable, with the present half bit and as many earlier ones as a tap can be
@@ -149,10 +179,21 @@ pub record Stands (n : Net) (k : KeptNet) : Type 0 where
       told_at (wire_at k.wires (slice_index_or n.taps q d).segment).cable back
       (count_on (slice_index_or n.taps q d).segment (take q n.taps))
       ≡ emitted_before n.emitted back q
+  pub reaches : k.reaches ≡ map (λ x. reach_over x n.taps) n.taps
+  pub delays : k.delays ≡ line_delays n.repeaters
+  pub settled : (t : ℕ) → (k.settled ≤ t) ↔ (AreOver t n.t k.reaches n.emitted × AreOver t n.t k.delays n.decided)
+
+-- What is kept of a network of a plan before its first half bit, whatever its devices: nothing was emitted or decided.
+pub record IsSilentNet (plan : Plan) (k : KeptNet) : Type 0 where
+  pub wires : k.wires ≡ map (new_wire (taps_of plan.layout)) (range_with_len 0 (length plan.layout.segments))
+  pub places : k.places ≡ places_from 0 (taps_of plan.layout) (taps_of plan.layout)
+  pub reaches : k.reaches ≡ map (λ x. reach_over x (taps_of plan.layout)) (taps_of plan.layout)
+  pub delays : k.delays ≡ line_delays k.repeaters
+  pub settled : k.settled ≡ 0
 
 -- There is a sender and a receiver for each station, the lists of a half bit, of these lengths, have one entry for each
 -- tap, station, port or repeater, and all devices are at the same half bit.
-pub record IsWhole (k : KeptNet) (heard emitted port_emitted row sent received events : ℕ) : Type 0 where
+pub record IsWhole (k : KeptNet) (heard emitted port_emitted decided row sent received events : ℕ) : Type 0 where
   pub few : length k.places < 2 ^ 32
   pub few_devices : length k.senders + length k.repeaters < 2 ^ 32
   pub taps : length k.places ≡ length k.senders + ports_of k.repeaters
@@ -161,6 +202,7 @@ pub record IsWhole (k : KeptNet) (heard emitted port_emitted row sent received e
   pub hearing : heard ≡ length k.places
   pub emitting : emitted ≡ length k.senders
   pub port_emitting : port_emitted ≡ ports_of k.repeaters
+  pub deciding : decided ≡ ports_of k.repeaters
   pub carrying : row ≡ length k.places
   pub sending : sent ≡ length k.senders
   pub hearing_out : received ≡ length k.senders

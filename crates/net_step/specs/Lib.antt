@@ -1,2 +1,3 @@
 pub mod Wires
 pub mod KeptNet
+pub mod Stops

@@ -1,10 +1,12 @@
-//! The devices of a plan before half bit 0.
-ghost use Rattle.std.specs.Prelude.{◌≡◌, ◌<◌, ◌≤◌, ◌^◌, [], All, length, map, IfOk};
-ghost use Rattle.mac_parameters.specs.Parameters.{IsMost, greatest_place, most_octets};
+//! The devices of a plan before half bit 0, and those that go on from a state.
+ghost use Rattle.std.specs.Prelude.{◌≡◌, ◌<◌, ◌≤◌, ◌^◌, [], All, length, map, sum_by, IfOk};
+ghost use Rattle.mac_parameters.specs.Parameters.{IsMost, greatest_place, jabber_rest, most_octets};
 ghost use Rattle.network.specs.Net.{new_receiver, new_repeater, new_senders};
 ghost use Rattle.net_step.specs.KeptNet.{AllHear};
 ghost use Rattle.std.specs.List.{range_with_len};
 ghost use Rattle.net_step.specs.Wires.{new_wire};
+ghost use Rattle.quiet_state.specs.PlanStates.{AreStatesOf};
+ghost use Rattle.quiet_state.specs.Resumed.{resumed_repeaters, resumed_senders};
 
 use crate::relay::Relay;
 use crate::segment::Segment;
@@ -13,8 +15,9 @@ use frame_layout::Queue;
 use layout::{PortLine, RepeaterLine, StationLine};
 use lists::OutOfMemory;
 use mac_receive::Receiver;
-use mac_transmit::Transmitter;
-use network::TakenList;
+use mac_transmit::{SenderState, Transmitter};
+use network::{Captures, TakenList};
+use port_partition::PortGuard;
 use std::alloc::Global;
 
 /// The senders of these queues before half bit 0: number k, from 0, is the station of queue k.
@@ -33,6 +36,54 @@ pub fn new_transmitters(
         senders.push(Transmitter::new(queues[k].copy()?, Draws::new(seed, k as u32)))?;
     }
     Ok(senders)
+}
+
+/// The senders of these queues before half bit `t` that go on from these states, one for each.
+pub fn resumed_transmitters(
+    alloc: Global,
+    seed: u64,
+    t: u64,
+    queues: &[Queue],
+    states: &[SenderState],
+) -> Result<Vec<Transmitter>, OutOfMemory>
+    requires few { length queues.now < 2 ^ 32 }
+    requires in_time { t ≤ 2000000000 }
+    requires ranges { AreStatesOf queues.now states.now }
+    ensures senders { IfOk result (λ senders. senders.items ≡ resumed_senders seed t 0 queues.now states.now) }
+    ensures times { IfOk result (λ senders. All (λ s. s.t ≡ t) senders.items) }
+    ensures count { IfOk result (λ senders. length senders.items ≡ length queues.now) }
+{
+    let mut senders = Vec::new(alloc);
+    for k in 0..queues.len() {
+        let state = &states[k];
+        let draws = Draws::at(seed, k as u32, state.drawn);
+        senders.push(Transmitter::resume(queues[k].copy()?, draws, t, *state))?;
+    }
+    Ok(senders)
+}
+
+/// The receivers of these stations before half bit `t`, which heard nothing so far; frames have at most `most` octets
+/// before their check sequence.
+pub fn resumed_receivers(
+    alloc: Global,
+    most: u32,
+    t: u64,
+    stations: &[StationLine],
+) -> Result<Vec<Receiver>, OutOfMemory>
+    requires lose { All (λ s. s.lose ≤ 48) stations.now }
+    requires most { IsMost most }
+    requires in_time { t ≤ 2000000000 }
+    ensures receivers { IfOk result (λ receivers. AllHear (map (new_receiver most) stations.now) receivers.items) }
+    ensures steps { IfOk result (λ receivers. All (λ r. r.steps ≡ t) receivers.items) }
+    ensures count { IfOk result (λ receivers. length receivers.items ≡ length stations.now) }
+{
+    let mut receivers = Vec::new(alloc);
+    for station in stations {
+        let mut receiver = Receiver::new_for(station.lose, most);
+        receiver.leap_quiet(t);
+        receivers.push(receiver)?;
+    }
+    Ok(receivers)
 }
 
 /// The receivers of these stations before half bit 0; frames have at most `most` octets before their check sequence.
@@ -69,6 +120,33 @@ pub fn new_relays(alloc: Global, repeaters: &[RepeaterLine]) -> Result<Vec<Relay
     Ok(relays)
 }
 
+/// The repeaters of these lines that go on with these guards and rests, one of each for each port.
+pub fn resumed_relays(
+    alloc: Global,
+    repeaters: &[RepeaterLine],
+    guards: &[PortGuard],
+    rests: &[u32],
+) -> Result<Vec<Relay>, OutOfMemory>
+    requires two_ports { All (λ r. 2 ≤ length r.ports) repeaters.now }
+    requires few_ports { All (λ r. length r.ports ≤ 32) repeaters.now }
+    requires some_delay { All (λ r. 1 ≤ r.delay) repeaters.now }
+    requires short_delay { All (λ r. r.delay ≤ 200) repeaters.now }
+    requires guards { length guards.now ≡ sum_by (λ r. length r.ports) repeaters.now }
+    requires rests { length rests.now ≡ length guards.now }
+    requires resting { All (λ rest. rest < jabber_rest) rests.now }
+    ensures { IfOk result (λ relays. relays.items ≡ resumed_repeaters repeaters.now guards.now rests.now) }
+{
+    let mut relays = Vec::new(alloc);
+    let mut from = 0;
+    for k in 0..repeaters.len() {
+        let repeater = &repeaters[k];
+        let to = from + repeater.ports.len();
+        relays.push(Relay::resume(alloc, repeater.delay, &guards[from..to], &rests[from..to])?)?;
+        from = to;
+    }
+    Ok(relays)
+}
+
 /// The segments from number 0 to below `count`, with these taps, before half bit 0.
 pub fn new_segments(
     alloc: Global,
@@ -95,4 +173,16 @@ pub fn no_captures(alloc: Global, stations: &[StationLine]) -> Result<Vec<TakenL
         captures.push(TakenList::new(alloc))?;
     }
     Ok(captures)
+}
+
+/// The captures of a state, one for each station.
+pub fn resumed_captures(alloc: Global, captures: Captures) -> Result<Vec<TakenList>, OutOfMemory>
+    ensures { IfOk result (λ all. all.items ≡ captures) }
+{
+    let mut rest = captures;
+    let mut all = Vec::with_capacity(alloc, rest.len())?;
+    while let Some(taken) = rest.pop() {
+        all.insert(0, taken)?;
+    }
+    Ok(all)
 }

@@ -8,7 +8,11 @@ mod plain;
 mod relay;
 mod rows;
 mod segment;
+mod settling;
+mod states;
+mod stops;
 
 pub use places::taps_of;
 pub use plain::{PlainNet, run_plain};
 pub use rows::push_row;
+pub use stops::{resume_run, stop_run};

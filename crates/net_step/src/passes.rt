@@ -7,7 +7,7 @@ ghost use Rattle.net_step.specs.KeptNet.{AllHear, AllGive, all_told};
 ghost use Rattle.net_step.specs.Wires.{heard_at_place, carried, IsPlaced};
 ghost use Rattle.mac_receive.specs.Receiver.{Receiving};
 ghost use Rattle.mac_receive.specs.KeptReceiver.{kept_octets};
-ghost use Rattle.repeater_core.specs.Step.{after, emitted_by};
+ghost use Rattle.repeater_core.specs.Step.{after, decided_by, emitted_by};
 
 use crate::places::Place;
 use crate::relay::Relay;
@@ -61,27 +61,34 @@ fn send_all(
     }
 }
 
-/// One half bit of each repeater, whose ports follow those of the one before: what the ports emit, and
-/// what happens at each repeater.
+/// One half bit of each repeater, whose ports follow those of the one before: what the ports emit, what is decided for
+/// them, and what happens at each repeater.
 pub fn relay_all(
     relays: &mut [Relay],
     heard: &[Sym],
     emitted: &mut [Sym],
+    decided: &mut [Sym],
     events: &mut [RepeaterEvents],
 )
     requires heard_len { length heard.now ≡ ports_of relays.old }
     requires emitted_len { length emitted.old ≡ length heard.now }
+    requires decided_len { length decided.old ≡ length heard.now }
     requires events_len { length events.old ≡ length relays.old }
     ensures ports { map (λ r. length r.guards) relays.new ≡ map (λ r. length r.guards) relays.old }
     ensures states { relays.new ≡ each_repeater after heard.now relays.old }
     ensures emitted { emitted.new ≡ flat_map emitted_by relays.old }
+    ensures decided { decided.new ≡ flat_map (λ symbols. symbols) (each_repeater decided_by heard.now relays.old) }
     ensures bodies { all_told relays.new events.new ≡ each_repeater repeater_bodies heard.now relays.old }
 {
     let mut from = 0;
     for k in 0..relays.len() {
         let relay = &mut relays[k];
         let to = from + relay.ports();
-        events[k] = relay.step(&heard[from..to], &mut emitted[from..to]);
+        events[k] = relay.step(
+            &heard[from..to],
+            &mut emitted[from..to],
+            &mut decided[from..to],
+        );
         from = to;
     }
 }

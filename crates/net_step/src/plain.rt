@@ -1,15 +1,21 @@
 //! The network on one thread.
-ghost use Rattle.std.specs.Prelude.{◌≡◌, ◌<◌, ◌≤◌, ◌+◌, ◌*◌, ◌^◌, ◌++◌, [], All, List, length, map, take, IfOk, OnOk};
+ghost use Rattle.std.specs.Prelude.{◌≡◌, ◌<◌, ◌≤◌, ◌+◌, ◌-◌, ◌*◌, ◌^◌, ◌++◌, [], All, List, length, map, take, IfOk, OnOk};
 ghost use Rattle.network.specs.Outputs.{cut_rows, half_bits, rows, captures};
-ghost use Rattle.net_step.specs.KeptNet.{kept_tap_number};
-ghost use Rattle.network.specs.Net.{ports_of};
+ghost use Rattle.net_step.specs.KeptNet.{kept_tap_number, Stands};
+ghost use Rattle.network.specs.Net.{ports_of, Net};
+ghost use Rattle.quiet_state.specs.Resumed.{later_net};
 
-use crate::devices::{new_receivers, new_relays, new_segments, new_transmitters, no_captures};
+use crate::devices::{
+    new_receivers, new_relays, new_segments, new_transmitters, no_captures, resumed_captures,
+    resumed_receivers, resumed_relays, resumed_transmitters,
+};
 use crate::passes::{capture_all, carry_all, hear_all, join, relay_all, step_stations};
 use crate::places::{Place, places_of, taps_of};
 use crate::relay::Relay;
 use crate::rows::{log_all, log_cut};
 use crate::segment::Segment;
+use crate::settling::{delays_of, reaches_of, settled_after};
+use crate::states::{all_idle, all_still, guards_of, none_sends, rests_of, states_of};
 use collision_log::{Body, Rows};
 use lists::OutOfMemory;
 use load_plan::Plan;
@@ -18,6 +24,7 @@ use mac_receive::Receiver;
 use mac_transmit::Transmitter;
 use manchester_line::Sym;
 use network::{Captures, Outputs, TakenList};
+use quiet_state::NetState;
 use repeater_core::RepeaterEvents;
 use std::alloc::Global;
 use std::marker::Model;
@@ -32,7 +39,8 @@ const NOTHING: RepeaterEvents = RepeaterEvents {
 
 /// A network, stepped half bit by half bit: its stations' senders and receivers, its repeaters and its segments.
 /// `heard` and `row` have a symbol for each tap, the stations' taps first; `emitted` has one for each station, and
-/// `port_emitted` one for each port.
+/// `port_emitted` and `decided` one for each port. `reaches` has for each tap the half bits to the farthest other tap,
+/// `delays` the delay of each port, and from half bit `settled` on all signals so far are over.
 #[derive(Drop)]
 pub struct PlainNet {
     alloc: Global,
@@ -45,12 +53,16 @@ pub struct PlainNet {
     heard: Vec<Sym>,
     emitted: Vec<Sym>,
     port_emitted: Vec<Sym>,
+    decided: Vec<Sym>,
     row: Vec<Sym>,
     sent: Vec<Option<Body>>,
     received: Vec<Option<Body>>,
     events: Vec<RepeaterEvents>,
     rows: Rows,
     captures: Vec<TakenList>,
+    reaches: Vec<u32>,
+    delays: Vec<u32>,
+    settled: u64,
 }
 
 impl Model for PlainNet {
@@ -59,10 +71,10 @@ impl Model for PlainNet {
 
     ghost Value = { KeptNet };
 
-    ghost view = { λ p. record { t = p.t; senders = p.senders.items; receivers = p.receivers.items; repeaters = p.relays.items; wires = p.segments.items; places = p.places.items; rows = p.rows; captures = p.captures.items } };
+    ghost view = { λ p. record { t = p.t; senders = p.senders.items; receivers = p.receivers.items; repeaters = p.relays.items; wires = p.segments.items; places = p.places.items; rows = p.rows; captures = p.captures.items; reaches = p.reaches.items; delays = p.delays.items; settled = p.settled } };
 
-    ghost invariant = { λ p. IsWhole (record { t = p.t; senders = p.senders.items; receivers = p.receivers.items; repeaters = p.relays.items; wires = p.segments.items; places = p.places.items; rows = p.rows; captures = p.captures.items })
-        (length p.heard.items) (length p.emitted.items) (length p.port_emitted.items) (length p.row.items) (length p.sent.items) (length p.received.items) (length p.events.items) };
+    ghost invariant = { λ p. IsWhole (record { t = p.t; senders = p.senders.items; receivers = p.receivers.items; repeaters = p.relays.items; wires = p.segments.items; places = p.places.items; rows = p.rows; captures = p.captures.items; reaches = p.reaches.items; delays = p.delays.items; settled = p.settled })
+        (length p.heard.items) (length p.emitted.items) (length p.port_emitted.items) (length p.decided.items) (length p.row.items) (length p.sent.items) (length p.received.items) (length p.events.items) };
 }
 
 /// The same captures as a list.
@@ -104,12 +116,65 @@ fn tap_number(stations: usize, relays: &[Relay], device: usize, port: usize) -> 
 }
 
 impl PlainNet {
-    ghost use Rattle.std.specs.Prelude.{◌≡◌, ◌<◌, ◌≤◌, ◌+◌, ◌-◌, ◌^◌, ◌++◌, length, All, OnOk, IfOk, IsTrue, slice_index_or};
+    ghost use Rattle.std.specs.Prelude.{◌≡◌, ◌<◌, ◌≤◌, ◌+◌, ◌-◌, ◌^◌, ◌++◌, ◌↔◌, length, map, All, OnOk, IfOk, IsTrue, slice_index_or};
     ghost use Rattle.load_plan.specs.declared.plan.Plan.{Plan};
     ghost use Rattle.manchester_line.specs.declared.Sym.TheVariants.{Idle};
     ghost use Rattle.network.specs.Net.{Net, net, next, heard_in};
     ghost use Rattle.network.specs.Outputs.{cut_rows};
-    ghost use Rattle.net_step.specs.KeptNet.{IsNextKept, Stands, IsKeptTap, kept_tap_number};
+    ghost use Rattle.net_step.specs.KeptNet.{IsNextKept, IsSilentNet, Stands, IsKeptTap, kept_tap_number};
+    ghost use Rattle.quiet_state.specs.LastSignals.{IsQuietAsKept};
+    ghost use Rattle.quiet_state.specs.PlanStates.{IsResumable};
+    ghost use Rattle.quiet_state.specs.Resumed.{captures_to, net_of, net_state, rows_to};
+
+    /// The network of a plan with these devices before half bit `t`, in which all earlier symbols were Idle.
+    fn with_devices(
+        alloc: Global,
+        plan: &Plan,
+        t: u64,
+        stations: (Vec<Transmitter>, Vec<Receiver>),
+        relays: Vec<Relay>,
+        logs: (Rows, Vec<TakenList>),
+    ) -> Result<PlainNet, OutOfMemory>
+        requires senders { length stations.0.items ≡ length plan.now.layout.stations }
+        requires receivers { length stations.1.items ≡ length plan.now.layout.stations }
+        requires captures { length logs.1.items ≡ length plan.now.layout.stations }
+        requires ports { map (λ r. length r.guards) relays.items ≡ map (λ r. length r.ports) plan.now.layout.repeaters }
+        requires times { All (λ s. s.t ≡ t) stations.0.items }
+        requires steps { All (λ r. r.steps ≡ t) stations.1.items }
+        ensures silent { IfOk result (λ made. IsSilentNet plan.now made) }
+        ensures time { IfOk result (λ made. made.t ≡ t) }
+        ensures senders { IfOk result (λ made. made.senders ≡ stations.0.items) }
+        ensures receivers { IfOk result (λ made. made.receivers ≡ stations.1.items) }
+        ensures repeaters { IfOk result (λ made. made.repeaters ≡ relays.items) }
+        ensures rows { IfOk result (λ made. made.rows ≡ logs.0) }
+        ensures captures { IfOk result (λ made. made.captures ≡ logs.1.items) }
+    {
+        let taps = taps_of(alloc, &plan.layout)?;
+        let all = taps.len();
+        let count = plan.layout.stations.len();
+        Ok(PlainNet {
+            alloc,
+            t,
+            senders: stations.0,
+            receivers: stations.1,
+            segments: new_segments(alloc, plan.layout.segments.len(), &taps)?,
+            places: places_of(alloc, &taps)?,
+            heard: vec![in alloc; Sym::Idle; all]?,
+            emitted: vec![in alloc; Sym::Idle; count]?,
+            port_emitted: vec![in alloc; Sym::Idle; all - count]?,
+            decided: vec![in alloc; Sym::Idle; all - count]?,
+            row: vec![in alloc; Sym::Idle; all]?,
+            sent: vec![in alloc; None; count]?,
+            received: vec![in alloc; None; count]?,
+            events: vec![in alloc; NOTHING; relays.len()]?,
+            rows: logs.0,
+            captures: logs.1,
+            reaches: reaches_of(alloc, &taps)?,
+            delays: delays_of(alloc, &relays)?,
+            settled: 0,
+            relays,
+        })
+    }
 
     /// The network of a plan before half bit 0.
     #[tactic(auto, using(network::proofs::RunnablePlans::runnable_plan))]
@@ -119,28 +184,41 @@ impl PlainNet {
     {
         let layout = &plan.layout;
         let stations = layout.stations.as_slice();
-        let taps = taps_of(alloc, layout)?;
-        let all = taps.len();
-        let count = stations.len();
-        let repeaters = layout.repeaters.len();
-        Ok(PlainNet {
+        let senders = new_transmitters(alloc, layout.seed, plan.queues.as_slice())?;
+        let receivers = new_receivers(alloc, most_octets(layout.format == 2), stations)?;
+        let relays = new_relays(alloc, layout.repeaters.as_slice())?;
+        let logs = (Rows::new(alloc), no_captures(alloc, stations)?);
+        let whole = PlainNet::with_devices(alloc, plan, 0, (senders, receivers), relays, logs)?;
+        Ok(whole)
+    }
+
+    /// The network of a plan that goes on from a state, in which all earlier symbols were Idle.
+    #[tactic(auto, using(network::proofs::RunnablePlans::runnable_plan))]
+    pub fn resume(alloc: Global, plan: &Plan, state: NetState) -> Result<PlainNet, OutOfMemory>
+        requires { IsResumable plan.now state }
+        ensures stands { IfOk result (λ made. Stands (net_of plan.now state) made) }
+        ensures time { IfOk result (λ made. made.t ≡ state.t) }
+    {
+        let layout = &plan.layout;
+        let t = state.t;
+        let most = most_octets(layout.format == 2);
+        let senders = resumed_transmitters(
             alloc,
-            t: 0,
-            senders: new_transmitters(alloc, layout.seed, plan.queues.as_slice())?,
-            receivers: new_receivers(alloc, most_octets(layout.format == 2), stations)?,
-            relays: new_relays(alloc, layout.repeaters.as_slice())?,
-            segments: new_segments(alloc, layout.segments.len(), &taps)?,
-            places: places_of(alloc, &taps)?,
-            heard: vec![in alloc; Sym::Idle; all]?,
-            emitted: vec![in alloc; Sym::Idle; count]?,
-            port_emitted: vec![in alloc; Sym::Idle; all - count]?,
-            row: vec![in alloc; Sym::Idle; all]?,
-            sent: vec![in alloc; None; count]?,
-            received: vec![in alloc; None; count]?,
-            events: vec![in alloc; NOTHING; repeaters]?,
-            rows: Rows::new(alloc),
-            captures: no_captures(alloc, stations)?,
-        })
+            layout.seed,
+            t,
+            plan.queues.as_slice(),
+            state.senders.as_slice(),
+        )?;
+        let receivers = resumed_receivers(alloc, most, t, layout.stations.as_slice())?;
+        let relays = resumed_relays(
+            alloc,
+            layout.repeaters.as_slice(),
+            state.guards.as_slice(),
+            state.rests.as_slice(),
+        )?;
+        let logs = (state.rows, resumed_captures(alloc, state.captures)?);
+        let whole = PlainNet::with_devices(alloc, plan, t, (senders, receivers), relays, logs)?;
+        Ok(whole)
     }
 
     /// What a tap hears in the half bit that the next step makes. A station is a device with port 0; the repeaters'
@@ -177,10 +255,19 @@ impl PlainNet {
             &mut self.relays,
             ports_heard,
             &mut self.port_emitted,
+            &mut self.decided,
             &mut self.events,
         );
         join(&self.emitted, &self.port_emitted, &mut self.row);
         carry_all(&mut self.segments, &self.row);
+        self.settled = settled_after(
+            self.settled,
+            t,
+            &self.reaches,
+            &self.row,
+            &self.delays,
+            &self.decided,
+        );
         self.t = t + 1;
         log_all(
             t,
@@ -209,35 +296,73 @@ impl PlainNet {
         self.go_on()
     }
 
+    /// Whether the half bit that the next step makes is quiet: nothing is under way at any device, on any cable or in any
+    /// repeater's delay.
+    pub fn quiet(&self) -> bool
+        ensures { (n : Net) → Stands n self.now → IsTrue result ↔ IsQuietAsKept n }
+    {
+        if self.t < self.settled {
+            return false;
+        }
+        if !none_sends(&self.senders) || !all_still(&self.receivers) {
+            return false;
+        }
+        all_idle(&self.relays)
+    }
+
+    /// The state that the network goes on from where it is quiet.
+    pub fn state(self) -> Result<NetState, OutOfMemory>
+        ensures { (n : Net) → Stands n self → IfOk result (λ state. state ≡ net_state n) }
+    {
+        Ok(NetState {
+            t: self.t,
+            senders: states_of(self.alloc, &self.senders)?,
+            guards: guards_of(self.alloc, &self.relays)?,
+            rests: rests_of(self.alloc, &self.relays)?,
+            rows: self.rows,
+            captures: listed(self.alloc, self.captures)?,
+        })
+    }
+
     /// The rows and captures of a run that ends before half bit `t`.
-    fn finish(self) -> Result<Outputs, OutOfMemory>
+    fn outputs(self) -> Result<Outputs, OutOfMemory>
         ensures rows { IfOk result (λ outputs. outputs.rows ≡ self.rows ++ cut_rows self.t 0 self.senders) }
         ensures captures { IfOk result (λ outputs. outputs.captures ≡ self.captures) }
     {
-        let PlainNet {
-            alloc,
-            t,
-            senders,
-            receivers: _,
-            relays: _,
-            segments: _,
-            places: _,
-            heard: _,
-            emitted: _,
-            port_emitted: _,
-            row: _,
-            sent: _,
-            received: _,
-            events: _,
-            mut rows,
-            captures,
-        } = self;
-        log_cut(t, &senders, &mut rows)?;
+        let mut rows = self.rows;
+        log_cut(self.t, &self.senders, &mut rows)?;
         Ok(Outputs {
             rows,
-            captures: listed(alloc, captures)?,
+            captures: listed(self.alloc, self.captures)?,
         })
     }
+
+    /// Goes on to the end of a run of so many half bits: its rows and captures.
+    pub fn finish(self, half_bits: u64) -> Result<Outputs, OutOfMemory>
+        requires begun { self.t ≤ half_bits }
+        requires short { half_bits ≤ 2000000000 }
+        ensures rows { (n : Net) → Stands n self → IfOk result (λ outputs. outputs.rows ≡ rows_to half_bits n) }
+        ensures captures { (n : Net) → Stands n self → IfOk result (λ outputs. outputs.captures ≡ captures_to half_bits n) }
+    {
+        let t = self.t;
+        let whole = run_to(self, t, half_bits)?;
+        whole.outputs()
+    }
+}
+
+/// A network before half bit `t`, later before half bit `half_bits`.
+fn run_to(whole: PlainNet, t: u64, half_bits: u64) -> Result<PlainNet, OutOfMemory>
+    requires now { whole.t ≡ t }
+    requires begun { t ≤ half_bits }
+    requires short { half_bits ≤ 2000000000 }
+    ensures stands { IfOk result (λ later. (n : Net) → Stands n whole → Stands (later_net n (half_bits - t)) later) }
+    ensures time { IfOk result (λ later. later.t ≡ half_bits) }
+{
+    let mut later = whole;
+    for _u in t..half_bits {
+        later.step()?;
+    }
+    Ok(later)
 }
 
 /// Runs a plan to its end.
@@ -250,5 +375,5 @@ pub fn run_plain(alloc: Global, plan: &Plan) -> Result<Outputs, OutOfMemory>
     for t in 0..HALF_BITS_A_BIT as u64 * plan.layout.until_bits {
         whole.step()?;
     }
-    whole.finish()
+    whole.outputs()
 }

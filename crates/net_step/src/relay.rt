@@ -1,20 +1,24 @@
 //! A repeater of the network.
-ghost use Rattle.std.specs.Prelude.{◌≡◌, ◌≤◌, length, IfOk};
-ghost use Rattle.repeater_core.specs.Step.{State, new_state, after, emitted_by};
+ghost use Rattle.std.specs.Prelude.{◌≡◌, ◌<◌, ◌≤◌, ◌++◌, length, map, replicate, All, IfOk, OnOk, IsTrue, ◌↔◌};
+ghost use Rattle.mac_parameters.specs.Parameters.{jabber_rest};
+ghost use Rattle.repeater_core.specs.declared.modes.Mode.TheVariants.{Idle};
+ghost use Rattle.repeater_core.specs.Step.{State, new_state, resumed_state, after, decided_by, emitted_by};
 ghost use Rattle.network.specs.Rows.{repeater_bodies, told_bodies};
 
 use lists::OutOfMemory;
-use mac_parameters::MOST_PORTS;
 use manchester_line::Sym;
-use repeater_core::{Repeater, RepeaterEvents};
+use port_partition::PortGuard;
+use quiet_state::{GuardList, NumberList};
+use repeater_core::{Mode, Repeater, RepeaterEvents};
 use std::alloc::Global;
 use std::marker::Model;
 
-/// A repeater and the number of its ports.
+/// A repeater, the number of its ports, and its delay in half bits.
 #[derive(Drop)]
 pub struct Relay {
     repeater: Repeater,
     ports: u32,
+    delay: u32,
 }
 
 impl Model for Relay {
@@ -25,12 +29,14 @@ impl Model for Relay {
 
     ghost view = { λ r. r.repeater };
 
-    ghost invariant = { λ r. (r.ports ≡ length r.repeater.guards) × (r.ports ≤ 32) };
+    ghost invariant = { λ r. (r.ports ≡ length r.repeater.guards) × (r.ports ≤ 32) × (r.delay ≡ r.repeater.line.delay) × (length r.repeater.counts ≡ length r.repeater.guards) };
 }
 
 impl Relay {
-    ghost use Rattle.std.specs.Prelude.{◌≡◌, ◌≤◌, length, IfOk};
-    ghost use Rattle.repeater_core.specs.Step.{new_state, after, emitted_by};
+    ghost use Rattle.std.specs.Prelude.{◌≡◌, ◌<◌, ◌≤◌, ◌++◌, length, map, replicate, All, IfOk, OnOk, IsTrue, ◌↔◌};
+    ghost use Rattle.mac_parameters.specs.Parameters.{jabber_rest};
+    ghost use Rattle.repeater_core.specs.declared.modes.Mode.TheVariants.{Idle};
+    ghost use Rattle.repeater_core.specs.Step.{new_state, resumed_state, after, decided_by, emitted_by};
     ghost use Rattle.network.specs.Rows.{repeater_bodies};
     ghost use Rattle.network.specs.Rows.{told_bodies};
 
@@ -45,6 +51,30 @@ impl Relay {
         Ok(Relay {
             repeater: Repeater::new(alloc, ports, delay)?,
             ports,
+            delay,
+        })
+    }
+
+    /// A repeater of 2 to 32 ports and a delay of 1 to 200 half bits that goes on with these guards and rests of its
+    /// ports. All that it decided so far was Idle.
+    pub fn resume(
+        alloc: Global,
+        delay: u32,
+        guards: &[PortGuard],
+        rests: &[u32],
+    ) -> Result<Relay, OutOfMemory>
+        requires two_ports { 2 ≤ length guards.now }
+        requires ports_at_most { length guards.now ≤ 32 }
+        requires as_many { length rests.now ≡ length guards.now }
+        requires some_delay { 1 ≤ delay }
+        requires delay_at_most { delay ≤ 200 }
+        requires rests { All (λ rest. rest < jabber_rest) rests.now }
+        ensures { IfOk result (λ r. r ≡ resumed_state delay guards.now rests.now) }
+    {
+        Ok(Relay {
+            repeater: Repeater::resume(alloc, delay, guards, rests)?,
+            ports: guards.len() as u32,
+            delay,
         })
     }
 
@@ -56,17 +86,59 @@ impl Relay {
         self.ports as usize
     }
 
-    /// One half bit, in which its ports hear these symbols: what each emits, and what happens.
-    pub fn step(&mut self, heard: &[Sym], emitted: &mut [Sym]) -> RepeaterEvents
+    /// Whether it is in mode Idle.
+    pub fn is_idle(&self) -> bool
+        ensures { IsTrue result ↔ (self.now.mode ≡ Idle) }
+    {
+        self.repeater.mode() == Mode::Idle
+    }
+
+    /// Puts the guards of its ports at the end of a list.
+    pub fn list_guards(&self, guards: &mut GuardList) -> Result<(), OutOfMemory>
+        ensures { OnOk result (guards.new ≡ guards.old ++ self.now.guards) }
+    {
+        for port in 0..self.ports {
+            guards.push(*self.repeater.guard(port))?;
+        }
+        Ok(())
+    }
+
+    /// Puts how many half bits each of its ports still rests at the end of a list.
+    pub fn list_rests(&self, rests: &mut NumberList) -> Result<(), OutOfMemory>
+        ensures { OnOk result (rests.new ≡ rests.old ++ map (λ c. c.rest) self.now.counts) }
+    {
+        for port in 0..self.ports {
+            rests.push(self.repeater.rest(port))?;
+        }
+        Ok(())
+    }
+
+    /// Puts the delay of each of its ports at the end of a list.
+    pub fn list_delays(&self, delays: &mut Vec<u32>) -> Result<(), OutOfMemory>
+        ensures { OnOk result (delays.new.items ≡ delays.old.items ++ replicate (length self.now.guards) self.now.line.delay) }
+    {
+        for _port in 0..self.ports {
+            delays.push(self.delay)?;
+        }
+        Ok(())
+    }
+
+    /// One half bit, in which its ports hear these symbols: what each emits, what is decided for it, and what happens.
+    pub fn step(
+        &mut self,
+        heard: &[Sym],
+        emitted: &mut [Sym],
+        decided: &mut [Sym],
+    ) -> RepeaterEvents
         requires heard_len { length heard.now ≡ length self.old.guards }
         requires emitted_len { length emitted.old ≡ length self.old.guards }
+        requires decided_len { length decided.old ≡ length self.old.guards }
         ensures ports { length self.new.guards ≡ length self.old.guards }
         ensures state { self.new ≡ after heard.now self.old }
         ensures emitted { emitted.new ≡ emitted_by self.old }
+        ensures decided { decided.new ≡ decided_by heard.now self.old }
         ensures bodies { told_bodies (length self.new.guards) result ≡ repeater_bodies heard.now self.old }
     {
-        let ports = self.ports as usize;
-        let mut decided = [Sym::Idle; MOST_PORTS];
-        self.repeater.step(heard, emitted, &mut decided[..ports])
+        self.repeater.step(heard, emitted, decided)
     }
 }

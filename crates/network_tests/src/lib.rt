@@ -10,6 +10,8 @@ mod reading;
 #[cfg(test)]
 mod steps;
 #[cfg(test)]
+mod stops;
+#[cfg(test)]
 mod texts;
 #[cfg(test)]
 mod verdicts;

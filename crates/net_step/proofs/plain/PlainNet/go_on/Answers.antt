@@ -1,4 +1,4 @@
-use Rattle.std.proofs.Common.{◌≡◌, ◌+◌, ◌++◌, All, List, length, map, take, drop, refl, sym, subst, ap, ap₂, ◌∙◌, rules}
+use Rattle.std.proofs.Common.{◌≡◌, ◌+◌, ◌++◌, max, All, List, length, map, take, drop, refl, sym, subst, ap, ap₂, ◌∙◌, rules}
 use Rattle.std.specs.List.{flat_map}
 use Rattle.std.specs.Prelude.{Option}
 use Rattle.std.specs.Vec.{with_items}
@@ -8,13 +8,13 @@ use Rattle.collision_log.specs.declared.row.Body.{Body}
 use Rattle.collision_log.specs.declared.row.Row.{Row}
 use Rattle.mac_transmit.specs.Sender.{Sender, SendOutcome}
 use Rattle.mac_receive.specs.KeptReceiver.{Kept, kept_octets}
-use Rattle.repeater_core.specs.Step.{State, after, emitted_by}
+use Rattle.repeater_core.specs.Step.{State, after, decided_by, emitted_by}
 use Rattle.net_step.specs.declared.places.Place.{Place}
 use Rattle.network.specs.Net.{sendings, each_repeater}
 use Rattle.network.specs.Captures.{captured}
 use Rattle.network.specs.Rows.{repeater_rows, repeater_bodies, rows_of}
 use Rattle.net_step.specs.Wires.{Wire, heard_at_place, carried}
-use Rattle.net_step.specs.KeptNet.{KeptNet, stations_hear_kept, ports_hear_kept, all_told, IsNextKept}
+use Rattle.net_step.specs.KeptNet.{KeptNet, stations_hear_kept, ports_hear_kept, all_told, over_from, IsNextKept}
 use Rattle.net_step.proofs.KeptReceivers.{given-alike}
 use Rattle.net_step.proofs.StandsForNet.{goes_on}
 use Rattle.net_step.proofs.WholeNet.{kept_of, whole_next}
@@ -24,20 +24,21 @@ pub invariant_of-self : goal.invariant_of-self
 invariant_of-self c =
     let q = c.self.inside in
     let wires : (with_items q.segments c.carry_all.new.segments).items ≡ map (carried c.deref-6.result.now) q.segments.items =
-    with_items_is q.segments c.carry_all.new.segments (search rules) ∙ c.carry_all.ensures ∙ ap (map (carried c.deref-6.result.now)) c.deref_mut-11.ensures.value in
+    with_items_is q.segments c.carry_all.new.segments (search rules) ∙ c.carry_all.ensures ∙ ap (map (carried c.deref-6.result.now)) c.deref_mut-12.ensures.value in
     let guards : map (λ (x : State). length x.guards) (with_items q.relays c.relay_all.new.relays).items ≡ map (λ (x : State). length x.guards) q.relays.items =
     kept_of (map (λ (x : State). length x.guards)) (with_items_is q.relays c.relay_all.new.relays (search rules)) c.relay_all.ensures.ports c.deref_mut-7.ensures.value in
-    whole_next _ _ c.deref-6.result.now _ _ _ _ _ _ _ _ _ _ _ _ _ _ c.self.invariant refl wires
+    whole_next _ _ c.deref-6.result.now _ _ _ _ _ _ _ _ _ _ _ _ _ _ _ _ c.self.invariant refl wires
     (kept_of length (with_items_is q.senders c.step_stations.new.senders (search rules)) c.step_stations.auto.senders c.deref_mut-2.ensures.value)
     (kept_of length (with_items_is q.receivers c.step_stations.new.receivers (search rules)) c.step_stations.auto.receivers c.deref_mut-3.ensures.value)
     refl guards
     (kept_of length (with_items_is q.heard c.hear_all.new.heard (search rules)) c.hear_all.auto.heard c.deref_mut.ensures.value)
     (kept_of length (with_items_is q.emitted c.step_stations.new.emitted (search rules)) c.step_stations.auto.emitted c.deref_mut-4.ensures.value)
     (kept_of length (with_items_is q.port_emitted c.relay_all.new.emitted (search rules)) c.relay_all.auto.emitted c.deref_mut-8.ensures.value)
-    (kept_of length (with_items_is q.row c.join.new.row (search rules)) c.join.auto.row c.deref_mut-10.ensures.value)
+    (kept_of length (with_items_is q.decided c.relay_all.new.decided (search rules)) c.relay_all.auto.decided c.deref_mut-9.ensures.value)
+    (kept_of length (with_items_is q.row c.join.new.row (search rules)) c.join.auto.row c.deref_mut-11.ensures.value)
     (kept_of length (with_items_is q.sent c.step_stations.new.sent (search rules)) c.step_stations.auto.sent c.deref_mut-5.ensures.value)
     (kept_of length (with_items_is q.received c.step_stations.new.received (search rules)) c.step_stations.auto.received c.deref_mut-6.ensures.value)
-    (kept_of length (with_items_is q.events c.relay_all.new.events (search rules)) c.relay_all.auto.events c.deref_mut-9.ensures.value)
+    (kept_of length (with_items_is q.events c.relay_all.new.events (search rules)) c.relay_all.auto.events c.deref_mut-10.ensures.value)
     (subst (All (λ (s : Sender). s.t ≡ q.t + 1)) (sym (with_items_is q.senders c.step_stations.new.senders (search rules))) c.step_stations.ensures.times)
     (subst (All (λ (r : Kept). r.steps ≡ q.t + 1)) (sym (with_items_is q.receivers c.step_stations.new.receivers (search rules))) c.step_stations.ensures.steps)
 
@@ -45,20 +46,21 @@ pub invariant_of-self-2 : goal.invariant_of-self-2
 invariant_of-self-2 c =
     let q = c.self.inside in
     let wires : (with_items q.segments c.carry_all.new.segments).items ≡ map (carried c.deref-6.result.now) q.segments.items =
-    with_items_is q.segments c.carry_all.new.segments (search rules) ∙ c.carry_all.ensures ∙ ap (map (carried c.deref-6.result.now)) c.deref_mut-11.ensures.value in
+    with_items_is q.segments c.carry_all.new.segments (search rules) ∙ c.carry_all.ensures ∙ ap (map (carried c.deref-6.result.now)) c.deref_mut-12.ensures.value in
     let guards : map (λ (x : State). length x.guards) (with_items q.relays c.relay_all.new.relays).items ≡ map (λ (x : State). length x.guards) q.relays.items =
     kept_of (map (λ (x : State). length x.guards)) (with_items_is q.relays c.relay_all.new.relays (search rules)) c.relay_all.ensures.ports c.deref_mut-7.ensures.value in
-    whole_next _ _ c.deref-6.result.now _ _ _ _ _ _ _ _ _ _ _ _ _ _ c.self.invariant refl wires
+    whole_next _ _ c.deref-6.result.now _ _ _ _ _ _ _ _ _ _ _ _ _ _ _ _ c.self.invariant refl wires
     (kept_of length (with_items_is q.senders c.step_stations.new.senders (search rules)) c.step_stations.auto.senders c.deref_mut-2.ensures.value)
     (kept_of length (with_items_is q.receivers c.step_stations.new.receivers (search rules)) c.step_stations.auto.receivers c.deref_mut-3.ensures.value)
-    (kept_of length (with_items_is q.captures c.capture_all.new.captures (search rules)) c.capture_all.auto.captures c.deref_mut-12.ensures.value) guards
+    (kept_of length (with_items_is q.captures c.capture_all.new.captures (search rules)) c.capture_all.auto.captures c.deref_mut-13.ensures.value) guards
     (kept_of length (with_items_is q.heard c.hear_all.new.heard (search rules)) c.hear_all.auto.heard c.deref_mut.ensures.value)
     (kept_of length (with_items_is q.emitted c.step_stations.new.emitted (search rules)) c.step_stations.auto.emitted c.deref_mut-4.ensures.value)
     (kept_of length (with_items_is q.port_emitted c.relay_all.new.emitted (search rules)) c.relay_all.auto.emitted c.deref_mut-8.ensures.value)
-    (kept_of length (with_items_is q.row c.join.new.row (search rules)) c.join.auto.row c.deref_mut-10.ensures.value)
+    (kept_of length (with_items_is q.decided c.relay_all.new.decided (search rules)) c.relay_all.auto.decided c.deref_mut-9.ensures.value)
+    (kept_of length (with_items_is q.row c.join.new.row (search rules)) c.join.auto.row c.deref_mut-11.ensures.value)
     (kept_of length (with_items_is q.sent c.step_stations.new.sent (search rules)) c.step_stations.auto.sent c.deref_mut-5.ensures.value)
     (kept_of length (with_items_is q.received c.step_stations.new.received (search rules)) c.step_stations.auto.received c.deref_mut-6.ensures.value)
-    (kept_of length (with_items_is q.events c.relay_all.new.events (search rules)) c.relay_all.auto.events c.deref_mut-9.ensures.value)
+    (kept_of length (with_items_is q.events c.relay_all.new.events (search rules)) c.relay_all.auto.events c.deref_mut-10.ensures.value)
     (subst (All (λ (s : Sender). s.t ≡ q.t + 1)) (sym (with_items_is q.senders c.step_stations.new.senders (search rules))) c.step_stations.ensures.times)
     (subst (All (λ (r : Kept). r.steps ≡ q.t + 1)) (sym (with_items_is q.receivers c.step_stations.new.receivers (search rules))) c.step_stations.ensures.steps)
 
@@ -78,11 +80,12 @@ returns c =
     let received = with_items_is q.received os (search rules) in
     let relays = with_items_is q.relays c.relay_all.new.relays (search rules) in
     let port_emitted = with_items_is q.port_emitted pes (search rules) in
+    let decided = with_items_is q.decided c.relay_all.new.decided (search rules) in
     let events = with_items_is q.events c.relay_all.new.events (search rules) in
     let row = with_items_is q.row c.join.new.row (search rules) in
     let segments = with_items_is q.segments c.carry_all.new.segments (search rules) in
     let captures = with_items_is q.captures c.capture_all.new.captures (search rules) in
-    let first : KeptNet = record { t = q.t; senders = q.senders.items; receivers = q.receivers.items; repeaters = q.relays.items; wires = q.segments.items; places = q.places.items; rows = q.rows; captures = q.captures.items } in
+    let first : KeptNet = record { t = q.t; senders = q.senders.items; receivers = q.receivers.items; repeaters = q.relays.items; wires = q.segments.items; places = q.places.items; rows = q.rows; captures = q.captures.items; reaches = q.reaches.items; delays = q.delays.items; settled = q.settled } in
     let last : KeptNet = record {
       t = q.t + 1;
       senders = (with_items q.senders c.step_stations.new.senders).items;
@@ -92,16 +95,26 @@ returns c =
       places = q.places.items;
       rows = c.log_all.new.rows;
       captures = (with_items q.captures c.capture_all.new.captures).items;
+      reaches = q.reaches.items;
+      delays = q.delays.items;
+      settled = c.settled_after-self-inside.result;
     } in
     let stations : c.len-stations.result ≡ length q.senders.items = search rules in
     let all : c.deref-3.result.now ≡ map (heard_at_place q.segments.items) q.places.items =
     c.deref-3.ensures.value ∙ heard ∙ c.hear_all.ensures ∙ ap₂ (λ (ws : List Wire) (at : List Place). map (heard_at_place ws) at) c.deref.ensures.value c.deref-2.ensures.value in
     let stations_hear : hs ≡ stations_hear_kept first = c.split_at.ensures.front ∙ ap₂ (λ n (xs : List Sym). take n xs) stations all in
     let ports_hear : ps ≡ ports_hear_kept first = c.split_at.ensures.back ∙ ap₂ (λ n (xs : List Sym). drop n xs) stations all in
-    let many : length c.deref-7.result.now ≡ length q.senders.items = ap length (c.deref-7.ensures.value ∙ sent) ∙ c.step_stations.auto.sent ∙ ap length c.deref_mut-5.ensures.value ∙ c.self.invariant.sending in
+    let many : length c.deref-11.result.now ≡ length q.senders.items = ap length (c.deref-11.ensures.value ∙ sent) ∙ c.step_stations.auto.sent ∙ ap length c.deref_mut-5.ensures.value ∙ c.self.invariant.sending in
     let outcomes : sendings hs c.deref_mut-2.result.now ≡ sendings hs q.senders.items = ap (sendings hs) c.deref_mut-2.ensures.value in
+    let settled : c.settled_after-self-inside.result ≡ max (max q.settled (over_from q.t q.reaches.items (es ++ pes))) (over_from q.t q.delays.items c.relay_all.new.decided) =
+    c.settled_after-self-inside.ensures
+    ∙ ap₂ (λ m n. max (max q.settled m) n)
+    (ap₂ (over_from q.t) c.deref-7.ensures.value (c.deref-8.ensures.value ∙ row ∙ c.join.ensures ∙ ap₂ (λ (xs ys : List Sym). xs ++ ys) (c.deref-4.ensures.value ∙ emitted) (c.deref-5.ensures.value ∙ port_emitted)))
+    (ap₂ (over_from q.t) c.deref-9.ensures.value (c.deref-10.ensures.value ∙ decided)) in
+    let counts : map (λ (x : State). length x.guards) last.repeaters ≡ map (λ (x : State). length x.guards) q.relays.items =
+    kept_of (map (λ (x : State). length x.guards)) relays c.relay_all.ensures.ports c.deref_mut-7.ensures.value in
     let bodies = all_told c.relay_all.new.relays c.relay_all.new.events in
-    let goes : (c.capture_all.new.captures ≡ captured q.t c.deref-11.result.now (map kept_octets c.deref-12.result.now) c.deref_mut-12.result.now) → IsNextKept first last = λ kept.
+    let goes : (c.capture_all.new.captures ≡ captured q.t c.deref-15.result.now (map kept_octets c.deref-16.result.now) c.deref_mut-13.result.now) → IsNextKept first last = λ kept.
     goes_on first last hs ps es pes c.step_stations.new.sent os bodies stations_hear ports_hear refl
     (senders ∙ c.step_stations.ensures.states ∙ ap (map (λ (o : SendOutcome). o.state)) outcomes)
     (c.step_stations.ensures.emitted ∙ ap (map (λ (o : SendOutcome). o.emitted)) outcomes)
@@ -110,14 +123,16 @@ returns c =
     refl refl c.deref_mut-3.ensures.value (sym receivers) c.step_stations.ensures.given)
     (relays ∙ c.relay_all.ensures.states ∙ ap (each_repeater after ps) c.deref_mut-7.ensures.value)
     (c.relay_all.ensures.emitted ∙ ap (flat_map emitted_by) c.deref_mut-7.ensures.value)
-    (segments ∙ c.carry_all.ensures ∙ ap₂ (λ (xs : List Sym) (ws : List Wire). map (carried xs) ws) (c.deref-6.ensures.value ∙ row ∙ c.join.ensures ∙ ap₂ (λ (xs ys : List Sym). xs ++ ys) (c.deref-4.ensures.value ∙ emitted) (c.deref-5.ensures.value ∙ port_emitted)) c.deref_mut-11.ensures.value)
-    refl
+    (segments ∙ c.carry_all.ensures ∙ ap₂ (λ (xs : List Sym) (ws : List Wire). map (carried xs) ws) (c.deref-6.ensures.value ∙ row ∙ c.join.ensures ∙ ap₂ (λ (xs ys : List Sym). xs ++ ys) (c.deref-4.ensures.value ∙ emitted) (c.deref-5.ensures.value ∙ port_emitted)) c.deref_mut-12.ensures.value)
+    refl counts refl refl c.relay_all.new.decided
+    (c.relay_all.ensures.decided ∙ ap (λ (rs : List State). flat_map (λ (symbols : List Sym). symbols) (each_repeater decided_by ps rs)) c.deref_mut-7.ensures.value)
+    settled
     (c.relay_all.ensures.bodies ∙ ap (each_repeater repeater_bodies ps) c.deref_mut-7.ensures.value)
     (c.in_ok-log_all.ensures
-    ∙ ap₂ (λ (xs : List Row) (bs : List (List Body)). xs ++ repeater_rows q.t (length c.deref-7.result.now) bs)
-    (ap₂ (λ (s r : List (Option Body)). q.rows ++ rows_of q.t 0 s r) (c.deref-7.ensures.value ∙ sent) (c.deref-8.ensures.value ∙ received))
-    (ap₂ all_told (c.deref-9.ensures.value ∙ relays) (c.deref-10.ensures.value ∙ events))
+    ∙ ap₂ (λ (xs : List Row) (bs : List (List Body)). xs ++ repeater_rows q.t (length c.deref-11.result.now) bs)
+    (ap₂ (λ (s r : List (Option Body)). q.rows ++ rows_of q.t 0 s r) (c.deref-11.ensures.value ∙ sent) (c.deref-12.ensures.value ∙ received))
+    (ap₂ all_told (c.deref-13.ensures.value ∙ relays) (c.deref-14.ensures.value ∙ events))
     ∙ ap (λ n. (q.rows ++ rows_of q.t 0 c.step_stations.new.sent os) ++ repeater_rows q.t n bodies) many)
-    (captures ∙ kept ∙ ap₂ (λ (o : List (Option Body)) (k : List Kept). captured q.t o (map kept_octets k) c.deref_mut-12.result.now) (c.deref-11.ensures.value ∙ received) c.deref-12.ensures.value ∙ ap (captured q.t os (map kept_octets last.receivers)) c.deref_mut-12.ensures.value) in
-    let moved : (c.capture_all.new.captures ≡ captured q.t c.deref-11.result.now (map kept_octets c.deref-12.result.now) c.deref_mut-12.result.now) → IsNextKept c.args.self.now last = λ kept. subst (λ k. IsNextKept k last) c.self.view_is (goes kept) in
+    (captures ∙ kept ∙ ap₂ (λ (o : List (Option Body)) (k : List Kept). captured q.t o (map kept_octets k) c.deref_mut-13.result.now) (c.deref-15.ensures.value ∙ received) c.deref-16.ensures.value ∙ ap (captured q.t os (map kept_octets last.receivers)) c.deref_mut-13.ensures.value) in
+    let moved : (c.capture_all.new.captures ≡ captured q.t c.deref-15.result.now (map kept_octets c.deref-16.result.now) c.deref_mut-13.result.now) → IsNextKept c.args.self.now last = λ kept. subst (λ k. IsNextKept k last) c.self.view_is (goes kept) in
     search rules

@@ -11,19 +11,19 @@ use Rattle.net_step.proofs.plain.PlainNet.heard.Goals as goal
 pub index-place-requires : goal.index-place-requires
 index-place-requires c =
     let tap = tap_is_numbered _ _ c.args.device c.args.port c.tap_number-tap.result c.len-stations.result c.deref.result.now c.self.view_is c.requires (search rules) c.deref.ensures.value c.tap_number-tap.ensures in
-    let inside = tap_in_places _ _ _ _ _ _ _ _ c.self.invariant _ _ _ tap in
+    let inside = tap_in_places _ _ _ _ _ _ _ _ _ c.self.invariant _ _ _ tap in
     search rules
 
 pub index-requires : goal.index-requires
 index-requires c =
     let tap = tap_is_numbered _ _ c.args.device c.args.port c.tap_number-tap.result c.len-stations.result c.deref.result.now c.self.view_is c.requires (search rules) c.deref.ensures.value c.tap_number-tap.ensures in
-    let inside = place_in_wires _ _ _ _ _ _ _ _ c.self.invariant _ _ _ tap c.index-place.result.now c.index-place.ensures in
+    let inside = place_in_wires _ _ _ _ _ _ _ _ _ c.self.invariant _ _ _ tap c.index-place.result.now c.index-place.ensures in
     search rules
 
 pub heard-requires : goal.heard-requires
 heard-requires c =
     let tap = tap_is_numbered _ _ c.args.device c.args.port c.tap_number-tap.result c.len-stations.result c.deref.result.now c.self.view_is c.requires (search rules) c.deref.ensures.value c.tap_number-tap.ensures in
-    local_in_wire _ _ _ _ _ _ _ _ c.self.invariant _ _ _ tap c.index-place.result.now c.index.result.now c.index-place.ensures c.index.ensures
+    local_in_wire _ _ _ _ _ _ _ _ _ c.self.invariant _ _ _ tap c.index-place.result.now c.index.result.now c.index-place.ensures c.index.ensures
 
 pub returns : goal.returns
 returns c = λ n st.
@@ -31,5 +31,5 @@ returns c = λ n st.
     let stands = subst (Stands n) (sym c.self.view_is) st in
     let meant = ap₂ (λ (ss : List Sender) (rs : List State). kept_tap_number (length ss) rs c.args.device c.args.port) stands.senders stands.repeaters in
     c.heard.ensures
-    ∙ hears_at _ _ _ _ _ _ _ _ c.self.invariant _ _ _ tap c.index-place.result.now c.index.result.now c.index-place.ensures c.index.ensures
+    ∙ hears_at _ _ _ _ _ _ _ _ _ c.self.invariant _ _ _ tap c.index-place.result.now c.index.result.now c.index-place.ensures c.index.ensures
     ∙ ap₂ (λ (hs : List Sym) m. get_or hs m Idle) (heard_alike n _ stands) (tap.number ∙ meant)

@@ -1,0 +1,56 @@
+use Rattle.std.proofs.Common.{◌≡◌, ◌-◌, ◌≤◌, All, List, length, map, refl, sym, subst, ap, ap₂, ◌∙◌, arith, rules}
+use Rattle.std.specs.List.{range_with_len}
+use Rattle.layout.specs.declared.lines.PortLine.{PortLine}
+use Rattle.layout.specs.Taps.{taps_of}
+use Rattle.mac_parameters.specs.Parameters.{greatest_place}
+use Rattle.quiet_state.specs.LastSignals.{reach_over, line_delays}
+use Rattle.net_step.specs.Wires.{new_wire, places_from}
+use Rattle.net_step.proofs.StandsForNet.{taps_near, few_taps}
+use Rattle.net_step.proofs.WholeNet.{whole_silent}
+use Rattle.network.proofs.RunnablePlans.{runnable_plan}
+use Rattle.net_step.proofs.plain.PlainNet.with_devices.Goals as goal
+
+pub new_segments-requires-clause-few : goal.new_segments-requires-clause-few
+new_segments-requires-clause-few c = omega (arith, few_taps c.args.plan.now.layout (runnable_plan c.args.plan.now), ap length (c.deref.ensures.value ∙ c.in_ok-taps.ensures))
+
+pub new_segments-requires-clause-near : goal.new_segments-requires-clause-near
+new_segments-requires-clause-near c =
+    subst (All (λ (x : PortLine). x.at ≤ greatest_place)) (sym (c.deref.ensures.value ∙ c.in_ok-taps.ensures)) (taps_near c.args.plan.now.layout (runnable_plan c.args.plan.now))
+
+pub places_of-requires : goal.places_of-requires
+places_of-requires c = omega (arith, few_taps c.args.plan.now.layout (runnable_plan c.args.plan.now), ap length (c.deref-2.ensures.value ∙ c.in_ok-taps.ensures))
+
+pub invariant_of-result : goal.invariant_of-result
+invariant_of-result c =
+    let plan = c.args.plan.now in
+    let l = plan.layout in
+    let all : c.in_ok-taps.taps.items ≡ taps_of l = c.in_ok-taps.ensures in
+    let many : length c.in_ok-taps.taps.items ≡ length (taps_of l) = ap length all in
+    let wires : c.in_ok-new_segments.field-0.items ≡ map (new_wire (taps_of l)) (range_with_len 0 (length l.segments)) = c.in_ok-new_segments.ensures ∙ ap₂ (λ n (ts : List PortLine). map (new_wire ts) (range_with_len 0 n)) c.len.ensures (c.deref.ensures.value ∙ all) in
+    let places : c.in_ok-places_of.field-0.items ≡ places_from 0 (taps_of l) (taps_of l) = c.in_ok-places_of.ensures ∙ ap (λ ts. places_from 0 ts ts) (c.deref-2.ensures.value ∙ all) in
+    let reaches : c.in_ok-reaches_of.field-0.items ≡ map (λ x. reach_over x (taps_of l)) (taps_of l) = c.in_ok-reaches_of.ensures ∙ ap (λ (ts : List PortLine). map (λ (x : PortLine). reach_over x ts) ts) (c.deref-3.ensures.value ∙ all) in
+    let delays : c.in_ok-delays_of.field-0.items ≡ line_delays c.args.relays.items = search rules in
+    let heard_len : length c.in_ok-vec.field-0.items ≡ length c.in_ok-taps.taps.items = search rules in
+    let heard : length c.in_ok-vec.field-0.items ≡ length (taps_of l) = heard_len ∙ many in
+    let emitted : length c.in_ok-vec-2.field-0.items ≡ length l.stations = search rules in
+    let ports_len : length c.in_ok-vec-3.field-0.items ≡ length c.in_ok-taps.taps.items - length l.stations = search rules in
+    let ports : length c.in_ok-vec-3.field-0.items ≡ length (taps_of l) - length l.stations = omega (arith, ports_len, many) in
+    let decided_len : length c.in_ok-vec-4.field-0.items ≡ length c.in_ok-taps.taps.items - length l.stations = search rules in
+    let decided : length c.in_ok-vec-4.field-0.items ≡ length (taps_of l) - length l.stations = omega (arith, decided_len, many) in
+    let row_len : length c.in_ok-vec-5.field-0.items ≡ length c.in_ok-taps.taps.items = search rules in
+    let row : length c.in_ok-vec-5.field-0.items ≡ length (taps_of l) = row_len ∙ many in
+    let sent : length c.in_ok-vec-6.field-0.items ≡ length l.stations = search rules in
+    let received : length c.in_ok-vec-7.field-0.items ≡ length l.stations = search rules in
+    let events : length c.in_ok-vec-8.field-0.items ≡ length c.args.relays.items = search rules in
+    whole_silent plan _ _ _ _ _ _ _ _ _ (runnable_plan plan) (record { wires = wires; places = places; reaches = reaches; delays = delays; settled = refl })
+    c.requires.senders c.requires.receivers c.requires.captures c.requires.ports heard emitted ports decided row sent received events c.requires.times c.requires.steps
+
+pub returns-clause-silent : goal.returns-clause-silent
+returns-clause-silent c =
+    let l = c.args.plan.now.layout in
+    let all : c.in_ok-taps.taps.items ≡ taps_of l = c.in_ok-taps.ensures in
+    let wires : c.in_ok-new_segments.field-0.items ≡ map (new_wire (taps_of l)) (range_with_len 0 (length l.segments)) = c.in_ok-new_segments.ensures ∙ ap₂ (λ n (ts : List PortLine). map (new_wire ts) (range_with_len 0 n)) c.len.ensures (c.deref.ensures.value ∙ all) in
+    let places : c.in_ok-places_of.field-0.items ≡ places_from 0 (taps_of l) (taps_of l) = c.in_ok-places_of.ensures ∙ ap (λ ts. places_from 0 ts ts) (c.deref-2.ensures.value ∙ all) in
+    let reaches : c.in_ok-reaches_of.field-0.items ≡ map (λ x. reach_over x (taps_of l)) (taps_of l) = c.in_ok-reaches_of.ensures ∙ ap (λ (ts : List PortLine). map (λ (x : PortLine). reach_over x ts) ts) (c.deref-3.ensures.value ∙ all) in
+    let delays : c.in_ok-delays_of.field-0.items ≡ line_delays c.args.relays.items = search rules in
+    record { wires = wires; places = places; reaches = reaches; delays = delays; settled = refl }
