@@ -12,7 +12,7 @@ use Rattle.quiet_state.specs.Quiet.{IsQuiet}
 use Rattle.run_checkpoint.proofs.ResumableTexts.{quiet_states}
 use Rattle.run_checkpoint.specs.States.{IsStateOfPlan, text_of_state}
 use Rattle.quiet_state.specs.declared.state.NetState.{NetState}
-use Rattle.run_stops.specs.Stops.{HasNoQuiet, IsFirstQuiet}
+use Rattle.net_step.specs.Stops.{HasNoQuiet, IsFirstQuiet}
 use Rattle.netsim.specs.declared.endings.Ending.{Ending}
 use Rattle.netsim.specs.declared.endings.Ending.TheVariants as ending
 use Rattle.netsim.specs.CheckpointFiles.{HasState}

@@ -8,7 +8,7 @@ use Rattle.outside.specs.declared.memory.File.{File}
 use Rattle.program_texts.specs.Texts.{name_of_state}
 use Rattle.program_words.specs.Requests.{asked}
 use Rattle.quiet_state.specs.declared.state.NetState.{NetState}
-use Rattle.run_stops.specs.Stops.{IsFirstQuiet}
+use Rattle.net_step.specs.Stops.{IsFirstQuiet}
 use Rattle.netsim.specs.declared.endings.Ending.{Ending}
 use Rattle.netsim.specs.declared.endings.Ending.TheVariants as ending
 use Rattle.netsim.specs.CheckpointFiles.{HasState}

@@ -11,7 +11,7 @@ use Rattle.program_words.specs.Requests.{Asked, asked, Check, Slack, Plain, Run,
 use Rattle.quiet_state.specs.declared.state.NetState.{NetState}
 use Rattle.run_checkpoint.specs.Judging.{judged_state, most_state_octets}
 use Rattle.run_checkpoint.specs.declared.fault.StateFault.{StateFault}
-use Rattle.run_stops.specs.Stops.{HasNoQuiet}
+use Rattle.net_step.specs.Stops.{HasNoQuiet}
 use Rattle.netsim.specs.declared.endings.Ending.{Ending}
 use Rattle.netsim.specs.declared.endings.Ending.TheVariants as ending
 use Rattle.netsim.specs.CheckpointFiles.{HasState, IsStateFaulty}

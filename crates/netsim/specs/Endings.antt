@@ -1,7 +1,7 @@
 -- How a call ends (profile).
 use Rattle.std.specs.Prelude.{◌≡◌, ◌≤◌, ◌⊎◌, ℕ, ◌-◌, List, Option, None, Some, option_map, slice_get, Result, Ok, Err}
 use Rattle.capture_file.specs.declared.fault.CaptureFault.{CaptureFault}
-use Rattle.run_stops.specs.Stops.{HasNoQuiet, IsFirstQuiet}
+use Rattle.net_step.specs.Stops.{HasNoQuiet, IsFirstQuiet}
 use Rattle.outside.specs.Files.{Files, IsAbsent, Rose}
 use Rattle.outside.specs.declared.memory.File.{File}
 use Rattle.quiet_state.specs.declared.state.NetState.{NetState}

@@ -19,7 +19,7 @@ use Rattle.program_words.specs.declared.words.Hearing.TheVariants as hearing
 use Rattle.quiet_state.specs.Resumed.{state_at}
 use Rattle.quiet_state.specs.declared.state.NetState.{NetState}
 use Rattle.run_checkpoint.specs.States.{text_of_state}
-use Rattle.run_stops.specs.Stops.{IsFirstQuiet}
+use Rattle.net_step.specs.Stops.{IsFirstQuiet}
 use Rattle.run_picture.specs.Pictures.{picture_of}
 use Rattle.run_picture.specs.Strangers.{first_stranger}
 use Rattle.netsim.specs.Runs.{IsResumedSummary, IsSummary, resumed_files, run_files}

@@ -7,7 +7,7 @@ use Rattle.program_texts.specs.Texts.{line_of_no_quiet, name_of_state}
 use Rattle.program_words.specs.Requests.{asked, Resume, Stop}
 use Rattle.quiet_state.specs.declared.state.NetState.{NetState}
 use Rattle.run_checkpoint.specs.declared.fault.StateFault.{StateFault}
-use Rattle.run_stops.specs.Stops.{HasNoQuiet, IsFirstQuiet}
+use Rattle.net_step.specs.Stops.{HasNoQuiet, IsFirstQuiet}
 use Rattle.netsim.specs.CheckpointFiles.{HasState, IsStateFaulty}
 use Rattle.netsim.specs.Endings.{IsAnswer, IsPlanned, IsStateFaultSaid, Says}
 use Rattle.netsim.specs.Moments.{Moment}

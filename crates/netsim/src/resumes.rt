@@ -19,12 +19,12 @@ use crate::runs::file_run;
 use crate::sink_texts::say;
 use lists::OutOfMemory;
 use load_plan::Plan;
+use net_step::resume_run;
 use outside::{Sink, Store, StoreFail};
 use program_texts::name_of_state;
 use quiet_state::NetState;
 use resumed_runs::laws::{resumed_captures_are_short, resumed_frames_are_left};
 use run_checkpoint::{MOST_STATE_OCTETS, StateFault, read_state, state_fault_text};
-use run_stops::resume_run;
 use std::alloc::Global;
 
 /// Says that the text of a state has a fault.

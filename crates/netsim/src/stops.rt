@@ -15,11 +15,11 @@ use crate::plans::read_plan;
 use crate::sink_texts::{say, write_line};
 use lists::OutOfMemory;
 use load_plan::Plan;
+use net_step::stop_run;
 use outside::{Sink, Store};
 use program_texts::{NO_QUIET, line_of_stopped, name_of_state};
 use quiet_state::NetState;
 use run_checkpoint::state_text;
-use run_stops::stop_run;
 use std::alloc::Global;
 
 /// Writes the text of a state.
