@@ -1,13 +1,18 @@
 -- The text of demo, from its parts.
-use Rattle.std.proofs.Common.{◌≡◌, ℕ, List, [], ◌++◌, length, ap, ◌∙◌}
+use Rattle.std.proofs.Common.{◌≡◌, ℕ, List, [], ◌++◌, length, ap, subst, ◌∙◌}
 use Rattle.std.specs.Prelude.{replicate}
 use Rattle.capture_file.specs.declared.entries.Record.{Record}
+use Rattle.collision_log.specs.declared.row.Row.{Row}
 use Rattle.demo_layout.specs.Demo.{demo_of}
 use Rattle.layout.specs.declared.lines.Layout.{Layout}
 use Rattle.load_plan.specs.Loads.{planned_queues, planned_skips}
 use Rattle.load_plan.specs.declared.plan.Plan.{Plan}
 use Rattle.netsim.specs.Demos.{IsDemoText, line_of_demo, empty_loads}
-use Rattle.netsim.specs.Runs.{IsSummary}
+use Rattle.netsim.specs.Runs.{IsSummary, IsSummaryOver}
+
+-- the summary of a plan's whole run
+pub summary-of : (plan : Plan) (given whole : List Row) (text : List ℕ) → given ≡ whole → IsSummaryOver plan given text → IsSummaryOver plan whole text
+summary-of plan given whole text is summed = subst (λ (rs : List Row). IsSummaryOver plan rs text) is summed
 
 -- the line and the summary of the plan of a layout without loads
 pub demo-text : (number count : ℕ) (network : Layout) (loads : List (List Record)) (plan : Plan) (line summary shown text : List ℕ) → network ≡ demo_of number → count ≡ length network.stations → loads ≡ replicate count []

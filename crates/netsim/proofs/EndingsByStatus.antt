@@ -4,10 +4,10 @@ use Rattle.layout.specs.declared.lines.Layout.{Layout}
 use Rattle.netsim.specs.declared.endings.Ending.{Ending}
 use Rattle.netsim.specs.declared.endings.Ending.TheVariants as ending
 use Rattle.program_texts.specs.declared.texts.TheConstants.{HELP, VERSION}
-use Rattle.netsim.specs.Endings.{ArePictured, IsAnswer, IsCheckEnd, IsDemoEnd, IsDrawn, IsEarly, IsEndOf, IsLoadEnd, IsMeterEnd, IsMetered, IsMissed, IsPictureEnd, IsPlainEnd, IsProbed, IsProbeEnd, IsRun, IsSlackEnd, IsStrangeEnd, IsText, IsTellingEnd, IsTextEnd, IsUnlogged, IsUnmetered, IsUnprobed, IsUnrun, status_of}
+use Rattle.netsim.specs.Endings.{ArePictured, IsAnswer, IsCheckEnd, IsDemoEnd, IsDrawn, IsEarly, IsEndOf, IsLoadEnd, IsMeterEnd, IsMetered, IsMissed, IsPictureEnd, IsPlainEnd, IsProbed, IsProbeEnd, HasResumed, IsResumeEnd, IsRun, IsSlackEnd, IsStopEnd, HasStopped, IsStrangeEnd, IsText, IsTellingEnd, IsTextEnd, IsUnlogged, IsUnmetered, IsUnprobed, IsUnresumed, IsUnrun, IsUnstopped, status_of}
 use Rattle.netsim.specs.Demos.{IsDemoText}
 use Rattle.netsim.specs.Moments.{Moment}
-use Rattle.program_words.specs.Requests.{Asked, asked, Check, Demo, Meter, Picture, Probe, Slack}
+use Rattle.program_words.specs.Requests.{Asked, asked, Check, Demo, Meter, Picture, Probe, Resume, Slack, Stop}
 use Rattle.program_words.specs.declared.words.Hearing.{Hearing}
 use Rattle.program_texts.specs.SlackTexts.{IsSlackText}
 use Rattle.netsim.specs.Statuses.{AskForFiles, IfTelling, IfText}
@@ -24,7 +24,9 @@ ending_at (suc (suc (suc (suc (suc zero))))) = ending.Write
 ending_at (suc (suc (suc (suc (suc (suc zero)))))) = ending.Memory
 ending_at (suc (suc (suc (suc (suc (suc (suc zero))))))) = ending.Probe
 ending_at (suc (suc (suc (suc (suc (suc (suc (suc zero)))))))) = ending.Log
-ending_at (suc (suc (suc (suc (suc (suc (suc (suc (suc n))))))))) = ending.Stranger
+ending_at (suc (suc (suc (suc (suc (suc (suc (suc (suc zero))))))))) = ending.Unquiet
+ending_at (suc (suc (suc (suc (suc (suc (suc (suc (suc (suc zero)))))))))) = ending.State
+ending_at (suc (suc (suc (suc (suc (suc (suc (suc (suc (suc (suc n))))))))))) = ending.Stranger
 
 at_status : (e : Ending) → ending_at (status_of e) ≡ e
 at_status ending.Done = refl
@@ -37,6 +39,8 @@ at_status ending.Memory = refl
 at_status ending.Probe = refl
 at_status ending.Log = refl
 at_status ending.Stranger = refl
+at_status ending.Unquiet = refl
+at_status ending.State = refl
 
 -- the end of an answer with this status
 pub end_at : (words : List (List ℕ)) (entry exit : Moment) (status k : ℕ) → IsAnswer words entry exit status → status ≡ k → IsEndOf (asked words) entry exit (ending_at k)
@@ -53,6 +57,12 @@ slack_end o layout entry exit e is end = subst (λ a. IsEndOf a entry exit e) is
 pub files_end : (o : Option Asked) (layout prefix : List ℕ) (entry exit : Moment) (e : Ending) → AskForFiles o layout prefix → IsEndOf o entry exit e → IsPlainEnd layout prefix entry exit e
 files_end o layout prefix entry exit e asks end =
     elim asks [ inl plain ↦ subst (λ a. IsEndOf a entry exit e) plain end | inr run ↦ subst (λ a. IsEndOf a entry exit e) run.1 end ]
+
+pub stop_end : (o : Option Asked) (layout prefix : List ℕ) (from : ℕ) (entry exit : Moment) (e : Ending) → o ≡ Some (Stop layout prefix from) → IsEndOf o entry exit e → IsStopEnd layout prefix from entry exit e
+stop_end o layout prefix from entry exit e is end = subst (λ a. IsEndOf a entry exit e) is end
+
+pub resume_end : (o : Option Asked) (layout prefix : List ℕ) (entry exit : Moment) (e : Ending) → o ≡ Some (Resume layout prefix) → IsEndOf o entry exit e → IsResumeEnd layout prefix entry exit e
+resume_end o layout prefix entry exit e is end = subst (λ a. IsEndOf a entry exit e) is end
 
 pub demo_end : (o : Option Asked) (number workers : ℕ) (entry exit : Moment) (e : Ending) → o ≡ Some (Demo number workers) → IsEndOf o entry exit e → IsDemoEnd number entry exit e
 demo_end o number workers entry exit e is end = subst (λ a. IsEndOf a entry exit e) is end
@@ -96,6 +106,24 @@ by_way X layout prefix before after e early unloaded unrun run h =
     elim h [
       | inl none ↦ elim none [ inl one ↦ early one.0 | inr later ↦ elim later [ inl two ↦ unloaded two.0 | inr three ↦ unrun three ] ]
       | inr ran ↦ run ran
+    ]
+
+-- what comes of each of the five ways in which stop ends comes of its end
+pub by_stop : (X : Type 0) (layout prefix : List ℕ) (from : ℕ) (before after : Moment) (e : Ending) → (IsEarly layout before after e → X) → (IsLoadEnd layout before after e → X) → (IsUnrun before after e → X)
+    → (IsUnstopped layout from before after e → X) → (HasStopped layout prefix from before after e → X) → IsStopEnd layout prefix from before after e → X
+by_stop X layout prefix from before after e early unloaded unrun unstopped stopped h =
+    elim h [
+      | inl none ↦ elim none [ inl one ↦ early one.0 | inr later ↦ elim later [ inl two ↦ unloaded two.0 | inr three ↦ unrun three ] ]
+      | inr last ↦ elim last [ inl four ↦ unstopped four | inr five ↦ stopped five ]
+    ]
+
+-- what comes of each of the five ways in which resume ends comes of its end
+pub by_resume : (X : Type 0) (layout prefix : List ℕ) (before after : Moment) (e : Ending) → (IsEarly layout before after e → X) → (IsLoadEnd layout before after e → X) → (IsUnrun before after e → X)
+    → (IsUnresumed layout prefix before after e → X) → (HasResumed layout prefix before after e → X) → IsResumeEnd layout prefix before after e → X
+by_resume X layout prefix before after e early unloaded unrun unresumed resumed h =
+    elim h [
+      | inl none ↦ elim none [ inl one ↦ early one.0 | inr later ↦ elim later [ inl two ↦ unloaded two.0 | inr three ↦ unrun three ] ]
+      | inr last ↦ elim last [ inl four ↦ unresumed four | inr five ↦ resumed five ]
     ]
 
 -- what comes of each of the two ways in which demo ends comes of its end

@@ -1,15 +1,16 @@
 -- What holds of every answer, whatever the form of words.
 use Rattle.std.proofs.Common.{◌≡◌, ◌<◌, ◌⊎◌, ◌↔◌, ℕ, Option, None, Some, List, refl, ap, subst, ◌∙◌, inl, inr, arith}
 use Rattle.outside.specs.Files.{Rose}
-use Rattle.load_plan.specs.declared.plan.Plan.{Plan}
+use Rattle.outside.specs.declared.memory.File.{File}
 use Rattle.netsim.specs.declared.endings.Ending.{Ending}
 use Rattle.netsim.specs.declared.endings.Ending.TheVariants as ending
-use Rattle.netsim.specs.Endings.{IsAnswer, IsDemoEnd, IsEndOf, IsFiledEnd, IsMeterEnd, IsPictureEnd, IsPlainEnd, IsProbeEnd, status_of}
+use Rattle.netsim.specs.Endings.{IsAnswer, IsDemoEnd, IsEndOf, IsFiledEnd, IsMeterEnd, IsPictureEnd, IsPlainEnd, IsProbeEnd, IsResumeEnd, IsStopEnd, status_of}
 use Rattle.netsim.specs.Moments.{Moment}
-use Rattle.program_words.specs.Requests.{Asked, asked, Check, Slack, Plain, Run, Demo, Probe, Meter, Picture, Help, Version}
+use Rattle.netsim.specs.Runs.{IsResumedSummary, IsStopLine, IsSummary, resumed_files, run_files, state_files}
+use Rattle.program_words.specs.Requests.{Asked, asked, Check, Slack, Plain, Run, Stop, Resume, Demo, Probe, Meter, Picture, Help, Version}
 use Rattle.program_words.specs.declared.words.Hearing.{Hearing}
 use Rattle.netsim.specs.Statuses.{IsRefusal}
-use Rattle.netsim.proofs.EndingsByStatus.{by_demo, by_meter, by_picture, by_probe, by_way, end_at}
+use Rattle.netsim.proofs.EndingsByStatus.{by_demo, by_meter, by_picture, by_probe, by_resume, by_stop, by_way, end_at}
 
 words_done : ending.Write ≡ ending.Words → ⊥
 words_done e = cc
@@ -39,6 +40,14 @@ pub never_picture : (layout log : List ℕ) (from to : ℕ) (entry exit : Moment
 never_picture layout log from to entry exit h =
     by_picture ⊥ layout log from to entry exit ending.Words (λ early. early) (λ unlogged. unlogged.said) (λ drawn strange. strange) (λ drawn pictured. pictured.text) h
 
+pub never_stop : (layout prefix : List ℕ) (from : ℕ) (entry exit : Moment) → IsStopEnd layout prefix from entry exit ending.Words → ⊥
+never_stop layout prefix from entry exit h =
+    by_stop ⊥ layout prefix from entry exit ending.Words (λ early. early) (λ unloaded. unloaded.said) (λ unrun. words_unrun unrun.0) (λ un. un.said) (λ ran. elim ran.filed [ inl all ↦ all.1.2 | inr some ↦ some ]) h
+
+pub never_resume : (layout prefix : List ℕ) (entry exit : Moment) → IsResumeEnd layout prefix entry exit ending.Words → ⊥
+never_resume layout prefix entry exit h =
+    by_resume ⊥ layout prefix entry exit ending.Words (λ early. early) (λ unloaded. unloaded.said) (λ unrun. words_unrun unrun.0) (λ un. un.said) (λ ran. elim ran.filed [ inl all ↦ all.1.2 | inr some ↦ some ]) h
+
 -- words of no form
 none_of : (o : Option Asked) (entry exit : Moment) → IsEndOf o entry exit ending.Words → o ≡ None
 none_of None entry exit h = refl
@@ -48,6 +57,8 @@ none_of (Some (Check layout)) entry exit h = elim h.1 [ inl early ↦ absurd ear
 none_of (Some (Slack layout)) entry exit h = elim h.1 [ inl early ↦ absurd early | inr checked ↦ absurd checked.written ]
 none_of (Some (Plain layout prefix)) entry exit h = absurd (never_words layout prefix entry exit h)
 none_of (Some (Run layout prefix workers)) entry exit h = absurd (never_words layout prefix entry exit h)
+none_of (Some (Stop layout prefix from)) entry exit h = absurd (never_stop layout prefix from entry exit h)
+none_of (Some (Resume layout prefix)) entry exit h = absurd (never_resume layout prefix entry exit h)
 none_of (Some (Demo number workers)) entry exit h = absurd (never_demo number entry exit h)
 none_of (Some (Probe told layout from to taps)) entry exit h = absurd (never_probe told layout from to taps entry exit h)
 none_of (Some (Meter log)) entry exit h = absurd (never_meter log entry exit h)
@@ -76,7 +87,13 @@ not_refusal k other r =
               | inl e ↦ apart k 7 other e (λ h. omega (arith, h)) (λ h. omega (arith, h))
               | inr w ↦ elim w [
                 | inl e ↦ apart k 8 other e (λ h. omega (arith, h)) (λ h. omega (arith, h))
-                | inr e ↦ apart k 11 other e (λ h. omega (arith, h)) (λ h. omega (arith, h))
+                | inr x ↦ elim x [
+                  | inl e ↦ apart k 9 other e (λ h. omega (arith, h)) (λ h. omega (arith, h))
+                  | inr y ↦ elim y [
+                    | inl e ↦ apart k 10 other e (λ h. omega (arith, h)) (λ h. omega (arith, h))
+                    | inr e ↦ apart k 11 other e (λ h. omega (arith, h)) (λ h. omega (arith, h))
+                  ]
+                ]
               ]
             ]
           ]
@@ -88,23 +105,39 @@ not_refusal k other r =
     apart k n other e low high = elim other [ inl h ↦ low (omega (arith, h, e)) | inr h ↦ high (omega (arith, h.0, e), omega (arith, h.1, e)) ]
 
 -- a run that began its files is no refusal
-filed_no_refusal : (prefix : List ℕ) (plan : Plan) (entry exit : Moment) (e : Ending) → IsFiledEnd prefix plan entry exit e → IsRefusal (status_of e) → ⊥
-filed_no_refusal prefix plan entry exit ending.Done filed r = not_refusal 0 (inl (omega arith)) r
-filed_no_refusal prefix plan entry exit ending.Words filed r = elim filed [ inl all ↦ all.1.2 | inr some ↦ some ]
-filed_no_refusal prefix plan entry exit ending.Layout filed r = elim filed [ inl all ↦ all.1.2 | inr some ↦ some ]
-filed_no_refusal prefix plan entry exit ending.Load filed r = elim filed [ inl all ↦ all.1.2 | inr some ↦ some ]
-filed_no_refusal prefix plan entry exit ending.Read filed r = elim filed [ inl all ↦ all.1.2 | inr some ↦ some ]
-filed_no_refusal prefix plan entry exit ending.Write filed r = not_refusal 5 (inr (omega arith, omega arith)) r
-filed_no_refusal prefix plan entry exit ending.Memory filed r = not_refusal 6 (inr (omega arith, omega arith)) r
-filed_no_refusal prefix plan entry exit ending.Probe filed r = elim filed [ inl all ↦ all.1.2 | inr some ↦ some ]
-filed_no_refusal prefix plan entry exit ending.Log filed r = elim filed [ inl all ↦ all.1.2 | inr some ↦ some ]
-filed_no_refusal prefix plan entry exit ending.Stranger filed r = elim filed [ inl all ↦ all.1.2 | inr some ↦ some ]
+filed_no_refusal : (files : List File) (IsRight : List ℕ → Type 0) (entry exit : Moment) (e : Ending) → IsFiledEnd files IsRight entry exit e → IsRefusal (status_of e) → ⊥
+filed_no_refusal files IsRight entry exit ending.Done filed r = not_refusal 0 (inl (omega arith)) r
+filed_no_refusal files IsRight entry exit ending.Words filed r = elim filed [ inl all ↦ all.1.2 | inr some ↦ some ]
+filed_no_refusal files IsRight entry exit ending.Layout filed r = elim filed [ inl all ↦ all.1.2 | inr some ↦ some ]
+filed_no_refusal files IsRight entry exit ending.Load filed r = elim filed [ inl all ↦ all.1.2 | inr some ↦ some ]
+filed_no_refusal files IsRight entry exit ending.Read filed r = elim filed [ inl all ↦ all.1.2 | inr some ↦ some ]
+filed_no_refusal files IsRight entry exit ending.Write filed r = not_refusal 5 (inr (omega arith, omega arith)) r
+filed_no_refusal files IsRight entry exit ending.Memory filed r = not_refusal 6 (inr (omega arith, omega arith)) r
+filed_no_refusal files IsRight entry exit ending.Probe filed r = elim filed [ inl all ↦ all.1.2 | inr some ↦ some ]
+filed_no_refusal files IsRight entry exit ending.Log filed r = elim filed [ inl all ↦ all.1.2 | inr some ↦ some ]
+filed_no_refusal files IsRight entry exit ending.Stranger filed r = elim filed [ inl all ↦ all.1.2 | inr some ↦ some ]
+filed_no_refusal files IsRight entry exit ending.Unquiet filed r = elim filed [ inl all ↦ all.1.2 | inr some ↦ some ]
+filed_no_refusal files IsRight entry exit ending.State filed r = elim filed [ inl all ↦ all.1.2 | inr some ↦ some ]
 
 plain_kept : (layout prefix : List ℕ) (entry exit : Moment) (e : Ending) → IsPlainEnd layout prefix entry exit e → IsRefusal (status_of e) → exit.held ≡ entry.held
 plain_kept layout prefix entry exit e h r =
     elim h [
       | inl none ↦ elim none [ inl early ↦ early.1 | inr later ↦ elim later [ inl unloaded ↦ unloaded.1 | inr unrun ↦ unrun.1 ] ]
-      | inr run ↦ absurd (filed_no_refusal prefix run.plan entry exit e run.filed r)
+      | inr run ↦ absurd (filed_no_refusal (run_files prefix run.plan) (IsSummary run.plan) entry exit e run.filed r)
+    ]
+
+stop_kept : (layout prefix : List ℕ) (from : ℕ) (entry exit : Moment) (e : Ending) → IsStopEnd layout prefix from entry exit e → IsRefusal (status_of e) → exit.held ≡ entry.held
+stop_kept layout prefix from entry exit e h r =
+    elim h [
+      | inl none ↦ elim none [ inl early ↦ early.1 | inr later ↦ elim later [ inl unloaded ↦ unloaded.1 | inr unrun ↦ unrun.1 ] ]
+      | inr last ↦ elim last [ inl un ↦ un.held | inr ran ↦ absurd (filed_no_refusal (state_files prefix ran.plan ran.t) (IsStopLine ran.t) entry exit e ran.filed r) ]
+    ]
+
+resume_kept : (layout prefix : List ℕ) (entry exit : Moment) (e : Ending) → IsResumeEnd layout prefix entry exit e → IsRefusal (status_of e) → exit.held ≡ entry.held
+resume_kept layout prefix entry exit e h r =
+    elim h [
+      | inl none ↦ elim none [ inl early ↦ early.1 | inr later ↦ elim later [ inl unloaded ↦ unloaded.1 | inr unrun ↦ unrun.1 ] ]
+      | inr last ↦ elim last [ inl un ↦ un.held | inr ran ↦ absurd (filed_no_refusal (resumed_files prefix ran.plan ran.state) (IsResumedSummary ran.plan ran.state) entry exit e ran.filed r) ]
     ]
 
 kept_of : (o : Option Asked) (entry exit : Moment) (e : Ending) → IsEndOf o entry exit e → IsRefusal (status_of e) → exit.held ≡ entry.held
@@ -115,12 +148,14 @@ kept_of (Some (Check layout)) entry exit e h r = h.0
 kept_of (Some (Slack layout)) entry exit e h r = h.0
 kept_of (Some (Plain layout prefix)) entry exit e h r = plain_kept layout prefix entry exit e h r
 kept_of (Some (Run layout prefix workers)) entry exit e h r = plain_kept layout prefix entry exit e h r
+kept_of (Some (Stop layout prefix from)) entry exit e h r = stop_kept layout prefix from entry exit e h r
+kept_of (Some (Resume layout prefix)) entry exit e h r = resume_kept layout prefix entry exit e h r
 kept_of (Some (Demo number workers)) entry exit e h r = h.1
 kept_of (Some (Probe told layout from to taps)) entry exit e h r = h.0
 kept_of (Some (Meter log)) entry exit e h r = h.0
 kept_of (Some (Picture layout log from to)) entry exit e h r = h.0
 
--- the statuses 1 to 4, 7, 8 and 11 leave every file as at entry
+-- the statuses 1 to 4 and 7 to 11 leave every file as at entry
 pub refused : (words : List (List ℕ)) (entry exit : Moment) (status : ℕ) → IsAnswer words entry exit status → IsRefusal status → exit.held ≡ entry.held
 refused words entry exit status answer r = kept_of (asked words) entry exit answer.by answer.allowed (subst (λ n. IsRefusal n) answer.is r)
 
@@ -128,6 +163,14 @@ plain_failed : (layout prefix : List ℕ) (entry exit : Moment) → IsPlainEnd l
 plain_failed layout prefix entry exit h =
     by_way (Rose entry.writes exit.writes ⊎ Rose entry.faults exit.faults) layout prefix entry exit ending.Write (λ early. absurd early) (λ unloaded. absurd unloaded.said) (λ unrun. absurd (write_unrun unrun.0))
     (λ run. elim run.filed [ inl all ↦ inr all.1.2.1 | inr some ↦ inl some.1 ]) h
+
+stop_failed : (layout prefix : List ℕ) (from : ℕ) (entry exit : Moment) → IsStopEnd layout prefix from entry exit ending.Write → Rose entry.writes exit.writes ⊎ Rose entry.faults exit.faults
+stop_failed layout prefix from entry exit h =
+    by_stop (Rose entry.writes exit.writes ⊎ Rose entry.faults exit.faults) layout prefix from entry exit ending.Write (λ early. absurd early) (λ unloaded. absurd unloaded.said) (λ unrun. absurd (write_unrun unrun.0)) (λ un. absurd un.said) (λ ran. elim ran.filed [ inl all ↦ inr all.1.2.1 | inr some ↦ inl some.1 ]) h
+
+resume_failed : (layout prefix : List ℕ) (entry exit : Moment) → IsResumeEnd layout prefix entry exit ending.Write → Rose entry.writes exit.writes ⊎ Rose entry.faults exit.faults
+resume_failed layout prefix entry exit h =
+    by_resume (Rose entry.writes exit.writes ⊎ Rose entry.faults exit.faults) layout prefix entry exit ending.Write (λ early. absurd early) (λ unloaded. absurd unloaded.said) (λ unrun. absurd (write_unrun unrun.0)) (λ un. absurd un.said) (λ ran. elim ran.filed [ inl all ↦ inr all.1.2.1 | inr some ↦ inl some.1 ]) h
 
 demo_failed : (number : ℕ) (entry exit : Moment) → IsDemoEnd number entry exit ending.Write → Rose entry.writes exit.writes ⊎ Rose entry.faults exit.faults
 demo_failed number entry exit h =
@@ -155,6 +198,8 @@ failed_of (Some (Check layout)) entry exit h = elim h.1 [ inl early ↦ absurd e
 failed_of (Some (Slack layout)) entry exit h = elim h.1 [ inl early ↦ absurd early | inr checked ↦ inr checked.written.1 ]
 failed_of (Some (Plain layout prefix)) entry exit h = plain_failed layout prefix entry exit h
 failed_of (Some (Run layout prefix workers)) entry exit h = plain_failed layout prefix entry exit h
+failed_of (Some (Stop layout prefix from)) entry exit h = stop_failed layout prefix from entry exit h
+failed_of (Some (Resume layout prefix)) entry exit h = resume_failed layout prefix entry exit h
 failed_of (Some (Demo number workers)) entry exit h = demo_failed number entry exit h
 failed_of (Some (Probe told layout from to taps)) entry exit h = probe_failed told layout from to taps entry exit h
 failed_of (Some (Meter log)) entry exit h = meter_failed log entry exit h

@@ -6,14 +6,14 @@ use Rattle.netsim.specs.declared.endings.Ending.{Ending}
 use Rattle.netsim.specs.declared.endings.Ending.TheVariants as ending
 use Rattle.netsim.specs.Endings.{IsAnswer, IsDemoEnd, IsEarly, IsEndOf, IsPlainEnd, IsRun, IsTellingEnd, IsText, IsTold, IsUnloadedSaid, Says, status_of}
 use Rattle.netsim.specs.Moments.{Moment}
-use Rattle.program_words.specs.Requests.{Asked, asked, Check, Slack, Plain, Run, Demo, Probe, Meter, Picture, Help, Version}
+use Rattle.program_words.specs.Requests.{Asked, asked, Check, Slack, Plain, Run, Stop, Resume, Demo, Probe, Meter, Picture, Help, Version}
 use Rattle.netsim.specs.Statuses.{AreSlacksDone, AskForFiles, IfCheck, IfDemo, IfFiles, IfSlack, IfTelling, IsCheckDone, IsDemoCut, IsDemoDone, IsDemoStatus, IsRunBroken, IsRunDone, IsRunRefused, IsSummaryCut, IsTellingCut, IsTellingDone}
 use Rattle.netsim.specs.StatusLaws.{AreDemosCutShort, AreDemosRefused, AreFailuresSilent, AreFilesWhole, AreTellingsCutShort, AreTellingsRefused, AreTextsCutShort, AreTextsFailed, AreTextsWritten, AreWordsSaid, DoDemosKeepFiles, DoTellingsKeepFiles, DoTextsKeepFiles, HaveDemosStatuses}
 use Rattle.program_texts.specs.Texts.{line_of_words_fault}
 use Rattle.netsim.specs.Runs.{run_files}
 use Rattle.netsim.specs.Writing.{added, IsBrokenAmong, IsCutShort}
 use Rattle.netsim.proofs.EndingsByStatus.{by_demo, by_way, demo_end, end_at, files_end, of_tellings, of_texts}
-use Rattle.netsim.proofs.EveryForm.{never_demo, never_meter, never_picture, never_probe, never_words}
+use Rattle.netsim.proofs.EveryForm.{never_demo, never_meter, never_picture, never_probe, never_resume, never_stop, never_words}
 
 -- an ending that comes neither early nor of want of memory is that of a run
 run_of : (layout prefix : List ℕ) (before after : Moment) (e : Ending) → (IsEarly layout before after e → ⊥) → ((network : Layout) → IsUnloadedSaid network before after e → ⊥) → (e ≡ ending.Memory → ⊥)
@@ -166,6 +166,8 @@ text_status text before after ending.Memory written = inr (inr refl)
 text_status text before after ending.Probe written = absurd written
 text_status text before after ending.Log written = absurd written
 text_status text before after ending.Stranger written = absurd written
+text_status text before after ending.Unquiet written = absurd written
+text_status text before after ending.State written = absurd written
 
 pub demos_have_statuses : HaveDemosStatuses
 demos_have_statuses words entry exit status answer number workers is =
@@ -194,6 +196,8 @@ text_cut text before after ending.Memory written = inr written
 text_cut text before after ending.Probe written = absurd written
 text_cut text before after ending.Log written = absurd written
 text_cut text before after ending.Stranger written = absurd written
+text_cut text before after ending.Unquiet written = absurd written
+text_cut text before after ending.State written = absurd written
 
 pub texts_are_cut_short : AreTextsCutShort
 texts_are_cut_short words entry exit status answer =
@@ -207,6 +211,8 @@ words_said_of (Some (Check layout)) entry exit h = elim h.1 [ inl early ↦ absu
 words_said_of (Some (Slack layout)) entry exit h = elim h.1 [ inl early ↦ absurd early | inr checked ↦ absurd checked.written ]
 words_said_of (Some (Plain layout prefix)) entry exit h = absurd (never_words layout prefix entry exit h)
 words_said_of (Some (Run layout prefix workers)) entry exit h = absurd (never_words layout prefix entry exit h)
+words_said_of (Some (Stop layout prefix from)) entry exit h = absurd (never_stop layout prefix from entry exit h)
+words_said_of (Some (Resume layout prefix)) entry exit h = absurd (never_resume layout prefix entry exit h)
 words_said_of (Some (Demo number workers)) entry exit h = absurd (never_demo number entry exit h)
 words_said_of (Some (Probe told layout from to taps)) entry exit h = absurd (never_probe told layout from to taps entry exit h)
 words_said_of (Some (Meter log)) entry exit h = absurd (never_meter log entry exit h)

@@ -7,13 +7,13 @@ use Rattle.layout_file.specs.declared.fault.LayoutFault.{LayoutFault}
 use Rattle.netsim.specs.declared.endings.Ending.{Ending}
 use Rattle.netsim.specs.declared.endings.Ending.TheVariants as ending
 use Rattle.netsim.specs.Moments.{Moment}
-use Rattle.netsim.specs.Endings.{IsDemoEnd, IsEndOf, IsMeterEnd, IsPictureEnd, IsPlainEnd, IsProbeEnd, IsTellingEnd, IsJudged, HasFault, IsEarly, IsFaultSaid, IsUnrun, status_of}
+use Rattle.netsim.specs.Endings.{IsDemoEnd, IsEndOf, IsMeterEnd, IsPictureEnd, IsPlainEnd, IsProbeEnd, IsResumeEnd, IsStopEnd, IsTellingEnd, IsJudged, HasFault, IsEarly, IsFaultSaid, IsUnrun, status_of}
 use Rattle.netsim.specs.Reading.{front_of}
-use Rattle.program_words.specs.Requests.{Asked, asked, Check, Slack, Plain, Run, Demo, Probe, Meter, Picture, Help, Version}
+use Rattle.program_words.specs.Requests.{Asked, asked, Check, Slack, Plain, Run, Stop, Resume, Demo, Probe, Meter, Picture, Help, Version}
 use Rattle.program_words.specs.declared.words.Hearing.{Hearing}
 use Rattle.netsim.specs.Statuses.{IsFaultStatus, IsLayoutWith, IsUnreadOrMemory}
 use Rattle.netsim.specs.StatusLaws.{AreLayoutFaultsSaid, DoAbsentLayoutsDecide, DoLayoutFaultsDecide}
-use Rattle.netsim.proofs.EndingsByStatus.{by_demo, by_meter, by_picture, by_probe, by_way, end_at, files_end, of_tellings, picture_end, probe_end}
+use Rattle.netsim.proofs.EndingsByStatus.{by_demo, by_meter, by_picture, by_probe, by_resume, by_stop, by_way, end_at, files_end, of_tellings, picture_end, probe_end, resume_end, stop_end}
 
 pub absent_unjudged : (name : List ℕ) (held : Option Files) (verdict : Result Layout LayoutFault) → IsAbsent name held → IsJudged name held verdict → ⊥
 unfolding front_of
@@ -48,6 +48,8 @@ module _ (layout : List ℕ) (before after : Moment) where
   early_absent ending.Probe absent early = absurd early
   early_absent ending.Log absent early = absurd early
   early_absent ending.Stranger absent early = absurd early
+  early_absent ending.Unquiet absent early = absurd early
+  early_absent ending.State absent early = absurd early
 
 -- where a read failed or the layout isn't held
 pub unread_status : (X : Type 0) (layout : List ℕ) (held : Option Files) (reads risen : ℕ) (P : Files → Type 0) → ((files : Files) → IsAbsent layout (Some files) → P files → ⊥) → (Rose reads risen → X)
@@ -73,6 +75,8 @@ early_faulty layout before after ending.Memory early = some_of before.held _ (λ
 early_faulty layout before after ending.Probe early = absurd early
 early_faulty layout before after ending.Log early = absurd early
 early_faulty layout before after ending.Stranger early = absurd early
+early_faulty layout before after ending.Unquiet early = absurd early
+early_faulty layout before after ending.State early = absurd early
 
 unrun_faulty : (fault : ℕ) (P : Files → Type 0) (before after : Moment) (e : Ending) → IsUnrun before after e
     → IfSome before.held (λ files. P files → IsFaultStatus fault (status_of e) before.reads after.reads)
@@ -90,6 +94,18 @@ plain_faulty layout prefix before after e h =
     (λ unloaded. no_fault_of (IsFaultStatus 2 (status_of e) before.reads after.reads) layout before.held unloaded.network unloaded.judged)
     (λ unrun. unrun_faulty 2 (λ files. HasFault layout (Some files)) before after e unrun)
     (λ run. no_fault_of (IsFaultStatus 2 (status_of e) before.reads after.reads) layout before.held run.planned.network run.planned.judged) h
+
+stop_faulty : (layout prefix : List ℕ) (from : ℕ) (before after : Moment) (e : Ending) → IsStopEnd layout prefix from before after e
+    → IfSome before.held (λ files. HasFault layout (Some files) → IsFaultStatus 2 (status_of e) before.reads after.reads)
+stop_faulty layout prefix from before after e h =
+    by_stop (IfSome before.held (λ files. HasFault layout (Some files) → IsFaultStatus 2 (status_of e) before.reads after.reads)) layout prefix from before after e (λ early. early_faulty layout before after e early) (λ unloaded. no_fault_of (IsFaultStatus 2 (status_of e) before.reads after.reads) layout before.held unloaded.network unloaded.judged)
+    (λ unrun. unrun_faulty 2 (λ files. HasFault layout (Some files)) before after e unrun) (λ un. no_fault_of (IsFaultStatus 2 (status_of e) before.reads after.reads) layout before.held un.planned.network un.planned.judged) (λ ran. no_fault_of (IsFaultStatus 2 (status_of e) before.reads after.reads) layout before.held ran.planned.network ran.planned.judged) h
+
+resume_faulty : (layout prefix : List ℕ) (before after : Moment) (e : Ending) → IsResumeEnd layout prefix before after e
+    → IfSome before.held (λ files. HasFault layout (Some files) → IsFaultStatus 2 (status_of e) before.reads after.reads)
+resume_faulty layout prefix before after e h =
+    by_resume (IfSome before.held (λ files. HasFault layout (Some files) → IsFaultStatus 2 (status_of e) before.reads after.reads)) layout prefix before after e (λ early. early_faulty layout before after e early) (λ unloaded. no_fault_of (IsFaultStatus 2 (status_of e) before.reads after.reads) layout before.held unloaded.network unloaded.judged)
+    (λ unrun. unrun_faulty 2 (λ files. HasFault layout (Some files)) before after e unrun) (λ un. no_fault_of (IsFaultStatus 2 (status_of e) before.reads after.reads) layout before.held un.planned.network un.planned.judged) (λ ran. no_fault_of (IsFaultStatus 2 (status_of e) before.reads after.reads) layout before.held ran.planned.network ran.planned.judged) h
 
 probe_faulty : (told : Hearing) (layout : List ℕ) (from to : ℕ) (taps : List (List ℕ)) (before after : Moment) (e : Ending) → IsProbeEnd told layout from to taps before after e
     → IfSome before.held (λ files. HasFault layout (Some files) → IsFaultStatus 2 (status_of e) before.reads after.reads)
@@ -114,6 +130,8 @@ layout_faults_decide words entry exit status answer =
       of_tellings (asked words) entry exit answer.by (λ Tells layout. IfSome entry.held (λ files. HasFault layout (Some files) → IsFaultStatus 2 (status_of answer.by) entry.reads exit.reads))
           (λ Tells layout end. telling_faulty Tells layout entry exit answer.by end) answer.allowed,
       λ layout prefix is. plain_faulty layout prefix entry exit answer.by (files_end (asked words) layout prefix entry exit answer.by is answer.allowed),
+      λ layout prefix from is. stop_faulty layout prefix from entry exit answer.by (stop_end (asked words) layout prefix from entry exit answer.by is answer.allowed),
+      λ layout prefix is. resume_faulty layout prefix entry exit answer.by (resume_end (asked words) layout prefix entry exit answer.by is answer.allowed),
       λ told layout from to taps is. probe_faulty told layout from to taps entry exit answer.by (probe_end (asked words) told layout from to taps entry exit answer.by is answer.allowed),
       λ layout log from to is. picture_faulty layout log from to entry exit answer.by (picture_end (asked words) layout log from to entry exit answer.by is answer.allowed),
     )
@@ -127,6 +145,16 @@ plain_absent layout prefix before after e h absent =
     by_way (IsUnreadOrMemory (status_of e)) layout prefix before after e (λ early. early_absent layout before after e absent early)
     (λ unloaded. absurd (absent_unjudged layout before.held (Ok unloaded.network) absent unloaded.judged)) (λ unrun. inr (ap status_of unrun.0))
     (λ run. absurd (absent_unjudged layout before.held (Ok run.planned.network) absent run.planned.judged)) h
+
+stop_absent : (layout prefix : List ℕ) (from : ℕ) (before after : Moment) (e : Ending) → IsStopEnd layout prefix from before after e → IsAbsent layout before.held → IsUnreadOrMemory (status_of e)
+stop_absent layout prefix from before after e h absent =
+    by_stop (IsUnreadOrMemory (status_of e)) layout prefix from before after e (λ early. early_absent layout before after e absent early)
+    (λ unloaded. absurd (absent_unjudged layout before.held (Ok unloaded.network) absent unloaded.judged)) (λ unrun. inr (ap status_of unrun.0)) (λ un. absurd (absent_unjudged layout before.held (Ok un.planned.network) absent un.planned.judged)) (λ ran. absurd (absent_unjudged layout before.held (Ok ran.planned.network) absent ran.planned.judged)) h
+
+resume_absent : (layout prefix : List ℕ) (before after : Moment) (e : Ending) → IsResumeEnd layout prefix before after e → IsAbsent layout before.held → IsUnreadOrMemory (status_of e)
+resume_absent layout prefix before after e h absent =
+    by_resume (IsUnreadOrMemory (status_of e)) layout prefix before after e (λ early. early_absent layout before after e absent early)
+    (λ unloaded. absurd (absent_unjudged layout before.held (Ok unloaded.network) absent unloaded.judged)) (λ unrun. inr (ap status_of unrun.0)) (λ un. absurd (absent_unjudged layout before.held (Ok un.planned.network) absent un.planned.judged)) (λ ran. absurd (absent_unjudged layout before.held (Ok ran.planned.network) absent ran.planned.judged)) h
 
 probe_absent : (told : Hearing) (layout : List ℕ) (from to : ℕ) (taps : List (List ℕ)) (before after : Moment) (e : Ending) → IsProbeEnd told layout from to taps before after e → IsAbsent layout before.held → IsUnreadOrMemory (status_of e)
 probe_absent told layout from to taps before after e h absent =
@@ -147,6 +175,8 @@ absent_layouts_decide words entry exit status answer =
       of_tellings (asked words) entry exit answer.by (λ Tells layout. IsAbsent layout entry.held → IsUnreadOrMemory (status_of answer.by))
           (λ Tells layout end. telling_absent Tells layout entry exit answer.by end) answer.allowed,
       λ layout prefix is. plain_absent layout prefix entry exit answer.by (files_end (asked words) layout prefix entry exit answer.by is answer.allowed),
+      λ layout prefix from is. stop_absent layout prefix from entry exit answer.by (stop_end (asked words) layout prefix from entry exit answer.by is answer.allowed),
+      λ layout prefix is. resume_absent layout prefix entry exit answer.by (resume_end (asked words) layout prefix entry exit answer.by is answer.allowed),
       λ told layout from to taps is. probe_absent told layout from to taps entry exit answer.by (probe_end (asked words) told layout from to taps entry exit answer.by is answer.allowed),
       λ layout log from to is. picture_absent layout log from to entry exit answer.by (picture_end (asked words) layout log from to entry exit answer.by is answer.allowed),
     )
@@ -185,6 +215,10 @@ faulty_of (Some (Check layout)) entry exit h = elim h.1 [ inl early ↦ early | 
 faulty_of (Some (Slack layout)) entry exit h = elim h.1 [ inl early ↦ early | inr checked ↦ absurd checked.written ]
 faulty_of (Some (Plain layout prefix)) entry exit h = plain_said layout prefix entry exit h
 faulty_of (Some (Run layout prefix workers)) entry exit h = plain_said layout prefix entry exit h
+faulty_of (Some (Stop layout prefix from)) entry exit h =
+    by_stop (IsFaultSaid layout entry exit) layout prefix from entry exit ending.Layout (λ early. early) (λ unloaded. absurd unloaded.said) (λ unrun. absurd (layout_unrun unrun.0)) (λ un. absurd un.said) (λ ran. elim ran.filed [ inl all ↦ absurd all.1.2 | inr some ↦ absurd some ]) h
+faulty_of (Some (Resume layout prefix)) entry exit h =
+    by_resume (IsFaultSaid layout entry exit) layout prefix entry exit ending.Layout (λ early. early) (λ unloaded. absurd unloaded.said) (λ unrun. absurd (layout_unrun unrun.0)) (λ un. absurd un.said) (λ ran. elim ran.filed [ inl all ↦ absurd all.1.2 | inr some ↦ absurd some ]) h
 faulty_of (Some (Demo number workers)) entry exit h = demo_said number entry exit h
 faulty_of (Some (Probe told layout from to taps)) entry exit h = probe_said told layout from to taps entry exit h
 faulty_of (Some (Meter log)) entry exit h = meter_said log entry exit h

@@ -9,10 +9,13 @@ pub mod FilesAfterRuns
 pub mod MetersAreTold
 pub mod ProbesAreTold
 pub mod PicturesAreTold
+pub mod StopsAreTold
+pub mod StopsAreLeft
 pub mod FilesInTurn
 pub mod RunEnds
 pub mod ProbeEnds
 pub mod PictureEnds
+pub mod StopEnds
 pub mod TapsOfWords
 pub mod TapTexts
 pub mod DemoTexts
@@ -21,5 +24,6 @@ pub mod OctetsOfNames
 pub mod LinesOfRows
 pub mod LogAmongFiles
 pub mod OnePlan
+pub mod StoppedRunsAreWhole
 pub mod DetectedInTheLog
 pub mod CollisionsAreTold

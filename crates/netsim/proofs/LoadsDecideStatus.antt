@@ -4,6 +4,8 @@ use Rattle.std.specs.Prelude.{IfSome}
 use Rattle.capture_file.specs.declared.entries.Record.{Record}
 use Rattle.capture_file.specs.declared.fault.CaptureFault.{CaptureFault}
 use Rattle.outside.specs.Files.{Files, IsAbsent, Rose}
+use Rattle.outside.specs.declared.memory.File.{File}
+use Rattle.netsim.specs.Runs.{IsSummary, run_files}
 use Rattle.layout.specs.declared.lines.Layout.{Layout}
 use Rattle.layout_file.specs.declared.fault.LayoutFault.{LayoutFault}
 use Rattle.load_files.specs.Loaded.{Loaded, IsLoaded, IsFirstAbsent, Whole, Faulty, Absent, loaded}
@@ -11,12 +13,12 @@ use Rattle.load_plan.specs.declared.plan.Plan.{Plan}
 use Rattle.netsim.specs.declared.endings.Ending.{Ending}
 use Rattle.netsim.specs.declared.endings.Ending.TheVariants as ending
 use Rattle.netsim.specs.Moments.{Moment}
-use Rattle.netsim.specs.Endings.{IsAnswer, IsDemoEnd, IsEndOf, IsMeterEnd, IsPictureEnd, IsPlainEnd, IsProbeEnd, IsTellingEnd, IsJudged, IsEarly, IsLoadFaultSaid, IsUnloadedSaid, IsUnreadSaid, IsUnrun, IsFiledEnd, IsText, status_of}
-use Rattle.program_words.specs.Requests.{Asked, asked, Check, Slack, Plain, Run, Demo, Probe, Meter, Picture, Help, Version}
+use Rattle.netsim.specs.Endings.{IsAnswer, IsDemoEnd, IsEndOf, IsMeterEnd, IsPictureEnd, IsPlainEnd, IsProbeEnd, IsResumeEnd, IsStopEnd, IsTellingEnd, IsJudged, IsEarly, IsLoadFaultSaid, IsUnloadedSaid, IsUnreadSaid, IsUnrun, IsFiledEnd, IsText, status_of}
+use Rattle.program_words.specs.Requests.{Asked, asked, Check, Slack, Plain, Run, Stop, Resume, Demo, Probe, Meter, Picture, Help, Version}
 use Rattle.program_words.specs.declared.words.Hearing.{Hearing}
-use Rattle.netsim.specs.Statuses.{HasAbsentLoad, HasLoadFault, IsDoneOrMemory, IsFaultStatus, IsInputFaultSaid, IsLoadedWith, IsNetworkWith, IsPictureUnreadSaid, IsReadFaultSaid, IsUnhindered, IsUnreadOrMemory}
+use Rattle.netsim.specs.Statuses.{HasAbsentLoad, HasLoadFault, IsDoneOrMemory, IsFaultStatus, IsInputFaultSaid, IsLoadedWith, IsNetworkWith, IsPictureUnreadSaid, IsReadFaultSaid, IsResumeFaultSaid, IsUnhindered, IsUnreadOrMemory}
 use Rattle.netsim.specs.StatusLaws.{AreDemosComplete, AreLoadFaultsSaid, AreReadFaultsSaid, AreTellingsComplete, AreTextsComplete, DoAbsentLoadsDecide, DoLoadFaultsDecide}
-use Rattle.netsim.proofs.EndingsByStatus.{by_demo, by_meter, by_picture, by_probe, by_way, demo_end, end_at, files_end, of_tellings, of_texts}
+use Rattle.netsim.proofs.EndingsByStatus.{by_demo, by_meter, by_picture, by_probe, by_resume, by_stop, by_way, demo_end, end_at, files_end, of_tellings, of_texts, resume_end, stop_end}
 use Rattle.netsim.proofs.LayoutDecidesStatus.{absent_unjudged, good_or_faulty, same_network}
 
 -- some network was judged good, and its loads are these
@@ -80,6 +82,8 @@ module _ (X : ℕ → Loaded → Type 0) (layout : List ℕ) (before after : Mom
   early_known ending.Probe early = absurd early
   early_known ending.Log early = absurd early
   early_known ending.Stranger early = absurd early
+  early_known ending.Unquiet early = absurd early
+  early_known ending.State early = absurd early
 
   pub unloaded_known : (network : Layout) (e : Ending) → IsJudged layout before.held (Ok network) → IsUnloadedSaid network before after e → IfKnown layout before.held (X (status_of e))
   unloaded_known network ending.Done judged said = absurd said
@@ -92,18 +96,38 @@ module _ (X : ℕ → Loaded → Type 0) (layout : List ℕ) (before after : Mom
   unloaded_known network ending.Probe judged said = absurd said
   unloaded_known network ending.Log judged said = absurd said
   unloaded_known network ending.Stranger judged said = absurd said
+  unloaded_known network ending.Unquiet judged said = absurd said
+  unloaded_known network ending.State judged said = absurd said
 
   unrun_known : (e : Ending) → IsUnrun before after e → IfKnown layout before.held (X (status_of e))
   unrun_known e unrun = let six : 6 ≡ status_of e = sym (ap status_of unrun.0) in always layout before.held (X (status_of e)) (λ l. subst (λ n. X n l) six (says.memory l))
 
 -- what an end of a run says, where it is known what it says of a run
 plain_known : (X : ℕ → Loaded → Type 0) (layout prefix : List ℕ) (before after : Moment) (e : Ending) → Says X before.reads after.reads
-    → ((loads : List (List Record)) (plan : Plan) → IsFiledEnd prefix plan before after e → X (status_of e) (Whole loads)) → IsPlainEnd layout prefix before after e
+    → ((loads : List (List Record)) (plan : Plan) → IsFiledEnd (run_files prefix plan) (IsSummary plan) before after e → X (status_of e) (Whole loads)) → IsPlainEnd layout prefix before after e
     → IfKnown layout before.held (X (status_of e))
 plain_known X layout prefix before after e says ran h =
     by_way (IfKnown layout before.held (X (status_of e))) layout prefix before after e (λ early. early_known X layout before after says e early)
     (λ unloaded. unloaded_known X layout before after says unloaded.network e unloaded.judged unloaded.said) (λ unrun. unrun_known X layout before after says e unrun)
     (λ run. known_loads layout before.held run.planned.network (Whole run.planned.is.loads) (X (status_of e)) run.planned.judged run.planned.is.loaded (ran run.planned.is.loads run.plan run.filed)) h
+
+-- what an end of a stop says, where it is known what it says of whole loads
+stop_known : (X : ℕ → Loaded → Type 0) (layout prefix : List ℕ) (from : ℕ) (before after : Moment) (e : Ending) → Says X before.reads after.reads → ((loads : List (List Record)) → X (status_of e) (Whole loads))
+    → IsStopEnd layout prefix from before after e → IfKnown layout before.held (X (status_of e))
+stop_known X layout prefix from before after e says whole h =
+    by_stop (IfKnown layout before.held (X (status_of e))) layout prefix from before after e (λ early. early_known X layout before after says e early)
+    (λ unloaded. unloaded_known X layout before after says unloaded.network e unloaded.judged unloaded.said) (λ unrun. unrun_known X layout before after says e unrun)
+    (λ un. known_loads layout before.held un.planned.network (Whole un.planned.is.loads) (X (status_of e)) un.planned.judged un.planned.is.loaded (whole un.planned.is.loads))
+    (λ ran. known_loads layout before.held ran.planned.network (Whole ran.planned.is.loads) (X (status_of e)) ran.planned.judged ran.planned.is.loaded (whole ran.planned.is.loads)) h
+
+-- what an end of a resume says
+resume_known : (X : ℕ → Loaded → Type 0) (layout prefix : List ℕ) (before after : Moment) (e : Ending) → Says X before.reads after.reads → ((loads : List (List Record)) → X (status_of e) (Whole loads))
+    → IsResumeEnd layout prefix before after e → IfKnown layout before.held (X (status_of e))
+resume_known X layout prefix before after e says whole h =
+    by_resume (IfKnown layout before.held (X (status_of e))) layout prefix before after e (λ early. early_known X layout before after says e early)
+    (λ unloaded. unloaded_known X layout before after says unloaded.network e unloaded.judged unloaded.said) (λ unrun. unrun_known X layout before after says e unrun)
+    (λ un. known_loads layout before.held un.planned.network (Whole un.planned.is.loads) (X (status_of e)) un.planned.judged un.planned.is.loaded (whole un.planned.is.loads))
+    (λ ran. known_loads layout before.held ran.planned.network (Whole ran.planned.is.loads) (X (status_of e)) ran.planned.judged ran.planned.is.loaded (whole ran.planned.is.loads)) h
 
 -- a fault of a load has its status
 abbrev FaultSays : ℕ → ℕ → ℕ → Loaded → Type 0
@@ -130,9 +154,17 @@ whole_or X loads station f is = absurd (cc)
 -- status 3 where a load has a fault
 pub load_faults_decide : DoLoadFaultsDecide
 load_faults_decide words entry exit status answer =
-    rw answer.is (λ layout prefix is. known_fault layout entry.held (status_of answer.by) entry.reads exit.reads
-    (plain_known (FaultSays entry.reads exit.reads) layout prefix entry exit answer.by (fault_says entry.reads exit.reads) (λ loads plan filed station f w. whole_or _ loads station f w)
-    (files_end (asked words) layout prefix entry exit answer.by is answer.allowed)))
+    let X : ℕ → Loaded → Type 0 = FaultSays entry.reads exit.reads in
+    let says : Says X entry.reads exit.reads = fault_says entry.reads exit.reads in
+    let n : ℕ = status_of answer.by in
+    rw answer.is (
+      λ layout prefix is. known_fault layout entry.held n entry.reads exit.reads
+          (plain_known X layout prefix entry exit answer.by says (λ loads plan filed station f w. whole_or _ loads station f w) (files_end (asked words) layout prefix entry exit answer.by is answer.allowed)),
+      λ layout prefix from is. known_fault layout entry.held n entry.reads exit.reads
+          (stop_known X layout prefix from entry exit answer.by says (λ loads station f w. whole_or _ loads station f w) (stop_end (asked words) layout prefix from entry exit answer.by is answer.allowed)),
+      λ layout prefix is. known_fault layout entry.held n entry.reads exit.reads
+          (resume_known X layout prefix entry exit answer.by says (λ loads station f w. whole_or _ loads station f w) (resume_end (asked words) layout prefix entry exit answer.by is answer.allowed)),
+    )
 
 -- a load that isn't held has its status
 abbrev AbsentSays : ℕ → Loaded → Type 0
@@ -157,9 +189,16 @@ whole_absent X loads name is = absurd (cc)
 -- status 4 where a load isn't held
 pub absent_loads_decide : DoAbsentLoadsDecide
 absent_loads_decide words entry exit status answer =
-    rw answer.is (λ layout prefix is. known_missing layout entry.held (status_of answer.by)
-    (plain_known AbsentSays layout prefix entry exit answer.by (absent_says entry.reads exit.reads) (λ loads plan filed name w. whole_absent _ loads name w)
-    (files_end (asked words) layout prefix entry exit answer.by is answer.allowed)))
+    let says : Says AbsentSays entry.reads exit.reads = absent_says entry.reads exit.reads in
+    let n : ℕ = status_of answer.by in
+    rw answer.is (
+      λ layout prefix is. known_missing layout entry.held n
+          (plain_known AbsentSays layout prefix entry exit answer.by says (λ loads plan filed name w. whole_absent _ loads name w) (files_end (asked words) layout prefix entry exit answer.by is answer.allowed)),
+      λ layout prefix from is. known_missing layout entry.held n
+          (stop_known AbsentSays layout prefix from entry exit answer.by says (λ loads name w. whole_absent _ loads name w) (stop_end (asked words) layout prefix from entry exit answer.by is answer.allowed)),
+      λ layout prefix is. known_missing layout entry.held n
+          (resume_known AbsentSays layout prefix entry exit answer.by says (λ loads name w. whole_absent _ loads name w) (resume_end (asked words) layout prefix entry exit answer.by is answer.allowed)),
+    )
 
 -- whole loads, and no fault of the outside
 abbrev WholeSays : ℕ → ℕ → ℕ → ℕ → ℕ → ℕ → ℕ → Loaded → Type 0
@@ -179,24 +218,26 @@ known_whole : (layout : List ℕ) (held : Option Files) (X : Loaded → Type 0) 
 known_whole layout held X files network loads told good is known =
     let all : IfKnown layout (Some files) X = rw told at known in all (Whole loads) (record { network = network; judged = good; is = is })
 
-filed_whole : (prefix : List ℕ) (plan : Plan) (before after : Moment) (e : Ending) → IsFiledEnd prefix plan before after e → ¬ Rose before.writes after.writes → ¬ Rose before.faults after.faults → IsDoneOrMemory (status_of e)
-filed_whole prefix plan before after ending.Done filed w f = inl refl
-filed_whole prefix plan before after ending.Words filed w f = elim filed [ inl all ↦ absurd all.1.2 | inr some ↦ absurd some ]
-filed_whole prefix plan before after ending.Layout filed w f = elim filed [ inl all ↦ absurd all.1.2 | inr some ↦ absurd some ]
-filed_whole prefix plan before after ending.Load filed w f = elim filed [ inl all ↦ absurd all.1.2 | inr some ↦ absurd some ]
-filed_whole prefix plan before after ending.Read filed w f = elim filed [ inl all ↦ absurd all.1.2 | inr some ↦ absurd some ]
-filed_whole prefix plan before after ending.Write filed w f = elim filed [ inl all ↦ absurd (f all.1.2.1) | inr some ↦ absurd (w some.1) ]
-filed_whole prefix plan before after ending.Memory filed w f = inr refl
-filed_whole prefix plan before after ending.Probe filed w f = elim filed [ inl all ↦ absurd all.1.2 | inr some ↦ absurd some ]
-filed_whole prefix plan before after ending.Log filed w f = elim filed [ inl all ↦ absurd all.1.2 | inr some ↦ absurd some ]
-filed_whole prefix plan before after ending.Stranger filed w f = elim filed [ inl all ↦ absurd all.1.2 | inr some ↦ absurd some ]
+pub filed_whole : (files : List File) (IsRight : List ℕ → Type 0) (before after : Moment) (e : Ending) → IsFiledEnd files IsRight before after e → ¬ Rose before.writes after.writes → ¬ Rose before.faults after.faults → IsDoneOrMemory (status_of e)
+filed_whole files IsRight before after ending.Done filed w f = inl refl
+filed_whole files IsRight before after ending.Words filed w f = elim filed [ inl all ↦ absurd all.1.2 | inr some ↦ absurd some ]
+filed_whole files IsRight before after ending.Layout filed w f = elim filed [ inl all ↦ absurd all.1.2 | inr some ↦ absurd some ]
+filed_whole files IsRight before after ending.Load filed w f = elim filed [ inl all ↦ absurd all.1.2 | inr some ↦ absurd some ]
+filed_whole files IsRight before after ending.Read filed w f = elim filed [ inl all ↦ absurd all.1.2 | inr some ↦ absurd some ]
+filed_whole files IsRight before after ending.Write filed w f = elim filed [ inl all ↦ absurd (f all.1.2.1) | inr some ↦ absurd (w some.1) ]
+filed_whole files IsRight before after ending.Memory filed w f = inr refl
+filed_whole files IsRight before after ending.Probe filed w f = elim filed [ inl all ↦ absurd all.1.2 | inr some ↦ absurd some ]
+filed_whole files IsRight before after ending.Log filed w f = elim filed [ inl all ↦ absurd all.1.2 | inr some ↦ absurd some ]
+filed_whole files IsRight before after ending.Stranger filed w f = elim filed [ inl all ↦ absurd all.1.2 | inr some ↦ absurd some ]
+filed_whole files IsRight before after ending.Unquiet filed w f = elim filed [ inl all ↦ absurd all.1.2 | inr some ↦ absurd some ]
+filed_whole files IsRight before after ending.State filed w f = elim filed [ inl all ↦ absurd all.1.2 | inr some ↦ absurd some ]
 
 -- a run that nothing hinders is done
 pub complete : (words : List (List ℕ)) (entry exit : Moment) (status : ℕ) → IsAnswer words entry exit status → IsUnhindered words entry exit → IsDoneOrMemory status
 complete words entry exit status answer free =
     rw answer.is (known_whole free.layout entry.held (WholeSays entry.reads exit.reads entry.writes exit.writes entry.faults exit.faults (status_of answer.by)) free.files free.network free.loads free.told free.judged free.loaded
     (plain_known (WholeSays entry.reads exit.reads entry.writes exit.writes entry.faults exit.faults) free.layout free.prefix entry exit answer.by (whole_says entry.reads exit.reads entry.writes exit.writes entry.faults exit.faults)
-    (λ loads plan filed again is r w f. filed_whole free.prefix plan entry exit answer.by filed w f)
+    (λ loads plan filed again is r w f. filed_whole (run_files free.prefix plan) (IsSummary plan) entry exit answer.by filed w f)
     (files_end (asked words) free.layout free.prefix entry exit answer.by free.asks answer.allowed)) free.loads refl free.reads free.writes free.faults)
 
 abbrev TellingSays : ℕ → ℕ → ℕ → ℕ → ℕ → Loaded → Type 0
@@ -219,6 +260,8 @@ text_whole text before after ending.Memory written never = inr refl
 text_whole text before after ending.Probe written never = absurd written
 text_whole text before after ending.Log written never = absurd written
 text_whole text before after ending.Stranger written never = absurd written
+text_whole text before after ending.Unquiet written never = absurd written
+text_whole text before after ending.State written never = absurd written
 
 early_told : (layout : List ℕ) (before after : Moment) (e : Ending) → IsEarly layout before after e → IfKnown layout before.held (TellingSays before.reads after.reads before.faults after.faults (status_of e))
 early_told layout before after ending.Done early = absurd early
@@ -232,6 +275,8 @@ early_told layout before after ending.Memory early = always layout before.held (
 early_told layout before after ending.Probe early = absurd early
 early_told layout before after ending.Log early = absurd early
 early_told layout before after ending.Stranger early = absurd early
+early_told layout before after ending.Unquiet early = absurd early
+early_told layout before after ending.State early = absurd early
 
 telling_known : (Tells : Layout → List ℕ → Type 0) (layout : List ℕ) (before after : Moment) (e : Ending) → IsTellingEnd Tells layout before after e → IfKnown layout before.held (TellingSays before.reads after.reads before.faults after.faults (status_of e))
 telling_known Tells layout before after e h =
@@ -297,6 +342,10 @@ load_faulty_of (Some (Check layout)) entry exit h = elim h.1 [ inl early ↦ abs
 load_faulty_of (Some (Slack layout)) entry exit h = elim h.1 [ inl early ↦ absurd early | inr checked ↦ absurd checked.written ]
 load_faulty_of (Some (Plain layout prefix)) entry exit h = load_said layout prefix entry exit h
 load_faulty_of (Some (Run layout prefix workers)) entry exit h = load_said layout prefix entry exit h
+load_faulty_of (Some (Stop layout prefix from)) entry exit h =
+    by_stop (IsNetworkWith layout entry.held (λ network. IsLoadFaultSaid network entry exit)) layout prefix from entry exit ending.Load (λ early. absurd early) (λ unloaded. (unloaded.network, unloaded.judged, unloaded.said)) (λ unrun. absurd (load_unrun unrun.0)) (λ un. absurd un.said) (λ ran. elim ran.filed [ inl all ↦ absurd all.1.2 | inr some ↦ absurd some ]) h
+load_faulty_of (Some (Resume layout prefix)) entry exit h =
+    by_resume (IsNetworkWith layout entry.held (λ network. IsLoadFaultSaid network entry exit)) layout prefix entry exit ending.Load (λ early. absurd early) (λ unloaded. (unloaded.network, unloaded.judged, unloaded.said)) (λ unrun. absurd (load_unrun unrun.0)) (λ un. absurd un.said) (λ ran. elim ran.filed [ inl all ↦ absurd all.1.2 | inr some ↦ absurd some ]) h
 load_faulty_of (Some (Demo number workers)) entry exit h = absurd (load_demo number entry exit h)
 load_faulty_of (Some (Probe told layout from to taps)) entry exit h = load_probe told layout from to taps entry exit h
 load_faulty_of (Some (Meter log)) entry exit h = absurd (load_meter log entry exit h)
@@ -335,6 +384,10 @@ unread_of (Some (Check layout)) entry exit h = elim h.1 [ inl early ↦ early | 
 unread_of (Some (Slack layout)) entry exit h = elim h.1 [ inl early ↦ early | inr checked ↦ absurd checked.written ]
 unread_of (Some (Plain layout prefix)) entry exit h = unread_said layout prefix entry exit h
 unread_of (Some (Run layout prefix workers)) entry exit h = unread_said layout prefix entry exit h
+unread_of (Some (Stop layout prefix from)) entry exit h =
+    by_stop (IsInputFaultSaid layout entry exit) layout prefix from entry exit ending.Read (λ early. inl early) (λ unloaded. inr (unloaded.network, unloaded.judged, unloaded.said)) (λ unrun. absurd (read_unrun unrun.0)) (λ un. absurd un.said) (λ ran. elim ran.filed [ inl all ↦ absurd all.1.2 | inr some ↦ absurd some ]) h
+unread_of (Some (Resume layout prefix)) entry exit h =
+    by_resume (IsResumeFaultSaid layout prefix entry exit) layout prefix entry exit ending.Read (λ early. inl (inl early)) (λ unloaded. inl (inr (unloaded.network, unloaded.judged, unloaded.said))) (λ unrun. absurd (read_unrun unrun.0)) (λ un. inr (un.plan, un.planned, un.said)) (λ ran. elim ran.filed [ inl all ↦ absurd all.1.2 | inr some ↦ absurd some ]) h
 unread_of (Some (Demo number workers)) entry exit h = unread_demo number entry exit h
 unread_of (Some (Probe told layout from to taps)) entry exit h = unread_probe told layout from to taps entry exit h
 unread_of (Some (Meter log)) entry exit h = unread_meter log entry exit h

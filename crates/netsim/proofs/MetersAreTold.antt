@@ -14,9 +14,9 @@ use Rattle.netsim.specs.MeterLaws.{AreLogFaultsSaid, AreMetersComplete, AreMeter
 use Rattle.netsim.specs.Meters.{HasLog, HasLogFault, IsFaultOfLog, IsFaultyLog, IsMeterText, IsReadLog}
 use Rattle.netsim.specs.Moments.{Moment}
 use Rattle.netsim.specs.Reading.{front_of}
-use Rattle.program_words.specs.Requests.{Asked, asked, Check, Slack, Plain, Run, Demo, Probe, Meter, Picture, Help, Version}
+use Rattle.program_words.specs.Requests.{Asked, asked, Check, Slack, Plain, Run, Stop, Resume, Demo, Probe, Meter, Picture, Help, Version}
 use Rattle.netsim.specs.Statuses.{IfMeter, IsDoneOrMemory, IsFaultStatus, IsMeterCut, IsMeterDone, IsLogWith, IsUnreadOrMemory}
-use Rattle.netsim.proofs.EndingsByStatus.{by_demo, by_meter, by_picture, by_probe, by_way, end_at, meter_end}
+use Rattle.netsim.proofs.EndingsByStatus.{by_demo, by_meter, by_picture, by_probe, by_resume, by_stop, by_way, end_at, meter_end}
 use Rattle.netsim.proofs.LayoutDecidesStatus.{some_of, unread_status}
 use Rattle.netsim.proofs.LoadsDecideStatus.{text_whole}
 
@@ -62,6 +62,8 @@ module _ (log : List ℕ) (before after : Moment) where
   unmetered_faulty ending.Probe h = absurd h
   unmetered_faulty ending.Log h = some_of before.held _ (λ files has. inl refl)
   unmetered_faulty ending.Stranger h = absurd h
+  unmetered_faulty ending.Unquiet h = absurd h
+  unmetered_faulty ending.State h = absurd h
 
   unmetered_absent : (e : Ending) → IsUnmetered log before after e → IsAbsent log before.held → IsUnreadOrMemory (status_of e)
   unmetered_absent ending.Done h absent = absurd h
@@ -74,6 +76,8 @@ module _ (log : List ℕ) (before after : Moment) where
   unmetered_absent ending.Probe h absent = absurd h
   unmetered_absent ending.Log h absent = absurd (absent_unread log before.held h.1.octets absent h.1.read)
   unmetered_absent ending.Stranger h absent = absurd h
+  unmetered_absent ending.Unquiet h absent = absurd h
+  unmetered_absent ending.State h absent = absurd h
 
 -- status 8 where the log has a fault
 pub log_faults_decide : DoLogFaultsDecide
@@ -105,6 +109,10 @@ log_faulty_of (Some (Plain layout prefix)) entry exit h =
     by_way ⊥ layout prefix entry exit ending.Log (λ early. early) (λ unloaded. unloaded.said) (λ unrun. log_unrun unrun.0) (λ run. elim run.filed [ inl all ↦ all.1.2 | inr some ↦ some ]) h
 log_faulty_of (Some (Run layout prefix workers)) entry exit h =
     by_way ⊥ layout prefix entry exit ending.Log (λ early. early) (λ unloaded. unloaded.said) (λ unrun. log_unrun unrun.0) (λ run. elim run.filed [ inl all ↦ all.1.2 | inr some ↦ some ]) h
+log_faulty_of (Some (Stop layout prefix from)) entry exit h =
+    by_stop ⊥ layout prefix from entry exit ending.Log (λ early. early) (λ unloaded. unloaded.said) (λ unrun. log_unrun unrun.0) (λ un. un.said) (λ ran. elim ran.filed [ inl all ↦ all.1.2 | inr some ↦ some ]) h
+log_faulty_of (Some (Resume layout prefix)) entry exit h =
+    by_resume ⊥ layout prefix entry exit ending.Log (λ early. early) (λ unloaded. unloaded.said) (λ unrun. log_unrun unrun.0) (λ un. un.said) (λ ran. elim ran.filed [ inl all ↦ all.1.2 | inr some ↦ some ]) h
 log_faulty_of (Some (Demo number workers)) entry exit h = by_demo ⊥ number entry exit ending.Log (λ is written. log_unrun is) (λ text right written. written) h
 log_faulty_of (Some (Probe told layout from to taps)) entry exit h =
     by_probe ⊥ told layout from to taps entry exit ending.Log (λ early. early) (λ missed. missed.missed) (λ unprobed. unprobed.said) (λ probed. probed.written) h
@@ -159,6 +167,8 @@ module _ (log : List ℕ) (before after : Moment) where
   unmetered_whole ending.Probe h = absurd h
   unmetered_whole ending.Log h = faulty_whole log before.held h.0 before.reads after.reads before.faults after.faults h.1
   unmetered_whole ending.Stranger h = absurd h
+  unmetered_whole ending.Unquiet h = absurd h
+  unmetered_whole ending.State h = absurd h
 
 -- meter is done where nothing hinders it
 pub meters_are_complete : AreMetersComplete

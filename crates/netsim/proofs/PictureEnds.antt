@@ -1,5 +1,5 @@
 -- The end of a picture, from what was read and what was written.
-use Rattle.std.proofs.Common.{◌≡◌, ℕ, ◌+◌, ◌<◌, ◌≤◌, ◌^◌, Option, Ok, List, [], ◌∷◌, ◌++◌, length, length-append, append_assoc, ap, ap₂, sym, subst, ◌∙◌, inl, inr, arith}
+use Rattle.std.proofs.Common.{◌≡◌, ℕ, ◌<◌, ◌≤◌, ◌^◌, Option, Ok, List, [], ◌∷◌, ◌++◌, length, length-append, append_assoc, ap, ap₂, sym, subst, ◌∙◌, inl, inr, arith}
 use Rattle.std.specs.Prelude.{None, codes}
 use Rattle.log_meter.proofs.WholeLines.{bare_line}
 use Rattle.layout.specs.declared.lines.Layout.{Layout}
@@ -32,6 +32,8 @@ unmetered_before log before mid after ending.Memory read said = rw read.written 
 unmetered_before log before mid after ending.Probe read said = said
 unmetered_before log before mid after ending.Log read said = (said.0, rw read.held at said.1, said_before _ before mid after read said.2)
 unmetered_before log before mid after ending.Stranger read said = said
+unmetered_before log before mid after ending.Unquiet read said = said
+unmetered_before log before mid after ending.State read said = said
 
 -- the log could not be read
 pub picture-unlogged : (layout log : List ℕ) (from to : ℕ) (network : Layout) (before mid after : Moment) (e : Ending) → HasOnlyRead before mid → IsJudged layout before.held (Ok network) → after.held ≡ mid.held → IsUnmetered log mid after e

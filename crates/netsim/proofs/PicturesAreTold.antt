@@ -1,5 +1,5 @@
 -- The status of picture is that of its layout and of its log, and what it leaves.
-use Rattle.std.proofs.Common.{◌≡◌, ◌⊎◌, ℕ, Option, None, Some, Ok, Err, List, refl, sym, subst, inl, inr}
+use Rattle.std.proofs.Common.{◌≡◌, ◌⊎◌, ℕ, Option, None, Some, Ok, Err, List, refl, subst, inl, inr}
 use Rattle.std.specs.Prelude.{IfSome}
 use Rattle.layout.specs.declared.lines.Layout.{Layout}
 use Rattle.layout_file.specs.declared.fault.LayoutFault.{LayoutFault}
@@ -8,18 +8,17 @@ use Rattle.log_meter.specs.Logs.{IsLogOf}
 use Rattle.log_meter.specs.declared.fault.LogFault.{LogFault}
 use Rattle.log_meter.specs.declared.line.LogLine.{LogLine}
 use Rattle.outside.specs.Files.{Files, IsAbsent, Rose}
-use Rattle.program_words.specs.Requests.{Asked, asked, Check, Slack, Plain, Run, Demo, Probe, Meter, Picture, Help, Version}
+use Rattle.program_words.specs.Requests.{Asked, asked, Check, Slack, Plain, Run, Stop, Resume, Demo, Probe, Meter, Picture, Help, Version}
 use Rattle.run_picture.specs.Pictures.{picture_of}
 use Rattle.run_picture.specs.Strangers.{first_stranger}
 use Rattle.netsim.specs.declared.endings.Ending.{Ending}
 use Rattle.netsim.specs.declared.endings.Ending.TheVariants as ending
-use Rattle.netsim.specs.Endings.{ArePictured, IsAnswer, IsDrawn, IsEarly, IsEndOf, IsJudged, IsPictureEnd, IsStrangeEnd, IsUnlogged, IsUnmetered, status_of}
+use Rattle.netsim.specs.Endings.{ArePictured, IsAnswer, IsDrawn, IsEarly, IsEndOf, IsJudged, IsPictureEnd, IsStrangeEnd, IsUnmetered, status_of}
 use Rattle.netsim.specs.Meters.{HasLog, HasLogFault, IsFaultyLog}
 use Rattle.netsim.specs.Moments.{Moment}
 use Rattle.netsim.specs.PictureLaws.{ArePicturesComplete, ArePicturesCutShort, ArePicturesRefused, AreStrangersSaid, DoPicturedAbsentLogsDecide, DoPicturedLogFaultsDecide, DoPicturesKeepFiles, DoStrangersDecide}
 use Rattle.netsim.specs.Statuses.{HasStranger, IfPicture, IsDoneOrMemory, IsFaultStatus, IsNetworkWith, IsPictureCut, IsPictureDone, IsPictureText, IsPictureWith, IsStrangerSaid, IsUnreadOrMemory}
-use Rattle.netsim.specs.Writing.{IsSaid}
-use Rattle.netsim.proofs.EndingsByStatus.{by_demo, by_meter, by_picture, by_probe, by_way, end_at, picture_end}
+use Rattle.netsim.proofs.EndingsByStatus.{by_demo, by_meter, by_picture, by_probe, by_resume, by_stop, by_way, end_at, picture_end}
 use Rattle.netsim.proofs.LayoutDecidesStatus.{absent_unjudged, good_or_faulty, same_network}
 use Rattle.netsim.proofs.LoadsDecideStatus.{text_whole}
 use Rattle.netsim.proofs.MetersAreTold.{absent_faulty, absent_unread, log_or_fault, same_octets}
@@ -111,6 +110,8 @@ module _ (X : ℕ → Layout → Logged → Type 0) (layout log : List ℕ) (bef
   early_logged ending.Probe early = absurd early
   early_logged ending.Log early = absurd early
   early_logged ending.Stranger early = absurd early
+  early_logged ending.Unquiet early = absurd early
+  early_logged ending.State early = absurd early
 
   unmetered_logged : (e : Ending) → IsUnmetered log before after e → IfLogged layout log before.held (X (status_of e))
   unmetered_logged ending.Done said = absurd said
@@ -123,6 +124,8 @@ module _ (X : ℕ → Layout → Logged → Type 0) (layout log : List ℕ) (bef
   unmetered_logged ending.Probe said = absurd said
   unmetered_logged ending.Log said = logged_fault layout log before.held said.0 (X 8) tells.fault said.1
   unmetered_logged ending.Stranger said = absurd said
+  unmetered_logged ending.Unquiet said = absurd said
+  unmetered_logged ending.State said = absurd said
 
   strange_logged : (network : Layout) (lines : List LogLine) (e : Ending) → IsJudged layout before.held (Ok network) → HasLog log before.held lines
       → IsStrangeEnd network lines before.written after.written before.refused after.refused e → IfLogged layout log before.held (X (status_of e))
@@ -136,6 +139,8 @@ module _ (X : ℕ → Layout → Logged → Type 0) (layout log : List ℕ) (bef
   strange_logged network lines ending.Probe judged has said = absurd said
   strange_logged network lines ending.Log judged has said = absurd said
   strange_logged network lines ending.Stranger judged has said = logged_lines layout log before.held network lines (X 11) judged has (tells.strange network lines said.0 said.1)
+  strange_logged network lines ending.Unquiet judged has said = absurd said
+  strange_logged network lines ending.State judged has said = absurd said
 
   -- what an end of a picture says, where it is known what it says of one that is drawn
   picture_known : (from to : ℕ) (e : Ending)
@@ -316,6 +321,10 @@ stranger_said_of (Some (Plain layout prefix)) entry exit h =
     by_way ⊥ layout prefix entry exit ending.Stranger (λ early. early) (λ unloaded. unloaded.said) (λ unrun. strange_unrun unrun.0) (λ run. elim run.filed [ inl all ↦ all.1.2 | inr some ↦ some ]) h
 stranger_said_of (Some (Run layout prefix workers)) entry exit h =
     by_way ⊥ layout prefix entry exit ending.Stranger (λ early. early) (λ unloaded. unloaded.said) (λ unrun. strange_unrun unrun.0) (λ run. elim run.filed [ inl all ↦ all.1.2 | inr some ↦ some ]) h
+stranger_said_of (Some (Stop layout prefix from)) entry exit h =
+    by_stop ⊥ layout prefix from entry exit ending.Stranger (λ early. early) (λ unloaded. unloaded.said) (λ unrun. strange_unrun unrun.0) (λ un. un.said) (λ ran. elim ran.filed [ inl all ↦ all.1.2 | inr some ↦ some ]) h
+stranger_said_of (Some (Resume layout prefix)) entry exit h =
+    by_resume ⊥ layout prefix entry exit ending.Stranger (λ early. early) (λ unloaded. unloaded.said) (λ unrun. strange_unrun unrun.0) (λ un. un.said) (λ ran. elim ran.filed [ inl all ↦ all.1.2 | inr some ↦ some ]) h
 stranger_said_of (Some (Demo number workers)) entry exit h = by_demo ⊥ number entry exit ending.Stranger (λ is written. strange_unrun is) (λ text right written. written) h
 stranger_said_of (Some (Probe told layout from to taps)) entry exit h =
     by_probe ⊥ told layout from to taps entry exit ending.Stranger (λ early. early) (λ missed. missed.missed) (λ unprobed. unprobed.said) (λ probed. probed.written) h

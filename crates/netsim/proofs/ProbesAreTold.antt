@@ -15,10 +15,10 @@ use Rattle.netsim.specs.Endings.{IsAimEnd, IsAnswer, IsEarly, IsEndOf, IsJudged,
 use Rattle.netsim.specs.Moments.{Moment}
 use Rattle.netsim.specs.ProbeLaws.{AreMissesSaid, AreProbesComplete, AreProbesCutShort, AreProbesRefused, DoMissesDecide, DoProbedAbsentLoadsDecide, DoProbedLoadFaultsDecide, DoProbesKeepFiles}
 use Rattle.netsim.specs.Probes.{AreTapsOf, HasAim, HasNoAim}
-use Rattle.program_words.specs.Requests.{Asked, asked, Check, Slack, Plain, Run, Demo, Probe, Meter, Picture, Help, Version}
+use Rattle.program_words.specs.Requests.{Asked, asked, Check, Slack, Plain, Run, Stop, Resume, Demo, Probe, Meter, Picture, Help, Version}
 use Rattle.program_words.specs.declared.words.Hearing.{Hearing}
 use Rattle.netsim.specs.Statuses.{IfHeard, IsDoneOrMemory, IsFaultStatus, IsMissSaid, IsNetworkWith, IsProbeCut, IsProbeDone, IsProbeWith, IsUnreadOrMemory}
-use Rattle.netsim.proofs.EndingsByStatus.{by_demo, by_meter, by_picture, by_probe, by_way, end_at, probe_end}
+use Rattle.netsim.proofs.EndingsByStatus.{by_demo, by_meter, by_picture, by_probe, by_resume, by_stop, by_way, end_at, probe_end}
 use Rattle.netsim.proofs.LayoutDecidesStatus.{absent_unjudged, good_or_faulty, same_network, some_of, unread_status}
 use Rattle.netsim.proofs.LoadsDecideStatus.{IfKnown, IsKnown, Says, absent_says, early_known, fault_says, known_loads, text_whole, unloaded_known}
 
@@ -51,6 +51,8 @@ missed_of network to taps written now refused risen ending.Memory h = inr refl
 missed_of network to taps written now refused risen ending.Probe h = inl (elim h.1 [ inl unknown ↦ inl (unknown.0, unknown.1) | inr past ↦ inr past.2 ])
 missed_of network to taps written now refused risen ending.Log h = absurd h
 missed_of network to taps written now refused risen ending.Stranger h = absurd h
+missed_of network to taps written now refused risen ending.Unquiet h = absurd h
+missed_of network to taps written now refused risen ending.State h = absurd h
 
 missed_status : (network : Layout) (to : ℕ) (taps : List (List ℕ)) (written now : Option (List ℕ)) (refused risen : ℕ) (e : Ending) → IsAimEnd network to taps written now refused risen e → (status_of e ≡ 7) ⊎ (status_of e ≡ 6)
 missed_status network to taps written now refused risen ending.Done h = absurd h
@@ -63,6 +65,8 @@ missed_status network to taps written now refused risen ending.Memory h = inr re
 missed_status network to taps written now refused risen ending.Probe h = inl refl
 missed_status network to taps written now refused risen ending.Log h = absurd h
 missed_status network to taps written now refused risen ending.Stranger h = absurd h
+missed_status network to taps written now refused risen ending.Unquiet h = absurd h
+missed_status network to taps written now refused risen ending.State h = absurd h
 
 -- this network was judged good and misses something
 abbrev IsMissing : List ℕ → ℕ → List (List ℕ) → Files → Type 0
@@ -94,6 +98,8 @@ module _ (layout : List ℕ) (to : ℕ) (taps : List (List ℕ)) (before after :
   early_missing ending.Probe early = absurd early
   early_missing ending.Log early = absurd early
   early_missing ending.Stranger early = absurd early
+  early_missing ending.Unquiet early = absurd early
+  early_missing ending.State early = absurd early
 
   missed_missing : (e : Ending) → IsMissed layout to taps before after e → IfSome before.held (λ files. IsMissing layout to taps files → IsFaultStatus 7 (status_of e) before.reads after.reads)
   missed_missing e missed =
@@ -130,6 +136,10 @@ missed_said_of (Some (Plain layout prefix)) entry exit h =
     by_way ⊥ layout prefix entry exit ending.Probe (λ early. early) (λ unloaded. unloaded.said) (λ unrun. probe_unrun unrun.0) (λ run. elim run.filed [ inl all ↦ all.1.2 | inr some ↦ some ]) h
 missed_said_of (Some (Run layout prefix workers)) entry exit h =
     by_way ⊥ layout prefix entry exit ending.Probe (λ early. early) (λ unloaded. unloaded.said) (λ unrun. probe_unrun unrun.0) (λ run. elim run.filed [ inl all ↦ all.1.2 | inr some ↦ some ]) h
+missed_said_of (Some (Stop layout prefix from)) entry exit h =
+    by_stop ⊥ layout prefix from entry exit ending.Probe (λ early. early) (λ unloaded. unloaded.said) (λ unrun. probe_unrun unrun.0) (λ un. un.said) (λ ran. elim ran.filed [ inl all ↦ all.1.2 | inr some ↦ some ]) h
+missed_said_of (Some (Resume layout prefix)) entry exit h =
+    by_resume ⊥ layout prefix entry exit ending.Probe (λ early. early) (λ unloaded. unloaded.said) (λ unrun. probe_unrun unrun.0) (λ un. un.said) (λ ran. elim ran.filed [ inl all ↦ all.1.2 | inr some ↦ some ]) h
 missed_said_of (Some (Demo number workers)) entry exit h = by_demo ⊥ number entry exit ending.Probe (λ is written. probe_unrun is) (λ text right written. written) h
 missed_said_of (Some (Probe told layout from to taps)) entry exit h =
     by_probe (IsNetworkWith layout entry.held (λ network. IsMissSaid network to taps entry exit)) told layout from to taps entry exit ending.Probe (λ early. absurd early) (λ missed. (missed.network, missed.judged, missed.missed))

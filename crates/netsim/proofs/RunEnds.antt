@@ -3,6 +3,7 @@ use Rattle.std.proofs.Common.{◌≡◌, ℕ, ◌≤◌, Option, Result, Ok, Err
 use Rattle.layout.specs.declared.lines.Layout.{Layout}
 use Rattle.load_plan.specs.declared.plan.Plan.{Plan}
 use Rattle.outside.specs.Files.{Files, Rose}
+use Rattle.outside.specs.declared.memory.File.{File}
 use Rattle.netsim.specs.declared.endings.Ending.{Ending}
 use Rattle.netsim.specs.declared.endings.Ending.TheVariants as ending
 use Rattle.netsim.specs.Moments.{Moment}
@@ -10,57 +11,61 @@ use Rattle.netsim.specs.Endings.{IsBeforeRun, IsJudged, IsFiledEnd, IsFileEnd, I
 use Rattle.netsim.specs.Writing.{put_all, IsBrokenAmong, IsSaid}
 use Rattle.netsim.specs.Runs.{IsPlanOf, IsSummary, run_files}
 
--- the files are whole, and the summary was written
-pub run-filed : (plan : Plan) (prefix : List ℕ) (before after : Moment) (e : Ending) (summary text : List ℕ) → after.held ≡ put_all (run_files prefix plan) before.held → IsSummary plan summary → text ≡ summary
-    → IsText text before.written after.written before.faults after.faults e → IsRunEnd plan prefix before after e
-run-filed plan prefix before after e summary text held right is written = inr (inl (held, (summary, right, rw is at written)))
+-- the files are whole, and the text was written
+pub run-filed : (files : List File) (IsRight : List ℕ → Type 0) (before after : Moment) (e : Ending) (right text : List ℕ) → after.held ≡ put_all files before.held → IsRight right → text ≡ right
+    → IsText text before.written after.written before.faults after.faults e → IsRunEnd files IsRight before after e
+run-filed files IsRight before after e right text held summed is written = inr (inl (held, (right, summed, rw is at written)))
 
-unfiled_by : (prefix : List ℕ) (plan : Plan) (before after : Moment) (e : Ending) → IsBrokenAmong (run_files prefix plan) before.held after.held → IsFileEnd before.writes after.writes e → after.written ≡ before.written → IsUnfiled prefix plan before after e
-unfiled_by prefix plan before after ending.Done broken end silent = absurd end
-unfiled_by prefix plan before after ending.Words broken end silent = absurd end
-unfiled_by prefix plan before after ending.Layout broken end silent = absurd end
-unfiled_by prefix plan before after ending.Load broken end silent = absurd end
-unfiled_by prefix plan before after ending.Read broken end silent = absurd end
-unfiled_by prefix plan before after ending.Write broken end silent = (broken, end, silent)
-unfiled_by prefix plan before after ending.Memory broken end silent = (broken, silent)
-unfiled_by prefix plan before after ending.Probe broken end silent = absurd end
-unfiled_by prefix plan before after ending.Log broken end silent = absurd end
-unfiled_by prefix plan before after ending.Stranger broken end silent = absurd end
+unfiled_by : (files : List File) (before after : Moment) (e : Ending) → IsBrokenAmong files before.held after.held → IsFileEnd before.writes after.writes e → after.written ≡ before.written → IsUnfiled files before after e
+unfiled_by files before after ending.Done broken end silent = absurd end
+unfiled_by files before after ending.Words broken end silent = absurd end
+unfiled_by files before after ending.Layout broken end silent = absurd end
+unfiled_by files before after ending.Load broken end silent = absurd end
+unfiled_by files before after ending.Read broken end silent = absurd end
+unfiled_by files before after ending.Write broken end silent = (broken, end, silent)
+unfiled_by files before after ending.Memory broken end silent = (broken, silent)
+unfiled_by files before after ending.Probe broken end silent = absurd end
+unfiled_by files before after ending.Log broken end silent = absurd end
+unfiled_by files before after ending.Stranger broken end silent = absurd end
+unfiled_by files before after ending.Unquiet broken end silent = absurd end
+unfiled_by files before after ending.State broken end silent = absurd end
 
 -- a file could not be written
-pub run-unfiled : (plan : Plan) (prefix : List ℕ) (before after : Moment) (e : Ending) → IsBrokenAmong (run_files prefix plan) before.held after.held → IsFileEnd before.writes after.writes e → after.written ≡ before.written
-    → IsRunEnd plan prefix before after e
-run-unfiled plan prefix before after e broken end silent = inr (inr (unfiled_by prefix plan before after e broken end silent))
+pub run-unfiled : (files : List File) (IsRight : List ℕ → Type 0) (before after : Moment) (e : Ending) → IsBrokenAmong files before.held after.held → IsFileEnd before.writes after.writes e → after.written ≡ before.written
+    → IsRunEnd files IsRight before after e
+run-unfiled files IsRight before after e broken end silent = inr (inr (unfiled_by files before after e broken end silent))
 
 pub rose-before : (a b c : ℕ) → a ≤ b → Rose b c → Rose a c
 rose-before a b c le rose = omega (arith, le, rose)
 
-unfiled_before : (prefix : List ℕ) (plan : Plan) (before mid after : Moment) (e : Ending) → HasOnlyRead before mid → IsUnfiled prefix plan mid after e → IsUnfiled prefix plan before after e
-unfiled_before prefix plan before mid after ending.Done read un = un
-unfiled_before prefix plan before mid after ending.Words read un = un
-unfiled_before prefix plan before mid after ending.Layout read un = un
-unfiled_before prefix plan before mid after ending.Load read un = un
-unfiled_before prefix plan before mid after ending.Read read un = un
-unfiled_before prefix plan before mid after ending.Write read un =
+unfiled_before : (files : List File) (before mid after : Moment) (e : Ending) → HasOnlyRead before mid → IsUnfiled files mid after e → IsUnfiled files before after e
+unfiled_before files before mid after ending.Done read un = un
+unfiled_before files before mid after ending.Words read un = un
+unfiled_before files before mid after ending.Layout read un = un
+unfiled_before files before mid after ending.Load read un = un
+unfiled_before files before mid after ending.Read read un = un
+unfiled_before files before mid after ending.Write read un =
     (rw read.held at un.0, rose-before before.writes mid.writes after.writes read.writes un.1, rw read.written at un.2)
-unfiled_before prefix plan before mid after ending.Memory read un = (rw read.held at un.0, rw read.written at un.1)
-unfiled_before prefix plan before mid after ending.Probe read un = un
-unfiled_before prefix plan before mid after ending.Log read un = un
-unfiled_before prefix plan before mid after ending.Stranger read un = un
+unfiled_before files before mid after ending.Memory read un = (rw read.held at un.0, rw read.written at un.1)
+unfiled_before files before mid after ending.Probe read un = un
+unfiled_before files before mid after ending.Log read un = un
+unfiled_before files before mid after ending.Stranger read un = un
+unfiled_before files before mid after ending.Unquiet read un = un
+unfiled_before files before mid after ending.State read un = un
 
-filed_before : (prefix : List ℕ) (plan : Plan) (before mid after : Moment) (e : Ending) → HasOnlyRead before mid → IsFiledEnd prefix plan mid after e → IsFiledEnd prefix plan before after e
-filed_before prefix plan before mid after e read filed =
+pub filed_before : (files : List File) (IsRight : List ℕ → Type 0) (before mid after : Moment) (e : Ending) → HasOnlyRead before mid → IsFiledEnd files IsRight mid after e → IsFiledEnd files IsRight before after e
+filed_before files IsRight before mid after e read filed =
     elim filed [
       | inl all ↦ inl (rw read.held at all.0, (all.1.0, all.1.1, rw (read.written, read.faults) at all.1.2))
-      | inr un ↦ inr (unfiled_before prefix plan before mid after e read un)
+      | inr un ↦ inr (unfiled_before files before mid after e read un)
     ]
 
 -- the run of the plan of a layout that was read with its loads
-pub plain-ran : (layout prefix : List ℕ) (plan : Plan) (before mid after : Moment) (e : Ending) → HasOnlyRead before mid → IsPlanned layout before.held plan → IsRunEnd plan prefix mid after e → IsPlainEnd layout prefix before after e
+pub plain-ran : (layout prefix : List ℕ) (plan : Plan) (before mid after : Moment) (e : Ending) → HasOnlyRead before mid → IsPlanned layout before.held plan → IsRunEnd (run_files prefix plan) (IsSummary plan) mid after e → IsPlainEnd layout prefix before after e
 plain-ran layout prefix plan before mid after e read planned end =
     elim end [
       | inl unrun ↦ inl (inr (inr (unrun.0, rw read.held at unrun.1, rw read.written at unrun.2)))
-      | inr filed ↦ inr (record { plan = plan; planned = planned; filed = filed_before prefix plan before mid after e read filed })
+      | inr filed ↦ inr (record { plan = plan; planned = planned; filed = filed_before (run_files prefix plan) (IsSummary plan) before mid after e read filed })
     ]
 
 pub said_before : (line : List ℕ) (before mid after : Moment) → HasOnlyRead before mid → IsSaid line mid.written after.written mid.refused after.refused → IsSaid line before.written after.written before.refused after.refused
@@ -85,6 +90,8 @@ unloaded_before network before mid after ending.Memory read said = rw read.writt
 unloaded_before network before mid after ending.Probe read said = said
 unloaded_before network before mid after ending.Log read said = said
 unloaded_before network before mid after ending.Stranger read said = said
+unloaded_before network before mid after ending.Unquiet read said = said
+unloaded_before network before mid after ending.State read said = said
 
 -- the loads of a layout could not be read
 pub plan-unloaded : (layout : List ℕ) (network : Layout) (before mid after : Moment) (e : Ending) → HasOnlyRead before mid → IsJudged layout before.held (Ok network) → after.held ≡ mid.held → IsUnloadedSaid network mid after e

@@ -1,7 +1,12 @@
 -- How a call ends (profile).
 use Rattle.std.specs.Prelude.{◌≡◌, ◌≤◌, ◌⊎◌, ℕ, ◌-◌, List, Option, None, Some, option_map, slice_get, Result, Ok, Err}
 use Rattle.capture_file.specs.declared.fault.CaptureFault.{CaptureFault}
+use Rattle.net_step.specs.Stops.{HasNoQuiet, IsFirstQuiet}
 use Rattle.outside.specs.Files.{Files, IsAbsent, Rose}
+use Rattle.outside.specs.declared.memory.File.{File}
+use Rattle.quiet_state.specs.declared.state.NetState.{NetState}
+use Rattle.run_checkpoint.specs.Faults.{line_of_state_with}
+use Rattle.run_checkpoint.specs.declared.fault.StateFault.{StateFault}
 use Rattle.layout_file.specs.Faults.{judged}
 use Rattle.layout.specs.declared.lines.Layout.{Layout}
 use Rattle.layout.specs.declared.lines.StationLine.{StationLine}
@@ -17,19 +22,20 @@ use Rattle.netsim.specs.FileLimits.{most_layout}
 use Rattle.netsim.specs.Reading.{front_of}
 use Rattle.netsim.specs.Writing.{put_all, added, IsBrokenAmong, IsSaid, IsCutShort}
 use Rattle.netsim.specs.Moments.{Moment}
+use Rattle.netsim.specs.CheckpointFiles.{HasState, IsStateFaulty}
 use Rattle.netsim.specs.Demos.{IsDemoText}
 use Rattle.netsim.specs.Meters.{HasLog, HasLogFault, IsMeterText}
 use Rattle.netsim.specs.Probes.{AreTapsOf, HasAim, IsMissLine}
 use Rattle.program_texts.specs.HeardTexts.{IsTextOfTaps}
-use Rattle.program_words.specs.Requests.{Asked, asked, Check, Slack, Plain, Run, Demo, Probe, Meter, Picture, Help, Version}
+use Rattle.program_words.specs.Requests.{Asked, asked, Check, Slack, Plain, Run, Stop, Resume, Demo, Probe, Meter, Picture, Help, Version}
 use Rattle.program_words.specs.declared.words.Hearing.{Hearing}
 use Rattle.program_words.specs.declared.words.Hearing.TheVariants as hearing
-use Rattle.netsim.specs.Runs.{IsPlanOf, run_files, IsSummary}
+use Rattle.netsim.specs.Runs.{IsPlanOf, IsResumedSummary, IsStopLine, IsSummary, resumed_files, run_files, state_files}
 use Rattle.run_picture.specs.Pictures.{picture_of}
 use Rattle.run_picture.specs.Strangers.{first_stranger}
 use Rattle.wave_dump.specs.Heard.{waves_of_plan}
 use Rattle.program_texts.specs.SlackTexts.{IsSlackText}
-use Rattle.program_texts.specs.Texts.{line_of_words_fault, line_of_fault, line_of_load_fault, line_of_read_fault, line_of_stranger}
+use Rattle.program_texts.specs.Texts.{line_of_words_fault, line_of_fault, line_of_load_fault, line_of_no_quiet, line_of_read_fault, line_of_stranger, name_of_state}
 use Rattle.program_texts.specs.Verdicts.{IsVerdictLine}
 use Rattle.netsim.specs.declared.endings.Ending.{Ending}
 use Rattle.netsim.specs.declared.endings.Ending.TheVariants as ending
@@ -91,6 +97,8 @@ IsEarly name before after ending.Memory = after.written ≡ before.written
 IsEarly name before after ending.Probe = ⊥
 IsEarly name before after ending.Log = ⊥
 IsEarly name before after ending.Stranger = ⊥
+IsEarly name before after ending.Unquiet = ⊥
+IsEarly name before after ending.State = ⊥
 
 -- what is said of the load of a station, from 0, with a fault: its line, and nothing without memory; the last two
 -- numbers count what the sink refused
@@ -122,6 +130,8 @@ IsUnloadedSaid network before after ending.Memory = after.written ≡ before.wri
 IsUnloadedSaid network before after ending.Probe = ⊥
 IsUnloadedSaid network before after ending.Log = ⊥
 IsUnloadedSaid network before after ending.Stranger = ⊥
+IsUnloadedSaid network before after ending.Unquiet = ⊥
+IsUnloadedSaid network before after ending.State = ⊥
 
 -- the call ended before the loads of a layout without fault were read
 pub record IsLoadEnd (layout : List ℕ) (before after : Moment) (e : Ending) : Type 0 where
@@ -141,28 +151,31 @@ IsText text written now faults risen ending.Memory = IsCutShort text written now
 IsText text written now faults risen ending.Probe = ⊥
 IsText text written now faults risen ending.Log = ⊥
 IsText text written now faults risen ending.Stranger = ⊥
+IsText text written now faults risen ending.Unquiet = ⊥
+IsText text written now faults risen ending.State = ⊥
 
--- all files of a plan's run are whole; the summary was written, or a front of it
-abbrev pub AreFiled : List ℕ → Plan → Moment → Moment → Ending → Type 0
-AreFiled prefix plan before after e =
-    (after.held ≡ put_all (run_files prefix plan) before.held)
-    × ((text : List ℕ) × IsSummary plan text × IsText text before.written after.written before.faults after.faults e)
+-- all these files are whole; a text that is right was written, or a front of it
+abbrev pub AreFiled : List File → (List ℕ → Type 0) → Moment → Moment → Ending → Type 0
+AreFiled files IsRight before after e =
+    (after.held ≡ put_all files before.held)
+    × ((text : List ℕ) × IsRight text × IsText text before.written after.written before.faults after.faults e)
 
--- a file could not be written, or there was no memory for it; nothing was said
-abbrev pub IsUnfiled : List ℕ → Plan → Moment → Moment → Ending → Type 0
-IsUnfiled prefix plan before after ending.Done = ⊥
-IsUnfiled prefix plan before after ending.Words = ⊥
-IsUnfiled prefix plan before after ending.Layout = ⊥
-IsUnfiled prefix plan before after ending.Load = ⊥
-IsUnfiled prefix plan before after ending.Read = ⊥
-IsUnfiled prefix plan before after ending.Write =
-    IsBrokenAmong (run_files prefix plan) before.held after.held × Rose before.writes after.writes
-    × (after.written ≡ before.written)
-IsUnfiled prefix plan before after ending.Memory =
-    IsBrokenAmong (run_files prefix plan) before.held after.held × (after.written ≡ before.written)
-IsUnfiled prefix plan before after ending.Probe = ⊥
-IsUnfiled prefix plan before after ending.Log = ⊥
-IsUnfiled prefix plan before after ending.Stranger = ⊥
+-- one of these files could not be written, or there was no memory for it; nothing was said
+abbrev pub IsUnfiled : List File → Moment → Moment → Ending → Type 0
+IsUnfiled files before after ending.Done = ⊥
+IsUnfiled files before after ending.Words = ⊥
+IsUnfiled files before after ending.Layout = ⊥
+IsUnfiled files before after ending.Load = ⊥
+IsUnfiled files before after ending.Read = ⊥
+IsUnfiled files before after ending.Write =
+    IsBrokenAmong files before.held after.held × Rose before.writes after.writes × (after.written ≡ before.written)
+IsUnfiled files before after ending.Memory =
+    IsBrokenAmong files before.held after.held × (after.written ≡ before.written)
+IsUnfiled files before after ending.Probe = ⊥
+IsUnfiled files before after ending.Log = ⊥
+IsUnfiled files before after ending.Stranger = ⊥
+IsUnfiled files before after ending.Unquiet = ⊥
+IsUnfiled files before after ending.State = ⊥
 
 -- a file could not be written: a write to the store failed, or there was no memory
 abbrev pub IsFileEnd : ℕ → ℕ → Ending → Type 0
@@ -189,19 +202,20 @@ pub record IsPlanned (layout : List ℕ) (held : Option Files) (plan : Plan) : T
   pub judged : IsJudged layout held (Ok network)
   pub is : IsPlanOf held network plan
 
--- the files of a plan's run were written, or some of them were
-abbrev pub IsFiledEnd : List ℕ → Plan → Moment → Moment → Ending → Type 0
-IsFiledEnd prefix plan before after e = AreFiled prefix plan before after e ⊎ IsUnfiled prefix plan before after e
+-- these files were written, and a text that is right, or some of them were
+abbrev pub IsFiledEnd : List File → (List ℕ → Type 0) → Moment → Moment → Ending → Type 0
+IsFiledEnd files IsRight before after e =
+    AreFiled files IsRight before after e ⊎ IsUnfiled files before after e
 
--- the end of a plan's run
-abbrev pub IsRunEnd : Plan → List ℕ → Moment → Moment → Ending → Type 0
-IsRunEnd plan prefix before after e = IsUnrun before after e ⊎ IsFiledEnd prefix plan before after e
+-- the end of what writes these files and such a text; or there was no memory to begin them
+abbrev pub IsRunEnd : List File → (List ℕ → Type 0) → Moment → Moment → Ending → Type 0
+IsRunEnd files IsRight before after e = IsUnrun before after e ⊎ IsFiledEnd files IsRight before after e
 
 -- the layout and its loads have no fault, and its network was run
 pub record IsRun (layout prefix : List ℕ) (before after : Moment) (e : Ending) : Type 0 where
   pub plan : Plan
   pub planned : IsPlanned layout before.held plan
-  pub filed : IsFiledEnd prefix plan before after e
+  pub filed : IsFiledEnd (run_files prefix plan) (IsSummary plan) before after e
 
 -- the call ended before the network of a layout was run
 abbrev pub IsBeforeRun : List ℕ → Moment → Moment → Ending → Type 0
@@ -213,6 +227,66 @@ IsBeforeRun layout before after e =
 -- the end of the form plain LAYOUT PREFIX, and of run LAYOUT PREFIX WORKERS for any number of workers
 abbrev pub IsPlainEnd : List ℕ → List ℕ → Moment → Moment → Ending → Type 0
 IsPlainEnd layout prefix before after e = IsBeforeRun layout before after e ⊎ IsRun layout prefix before after e
+
+-- what is said of a run that has no quiet half bit at or after the one that was asked for
+abbrev pub IsUnquietEnd : Moment → Moment → Ending → Type 0
+IsUnquietEnd before after ending.Unquiet = Says line_of_no_quiet before after
+IsUnquietEnd before after _ = ⊥
+
+-- the layout and its loads have no fault, its run has no quiet half bit at or after this one, and that was said
+pub record IsUnstopped (layout : List ℕ) (from : ℕ) (before after : Moment) (e : Ending) : Type 0 where
+  pub plan : Plan
+  pub planned : IsPlanned layout before.held plan
+  pub never : HasNoQuiet plan from
+  pub said : IsUnquietEnd before after e
+  pub held : after.held ≡ before.held
+
+-- the layout and its loads have no fault, and its network was run to the first quiet half bit at or after this one
+pub record HasStopped (layout prefix : List ℕ) (from : ℕ) (before after : Moment) (e : Ending) : Type 0 where
+  pub plan : Plan
+  pub planned : IsPlanned layout before.held plan
+  pub t : ℕ
+  pub first : IsFirstQuiet plan from t
+  pub filed : IsFiledEnd (state_files prefix plan t) (IsStopLine t) before after e
+
+-- the end of the form stop LAYOUT PREFIX FROM
+abbrev pub IsStopEnd : List ℕ → List ℕ → ℕ → Moment → Moment → Ending → Type 0
+IsStopEnd layout prefix from before after e =
+    IsBeforeRun layout before after e ⊎ IsUnstopped layout from before after e
+    ⊎ HasStopped layout prefix from before after e
+
+-- the file of a state has a fault, and its line was said
+abbrev pub IsStateFaultSaid : Plan → List ℕ → Moment → Moment → Type 0
+IsStateFaultSaid plan name before after =
+    (fault : StateFault) × IsStateFaulty plan name before.held fault × Says (line_of_state_with fault) before after
+
+-- the call ended before a state of a plan was read from this file
+abbrev pub IsUnstated : Plan → List ℕ → Moment → Moment → Ending → Type 0
+IsUnstated plan name before after ending.State = IsStateFaultSaid plan name before after
+IsUnstated plan name before after ending.Read = IsUnreadSaid name before after
+IsUnstated plan name before after ending.Memory = after.written ≡ before.written
+IsUnstated plan name before after _ = ⊥
+
+-- the layout and its loads have no fault, and the call ended before a state of its run was read
+pub record IsUnresumed (layout prefix : List ℕ) (before after : Moment) (e : Ending) : Type 0 where
+  pub plan : Plan
+  pub planned : IsPlanned layout before.held plan
+  pub said : IsUnstated plan (name_of_state prefix) before after e
+  pub held : after.held ≡ before.held
+
+-- the layout, its loads and the state of its run have no fault, and its network went on from that state
+pub record HasResumed (layout prefix : List ℕ) (before after : Moment) (e : Ending) : Type 0 where
+  pub plan : Plan
+  pub planned : IsPlanned layout before.held plan
+  pub state : NetState
+  pub read : HasState plan (name_of_state prefix) before.held state
+  pub filed : IsFiledEnd (resumed_files prefix plan state) (IsResumedSummary plan state) before after e
+
+-- the end of the form resume LAYOUT PREFIX
+abbrev pub IsResumeEnd : List ℕ → List ℕ → Moment → Moment → Ending → Type 0
+IsResumeEnd layout prefix before after e =
+    IsBeforeRun layout before after e ⊎ IsUnresumed layout prefix before after e
+    ⊎ HasResumed layout prefix before after e
 
 -- the layout has no fault, and a text that tells this of its network was written, or a front of it
 pub record IsTold (Tells : Layout → List ℕ → Type 0) (layout : List ℕ) (before after : Moment)
@@ -403,6 +477,8 @@ IsEndOf (Some (Check layout)) before after e = IsCheckEnd layout before after e
 IsEndOf (Some (Slack layout)) before after e = IsSlackEnd layout before after e
 IsEndOf (Some (Plain layout prefix)) before after e = IsPlainEnd layout prefix before after e
 IsEndOf (Some (Run layout prefix workers)) before after e = IsPlainEnd layout prefix before after e
+IsEndOf (Some (Stop layout prefix from)) before after e = IsStopEnd layout prefix from before after e
+IsEndOf (Some (Resume layout prefix)) before after e = IsResumeEnd layout prefix before after e
 IsEndOf (Some (Demo number workers)) before after e = IsDemoEnd number before after e
 IsEndOf (Some (Probe told layout from to words)) before after e = IsProbeEnd told layout from to words before after e
 IsEndOf (Some (Meter log)) before after e = IsMeterEnd log before after e
@@ -426,6 +502,8 @@ status_of ending.Memory = 6
 status_of ending.Probe = 7
 status_of ending.Log = 8
 status_of ending.Stranger = 11
+status_of ending.Unquiet = 9
+status_of ending.State = 10
 
 -- the status is that of an ending which these words allow between entry and exit
 pub record IsAnswer (words : List (List ℕ)) (entry exit : Moment) (status : ℕ) : Type 0 where

@@ -6,11 +6,13 @@ pub mod Runs
 pub mod Demos
 pub mod Meters
 pub mod Probes
+pub mod CheckpointFiles
 pub mod Endings
 pub mod Statuses
 pub mod StatusLaws
 pub mod MeterLaws
 pub mod ProbeLaws
 pub mod PictureLaws
+pub mod StopLaws
 pub mod LoggedCollisions
 pub mod LogLaws

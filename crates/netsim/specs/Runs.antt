@@ -1,6 +1,7 @@
 -- The plan of a layout and its loads, and what its run leaves (profile).
 use Rattle.std.specs.Prelude.{◌≡◌, ℕ, List, [], ◌∷◌, ◌++◌, Option}
 use Rattle.capture_file.specs.declared.entries.Record.{Record}
+use Rattle.collision_log.specs.declared.row.Row.{Row}
 use Rattle.layout.specs.declared.lines.Layout.{Layout}
 use Rattle.layout.specs.declared.lines.StationLine.{StationLine}
 use Rattle.load_files.specs.Loaded.{IsLoaded, Whole}
@@ -12,9 +13,12 @@ use Rattle.outside.specs.Files.{Files}
 use Rattle.outside.specs.declared.memory.File.{File}
 use Rattle.path_checker.specs.Verdicts.{IsVerdict}
 use Rattle.path_checker.specs.declared.verdict.PathVerdict.{PathVerdict}
+use Rattle.quiet_state.specs.Resumed.{captures_from, rows_from, state_at}
+use Rattle.quiet_state.specs.declared.state.NetState.{NetState}
+use Rattle.run_checkpoint.specs.States.{text_of_state}
 use Rattle.run_texts.specs.Captures.{pcap_of_taken}
 use Rattle.run_texts.specs.Texts.{log_of_rows, counters_of_rows, totals_of_rows}
-use Rattle.program_texts.specs.Texts.{name_of_log, name_of_counters, name_of_capture}
+use Rattle.program_texts.specs.Texts.{line_of_stopped, name_of_log, name_of_counters, name_of_capture, name_of_state}
 use Rattle.program_texts.specs.Verdicts.{line_of_verdict}
 
 -- the plan of a layout, whose loads are those that the store held, where it tells them
@@ -39,18 +43,43 @@ capture_files prefix (s ∷ ss) (c ∷ cs) =
     record { name = name_of_capture prefix s.name; octets = pcap_of_taken c } ∷ capture_files prefix ss cs
 capture_files prefix _ _ = []
 
--- the files of a plan's run: its log, its counters, and the capture of each station
-abbrev pub run_files : List ℕ → Plan → List File
-run_files prefix plan =
-    record { name = name_of_log prefix; octets = log plan }
-    ∷ record { name = name_of_counters prefix; octets = counters plan }
-    ∷ capture_files prefix plan.layout.stations (captures plan)
+-- the files of a run that gave these rows and captures: its log, its counters, and the capture of each station
+abbrev pub output_files : List ℕ → Plan → List Row → List (List Taken) → List File
+output_files prefix plan rows captures =
+    record { name = name_of_log prefix; octets = log_of_rows plan.layout rows }
+    ∷ record { name = name_of_counters prefix; octets = counters_of_rows plan rows }
+    ∷ capture_files prefix plan.layout.stations captures
 
--- the summary of a plan's run: the path verdict, the half bits, and the sums of the counters
-pub record IsSummary (plan : Plan) (text : List ℕ) : Type 0 where
+-- the files of a plan's run
+abbrev pub run_files : List ℕ → Plan → List File
+run_files prefix plan = output_files prefix plan (rows plan) (captures plan)
+
+-- the files of a run that went on from a state
+abbrev pub resumed_files : List ℕ → Plan → NetState → List File
+resumed_files prefix plan state = output_files prefix plan (rows_from plan state) (captures_from plan state)
+
+-- the file of a run that stopped before half bit t: the text of the plan's state then
+abbrev pub state_files : List ℕ → Plan → ℕ → List File
+state_files prefix plan t =
+    record { name = name_of_state prefix; octets = text_of_state plan (state_at plan t) } ∷ []
+
+-- the summary of a run that gave these rows: the path verdict, the half bits, and the sums of the counters
+pub record IsSummaryOver (plan : Plan) (rows : List Row) (text : List ℕ) : Type 0 where
   pub verdict : PathVerdict
   pub right : IsVerdict plan.layout verdict
-  pub is : text ≡ line_of_verdict plan.layout verdict ++ totals_of_rows plan (rows plan)
+  pub is : text ≡ line_of_verdict plan.layout verdict ++ totals_of_rows plan rows
+
+-- the summary of a plan's run
+abbrev pub IsSummary : Plan → List ℕ → Type 0
+IsSummary plan text = IsSummaryOver plan (rows plan) text
+
+-- the summary of a run that went on from a state
+abbrev pub IsResumedSummary : Plan → NetState → List ℕ → Type 0
+IsResumedSummary plan state text = IsSummaryOver plan (rows_from plan state) text
+
+-- what is said of a run that stopped before half bit t
+abbrev pub IsStopLine : ℕ → List ℕ → Type 0
+IsStopLine t text = text ≡ line_of_stopped t
 
 -- the plan of a network with these loads
 pub record IsMadeOf (network : Layout) (loads : List (List Record)) (plan : Plan) : Type 0 where

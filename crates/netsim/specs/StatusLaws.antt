@@ -6,7 +6,7 @@ use Rattle.layout.specs.declared.lines.Layout.{Layout}
 use Rattle.netsim.specs.Endings.{HasFault, IsAnswer, IsFaultSaid, IsJudged, IsLoadFaultSaid, Says}
 use Rattle.netsim.specs.Moments.{Moment}
 use Rattle.program_words.specs.Requests.{asked}
-use Rattle.netsim.specs.Statuses.{AreRunFilesHeld, HasAbsentLoad, HasLoadFault, IfDemo, IfFiles, IfLayout, IfTelling, IfText, IsDemoCut, IsDemoStatus, IsDoneOrMemory, IsFaultStatus, IsLayoutWith, IsLoadedWith, IsNetworkWith, IsReadFaultSaid, IsTellingCut, IsUnreadOrMemory}
+use Rattle.netsim.specs.Statuses.{AreRunFilesHeld, HasAbsentLoad, HasLoadFault, IfDemo, IfFiles, IfLayout, IfLoaded, IfTelling, IfText, IsDemoCut, IsDemoStatus, IsDoneOrMemory, IsFaultStatus, IsLayoutWith, IsLoadedWith, IsNetworkWith, IsReadFaultSaid, IsTellingCut, IsUnreadOrMemory}
 use Rattle.program_texts.specs.Texts.{line_of_words_fault}
 use Rattle.netsim.specs.Writing.{added, IsCutShort}
 
@@ -53,7 +53,7 @@ AreLoadFaultsSaid =
 abbrev pub DoLoadFaultsDecide : Type 0
 DoLoadFaultsDecide =
     OfAnswers (λ words entry exit status.
-    IfFiles (asked words) (λ layout prefix.
+    IfLoaded (asked words) (λ layout.
     IfSome entry.held (λ files.
     (station : ℕ) (f : CaptureFault) → HasLoadFault layout (Some files) station f
     → IsFaultStatus 3 status entry.reads exit.reads)))
@@ -62,7 +62,7 @@ DoLoadFaultsDecide =
 abbrev pub DoAbsentLoadsDecide : Type 0
 DoAbsentLoadsDecide =
     OfAnswers (λ words entry exit status.
-    IfFiles (asked words) (λ layout prefix.
+    IfLoaded (asked words) (λ layout.
     IfSome entry.held (λ files. (name : List ℕ) → HasAbsentLoad layout (Some files) name → IsUnreadOrMemory status)))
 
 -- with status 4 a file to be read isn't held, or a read failed, and its name was said

@@ -7,21 +7,26 @@ use Rattle.layout.specs.declared.lines.Layout.{Layout}
 use Rattle.load_files.specs.Loaded.{IsLoaded, IsFirstAbsent, Faulty, Whole}
 use Rattle.load_plan.specs.declared.plan.Plan.{Plan}
 use Rattle.log_meter.specs.declared.line.LogLine.{LogLine}
+use Rattle.netsim.specs.CheckpointFiles.{HasState}
 use Rattle.netsim.specs.Demos.{IsDemoText}
 use Rattle.netsim.specs.Endings.{IsJudged, IsLoadUnreadSaid, IsPlanned, IsProbeText, IsUnreadSaid, Says}
 use Rattle.netsim.specs.Meters.{HasLog, IsMeterText}
 use Rattle.netsim.specs.Moments.{Moment}
 use Rattle.netsim.specs.Probes.{IsMissLine}
-use Rattle.program_words.specs.Requests.{Asked, asked, Check, Slack, Plain, Run, Demo, Probe, Meter, Picture, Help, Version}
+use Rattle.program_words.specs.Requests.{Asked, asked, Check, Slack, Plain, Run, Stop, Resume, Demo, Probe, Meter, Picture, Help, Version}
 use Rattle.program_words.specs.declared.words.Hearing.{Hearing}
 use Rattle.program_words.specs.declared.words.Hearing.TheVariants as hearing
+use Rattle.quiet_state.specs.Resumed.{state_at}
+use Rattle.quiet_state.specs.declared.state.NetState.{NetState}
+use Rattle.run_checkpoint.specs.States.{text_of_state}
+use Rattle.net_step.specs.Stops.{IsFirstQuiet}
 use Rattle.run_picture.specs.Pictures.{picture_of}
 use Rattle.run_picture.specs.Strangers.{first_stranger}
-use Rattle.netsim.specs.Runs.{run_files, IsSummary}
+use Rattle.netsim.specs.Runs.{IsResumedSummary, IsSummary, resumed_files, run_files}
 use Rattle.program_texts.specs.SlackTexts.{IsSlackText}
-use Rattle.program_texts.specs.Texts.{line_of_stranger}
+use Rattle.program_texts.specs.Texts.{line_of_stopped, line_of_stranger, name_of_state}
 use Rattle.program_texts.specs.Verdicts.{IsVerdictLine}
-use Rattle.netsim.specs.Writing.{put_all, added, IsBrokenAmong, IsCutShort}
+use Rattle.netsim.specs.Writing.{put_all, put_file, added, IsBrokenAmong, IsCutShort}
 use Rattle.program_texts.specs.declared.texts.TheConstants.{HELP, VERSION}
 
 -- if the words are check LAYOUT, this holds of the name
@@ -45,6 +50,24 @@ AskForFiles o layout prefix =
 -- if the words are of a form that writes the files of a run, this holds of the two names
 abbrev pub IfFiles : Option Asked → (List ℕ → List ℕ → Type 0) → Type 0
 IfFiles o P = (layout prefix : List ℕ) → AskForFiles o layout prefix → P layout prefix
+
+-- if the words are stop LAYOUT PREFIX FROM, this holds of the two names and of the half bit
+abbrev pub IfStop : Option Asked → (List ℕ → List ℕ → ℕ → Type 0) → Type 0
+IfStop o P = (layout prefix : List ℕ) (from : ℕ) → o ≡ Some (Stop layout prefix from) → P layout prefix from
+
+-- if the words are resume LAYOUT PREFIX, this holds of the two names
+abbrev pub IfResume : Option Asked → (List ℕ → List ℕ → Type 0) → Type 0
+IfResume o P = (layout prefix : List ℕ) → o ≡ Some (Resume layout prefix) → P layout prefix
+
+-- the words are stop LAYOUT PREFIX FROM, and this holds of the layout's name and of the half bit
+abbrev pub IsStopWith : Option Asked → (List ℕ → ℕ → Type 0) → Type 0
+IsStopWith o P =
+    (layout : List ℕ) × (prefix : List ℕ) × (from : ℕ) × (o ≡ Some (Stop layout prefix from)) × P layout from
+
+-- the words are resume LAYOUT PREFIX, and this holds of the two names
+abbrev pub IsResumeWith : Option Asked → (List ℕ → List ℕ → Type 0) → Type 0
+IsResumeWith o P =
+    (layout : List ℕ) × (prefix : List ℕ) × (o ≡ Some (Resume layout prefix)) × P layout prefix
 
 -- if the words are demo NUMBER WORKERS, this holds of the number
 abbrev pub IfDemo : Option Asked → (ℕ → Type 0) → Type 0
@@ -82,7 +105,14 @@ IfPicture o P =
 abbrev pub IfLayout : Option Asked → (List ℕ → Type 0) → Type 0
 IfLayout o P =
     IfTelling o (λ Tells layout. P layout) × IfFiles o (λ layout prefix. P layout)
+    × IfStop o (λ layout prefix from. P layout) × IfResume o (λ layout prefix. P layout)
     × IfHeard o (λ told layout from to taps. P layout) × IfPicture o (λ layout log from to. P layout)
+
+-- if the words are of a form that reads the loads of a layout as soon as it has no fault, this holds of its name
+abbrev pub IfLoaded : Option Asked → (List ℕ → Type 0) → Type 0
+IfLoaded o P =
+    IfFiles o (λ layout prefix. P layout) × IfStop o (λ layout prefix from. P layout)
+    × IfResume o (λ layout prefix. P layout)
 
 -- if the words ask for a fixed text, this holds of it
 abbrev pub IfText : Option Asked → (List ℕ → Type 0) → Type 0
@@ -94,6 +124,8 @@ IsLayoutWith (Some (Check layout)) P = P layout
 IsLayoutWith (Some (Slack layout)) P = P layout
 IsLayoutWith (Some (Plain layout prefix)) P = P layout
 IsLayoutWith (Some (Run layout prefix workers)) P = P layout
+IsLayoutWith (Some (Stop layout prefix from)) P = P layout
+IsLayoutWith (Some (Resume layout prefix)) P = P layout
 IsLayoutWith (Some (Demo number workers)) P = ⊥
 IsLayoutWith (Some (Probe told layout from to taps)) P = P layout
 IsLayoutWith (Some (Meter log)) P = ⊥
@@ -108,6 +140,8 @@ IsLoadedWith (Some (Check layout)) P = ⊥
 IsLoadedWith (Some (Slack layout)) P = ⊥
 IsLoadedWith (Some (Plain layout prefix)) P = P layout
 IsLoadedWith (Some (Run layout prefix workers)) P = P layout
+IsLoadedWith (Some (Stop layout prefix from)) P = P layout
+IsLoadedWith (Some (Resume layout prefix)) P = P layout
 IsLoadedWith (Some (Demo number workers)) P = ⊥
 IsLoadedWith (Some (Probe told layout from to taps)) P = P layout
 IsLoadedWith (Some (Meter log)) P = ⊥
@@ -123,6 +157,8 @@ IsProbeWith (Some (Check layout)) P = ⊥
 IsProbeWith (Some (Slack layout)) P = ⊥
 IsProbeWith (Some (Plain layout prefix)) P = ⊥
 IsProbeWith (Some (Run layout prefix workers)) P = ⊥
+IsProbeWith (Some (Stop layout prefix from)) P = ⊥
+IsProbeWith (Some (Resume layout prefix)) P = ⊥
 IsProbeWith (Some (Demo number workers)) P = ⊥
 IsProbeWith (Some (Probe told layout from to taps)) P = P layout to taps
 IsProbeWith (Some (Meter log)) P = ⊥
@@ -137,6 +173,8 @@ IsLogWith (Some (Check layout)) P = ⊥
 IsLogWith (Some (Slack layout)) P = ⊥
 IsLogWith (Some (Plain layout prefix)) P = ⊥
 IsLogWith (Some (Run layout prefix workers)) P = ⊥
+IsLogWith (Some (Stop layout prefix from)) P = ⊥
+IsLogWith (Some (Resume layout prefix)) P = ⊥
 IsLogWith (Some (Demo number workers)) P = ⊥
 IsLogWith (Some (Probe told layout from to taps)) P = ⊥
 IsLogWith (Some (Meter log)) P = P log
@@ -151,6 +189,8 @@ IsPictureWith (Some (Check layout)) P = ⊥
 IsPictureWith (Some (Slack layout)) P = ⊥
 IsPictureWith (Some (Plain layout prefix)) P = ⊥
 IsPictureWith (Some (Run layout prefix workers)) P = ⊥
+IsPictureWith (Some (Stop layout prefix from)) P = ⊥
+IsPictureWith (Some (Resume layout prefix)) P = ⊥
 IsPictureWith (Some (Demo number workers)) P = ⊥
 IsPictureWith (Some (Probe told layout from to taps)) P = ⊥
 IsPictureWith (Some (Meter log)) P = ⊥
@@ -162,7 +202,8 @@ IsPictureWith None P = ⊥
 -- the statuses of a call that begins no file and writes its line alone
 abbrev pub IsRefusal : ℕ → Type 0
 IsRefusal status =
-    (status ≡ 1) ⊎ (status ≡ 2) ⊎ (status ≡ 3) ⊎ (status ≡ 4) ⊎ (status ≡ 7) ⊎ (status ≡ 8) ⊎ (status ≡ 11)
+    (status ≡ 1) ⊎ (status ≡ 2) ⊎ (status ≡ 3) ⊎ (status ≡ 4) ⊎ (status ≡ 7) ⊎ (status ≡ 8) ⊎ (status ≡ 9)
+    ⊎ (status ≡ 10) ⊎ (status ≡ 11)
 
 -- the statuses of a call that the outside didn't hinder; 6 is want of memory
 abbrev pub IsDoneOrMemory : ℕ → Type 0
@@ -180,6 +221,10 @@ IsUnreadOrMemory status = (status ≡ 4) ⊎ (status ≡ 6)
 -- the layout held at entry has no fault, and this holds of its network
 abbrev pub IsNetworkWith : List ℕ → Option Files → (Layout → Type 0) → Type 0
 IsNetworkWith layout held P = (network : Layout) × IsJudged layout held (Ok network) × P network
+
+-- the layout and its loads held at entry have no fault, and this holds of their plan
+abbrev pub IsPlannedWith : List ℕ → Option Files → (Plan → Type 0) → Type 0
+IsPlannedWith layout held P = (plan : Plan) × IsPlanned layout held plan × P plan
 
 -- the load of this station, numbered from 0, is the first of the layout's loads with a fault
 abbrev pub HasLoadFault : List ℕ → Option Files → ℕ → CaptureFault → Type 0
@@ -201,13 +246,22 @@ abbrev pub IsPictureUnreadSaid : List ℕ → List ℕ → Moment → Moment →
 IsPictureUnreadSaid layout log entry exit =
     IsUnreadSaid layout entry exit ⊎ IsNetworkWith layout entry.held (λ network. IsUnreadSaid log entry exit)
 
--- a file to be read, which is the log, or the layout or, for a run and a probe, one of its loads, isn't held or a read
--- failed, and its name was said
+-- the layout or one of its loads isn't held or a read failed, or they have no fault and so it is with the state of a
+-- prefix, and the name was said
+abbrev pub IsResumeFaultSaid : List ℕ → List ℕ → Moment → Moment → Type 0
+IsResumeFaultSaid layout prefix entry exit =
+    IsInputFaultSaid layout entry exit
+    ⊎ IsPlannedWith layout entry.held (λ plan. IsUnreadSaid (name_of_state prefix) entry exit)
+
+-- a file to be read, which is the log, or the layout or, for a run and a probe, one of its loads, or the state that a
+-- run goes on from, isn't held or a read failed, and its name was said
 abbrev pub IsReadFaultSaid : Option Asked → Moment → Moment → Type 0
 IsReadFaultSaid (Some (Check layout)) entry exit = IsUnreadSaid layout entry exit
 IsReadFaultSaid (Some (Slack layout)) entry exit = IsUnreadSaid layout entry exit
 IsReadFaultSaid (Some (Plain layout prefix)) entry exit = IsInputFaultSaid layout entry exit
 IsReadFaultSaid (Some (Run layout prefix workers)) entry exit = IsInputFaultSaid layout entry exit
+IsReadFaultSaid (Some (Stop layout prefix from)) entry exit = IsInputFaultSaid layout entry exit
+IsReadFaultSaid (Some (Resume layout prefix)) entry exit = IsResumeFaultSaid layout prefix entry exit
 IsReadFaultSaid (Some (Demo number workers)) entry exit = ⊥
 IsReadFaultSaid (Some (Probe told layout from to taps)) entry exit = IsInputFaultSaid layout entry exit
 IsReadFaultSaid (Some (Meter log)) entry exit = IsUnreadSaid log entry exit
@@ -224,6 +278,29 @@ pub record IsRunDone (layout prefix : List ℕ) (entry exit : Moment) : Type 0 w
   pub files : exit.held ≡ put_all (run_files prefix plan) entry.held
   pub summary : List ℕ
   pub summed : IsSummary plan summary
+  pub written : exit.written ≡ added summary entry.written
+
+-- a run is stopped: the layout and the loads held at entry have no fault, the file PREFIX.state is the text of the
+-- state of their network before its first quiet half bit at or after this one, every other file is as at entry, and the
+-- sink got the half bit's line
+pub record IsStopDone (layout prefix : List ℕ) (from : ℕ) (entry exit : Moment) : Type 0 where
+  pub plan : Plan
+  pub planned : IsPlanned layout entry.held plan
+  pub t : ℕ
+  pub first : IsFirstQuiet plan from t
+  pub file : exit.held ≡ put_file (name_of_state prefix) (text_of_state plan (state_at plan t)) entry.held
+  pub written : exit.written ≡ added (line_of_stopped t) entry.written
+
+-- a run went on: the layout and the loads held at entry have no fault, nor has PREFIX.state held then, the files of the
+-- run that goes on from its state are whole, every other file is as at entry, and the sink got that run's summary
+pub record IsResumeDone (layout prefix : List ℕ) (entry exit : Moment) : Type 0 where
+  pub plan : Plan
+  pub planned : IsPlanned layout entry.held plan
+  pub state : NetState
+  pub read : HasState plan (name_of_state prefix) entry.held state
+  pub files : exit.held ≡ put_all (resumed_files prefix plan state) entry.held
+  pub summary : List ℕ
+  pub summed : IsResumedSummary plan state summary
   pub written : exit.written ≡ added summary entry.written
 
 -- the files of a plan's run are whole, and the sink got a front of its summary

@@ -24,6 +24,10 @@ pub enum Ending {
     Log,
     /// A line of a log names what the layout lacks.
     Stranger,
+    /// No half bit of the run at or after the one that was asked for is quiet.
+    Unquiet,
+    /// The state of a prefix has a fault.
+    State,
 }
 
 impl Ending {
@@ -43,6 +47,8 @@ impl Ending {
             Ending::Memory => 6,
             Ending::Probe => 7,
             Ending::Log => 8,
+            Ending::Unquiet => 9,
+            Ending::State => 10,
             Ending::Stranger => 11,
         }
     }

@@ -3,6 +3,7 @@ ghost use Rattle.netsim.specs.LogLaws.{AreRunCollisionsDetected, IsEmptyLogRefus
 ghost use Rattle.netsim.specs.MeterLaws.{AreLogFaultsSaid, AreMetersComplete, AreMetersCutShort, AreMetersRefused, DoAbsentLogsDecide, DoLogFaultsDecide, DoMetersKeepFiles};
 ghost use Rattle.netsim.specs.PictureLaws.{ArePicturesComplete, ArePicturesCutShort, ArePicturesRefused, AreStrangersSaid, DoPicturedAbsentLogsDecide, DoPicturedLogFaultsDecide, DoPicturesKeepFiles, DoStrangersDecide};
 ghost use Rattle.netsim.specs.ProbeLaws.{AreMissesSaid, AreProbesComplete, AreProbesCutShort, AreProbesRefused, DoMissesDecide, DoProbedAbsentLoadsDecide, DoProbedLoadFaultsDecide, DoProbesKeepFiles};
+ghost use Rattle.netsim.specs.StopLaws.{AreStateFaultsSaid, AreStopFilesWhole, AreStoppedRunsWhole, AreStopsBroken, AreStopsComplete, AreStopsRefused, AreStopsSilent, AreUnquietSaid, DoAbsentStatesDecide, DoStateFaultsDecide, DoUnquietDecide};
 ghost use Rattle.netsim.specs.StatusLaws.{AreDemosComplete, AreDemosCutShort, AreDemosRefused, AreFailuresSilent, AreFilesWhole, AreLayoutFaultsSaid, AreLoadFaultsSaid, AreReadFaultsSaid, AreTellingsComplete, AreTellingsCutShort, AreTellingsRefused, AreTextsComplete, AreTextsCutShort, AreTextsFailed, AreTextsWritten, AreWordsSaid, DoAbsentLayoutsDecide, DoAbsentLoadsDecide, DoDemosKeepFiles, DoLayoutFaultsDecide, DoLoadFaultsDecide, DoTellingsKeepFiles, DoTextsKeepFiles, HaveDemosStatuses};
 
 /// Words of no form have their line on the sink, or a front of it where the sink refuses.
@@ -117,6 +118,39 @@ pub fn pictures_are_told()
     ensures refused { ArePicturesRefused }
     ensures held { DoPicturesKeepFiles }
     ensures complete { ArePicturesComplete }
+{}
+
+/// Status 9 comes exactly of a stop of a layout and loads without fault whose run has no quiet half bit at or after FROM,
+/// but for a failed read and want of memory, and that is on the sink.
+pub fn unquiet_runs_decide()
+    ensures said { AreUnquietSaid }
+    ensures only { DoUnquietDecide }
+{}
+
+/// Status 10 comes exactly of a resume of a layout and loads without fault whose state has a fault, but for a failed read
+/// and want of memory, and its line is on the sink; status 4 then comes of a state that isn't held, but for want of
+/// memory.
+pub fn state_faults_decide()
+    ensures said { AreStateFaultsSaid }
+    ensures only { DoStateFaultsDecide }
+    ensures absent { DoAbsentStatesDecide }
+{}
+
+/// Where `stop` or `resume` isn't done, of its files those before one are whole, that one is as it was or a front of its
+/// text, later ones are as at entry, and the sink got nothing; or all are whole, and the sink got a front of its text. With
+/// 5 all files are whole where no write to the store failed, and the sink is as at entry where no write to it did. One that
+/// nothing hinders has the status 0 or 6.
+pub fn stops_are_told()
+    ensures failed { AreStopsBroken }
+    ensures refused { AreStopsRefused }
+    ensures silent { AreStopsSilent }
+    ensures whole { AreStopFilesWhole }
+    ensures complete { AreStopsComplete }
+{}
+
+/// `stop`, and then `resume` from what it left, both done and with the same layout and loads, leave what `plain` leaves.
+pub fn stopped_runs_are_whole()
+    ensures { AreStoppedRunsWhole }
 {}
 
 /// A form with a fixed text writes it, or a front of it, and leaves every file as at entry; with 5 a write to the sink

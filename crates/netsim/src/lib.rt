@@ -13,8 +13,10 @@ mod outputs;
 mod picture;
 mod plans;
 mod probe;
+mod resumes;
 mod runs;
 mod sink_texts;
+mod stops;
 mod tell;
 mod top_call;
 

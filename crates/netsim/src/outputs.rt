@@ -1,12 +1,12 @@
 //! The files of a run.
 ghost use Rattle.std.specs.Prelude.{◌≡◌, ◌≤◌, All, OnOk, OnErr, IfErr, string_bytes};
 ghost use Rattle.layout.specs.Sound.{IsSound};
-ghost use Rattle.network.specs.Outputs.{captures, rows};
 ghost use Rattle.run_texts.specs.Captures.{AreShort, pcap_of_taken};
 ghost use Rattle.run_texts.specs.Counts.{AreLeft, counts_of};
 ghost use Rattle.netsim.specs.Endings.{IsFileEnd};
 ghost use Rattle.netsim.specs.Writing.{IsBroken, IsBrokenAmong, put_file, put_all};
-ghost use Rattle.netsim.specs.Runs.{capture_files, counters, run_files, log};
+ghost use Rattle.netsim.specs.Runs.{capture_files, output_files};
+ghost use Rattle.run_texts.specs.Texts.{counters_of_rows, log_of_rows};
 ghost use Rattle.program_texts.specs.Texts.{name_of_capture, name_of_counters, name_of_log};
 
 use crate::endings::Ending;
@@ -32,7 +32,7 @@ impl From<OutOfMemory> for Ending {
 }
 
 /// Makes a file of a text.
-fn file<S: Store>(store: &mut S, name: &str, text: &[u8]) -> Result<(), Ending>
+pub(crate) fn file<S: Store>(store: &mut S, name: &str, text: &[u8]) -> Result<(), Ending>
     ensures ok { OnOk result (S.held store.new ≡ put_file name.now text.now (S.held store.old)) }
     ensures err { OnErr result (IsBroken name.now text.now (S.held store.old) (S.held store.new)) }
     ensures ended { IfErr result (λ e. IsFileEnd (S.write_faults store.old) (S.write_faults store.new) e) }
@@ -45,7 +45,7 @@ fn file<S: Store>(store: &mut S, name: &str, text: &[u8]) -> Result<(), Ending>
     }
 }
 
-/// Writes the log of a plan's run.
+/// Writes the log of a run of a plan.
 fn file_log<S: Store>(
     alloc: Global,
     plan: &Plan,
@@ -54,9 +54,8 @@ fn file_log<S: Store>(
     store: &mut S,
 ) -> Result<(), Ending>
     requires sound { IsSound plan.now.layout }
-    requires rows { outputs.now.rows ≡ rows plan.now }
-    ensures ok { OnOk result (S.held store.new ≡ put_file (name_of_log prefix.now) (log plan.now) (S.held store.old)) }
-    ensures err { OnErr result (IsBroken (name_of_log prefix.now) (log plan.now) (S.held store.old) (S.held store.new)) }
+    ensures ok { OnOk result (S.held store.new ≡ put_file (name_of_log prefix.now) (log_of_rows plan.now.layout outputs.now.rows) (S.held store.old)) }
+    ensures err { OnErr result (IsBroken (name_of_log prefix.now) (log_of_rows plan.now.layout outputs.now.rows) (S.held store.old) (S.held store.new)) }
     ensures ended { IfErr result (λ e. IsFileEnd (S.write_faults store.old) (S.write_faults store.new) e) }
     ensures writes { S.write_faults store.old ≤ S.write_faults store.new }
 {
@@ -65,7 +64,7 @@ fn file_log<S: Store>(
     file(store, name.as_str(), text.as_slice())
 }
 
-/// Writes the counters of a plan's run.
+/// Writes the counters of a run of a plan.
 fn file_counters<S: Store>(
     alloc: Global,
     plan: &Plan,
@@ -74,10 +73,9 @@ fn file_counters<S: Store>(
     store: &mut S,
 ) -> Result<(), Ending>
     requires sound { IsSound plan.now.layout }
-    requires rows { outputs.now.rows ≡ rows plan.now }
-    requires left { AreLeft (counts_of plan.now (rows plan.now)) }
-    ensures ok { OnOk result (S.held store.new ≡ put_file (name_of_counters prefix.now) (counters plan.now) (S.held store.old)) }
-    ensures err { OnErr result (IsBroken (name_of_counters prefix.now) (counters plan.now) (S.held store.old) (S.held store.new)) }
+    requires left { AreLeft (counts_of plan.now outputs.now.rows) }
+    ensures ok { OnOk result (S.held store.new ≡ put_file (name_of_counters prefix.now) (counters_of_rows plan.now outputs.now.rows) (S.held store.old)) }
+    ensures err { OnErr result (IsBroken (name_of_counters prefix.now) (counters_of_rows plan.now outputs.now.rows) (S.held store.old) (S.held store.new)) }
     ensures ended { IfErr result (λ e. IsFileEnd (S.write_faults store.old) (S.write_faults store.new) e) }
     ensures writes { S.write_faults store.old ≤ S.write_faults store.new }
 {
@@ -126,7 +124,7 @@ fn file_captures<S: Store>(
     Ok(())
 }
 
-/// Writes the files of a plan's run: its log, its counters and the capture of each station.
+/// Writes the files of a run of a plan: its log, its counters and the capture of each station.
 pub(crate) fn file_outputs<S: Store>(
     alloc: Global,
     plan: &Plan,
@@ -135,13 +133,12 @@ pub(crate) fn file_outputs<S: Store>(
     store: &mut S,
 ) -> Result<(), Ending>
     requires sound { IsSound plan.now.layout }
-    requires rows { outputs.now.rows ≡ rows plan.now }
-    requires captures { outputs.now.captures ≡ captures plan.now }
-    requires left { AreLeft (counts_of plan.now (rows plan.now)) }
-    requires short { All AreShort (captures plan.now) }
-    ensures ok { OnOk result (S.held store.new ≡ put_all (run_files prefix.now plan.now) (S.held store.old)) }
-    ensures err { OnErr result (IsBrokenAmong (run_files prefix.now plan.now) (S.held store.old) (S.held store.new)) }
+    requires left { AreLeft (counts_of plan.now outputs.now.rows) }
+    requires short { All AreShort outputs.now.captures }
+    ensures ok { OnOk result (S.held store.new ≡ put_all (output_files prefix.now plan.now outputs.now.rows outputs.now.captures) (S.held store.old)) }
+    ensures err { OnErr result (IsBrokenAmong (output_files prefix.now plan.now outputs.now.rows outputs.now.captures) (S.held store.old) (S.held store.new)) }
     ensures ended { IfErr result (λ e. IsFileEnd (S.write_faults store.old) (S.write_faults store.new) e) }
+    ensures writes { S.write_faults store.old ≤ S.write_faults store.new }
 {
     file_log(alloc, plan, outputs, prefix, store)?;
     file_counters(alloc, plan, outputs, prefix, store)?;

@@ -1,11 +1,13 @@
 //! The forms that run the network of a layout file and write what came of it.
-ghost use Rattle.std.specs.Prelude.{◌≡◌, ◌≤◌, IfOk};
+ghost use Rattle.std.specs.Prelude.{◌≡◌, ◌≤◌, All, IfOk};
 ghost use Rattle.layout.specs.Sound.{IsSound};
 ghost use Rattle.network.specs.Outputs.{captures, rows};
 ghost use Rattle.netsim.specs.Endings.{IsPlainEnd, IsRunEnd};
 ghost use Rattle.program_words.specs.WordLimits.{most_workers};
 ghost use Rattle.netsim.specs.Moments.{moment};
-ghost use Rattle.netsim.specs.Runs.{IsSummary};
+ghost use Rattle.netsim.specs.Runs.{IsSummary, IsSummaryOver, output_files, run_files};
+ghost use Rattle.run_texts.specs.Captures.{AreShort};
+ghost use Rattle.run_texts.specs.Counts.{AreLeft, counts_of};
 
 use crate::endings::Ending;
 use crate::outputs::file_outputs;
@@ -24,15 +26,14 @@ use std::sync::Wait;
 use std::thread::Threads;
 use window_run::run_by_windows;
 
-/// The summary of a plan's run.
+/// The summary of a run of a plan.
 pub(crate) fn summary_of(
     alloc: Global,
     plan: &Plan,
     outputs: &Outputs,
 ) -> Result<List<u8>, OutOfMemory>
     requires sound { IsSound plan.now.layout }
-    requires rows { outputs.now.rows ≡ rows plan.now }
-    ensures { IfOk result (λ text. IsSummary plan.now text) }
+    ensures { IfOk result (λ text. IsSummaryOver plan.now outputs.now.rows text) }
 {
     let mut text = verdict_line(alloc, &plan.layout)?;
     let totals = totals_of_rows(alloc, plan, outputs.rows.as_slice())?;
@@ -40,8 +41,36 @@ pub(crate) fn summary_of(
     Ok(text)
 }
 
-/// Writes the files of a prefix by what a plan's run gave, if it gave something, and then the summary.
-fn file_run<S: Store, K: Sink>(
+/// Writes the files of a prefix by what a run of a plan gave, and then the summary.
+pub(crate) fn file_run<S: Store, K: Sink>(
+    alloc: Global,
+    plan: &Plan,
+    outputs: &Outputs,
+    prefix: &str,
+    store: &mut S,
+    out: &mut K,
+) -> Ending
+    requires sound { IsSound plan.now.layout }
+    requires left { AreLeft (counts_of plan.now outputs.now.rows) }
+    requires short { All AreShort outputs.now.captures }
+    ensures { IsRunEnd (output_files prefix.now plan.now outputs.now.rows outputs.now.captures)
+        (IsSummaryOver plan.now outputs.now.rows)
+        (moment S.held S.read_faults S.write_faults K.written K.faults K.refused store.old out.old)
+        (moment S.held S.read_faults S.write_faults K.written K.faults K.refused store.new out.new)
+        result }
+{
+    let summary = match summary_of(alloc, plan, outputs) {
+        Ok(summary) => summary,
+        Err(OutOfMemory) => return Ending::Memory,
+    };
+    match file_outputs(alloc, plan, outputs, prefix, store) {
+        Ok(()) => write_line(out, summary.as_slice()),
+        Err(ended) => ended,
+    }
+}
+
+/// The same of a plan's whole run, if it gave something.
+fn file_whole_run<S: Store, K: Sink>(
     alloc: Global,
     plan: &Plan,
     outputs: Result<Outputs, OutOfMemory>,
@@ -52,7 +81,7 @@ fn file_run<S: Store, K: Sink>(
     requires sound { IsSound plan.now.layout }
     requires rows { IfOk outputs (λ outputs. outputs.rows ≡ rows plan.now) }
     requires captures { IfOk outputs (λ outputs. outputs.captures ≡ captures plan.now) }
-    ensures { IsRunEnd plan.now prefix.now
+    ensures { IsRunEnd (run_files prefix.now plan.now) (IsSummary plan.now)
         (moment S.held S.read_faults S.write_faults K.written K.faults K.refused store.old out.old)
         (moment S.held S.read_faults S.write_faults K.written K.faults K.refused store.new out.new)
         result }
@@ -61,16 +90,9 @@ fn file_run<S: Store, K: Sink>(
         Ok(outputs) => outputs,
         Err(OutOfMemory) => return Ending::Memory,
     };
-    let summary = match summary_of(alloc, plan, &outputs) {
-        Ok(summary) => summary,
-        Err(OutOfMemory) => return Ending::Memory,
-    };
     frames_are_left(plan);
     captures_are_short(plan);
-    match file_outputs(alloc, plan, &outputs, prefix, store) {
-        Ok(()) => write_line(out, summary.as_slice()),
-        Err(ended) => ended,
-    }
+    file_run(alloc, plan, &outputs, prefix, store, out)
 }
 
 /// Runs the network of a layout file and its loads by half bits, writes the files of a prefix, and says the summary.
@@ -91,7 +113,7 @@ pub(crate) fn plain<S: Store, K: Sink>(
         Err(ended) => return ended,
     };
     let outputs = run_plain(alloc, &plan);
-    file_run(alloc, &plan, outputs, prefix, store, out)
+    file_whole_run(alloc, &plan, outputs, prefix, store, out)
 }
 
 /// The same by windows, on 1 to 64 workers. It may wait.
@@ -117,5 +139,5 @@ pub(crate) fn run<X: Threads + Wait + Sync, G: Gate, S: Store, K: Sink>(
         Err(ended) => return ended,
     };
     let outputs = run_by_windows(rt, alloc, &plan, workers, gate);
-    file_run(alloc, &plan, outputs, prefix, store, out)
+    file_whole_run(alloc, &plan, outputs, prefix, store, out)
 }

@@ -6,15 +6,17 @@ ghost use Rattle.netsim.specs.Endings.{IsAnswer, IsEnd};
 ghost use Rattle.netsim.specs.Moments.{moment};
 ghost use Rattle.program_words.specs.Requests.{asked};
 ghost use Rattle.program_words.specs.declared.words.Hearing.TheVariants as hearing;
-ghost use Rattle.netsim.specs.Statuses.{AreSlacksDone, IfCheck, IfDemo, IfFiles, IfMeter, IfPicture, IfProbe, IfSlack, IfWaves, IsCheckDone, IsDemoDone, IsDoneOrMemory, IsMeterDone, IsPictureDone, IsProbeDone, IsRefusal, IsRunBroken, IsRunDone, IsRunRefused, IsUnhindered};
+ghost use Rattle.netsim.specs.Statuses.{AreSlacksDone, IfCheck, IfDemo, IfFiles, IfMeter, IfPicture, IfProbe, IfResume, IfSlack, IfStop, IfWaves, IsCheckDone, IsDemoDone, IsDoneOrMemory, IsMeterDone, IsPictureDone, IsProbeDone, IsRefusal, IsResumeDone, IsRunBroken, IsRunDone, IsRunRefused, IsStopDone, IsUnhindered};
 
 use crate::demo::demo;
 use crate::endings::Ending;
 use crate::meter::meter;
 use crate::picture::picture;
 use crate::probe::probe;
+use crate::resumes::resume;
 use crate::runs::{plain, run};
 use crate::sink_texts::{say, write_line};
+use crate::stops::stop;
 use crate::tell::{Telling, tell};
 use outside::{Gate, Sink, Store};
 use program_texts::{HELP, VERSION, WORDS_FAULT};
@@ -49,6 +51,14 @@ pub fn run_words<X: Threads + Wait + Sync, S: Store, K: Sink, G: Gate>(
                 workers,
             },
         ) => run(rt, alloc, layout, prefix, workers, gate, store, out),
+        Some(
+            Request::Stop {
+                layout,
+                prefix,
+                from,
+            },
+        ) => stop(alloc, layout, prefix, from, store, out),
+        Some(Request::Resume { layout, prefix }) => resume(alloc, layout, prefix, store, out),
         Some(Request::Demo { number, workers }) => demo(rt, alloc, number, workers, gate, out),
         Some(
             Request::Probe {
@@ -82,7 +92,9 @@ pub fn run_words<X: Threads + Wait + Sync, S: Store, K: Sink, G: Gate>(
 /// `check LAYOUT` writes the path verdict of the layout to the sink, and `slack LAYOUT` that and how far each gap between
 /// neighbouring taps and each repeater's delay can grow. `plain LAYOUT PREFIX` runs the network of the layout with its
 /// loads by half bits, writes PREFIX.log, PREFIX.counters and a capture PREFIX.STATION.pcap for each station, and then
-/// the summary to the sink. `run LAYOUT PREFIX WORKERS` does the same by windows, on 1 to 64 workers, and
+/// the summary to the sink. `run LAYOUT PREFIX WORKERS` does the same by windows, on 1 to 64 workers.
+/// `stop LAYOUT PREFIX FROM` runs it by half bits to its first quiet half bit at or after FROM and writes the state there
+/// to PREFIX.state, and `resume LAYOUT PREFIX` goes on from that state and does as `plain`.
 /// `demo NUMBER WORKERS` runs the layout of demo of 1 to 128 so, and writes its size and the summary to the sink.
 /// `probe LAYOUT FROM TO TAP ..` runs the network by half bits and writes to the sink what 1 to 16 taps hear from half bit
 /// FROM on and before TO, as runs of one symbol and bursts, and `waves LAYOUT FROM TO TAP ..` the same as a value change
@@ -91,8 +103,9 @@ pub fn run_words<X: Threads + Wait + Sync, S: Store, K: Sink, G: Gate>(
 /// LAYOUT, PREFIX and LOG have 1 to 200 octets, and a TAP 1 to 40; FROM is below TO, which is at most 2,000,000,000 and at
 /// most 1,000,000 more. The statuses are 0 for done, 1 for words of no form, 2 for a layout with a fault, 3 for a load
 /// with a fault, 4 for a file that can't be read, 5 for a failed write, 6 for want of memory, which alone is free, 7 for
-/// a tap that the layout hasn't or a TO past the run, 8 for a log with a fault, and 11 for a log that names what the layout
-/// lacks. The forms `run` and `demo` may wait.
+/// a tap that the layout hasn't or a TO past the run, 8 for a log with a fault, 9 for a run without a quiet half bit from
+/// FROM on, 10 for a state with a fault, and 11 for a log that names what the layout lacks. The forms `run` and `demo` may
+/// wait.
 pub fn netsim<X: Threads + Wait + Sync, S: Store, K: Sink, G: Gate>(
     rt: &X,
     alloc: Global,
@@ -163,7 +176,19 @@ pub fn netsim<X: Threads + Wait + Sync, S: Store, K: Sink, G: Gate>(
         (moment S.held S.read_faults S.write_faults K.written K.faults K.refused store.old out.old)
         (moment S.held S.read_faults S.write_faults K.written K.faults K.refused store.new out.new)) }
 
-    // With the statuses 1 to 4, 7, 8 and 11 every file is as at entry.
+    // A run is stopped: the file PREFIX.state is the text of the state of the network of the layout and the loads held at
+    // entry before its first quiet half bit at or after FROM, nothing else is changed, and the sink got that half bit.
+    ensures stopped { result ≡ 0 → IfStop (asked words.now) (λ layout prefix from. IsStopDone layout prefix from
+        (moment S.held S.read_faults S.write_faults K.written K.faults K.refused store.old out.old)
+        (moment S.held S.read_faults S.write_faults K.written K.faults K.refused store.new out.new)) }
+
+    // A run went on: the store holds the files of the run of that network that goes on from the state in PREFIX.state as
+    // held at entry, nothing else is changed, and the sink got that run's summary.
+    ensures resumed { result ≡ 0 → IfResume (asked words.now) (λ layout prefix. IsResumeDone layout prefix
+        (moment S.held S.read_faults S.write_faults K.written K.faults K.refused store.old out.old)
+        (moment S.held S.read_faults S.write_faults K.written K.faults K.refused store.new out.new)) }
+
+    // With the statuses 1 to 4 and 7 to 11 every file is as at entry.
     ensures refused { IsRefusal result → S.held store.new ≡ S.held store.old }
 
     // Status 5 only where a write to the store or to the sink failed.

@@ -16,4 +16,6 @@ mod probes;
 #[cfg(test)]
 mod runs;
 #[cfg(test)]
+mod stops;
+#[cfg(test)]
 mod waves;

@@ -45,6 +45,14 @@ line_of_range_fault = codes "probe fault range\n"
 unfoldable pub line_of_stranger : ℕ → List ℕ
 line_of_stranger n = codes "picture fault line " ++ decimal n ++ codes "\n"
 
+-- the line of a run that stopped before this half bit, from 0
+unfoldable pub line_of_stopped : ℕ → List ℕ
+line_of_stopped t = codes "stopped " ++ decimal t ++ codes "\n"
+
+-- the line of a run that has no quiet half bit at or after the one that was asked for
+abbrev pub line_of_no_quiet : List ℕ
+line_of_no_quiet = codes "no quiet\n"
+
 -- the line before what the tap of a word hears
 unfoldable pub line_of_tap : List ℕ → List ℕ
 line_of_tap word = codes "tap " ++ word ++ codes "\n"
@@ -71,3 +79,7 @@ name_of_capture prefix name = prefix ++ codes "." ++ name ++ codes ".pcap"
 -- the name of the log of a prefix
 unfoldable pub name_of_log : List ℕ → List ℕ
 name_of_log prefix = prefix ++ codes ".log"
+
+-- the name of the state of a prefix
+unfoldable pub name_of_state : List ℕ → List ℕ
+name_of_state prefix = prefix ++ codes ".state"

@@ -9,14 +9,17 @@ use Rattle.program_words.specs.declared.words.Request.{Request}
 use Rattle.program_words.specs.declared.words.Request.TheVariants as request
 
 -- the path verdict of a layout, its slacks, a run by half bits with the names of the layout and of what is written, the
--- same by windows on so many workers, a run of the layout of demo of a number on so many, what the taps of these words
--- hear from one half bit on and before another, told so, the figures of a log, the picture of what a log tells of the
--- half bits from one on and before another, or a fixed text
+-- same by windows on so many workers, a run that stops at or after a half bit with the same names, one that goes on
+-- from where such a run stopped, a run of the layout of demo of a number on so many workers, what the taps of these
+-- words hear from one half bit on and before another, told so, the figures of a log, the picture of what a log tells of
+-- the half bits from one on and before another, or a fixed text
 pub data Asked : Type 0 where
   Check : (layout : List ℕ) → Asked
   Slack : (layout : List ℕ) → Asked
   Plain : (layout prefix : List ℕ) → Asked
   Run : (layout prefix : List ℕ) (workers : ℕ) → Asked
+  Stop : (layout prefix : List ℕ) (from : ℕ) → Asked
+  Resume : (layout prefix : List ℕ) → Asked
   Demo : (number workers : ℕ) → Asked
   Probe : (told : Hearing) (layout : List ℕ) (from to : ℕ) (taps : List (List ℕ)) → Asked
   Meter : (log : List ℕ) → Asked
@@ -60,6 +63,10 @@ asked_file word file =
 abbrev pub asked_plain : List ℕ → List ℕ → Option Asked
 asked_plain layout prefix = if is_file_name layout && is_file_name prefix then Some (Plain layout prefix) else None
 
+-- what the words after resume ask for: LAYOUT PREFIX
+abbrev pub asked_resume : List ℕ → List ℕ → Option Asked
+asked_resume layout prefix = if is_file_name layout && is_file_name prefix then Some (Resume layout prefix) else None
+
 -- what is asked for by these two numbers, if they are there
 abbrev pub asked_numbers : Option ℕ → Option ℕ → Option Asked
 asked_numbers (Some number) (Some workers) = Some (Demo number workers)
@@ -71,18 +78,33 @@ abbrev pub asked_demo : List ℕ → List ℕ → Option Asked
 asked_demo number workers =
     asked_numbers (number_between 1 most_repeaters number) (number_between 1 most_workers workers)
 
--- what three words ask for: plain LAYOUT PREFIX or demo NUMBER WORKERS
+-- what three words ask for: plain LAYOUT PREFIX, resume LAYOUT PREFIX or demo NUMBER WORKERS
 abbrev pub asked_three : List ℕ → List ℕ → List ℕ → Option Asked
 asked_three word first second =
     if bytes_eq word (codes "plain") then asked_plain first second
+    else if bytes_eq word (codes "resume") then asked_resume first second
     else if bytes_eq word (codes "demo") then asked_demo first second
     else None
 
--- what four words ask for: run LAYOUT PREFIX WORKERS
-abbrev pub asked_run : List ℕ → List ℕ → List ℕ → List ℕ → Option Asked
-asked_run word layout prefix workers =
-    if bytes_eq word (codes "run") && is_file_name layout && is_file_name prefix
+-- what the words after run ask for: LAYOUT PREFIX WORKERS
+abbrev pub asked_run : List ℕ → List ℕ → List ℕ → Option Asked
+asked_run layout prefix workers =
+    if is_file_name layout && is_file_name prefix
     then option_map (Run layout prefix) (number_between 1 most_workers workers)
+    else None
+
+-- what the words after stop ask for: LAYOUT PREFIX FROM, with a half bit of the longest run
+abbrev pub asked_stop : List ℕ → List ℕ → List ℕ → Option Asked
+asked_stop layout prefix from =
+    if is_file_name layout && is_file_name prefix
+    then option_map (Stop layout prefix) (number_between 0 most_half_bits from)
+    else None
+
+-- what four words ask for: run LAYOUT PREFIX WORKERS or stop LAYOUT PREFIX FROM
+abbrev pub asked_four : List ℕ → List ℕ → List ℕ → List ℕ → Option Asked
+asked_four word layout prefix number =
+    if bytes_eq word (codes "run") then asked_run layout prefix number
+    else if bytes_eq word (codes "stop") then asked_stop layout prefix number
     else None
 
 -- one half bit comes before another, and at most a million lie between them
@@ -126,7 +148,7 @@ asked_long word layout second third rest =
 -- what the words of the command line ask for, without the program's own name
 abbrev pub asked : List (List ℕ) → Option Asked
 asked (word ∷ layout ∷ second ∷ third ∷ fourth ∷ rest) = asked_long word layout second third (fourth ∷ rest)
-asked (word ∷ layout ∷ prefix ∷ workers ∷ []) = asked_run word layout prefix workers
+asked (word ∷ layout ∷ prefix ∷ number ∷ []) = asked_four word layout prefix number
 asked (word ∷ first ∷ second ∷ []) = asked_three word first second
 asked (word ∷ file ∷ []) = asked_file word file
 asked (word ∷ []) = asked_text word
@@ -138,6 +160,8 @@ asked_of (request.Check layout) = Check layout.now
 asked_of (request.Slack layout) = Slack layout.now
 asked_of (request.Plain layout prefix) = Plain layout.now prefix.now
 asked_of (request.Run layout prefix workers) = Run layout.now prefix.now workers
+asked_of (request.Stop layout prefix from) = Stop layout.now prefix.now from
+asked_of (request.Resume layout prefix) = Resume layout.now prefix.now
 asked_of (request.Demo number workers) = Demo number workers
 asked_of (request.Probe told layout from to taps) = Probe told layout.now from to taps.now
 asked_of (request.Meter log) = Meter log.now
@@ -151,6 +175,8 @@ HasNumbersInRange (request.Check layout) = Unit {0}
 HasNumbersInRange (request.Slack layout) = Unit {0}
 HasNumbersInRange (request.Plain layout prefix) = Unit {0}
 HasNumbersInRange (request.Run layout prefix workers) = (1 ≤ workers) × (workers ≤ most_workers)
+HasNumbersInRange (request.Stop layout prefix from) = from ≤ most_half_bits
+HasNumbersInRange (request.Resume layout prefix) = Unit {0}
 HasNumbersInRange (request.Demo number workers) =
     (1 ≤ number) × (number ≤ most_repeaters) × (1 ≤ workers) × (workers ≤ most_workers)
 HasNumbersInRange (request.Probe told layout from to taps) =

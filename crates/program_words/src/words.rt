@@ -2,7 +2,7 @@
 ghost use Rattle.std.specs.Prelude.{◌≡◌, ◌≤◌, ◌<◌, ◌+◌, ◌^◌, IfSome, length, option_map};
 ghost use Rattle.layout.specs.Limits.{most_half_bits};
 ghost use Rattle.program_words.specs.WordLimits.{most_probed, most_taps};
-ghost use Rattle.program_words.specs.Requests.{HasNumbersInRange, are_tap_words, asked, asked_demo, asked_file, asked_long, asked_of, asked_picture, asked_plain, asked_probe, asked_run, asked_text, asked_three, is_file_name, is_tap_word, number_between, stretch_between};
+ghost use Rattle.program_words.specs.Requests.{HasNumbersInRange, are_tap_words, asked, asked_demo, asked_file, asked_long, asked_of, asked_four, asked_picture, asked_plain, asked_probe, asked_resume, asked_run, asked_stop, asked_text, asked_three, is_file_name, is_tap_word, number_between, stretch_between};
 
 use layout::{MOST_HALF_BITS, MOST_REPEATERS};
 use lists::{List, Text};
@@ -58,6 +58,18 @@ pub enum Request<'a> {
         layout: &'a str,
         prefix: &'a str,
         workers: u32,
+    },
+    /// Runs the network of a layout by half bits to the first quiet half bit at or after one, and writes the state of a
+    /// prefix.
+    Stop {
+        layout: &'a str,
+        prefix: &'a str,
+        from: u32,
+    },
+    /// Goes on from the state of a prefix and writes the files of the prefix.
+    Resume {
+        layout: &'a str,
+        prefix: &'a str,
     },
     /// Runs the layout of demo of a number by windows, on so many workers.
     Demo {
@@ -132,11 +144,11 @@ pub fn read_words(words: &Words) -> Option<Request<'_>>
         [word] => read_text(word.as_str()),
         [word, file] => read_file_form(word.as_str(), file.as_str()),
         [word, first, second] => read_three(word.as_str(), first.as_str(), second.as_str()),
-        [word, layout, prefix, workers] => read_run(
+        [word, layout, prefix, number] => read_four(
             word.as_str(),
             layout.as_str(),
             prefix.as_str(),
-            workers.as_str(),
+            number.as_str(),
         ),
         _ => None,
     }
@@ -206,6 +218,7 @@ fn read_three<'a>(word: &str, first: &'a str, second: &'a str) -> Option<Request
 {
     match word {
         "plain" => read_plain(first, second),
+        "resume" => read_resume(first, second),
         "demo" => read_demo(first, second),
         _ => None,
     }
@@ -222,6 +235,17 @@ fn read_plain<'a>(layout: &'a str, prefix: &'a str) -> Option<Request<'a>>
     }
 }
 
+fn read_resume<'a>(layout: &'a str, prefix: &'a str) -> Option<Request<'a>>
+    ensures asked { option_map asked_of result ≡ asked_resume layout.now prefix.now }
+    ensures range { IfSome result HasNumbersInRange }
+{
+    if is_file_name(layout) && is_file_name(prefix) {
+        Some(Request::Resume { layout, prefix })
+    } else {
+        None
+    }
+}
+
 fn read_demo(number: &str, workers: &str) -> Option<Request<'static>>
     ensures asked { option_map asked_of result ≡ asked_demo number.now workers.now }
     ensures range { IfSome result HasNumbersInRange }
@@ -231,16 +255,43 @@ fn read_demo(number: &str, workers: &str) -> Option<Request<'static>>
     Some(Request::Demo { number, workers })
 }
 
-fn read_run<'a>(word: &str, layout: &'a str, prefix: &'a str, workers: &str) -> Option<Request<'a>>
-    ensures asked { option_map asked_of result ≡ asked_run word.now layout.now prefix.now workers.now }
+fn read_four<'a>(word: &str, layout: &'a str, prefix: &'a str, number: &str) -> Option<Request<'a>>
+    ensures asked { option_map asked_of result ≡ asked_four word.now layout.now prefix.now number.now }
     ensures range { IfSome result HasNumbersInRange }
 {
-    if word == "run" && is_file_name(layout) && is_file_name(prefix) {
+    match word {
+        "run" => read_run(layout, prefix, number),
+        "stop" => read_stop(layout, prefix, number),
+        _ => None,
+    }
+}
+
+fn read_run<'a>(layout: &'a str, prefix: &'a str, workers: &str) -> Option<Request<'a>>
+    ensures asked { option_map asked_of result ≡ asked_run layout.now prefix.now workers.now }
+    ensures range { IfSome result HasNumbersInRange }
+{
+    if is_file_name(layout) && is_file_name(prefix) {
         let workers = read_number(workers, 1, MOST_WORKERS)?;
         Some(Request::Run {
             layout,
             prefix,
             workers,
+        })
+    } else {
+        None
+    }
+}
+
+fn read_stop<'a>(layout: &'a str, prefix: &'a str, from: &str) -> Option<Request<'a>>
+    ensures asked { option_map asked_of result ≡ asked_stop layout.now prefix.now from.now }
+    ensures range { IfSome result HasNumbersInRange }
+{
+    if is_file_name(layout) && is_file_name(prefix) {
+        let from = read_number(from, 0, MOST_HALF_BITS as u32)?;
+        Some(Request::Stop {
+            layout,
+            prefix,
+            from,
         })
     } else {
         None

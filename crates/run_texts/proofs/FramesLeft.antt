@@ -84,7 +84,7 @@ stand_next queues n h i d lt =
     subst (Holds (get_or queues i []) (ends i (next n).rows)) (sym c.state)
     (grows (get_or queues i []) (ends i n.rows) (ends i (next n).rows) s (sender_step s heard).state (sender_step s heard).event before (sender_rises s heard before.stands) le)
 
-all_next : (queues : List (List Ready)) (n : Net) → AllHold queues n → AllHold queues (next n)
+pub all_next : (queues : List (List Ready)) (n : Net) → AllHold queues n → AllHold queues (next n)
 all_next queues n h = record {
   few = λ i. elim (cases_lt i (length (sendings_in n))) [
     | inl lt ↦ within (get_or queues i []) (ends i (next n).rows) _ (stand_next queues n h i no_sender lt)
@@ -121,7 +121,7 @@ repeaters_left k (suc n) rows none =
     let e = counts_end k no_counts rows in
     All-cons IsLeft _ _ (omega (arith, e.0, e.1, none k (omega arith))) (repeaters_left (k + 1) n rows (λ i le. none i (omega arith)))
 
-stations_left : (k n : ℕ) (qs : List (List Ready)) (ss : List Skips) (rows : List Row) → length ss ≡ length qs → ((i j : ℕ) → i ≡ k + j → ends i rows ≤ length (get_or qs j []))
+pub stations_left : (k n : ℕ) (qs : List (List Ready)) (ss : List Skips) (rows : List Row) → length ss ≡ length qs → ((i j : ℕ) → i ≡ k + j → ends i rows ≤ length (get_or qs j []))
     → AreLeft (all_counts_after k (stations_counts qs ss ++ replicate n no_counts) rows)
 stations_left k n [] ss rows same few = repeaters_left k n rows (λ i le. past i le)
   where

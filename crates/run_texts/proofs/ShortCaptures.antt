@@ -71,7 +71,7 @@ received_mild r sym.Hi false = loud_mild r.deaf r sym.Hi
 received_mild r sym.Lo false = loud_mild r.deaf r sym.Lo
 received_mild r sym.Clash false = loud_mild r.deaf r sym.Clash
 
-abbrev IsBounded : Receiving → Type 0
+abbrev pub IsBounded : Receiving → Type 0
 IsBounded r = r.most ≤ most_octets_tagged
 
 abbrev AreFew : List ℕ → Type 0
@@ -97,7 +97,7 @@ pub record IsTaken (t : ℕ) (x : Taken) : Type 0 where
   pub few : length x.octets ≤ most_octets_tagged
   pub time : x.t < t
 
-abbrev AreTaken : ℕ → List Taken → Type 0
+abbrev pub AreTaken : ℕ → List Taken → Type 0
 AreTaken t taken = All (IsTaken t) taken
 
 later : (t : ℕ) (taken : List Taken) → AreTaken t taken → AreTaken (t + 1) taken
@@ -131,11 +131,11 @@ captured_taken t (e ∷ es) (o ∷ os) (c ∷ cs) few h =
     (captured_taken t es os cs (All-tail AreFew o os few) (All-tail (AreTaken t) c cs h))
 
 -- what stays so in a network
-record Captures (n : Net) : Type 0 where
-  bounded : All IsBounded n.receivers
-  taken : All (AreTaken n.t) n.captures
+pub record Captures (n : Net) : Type 0 where
+  pub bounded : All IsBounded n.receivers
+  pub taken : All (AreTaken n.t) n.captures
 
-captures_next : (n : Net) → Captures n → Captures (next n)
+pub captures_next : (n : Net) → Captures n → Captures (next n)
 captures_next n h =
     let hs = stations_hear n in
     let es = stations_emit n in
@@ -144,7 +144,7 @@ captures_next n h =
       taken = captured_taken n.t (map (λ (o : Reception). o.event) (receptions_in n)) (map (λ (o : Reception). o.octets) (receptions_in n)) n.captures (octets_few hs es n.receivers h.bounded) h.taken;
     }
 
-most_bounded : (tagged : Bool) → most_octets tagged ≤ most_octets_tagged
+pub most_bounded : (tagged : Bool) → most_octets tagged ≤ most_octets_tagged
 most_bounded true = omega arith
 most_bounded false = omega arith
 

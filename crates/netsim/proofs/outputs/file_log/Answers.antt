@@ -1,6 +1,6 @@
 use Rattle.std.proofs.Common.{◌≡◌, rules}
 use Rattle.netsim.specs.declared.endings.Ending.{Ending}
-use Rattle.netsim.specs.Runs.{log}
+use Rattle.run_texts.specs.Texts.{log_of_rows}
 use Rattle.program_texts.specs.Texts.{name_of_log}
 use Rattle.netsim.proofs.FilesInTurn.{broken-same}
 use Rattle.netsim.proofs.outputs.file_log.Goals as goal
@@ -8,5 +8,5 @@ use Rattle.netsim.proofs.outputs.file_log.Goals as goal
 pub returns-clause-err : goal.returns-clause-err
 returns-clause-err g c =
     let name : c.as_str.result.now ≡ name_of_log c.args.prefix.now = search rules in
-    let text : c.as_slice-2.result.now ≡ log c.args.plan.now = search rules in
-    broken-same Ending c.file.result _ (name_of_log c.args.prefix.now) _ (log c.args.plan.now) (g.S.Store.held c.args.store.now) (g.S.Store.held c.file.new.store) name text c.file.ensures.err
+    let text : c.as_slice-2.result.now ≡ log_of_rows c.args.plan.now.layout c.args.outputs.now.rows = search rules in
+    broken-same Ending c.file.result _ (name_of_log c.args.prefix.now) _ (log_of_rows c.args.plan.now.layout c.args.outputs.now.rows) (g.S.Store.held c.args.store.now) (g.S.Store.held c.file.new.store) name text c.file.ensures.err

@@ -1,4 +1,4 @@
-use Rattle.std.proofs.Common.{refl, ◌∙◌}
+use Rattle.std.proofs.Common.{refl}
 use Rattle.netsim.specs.Endings.{HasOnlyRead}
 use Rattle.netsim.specs.Moments.{Moment, moment}
 use Rattle.netsim.proofs.PictureEnds.{lines_few, picture-drawn, picture-early, picture-unlogged}

@@ -5,6 +5,7 @@ use Rattle.netsim.proofs.CollisionsAreTold.{collisions_are_told}
 use Rattle.netsim.proofs.MetersAreTold.{metered}
 use Rattle.netsim.proofs.PicturesAreTold.{pictured}
 use Rattle.netsim.proofs.ProbesAreTold.{probed}
+use Rattle.netsim.proofs.StopsAreTold.{resumed, stopped}
 use Rattle.program_words.specs.declared.words.Hearing.TheVariants as hearing
 use Rattle.netsim.proofs.top_call.netsim.Goals as goal
 
@@ -37,6 +38,12 @@ returns-clause-pictured g c = pictured c.args.words.now _ _ _ (record { by = c.r
 
 pub returns-clause-metered : goal.returns-clause-metered
 returns-clause-metered g c = metered c.args.words.now _ _ _ (record { by = c.run_words.result; is = c.status.ensures; allowed = c.run_words.ensures })
+
+pub returns-clause-stopped : goal.returns-clause-stopped
+returns-clause-stopped g c = stopped c.args.words.now _ _ _ (record { by = c.run_words.result; is = c.status.ensures; allowed = c.run_words.ensures })
+
+pub returns-clause-resumed : goal.returns-clause-resumed
+returns-clause-resumed g c = resumed c.args.words.now _ _ _ (record { by = c.run_words.result; is = c.status.ensures; allowed = c.run_words.ensures })
 
 pub returns-clause-refused : goal.returns-clause-refused
 returns-clause-refused g c = refused c.args.words.now _ _ _ (record { by = c.run_words.result; is = c.status.ensures; allowed = c.run_words.ensures })

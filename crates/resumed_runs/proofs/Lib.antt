@@ -1,0 +1,2 @@
+pub mod ResumedFrames
+pub mod ResumedCaptures

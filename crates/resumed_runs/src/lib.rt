@@ -1,0 +1,4 @@
+//! What a run that goes on from a state gives can be written.
+#![tactic(auto)]
+
+pub mod laws;
