@@ -53,8 +53,8 @@ fn are_same(one: &MemoryStore, two: &MemoryStore, name: &str) -> bool {
 /// Whether a run that stops and goes on leaves what the run that never stops leaves.
 fn goes_on<R: Threads + Wait + Sync + AllocGlobal>(
     rt: &R,
-    stop: &Case<'_>,
-    summary: &str,
+    stop: &Case<'static>,
+    summary: &'static str,
 ) -> Result<bool, OutOfMemory> {
     let plain = Case {
         words: &["plain", "l.toml", "out"],
