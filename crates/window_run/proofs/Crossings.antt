@@ -10,7 +10,7 @@ use Rattle.mac_transmit.specs.contracts.transmitter.Transmitter as Transmitter
 use Rattle.repeater_core.specs.contracts.repeater.Repeater as Repeater
 use Rattle.repeater_engine.specs.contracts.engine.RepeaterEngine as RepeaterEngine
 use Rattle.repeater_engine.specs.contracts.part.RepeaterPart as RepeaterPart
-use Rattle.segment_engine.specs.contracts.line.Line as Line
+use Rattle.tap_lines.specs.contracts.line.Line as Line
 use Rattle.segment_engine.specs.contracts.part.SegmentPart as SegmentPart
 use Rattle.segment_engine.specs.contracts.running.Running as Running
 use Rattle.segment_engine.specs.contracts.segment.Segment as Segment
