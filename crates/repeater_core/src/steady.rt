@@ -1,6 +1,7 @@
 //! Steady half bits, in which nothing happens but counts: what becomes of guards, counts and the delay line in them.
-ghost use Rattle.std.specs.Prelude.{◌≡◌, ◌≤◌, ◌<◌, ◌+◌, ◌-◌, ℕ, suc, length, map};
+ghost use Rattle.std.specs.Prelude.{◌≡◌, ◌≤◌, ◌<◌, ◌+◌, ◌-◌, ℕ, suc, length, map, slice_index_or};
 ghost use Rattle.std.specs.Fn.{iterate};
+ghost use Rattle.manchester_line.specs.declared.Sym.TheVariants.{Idle};
 ghost use Rattle.manchester_line.specs.Line.{is_signal};
 ghost use Rattle.repeater_core.specs.Counts.{choices_from};
 ghost use Rattle.mac_parameters.specs.Parameters.{jabber_limit, most_ports};
@@ -12,8 +13,9 @@ ghost use Rattle.repeater_core.specs.Classes.{line_with, texts_after};
 
 use crate::counts::PortCount;
 use crate::line::DelayLine;
-use crate::modes::{MOST_STEADY, Mode, mode_on, sends_to, sent_text, text_for, wish};
+use crate::modes::{MOST_STEADY, Mode, mode_on, sends_to, sent_text, wish};
 use crate::ports::collision_at;
+use crate::texts::write_texts;
 use mac_parameters::JABBER_LIMIT;
 use manchester_line::{Sym, is_signal};
 use port_partition::PortGuard;
@@ -158,17 +160,15 @@ pub fn leap_texts(
 ) -> Mode
     requires decided_len { length decided.now ≡ line.old.ports }
     requires sent_len { length sent.old ≡ length heard.now }
+    requires some { 0 < length heard.now }
+    requires few { length heard.now ≤ most_calm }
     requires modes { (k : ℕ) → k < length heard.now → IsMode (iterate mode_on k mode) }
+    requires alike { (k : ℕ) → k < length heard.now → map is_signal (texted (map is_signal decided.now) (slice_index_or (texts_after mode heard.now) k Idle)) ≡ map is_signal decided.now }
     ensures mode { result ≡ iterate mode_on (length heard.now) mode }
     ensures line { line.new ≡ line_with (map is_signal decided.now) (texts_after mode heard.now) line.old }
     ensures sent { sent.new ≡ texts_after mode heard.now }
 {
-    let mut mode = mode;
-    for k in 0..heard.len() {
-        mode = mode_on(mode);
-        let text = text_for(mode, heard[k]);
-        sent[k] = text;
-        line.send(decided, text);
-    }
-    mode
+    let after = write_texts(mode, heard, sent);
+    line.send(mode == Mode::Idle, decided, sent);
+    after
 }
