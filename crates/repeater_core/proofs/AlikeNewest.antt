@@ -1,10 +1,9 @@
 -- The newest rows of a delay line that have signals at the same places.
-use Rattle.std.proofs.Common.{◌≡◌, ℕ, zero, suc, ◌+◌, ◌-◌, ◌*◌, ◌<◌, ◌≤◌, Bool, false, cond, eqb, List, [], ◌∷◌, ◌++◌, length, map, take, drop, replicate, get_or, refl, sym, ap, ap₂, subst, ◌∙◌, inl, inr, arith, length-drop, length-append, length-take-le, mul-le-mul_right}
+use Rattle.std.proofs.Common.{◌≡◌, ℕ, suc, ◌+◌, ◌-◌, ◌*◌, ◌<◌, ◌≤◌, Bool, false, cond, eqb, List, [], ◌∷◌, ◌++◌, length, map, take, drop, replicate, get_or, refl, sym, ap, ap₂, subst, ◌∙◌, inl, inr, arith, length-drop, length-take-le, mul-le-mul_right}
 use Rattle.std.proofs.lemmas.Bool.{cases_eq, cases_lt}
 use Rattle.std.proofs.lemmas.Bool.Decides.{nat_tests}
-use Rattle.std.proofs.lemmas.List.{take_all, length-map}
+use Rattle.std.proofs.lemmas.List.{length-map}
 use Rattle.std.proofs.lemmas.List.Elements.{All-take, All-drop, recursion_from_All}
-use Rattle.std.proofs.Math.Seq.{drop-append-add}
 use Rattle.std.specs.List.{All, AllByRecursion}
 use Rattle.manchester_line.specs.declared.Sym.{Sym}
 use Rattle.manchester_line.specs.declared.Sym.TheVariants.{Idle}
@@ -12,22 +11,13 @@ use Rattle.manchester_line.specs.Line.{is_signal}
 use Rattle.repeater_core.specs.Delayed.{Delayed, moved_on, row_of, AreAlikeNewest}
 use Rattle.repeater_core.specs.Steady.{texted}
 use Rattle.repeater_core.specs.Classes.{line_with}
-use Rattle.repeater_core.proofs.SteadyCount.{row_on}
+use Rattle.repeater_core.proofs.DelayRows.{row_on, row_last, moved_len}
 
 -- a line of so many rows and ports
 pub record Lined (ports delay : ℕ) (d : Delayed) : Type 0 where
   pub ports_are : d.ports ≡ ports
   pub delay_is : d.delay ≡ delay
   pub rows_len : length d.rows ≡ delay * ports
-
-one_row : (p delay : ℕ) → 0 < delay → p ≤ delay * p
-one_row p delay some = let m : 1 * p ≤ delay * p = mul-le-mul_right p (let a : 1 ≤ delay = omega arith in a) in omega arith
-
-moved_len : (p delay : ℕ) (rows decided : List Sym) → 0 < delay → length rows ≡ delay * p → length decided ≡ p → length (drop p rows ++ decided) ≡ delay * p
-moved_len p delay rows decided some len n =
-    let a = length-append (drop p rows) decided in
-    let b = length-drop p rows in
-    let c = one_row p delay some in omega arith
 
 pub lined_on : (p delay : ℕ) (d : Delayed) (decided : List Sym) → 0 < delay → Lined p delay d → length decided ≡ p → Lined p delay (moved_on decided d)
 lined_on p delay d decided some h n = record {
@@ -42,16 +32,6 @@ texted_len flags text = length-map flags _
 pub lined_with : (p delay : ℕ) (flags : List Bool) (texts : List Sym) (d : Delayed) → 0 < delay → Lined p delay d → length flags ≡ p → Lined p delay (line_with flags texts d)
 lined_with p delay flags [] d some h n = h
 lined_with p delay flags (t ∷ texts) d some h n = lined_with p delay flags texts (moved_on (texted flags t) d) some (lined_on p delay d (texted flags t) some h (texted_len flags t ∙ n)) n
-
--- the newest row is the one that was put in last
-pub row_last : (p delay : ℕ) (rows decided : List Sym) → 0 < delay → length rows ≡ delay * p → length decided ≡ p → take p (drop ((delay - 1) * p) (drop p rows ++ decided)) ≡ decided
-row_last p delay rows decided some len n =
-    let one : delay ≡ delay - 1 + 1 = omega arith in
-    let more : (delay - 1) * p + p ≡ (delay - 1 + 1) * p = omega arith in
-    let less : (delay - 1) * p + p ≡ delay * p = more ∙ sym (ap (λ k. k * p) one) in
-    let b = length-drop p rows in
-    let at : (delay - 1) * p ≡ length (drop p rows) + 0 = omega arith in
-    ap (λ k. take p (drop k (drop p rows ++ decided))) at ∙ ap (take p) (drop-append-add (drop p rows) decided 0) ∙ take_all p decided (omega arith)
 
 -- the newest n rows have their signals there
 abbrev pub NewestAre : List Bool → ℕ → Delayed → Type 0

@@ -8,7 +8,6 @@ use Rattle.mac_parameters.specs.Parameters.{fragment_extension, preamble_length}
 use Rattle.manchester_line.specs.declared.Sym.{Sym}
 use Rattle.manchester_line.specs.declared.Sym.TheVariants as sy
 use Rattle.manchester_line.specs.Line.{preamble_at}
-use Rattle.repeater_core.specs.declared.modes.Mode.{Mode}
 use Rattle.repeater_core.specs.declared.modes.Mode.TheVariants.{Idle, Repeat}
 use Rattle.repeater_core.specs.Limits.{counts_end, jam_period}
 use Rattle.repeater_core.specs.Modes.{next_count}

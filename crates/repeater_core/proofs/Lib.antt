@@ -14,6 +14,7 @@ pub mod SteadyHalfBits
 pub mod SteadyLeap
 pub mod SteadyState
 pub mod SteadyCount
+pub mod DelayRows
 pub mod AlikeNewest
 pub mod AlikeRows
 pub mod RowsPut

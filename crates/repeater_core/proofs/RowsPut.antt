@@ -1,20 +1,20 @@
 -- Rows that are put into a ring one after another, each a text at the same places.
-use Rattle.std.proofs.Common.{◌≡◌, ℕ, zero, suc, ◌+◌, ◌-◌, ◌*◌, ◌<◌, ◌≤◌, Bool, true, false, cond, List, [], ◌∷◌, ◌++◌, length, map, take, drop, replicate, refl, sym, ap, ap₂, subst, ◌∙◌, inl, inr, arith, length-drop, length-take-le, mul-le-mul_right}
+use Rattle.std.proofs.Common.{◌≡◌, ℕ, zero, suc, ◌+◌, ◌-◌, ◌*◌, ◌<◌, ◌≤◌, Bool, true, false, cond, List, [], ◌∷◌, ◌++◌, length, take, drop, replicate, refl, sym, ap, ap₂, subst, ◌∙◌, inl, inr, arith, length-drop, length-take-le, mul-le-mul_right}
 use Rattle.std.proofs.lemmas.Bool.{cases_lt}
 use Rattle.std.proofs.lemmas.List.{drop_all, drop-drop, drop-append-le, take-append-drop, take_all, length-replicate}
 use Rattle.std.proofs.lemmas.List.Elements.{All-append, All-drop, All-nil, All-replicate, All-take, recursion_from_All}
-use Rattle.std.specs.List.{All, AllByRecursion}
+use Rattle.std.specs.List.{AllByRecursion}
 use Rattle.mac_parameters.specs.Parameters.{greatest_delay}
 use Rattle.manchester_line.specs.declared.Sym.{Sym}
 use Rattle.manchester_line.specs.declared.Sym.TheVariants as sy
-use Rattle.manchester_line.specs.Line.{is_signal}
 use Rattle.repeater_core.specs.Delayed.{Delayed, moved_on, rotated, row_of, turn_after, IsRing}
 use Rattle.repeater_core.specs.Steady.{texted}
 use Rattle.repeater_core.specs.Classes.{line_with}
 use Rattle.repeater_core.proofs.NextTurnOfRing.{rotated_turn, same_delayed}
 use Rattle.repeater_core.proofs.PutRow.{all_idle_texts}
 use Rattle.repeater_core.proofs.RingLeaps.{AllIdle, ring, rotated_add, rotated_len, row_in, moved_row, filled_falls}
-use Rattle.repeater_core.proofs.AlikeNewest.{Lined, lined_on, lined_with, texted_len, row_last, NewestAre, KeepSignals, newest_with, newest_same, idle_newest}
+use Rattle.repeater_core.proofs.DelayRows.{row_last}
+use Rattle.repeater_core.proofs.AlikeNewest.{Lined, lined_on, lined_with, texted_len, NewestAre, KeepSignals, newest_with, newest_same, idle_newest}
 
 -- one row more
 pub row_put : (ports delay turn next : ℕ) (xs ys : List Sym) (flags : List Bool) (text : Sym) → length ys ≡ delay * ports → next ≡ turn_after turn delay

@@ -27,7 +27,7 @@ use Rattle.repeater_core.proofs.SteadyState.{events_by, events_by_kind, kinds_le
 use Rattle.repeater_core.proofs.SendsToOthers.{IsRepeatable}
 use Rattle.repeater_core.proofs.CalmIsExact.{same_state, length_emitted}
 use Rattle.repeater_core.proofs.SteadyMost.{repeats}
-use Rattle.repeater_core.proofs.SteadyCount.{row_on}
+use Rattle.repeater_core.proofs.DelayRows.{row_on}
 
 -- the classes of what is heard
 signal_class : (s : Sym) → is_signal (class_of s) ≡ is_signal s

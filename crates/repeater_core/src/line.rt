@@ -233,6 +233,13 @@ impl DelayLine {
         self.alike = (alike + n).min(self.delay);
     }
 
+    /// The half bits of the delay.
+    pub fn delay(&self) -> usize
+        ensures { result ≡ self.now.delay }
+    {
+        self.delay
+    }
+
     /// What the ports emit in this half bit.
     pub fn front(&self, emits: &mut [Sym])
         requires { length emits.old ≡ self.now.ports }

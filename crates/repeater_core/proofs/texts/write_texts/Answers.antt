@@ -1,4 +1,4 @@
-use Rattle.std.proofs.Common.{◌≡◌, length, replicate, sym, ap, ◌∙◌}
+use Rattle.std.proofs.Common.{length, replicate, sym, ap, ◌∙◌}
 use Rattle.std.specs.Fn.{iterate}
 use Rattle.manchester_line.specs.declared.Sym.TheVariants as sy
 use Rattle.repeater_core.specs.declared.modes.Mode.TheVariants.{Repeat}
