@@ -1,5 +1,5 @@
 //! A repeater's delay: rows of symbols that come out `delay` half bits after they were put in.
-ghost use Rattle.std.specs.Prelude.{◌≡◌, ◌<◌, ◌≤◌, ◌+◌, ◌-◌, ◌*◌, ◌++◌, ◌==◌, ℕ, if◌then◌else◌, length, map, take, drop, replicate, slice_index_or, IfOk, IsTrue};
+ghost use Rattle.std.specs.Prelude.{◌≡◌, ◌<◌, ◌≤◌, ◌+◌, ◌-◌, ◌*◌, [], ◌∷◌, ◌++◌, ◌==◌, ℕ, if◌then◌else◌, length, map, take, drop, replicate, slice_index_or, IfOk, IsTrue};
 ghost use Rattle.std.specs.List.{All};
 ghost use Rattle.manchester_line.specs.declared.Sym.TheVariants.{Idle};
 ghost use Rattle.std.specs.Fn.{iterate};
@@ -64,12 +64,26 @@ fn text_at(flag: Sym, text: Sym) -> Sym
     if is_signal(flag) { text } else { Sym::Idle }
 }
 
+/// Puts a row of two ports in at `head`, as `put_row` does.
+fn put_pair(slots: &mut [Sym], head: usize, first: Sym, second: Sym, text: Sym)
+    requires { head + 2 ≤ length slots.old }
+    ensures len { length slots.new ≡ length slots.old }
+    ensures rows { rotated (head + 2) slots.new ≡ drop 2 (rotated head slots.old) ++ texted (map is_signal (first ∷ second ∷ [])) text }
+{
+    slots[head] = text_at(first, text);
+    slots[head + 1] = text_at(second, text);
+}
+
 /// Puts a row in at `head`: the text at the places of signals in `flags`, and Idle at the others.
 fn put_row(slots: &mut [Sym], head: usize, flags: &[Sym], text: Sym)
     requires { head + length flags.now ≤ length slots.old }
     ensures len { length slots.new ≡ length slots.old }
     ensures rows { rotated (head + length flags.now) slots.new ≡ drop (length flags.now) (rotated head slots.old) ++ texted (map is_signal flags.now) text }
 {
+    if flags.len() == 2 {
+        put_pair(slots, head, flags[0], flags[1], text);
+        return;
+    }
     for k in 0..flags.len() {
         slots[head + k] = text_at(flags[k], text);
     }
