@@ -2,7 +2,7 @@
 use Rattle.std.proofs.Common.{◌≡◌, ℕ, zero, suc, ◌+◌, ◌*◌, ◌<◌, ◌≤◌, Bool, true, false, Option, Some, None, List, [], ◌∷◌, ◌++◌, length, take, drop, drop-cons, get_or, refl, sym, ap, ap₂, ◌∙◌, arith, rules}
 use Rattle.std.proofs.lemmas.List.{drop-drop, drop_all, take-append-drop}
 use Rattle.std.proofs.lemmas.Option.{none-some, same_Some}
-use Rattle.std.specs.Prelude.{IfSome}
+use Rattle.std.specs.Prelude.{IfSome, ◌&&◌}
 use Rattle.std.specs.Option.{option_map, is_some}
 use Rattle.mac_parameters.specs.Parameters.{half_bits_an_octet}
 use Rattle.manchester_line.specs.declared.Sym.{Sym}
@@ -108,24 +108,28 @@ pair_at hs j h =
     ∙ drop-cons hs (2 * j + 1) Idle h
     ∙ (let e : suc (2 * j + 1) ≡ 2 * (j + 1) = omega arith in ap (λ i. get_or hs (2 * j + 1) Idle ∷ drop i hs) e))
 
--- one pair on
-pub shift_step : (hs : List Sym) (j rest : ℕ) (b : Bool) (o : Option ℕ) → 2 * j + 1 < length hs → bit_of_pair (get_or hs (2 * j) Idle) (get_or hs (2 * j + 1) Idle) ≡ Some b
-    → option_map (all_shifted rest) (bits_of (drop (2 * j) hs)) ≡ o → option_map (all_shifted (shifted rest b)) (bits_of (drop (2 * (j + 1)) hs)) ≡ o
-shift_step hs j rest b o h e is =
-    sym (shifted_first rest b (bits_of (drop (2 * (j + 1)) hs)))
-    ∙ ap (λ p. option_map (all_shifted rest) (add_bit p (bits_of (drop (2 * (j + 1)) hs)))) (sym e)
-    ∙ ap (λ xs. option_map (all_shifted rest) (bits_of xs)) (sym (pair_at hs j h))
-    ∙ is
+-- what has come of an octet, if each pair so far is a bit
+abbrev pub if_whole : Bool → Option ℕ → Option ℕ
+if_whole true o = o
+if_whole false o = None
 
--- a pair that is no bit
-pub shift_stop : (hs : List Sym) (j rest : ℕ) (o : Option ℕ) → 2 * j + 1 < length hs → bit_of_pair (get_or hs (2 * j) Idle) (get_or hs (2 * j + 1) Idle) ≡ None
-    → option_map (all_shifted rest) (bits_of (drop (2 * j) hs)) ≡ o → None ≡ o
-shift_stop hs j rest o h e is =
-    sym (no_bit rest (bits_of (drop (2 * (j + 1)) hs)))
-    ∙ ap (λ p. option_map (all_shifted rest) (add_bit p (bits_of (drop (2 * (j + 1)) hs)))) (sym e)
-    ∙ ap (λ xs. option_map (all_shifted rest) (bits_of xs)) (sym (pair_at hs j h))
-    ∙ is
+pair_on : (whole : Bool) (octet rest : ℕ) (p : Option Bool) (o : Option (List Bool)) → ((b : Bool) → p ≡ Some b → octet ≡ shifted rest b)
+    → if_whole (whole && is_some p) (option_map (all_shifted octet) o) ≡ if_whole whole (option_map (all_shifted rest) (add_bit p o))
+pair_on true octet rest None o is = sym (no_bit rest o)
+pair_on false octet rest None o is = refl
+pair_on true octet rest (Some b) o is = ap (λ k. option_map (all_shifted k) o) (is b refl) ∙ sym (shifted_first rest b o)
+pair_on false octet rest (Some b) o is = refl
+
+-- one pair on
+pub shift_step : (hs : List Sym) (j octet rest : ℕ) (whole : Bool) (o : Option ℕ) → 2 * j + 1 < length hs
+    → ((b : Bool) → bit_of_pair (get_or hs (2 * j) Idle) (get_or hs (2 * j + 1) Idle) ≡ Some b → octet ≡ shifted rest b)
+    → if_whole whole (option_map (all_shifted rest) (bits_of (drop (2 * j) hs))) ≡ o
+    → if_whole (whole && is_some (bit_of_pair (get_or hs (2 * j) Idle) (get_or hs (2 * j + 1) Idle))) (option_map (all_shifted octet) (bits_of (drop (2 * (j + 1)) hs))) ≡ o
+shift_step hs j octet rest whole o h is e =
+    pair_on whole octet rest (bit_of_pair (get_or hs (2 * j) Idle) (get_or hs (2 * j + 1) Idle)) (bits_of (drop (2 * (j + 1)) hs)) is
+    ∙ ap (λ xs. if_whole whole (option_map (all_shifted rest) (bits_of xs))) (sym (pair_at hs j h))
+    ∙ e
 
 -- all pairs are shifted in
-pub shift_end : (hs : List Sym) (j rest : ℕ) (o : Option ℕ) → length hs ≤ 2 * j → option_map (all_shifted rest) (bits_of (drop (2 * j) hs)) ≡ o → Some rest ≡ o
-shift_end hs j rest o h is = sym (ap (λ xs. option_map (all_shifted rest) (bits_of xs)) (drop_all (2 * j) hs h)) ∙ is
+pub shift_end : (hs : List Sym) (j rest : ℕ) (whole : Bool) (o : Option ℕ) → length hs ≤ 2 * j → if_whole whole (option_map (all_shifted rest) (bits_of (drop (2 * j) hs))) ≡ o → if_whole whole (Some rest) ≡ o
+shift_end hs j rest whole o h is = sym (ap (λ xs. if_whole whole (option_map (all_shifted rest) (bits_of xs))) (drop_all (2 * j) hs h)) ∙ is

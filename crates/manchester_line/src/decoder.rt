@@ -1,6 +1,6 @@
 ghost use Rattle.std.specs.Prelude.{◌≡◌, ◌≢◌, ◌+◌, ◌*◌, ◌<◌, ◌≤◌, ℕ, Bool, false, IfSome, List, Some, [], ◌∷◌, ◌++◌, length, take};
 ghost use Rattle.std.specs.List.{All};
-ghost use Rattle.std.specs.Option.{is_none, option_map};
+ghost use Rattle.std.specs.Option.{is_none, is_some, option_map};
 ghost use Rattle.mac_parameters.specs.Parameters.{half_bits_an_octet, preamble_length};
 ghost use Rattle.manchester_line.specs.Decoding.{Decodes, all_pushed, all_shifted, new_decoding, octet_kept, put_bit, pushed, shifted, take_bit};
 ghost use Rattle.manchester_line.specs.Line.{line};
@@ -70,14 +70,28 @@ impl Model for Decoder {
     ghost invariant = { λ s. (s.count ≤ s.halves) × (s.spare ≤ 7) };
 }
 
+/// Whether a pair of half bits is a bit, with no branch: Hi counts 1 and Lo 2 (clause 7).
+fn is_bit(first: Sym, second: Sym) -> bool
+    ensures { result ≡ is_some (bit_of_pair first second) }
+{
+    first as u8 * second as u8 == 2
+}
+
+/// The bit of a pair with this second half, if the pair is one (clause 7).
+fn bit_by(second: Sym) -> bool
+    ensures { (first : Sym) (bit : Bool) → bit_of_pair first second ≡ Some bit → result ≡ bit }
+{
+    second as u8 % 2 == 1
+}
+
 /// The bit of a pair of half bits, if it is one (clause 7).
 fn bit_of(first: Sym, second: Sym) -> Option<bool>
     ensures { result ≡ bit_of_pair first second }
 {
-    match (first, second) {
-        (Sym::Lo, Sym::Hi) => Some(true),
-        (Sym::Hi, Sym::Lo) => Some(false),
-        _ => None,
+    if is_bit(first, second) {
+        Some(bit_by(second))
+    } else {
+        None
     }
 }
 
@@ -89,19 +103,19 @@ fn shift(rest: u8, bit: bool) -> u8
 }
 
 /// What is at the top of an octet once the eight bits of these half bits have come there, one after the other; none where a
-/// pair is no bit (clause 7).
+/// pair is no bit (clause 7). All pairs are looked at, so that no branch goes by what is heard.
 fn shift_all(rest: u8, halves: &[Sym]) -> Option<u8>
     requires { length halves.now ≡ half_bits_an_octet }
     ensures { result ≡ option_map (all_shifted rest) (bits_of halves.now) }
 {
     let mut octet = rest;
+    let mut whole = true;
     for j in 0..8 {
-        match bit_of(halves[2 * j], halves[2 * j + 1]) {
-            None => return None,
-            Some(bit) => octet = shift(octet, bit),
-        }
+        let second = halves[2 * j + 1];
+        whole = whole & is_bit(halves[2 * j], second);
+        octet = shift(octet, bit_by(second));
     }
-    Some(octet)
+    if whole { Some(octet) } else { None }
 }
 
 /// Keeps octet number `count`, from 0, where there is room.
