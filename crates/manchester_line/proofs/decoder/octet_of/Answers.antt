@@ -4,7 +4,7 @@ use Rattle.std.specs.Option.{option_map}
 use Rattle.manchester_line.specs.Decoding.{all_shifted, shifted}
 use Rattle.manchester_line.specs.Reading.{bits_of}
 use Rattle.manchester_line.proofs.WholeOctets.{if_whole, shift_step, shift_end}
-use Rattle.manchester_line.proofs.decoder.shift_all.Goals as goal
+use Rattle.manchester_line.proofs.decoder.octet_of.Goals as goal
 
 pub loop-j-preserved : goal.loop-j-preserved
 loop-j-preserved c =
