@@ -1,4 +1,4 @@
-use Rattle.std.proofs.Common.{◌≡◌, ◌+◌, ◌*◌, ◌-◌, ◌/◌, ◌%◌, ◌^◌, ◌∙◌, ap, ap₂}
+use Rattle.std.proofs.Common.{◌+◌, ◌*◌, ◌-◌, ◌/◌, ◌%◌, ◌^◌, ◌∙◌, ap₂}
 use Rattle.manchester_line.proofs.PutBits.{filled_is}
 use Rattle.manchester_line.proofs.decoder.filled.Goals as goal
 
