@@ -67,4 +67,3 @@ module _ (f : ℕ → Sym) (front t : ℕ) (l : TapLine) (is : IsLineOf f front 
         rw test (dropped_line k (omega (arith, size)) (omega (arith, size, begins, ahead, e)))
     | inr enough ↦ let test : ltb l.room n ≡ false = grind (arith, nat_tests) in rw test is
   ]
-
