@@ -1,16 +1,12 @@
 use Rattle.std.proofs.Common.{◌≡◌, ◌*◌, [], get_or, sym, subst, ap, ◌∙◌, arith, rules}
 use Rattle.load_plan.specs.declared.plan.Plan.{Plan}
-use Rattle.load_plan.proofs.PlansAreSound.{sound_of_plan}
 use Rattle.network.proofs.RunnablePlans.{runnable_plan}
 use Rattle.net_parts.specs.Windows.{time}
 use Rattle.net_parts.specs.RepeaterParts.{RepeaterState}
 use Rattle.repeater_core.specs.Step.{new_state}
 use Rattle.repeater_engine.specs.KeptRepeaters.{StandsAt}
 use Rattle.repeater_engine.proofs.RepeatersAsParts.{at_first}
-use Rattle.repeater_engine.proofs.part.RepeaterPart.new.Goals as goal
-
-pub lookahead-requires : goal.lookahead-requires
-lookahead-requires c = sound_of_plan c.args.plan.now
+use Rattle.repeater_engine.proofs.part.RepeaterPart.paced.Goals as goal
 
 pub overflow_mul-result : goal.overflow_mul-result
 overflow_mul-result c =
@@ -29,5 +25,5 @@ invariant_of-result-clause-stands c =
       state =
           c.in_ok-engine.ensures.state
           ∙ ap (λ m. let s : RepeaterState = record { t = 0; repeater = new_state m r.delay; rows = [] } in s) c.len-3.ensures
-          ∙ at_first plan c.args.repeater r c.requires (c.index-as_slice-repeater.is ∙ ap (λ xs. get_or xs c.args.repeater r) c.as_slice.ensures);
+          ∙ at_first plan c.args.repeater r c.requires.within (c.index-as_slice-repeater.is ∙ ap (λ xs. get_or xs c.args.repeater r) c.as_slice.ensures);
     })

@@ -5,7 +5,7 @@ use Rattle.net_parts.specs.Windows.{time}
 use Rattle.segment_engine.specs.KeptParts.{StandsInNetwork}
 use Rattle.segment_engine.specs.RunningStates.{IsRunningAt}
 use Rattle.segment_engine.proofs.KeptParts.{kept_of, standing_of}
-use Rattle.segment_engine.proofs.part.SegmentPart.new.Goals as goal
+use Rattle.segment_engine.proofs.part.SegmentPart.paced.Goals as goal
 
 pub invariant_of-result : goal.invariant_of-result
 invariant_of-result c =
