@@ -8,7 +8,7 @@ use Rattle.net_parts.specs.Parts.{is_segment_part}
 use Rattle.net_parts.specs.Parcels.{IsTrueParcel}
 use Rattle.net_parts.specs.Boards.{has_edge, place_in}
 use Rattle.exchange_core.specs.Holdings.{Holding, edges_of_parcels, place_of_edge, absent_parcel, is_here, vacate_holding, take_holding}
-use Rattle.exchange_core.specs.Shares.{Rack, rack, Held, share_of, part_on, is_owned, changed, change_on, has_place, first_with_edge, may_post, is_same_way, leaves, parcel_in, is_refilled, posted_parcel, post_held, has_place_for, take_held, received, carried, IsOfPlan, IsWholeShare}
+use Rattle.exchange_core.specs.Shares.{Rack, rack, Held, share_of, part_on, is_owned, changed, change_on, has_place, first_with_edge, may_post, is_same_way, leaves, parcel_in, is_refilled, posted_parcel, post_held, has_place_for, take_held, received, carry_held, IsOfPlan, IsWholeShare}
 use Rattle.exchange_core.proofs.SoundHoldings.{edges_set}
 use Rattle.exchange_core.proofs.ChangedRacks.{found_changed, some_part, without_place, may_post_first}
 use Rattle.exchange_core.proofs.SidedShares.{sided}
@@ -140,7 +140,7 @@ module _ (so ro : List ℕ) (a b : Rack) (e s r : ℕ) (f : IsEdgeOf so ro a b e
   at_place : (x z : Rack) → IsWholeShare so ro (share_of x z) → p.edge ≡ e → IsEdgeOf so ro x z p.edge s r
   at_place x z w is = record { whole = w; segment = f.segment ∙ ap (λ n. get_or so n 0) (sym is); repeater = f.repeater ∙ ap (λ n. get_or ro n 0) (sym is) }
 
-  to_end : is_refilled e (share_of a b) ≡ true → p ≡ posted_parcel e (share_of a b) → (t : Held) → t ≡ post_held e (share_of a b) → received p t ≡ carried e (share_of a b)
+  to_end : is_refilled e (share_of a b) ≡ true → p ≡ posted_parcel e (share_of a b) → (t : Held) → t ≡ post_held e (share_of a b) → received p t ≡ carry_held e (share_of a b)
   to_end refilled is t new = ap₂ received is new ∙ sym (ap (λ x. if x then received (posted_parcel e (share_of a b)) (post_held e (share_of a b)) else share_of a b) refilled)
 
   -- from a segment to a repeater
@@ -167,7 +167,7 @@ module _ (so ro : List ℕ) (a b : Rack) (e s r : ℕ) (f : IsEdgeOf so ro a b e
       segment_whole : IsWholeShare so ro (share_of x y)
       segment_whole = whole_received false so ro x b p s r segment_posted segment_way segment_honest segment_left y come
 
-      segment_carried : share_of x y ≡ carried e (share_of a b)
+      segment_carried : share_of x y ≡ carry_held e (share_of a b)
       segment_carried =
           new_received false so ro x b p s r segment_posted segment_way segment_honest segment_left y come
           ∙ to_end (sym (refilled_segment so ro a b e s r f (leaves e (part_on s a)) refl goes) ∙ goes) (is ∙ posted_is true so ro a b e s r from_segment) (share_of x b) (posted_new true so ro a b e s r from_segment x left)
@@ -199,7 +199,7 @@ module _ (so ro : List ℕ) (a b : Rack) (e s r : ℕ) (f : IsEdgeOf so ro a b e
       repeater_whole : IsWholeShare so ro (share_of y x)
       repeater_whole = whole_received true so ro a x p s r repeater_posted repeater_way repeater_honest repeater_left y come
 
-      repeater_carried : share_of y x ≡ carried e (share_of a b)
+      repeater_carried : share_of y x ≡ carry_held e (share_of a b)
       repeater_carried =
           new_received true so ro a x p s r repeater_posted repeater_way repeater_honest repeater_left y come
           ∙ to_end refilled (is ∙ posted_is false so ro a b e s r from_repeater) (share_of a x) (posted_new false so ro a b e s r from_repeater x left)
@@ -221,7 +221,7 @@ one_leaves so ro a b e s r f goes = elim (leaves e (part_on s a)) as (λ x. leav
 -- The share is whole, and the parcel was carried in it, if it leaves.
 pub record IsCarried (so ro : List ℕ) (a b : Rack) (e : ℕ) (goes : Bool) (x y : Rack) : Type 0 where
   pub whole : IsWholeShare so ro (share_of x y)
-  pub new : share_of x y ≡ (if goes then carried e (share_of a b) else share_of a b)
+  pub new : share_of x y ≡ (if goes then carry_held e (share_of a b) else share_of a b)
 
 module _ (so ro : List ℕ) (a b : Rack) (e s r : ℕ) (f : IsEdgeOf so ro a b e s r) (o : Option Parcel) where
   -- by what the segments hand out
@@ -244,7 +244,7 @@ module _ (so ro : List ℕ) (a b : Rack) (e s r : ℕ) (f : IsEdgeOf so ro a b e
       to_repeater y come =
           let left = new ∙ ap (λ z. if z then change_on (vacate_holding e) s a else a) found.0 in record {
             whole = segment_whole so ro a b e s r f p found.0 found.1 x y left come;
-            new = segment_carried so ro a b e s r f p found.0 found.1 x y left come ∙ ap (λ z. if z then carried e (share_of a b) else share_of a b) segment_leaves;
+            new = segment_carried so ro a b e s r f p found.0 found.1 x y left come ∙ ap (λ z. if z then carry_held e (share_of a b) else share_of a b) segment_leaves;
           }
 
     module _ (none : o ≡ None) where
@@ -257,7 +257,7 @@ module _ (so ro : List ℕ) (a b : Rack) (e s r : ℕ) (f : IsEdgeOf so ro a b e
       pub not_from_segment : IsCarried so ro a b e (may_post e (first_with_edge e a.places)) x b
       not_from_segment =
           let same : share_of x b ≡ share_of a b = ap (λ z. share_of z b) (new ∙ ap (λ z. if z then change_on (vacate_holding e) s a else a) stays) in
-          record { whole = subst (IsWholeShare so ro) (sym same) f.whole; new = same ∙ ap (λ z. if z then carried e (share_of a b) else share_of a b) segment_stays }
+          record { whole = subst (IsWholeShare so ro) (sym same) f.whole; new = same ∙ ap (λ z. if z then carry_held e (share_of a b) else share_of a b) segment_stays }
 
   -- by what the repeaters hand out
   module _ (x : Rack) (value : o ≡ (if leaves e (part_on r b) then Some (parcel_in e (part_on r b)) else None))
@@ -282,7 +282,7 @@ module _ (so ro : List ℕ) (a b : Rack) (e s r : ℕ) (f : IsEdgeOf so ro a b e
       to_segment y come =
           let left = new ∙ ap (λ z. if z then change_on (vacate_holding e) r b else b) found'.0 in record {
             whole = repeater_whole so ro a b e s r f p alone found'.0 found'.1 x y left come;
-            new = repeater_carried so ro a b e s r f p alone found'.0 found'.1 x y left come ∙ ap (λ z. if z then carried e (share_of a b) else share_of a b) repeater_leaves;
+            new = repeater_carried so ro a b e s r f p alone found'.0 found'.1 x y left come ∙ ap (λ z. if z then carry_held e (share_of a b) else share_of a b) repeater_leaves;
           }
 
     module _ (none : o ≡ None) where
@@ -295,4 +295,4 @@ module _ (so ro : List ℕ) (a b : Rack) (e s r : ℕ) (f : IsEdgeOf so ro a b e
       pub not_from_repeater : IsCarried so ro a b e (may_post e (first_with_edge e b.places)) a x
       not_from_repeater =
           let same : share_of a x ≡ share_of a b = ap (λ z. share_of a z) (new ∙ ap (λ z. if z then change_on (vacate_holding e) r b else b) stays') in
-          record { whole = subst (IsWholeShare so ro) (sym same) f.whole; new = same ∙ ap (λ z. if z then carried e (share_of a b) else share_of a b) repeater_stays }
+          record { whole = subst (IsWholeShare so ro) (sym same) f.whole; new = same ∙ ap (λ z. if z then carry_held e (share_of a b) else share_of a b) repeater_stays }

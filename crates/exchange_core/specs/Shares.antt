@@ -197,8 +197,8 @@ abbrev pub received : Parcel → Held → Held
 received p s = if has_place_for p s then take_held p s else s
 
 -- A share in which the parcel of this edge, if it is to be posted, went to the part where it wasn't (profile).
-abbrev pub carried : ℕ → Held → Held
-carried e s = if is_refilled e s then received (posted_parcel e s) (post_held e s) else s
+abbrev pub carry_held : ℕ → Held → Held
+carry_held e s = if is_refilled e s then received (posted_parcel e s) (post_held e s) else s
 
 -- The parcels of part u, in the order of its edges, on the way to it with stamp w, each true or spoiled (profile).
 pub record AreParcelsFor (plan : Plan) (u w : ℕ) (ps : List Parcel) : Type 0 where

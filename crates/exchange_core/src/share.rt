@@ -6,7 +6,7 @@ ghost use Rattle.net_parts.specs.Parts.{is_segment_part, edges_of_part};
 ghost use Rattle.net_parts.specs.Parcels.{IsTrueParcel};
 ghost use Rattle.net_parts.specs.Boards.{has_edge};
 ghost use Rattle.exchange_core.specs.Holdings.{Holding, IsHoldingReady, IsHoldingClean, MayBeSpoiled, added_segment, added_repeater, reserved_holding, refused_holding, run_holding, spoil_holding};
-ghost use Rattle.exchange_core.specs.Shares.{Held, nothing_held, part_of, owns, is_owned, change, is_refilled, posted_parcel, post_held, has_place_for, take_held, may_post, first_with_edge, carried, with_segment, with_repeater, handed_as, handed_out, IsOfPlan, HasNoneOf, AreParcelsFor, IsSoundShare};
+ghost use Rattle.exchange_core.specs.Shares.{Held, nothing_held, part_of, owns, is_owned, change, is_refilled, posted_parcel, post_held, has_place_for, take_held, may_post, first_with_edge, carry_held, with_segment, with_repeater, handed_as, handed_out, IsOfPlan, HasNoneOf, AreParcelsFor, IsSoundShare};
 
 use crate::holder::Holder;
 use crate::lane::Lane;
@@ -259,7 +259,7 @@ impl<S: Part, R: Part> Share<S, R> {
     /// Post and Take at once: brings the parcel of an edge to the part where it isn't, if it is here and goes there. Where that part
     /// isn't here, the parcel is dropped. It is looked for at the segment first, or else at the repeater. It takes no memory.
     pub fn carry(&mut self, edge: u32, at_segment: bool)
-        ensures { self.new ≡ carried edge self.old }
+        ensures { self.new ≡ carry_held edge self.old }
     {
         if at_segment {
             if !self.leave_segment(edge) {
@@ -273,7 +273,7 @@ impl<S: Part, R: Part> Share<S, R> {
     /// Brings the parcel of an edge from its segment to its repeater, and says whether it was at the segment and goes there.
     fn leave_segment(&mut self, edge: u32) -> bool
         ensures when { result ≡ may_post edge (first_with_edge edge self.old.segments.places) }
-        ensures new { self.new ≡ (if may_post edge (first_with_edge edge self.old.segments.places) then carried edge self.old else self.old) }
+        ensures new { self.new ≡ (if may_post edge (first_with_edge edge self.old.segments.places) then carry_held edge self.old else self.old) }
     {
         let segment = owner(self.segment_of.as_slice(), edge);
         let repeater = owner(self.repeater_of.as_slice(), edge);
@@ -291,7 +291,7 @@ impl<S: Part, R: Part> Share<S, R> {
     /// Brings the parcel of an edge from its repeater to its segment, and says whether it was at the repeater and goes there.
     fn leave_repeater(&mut self, edge: u32) -> bool
         ensures when { result ≡ may_post edge (first_with_edge edge self.old.repeaters.places) }
-        ensures new { self.new ≡ (if may_post edge (first_with_edge edge self.old.repeaters.places) then carried edge self.old else self.old) }
+        ensures new { self.new ≡ (if may_post edge (first_with_edge edge self.old.repeaters.places) then carry_held edge self.old else self.old) }
     {
         let segment = owner(self.segment_of.as_slice(), edge);
         let repeater = owner(self.repeater_of.as_slice(), edge);

@@ -8,7 +8,7 @@ use Rattle.std.specs.List.{All, AllByRecursion}
 use Rattle.manchester_line.specs.declared.Sym.{Sym}
 use Rattle.manchester_line.specs.declared.Sym.TheVariants.{Idle}
 use Rattle.manchester_line.specs.Line.{is_signal}
-use Rattle.repeater_core.specs.Delayed.{Delayed, moved_on, row_of, AreAlikeNewest}
+use Rattle.repeater_core.specs.Delayed.{Delayed, moved_on, delayed_row, AreAlikeNewest}
 use Rattle.repeater_core.specs.Steady.{texted}
 use Rattle.repeater_core.specs.Classes.{line_with}
 use Rattle.repeater_core.proofs.DelayRows.{row_on, row_last, moved_len}
@@ -35,7 +35,7 @@ lined_with p delay flags (t ∷ texts) d some h n = lined_with p delay flags tex
 
 -- the newest n rows have their signals there
 abbrev pub NewestAre : List Bool → ℕ → Delayed → Type 0
-NewestAre flags n d = (k : ℕ) → k < d.delay → d.delay ≤ k + n → map is_signal (row_of k d) ≡ flags
+NewestAre flags n d = (k : ℕ) → k < d.delay → d.delay ≤ k + n → map is_signal (delayed_row k d) ≡ flags
 
 newest_more : (flags : List Bool) (n : ℕ) (d : Delayed) (decided : List Sym) → 0 < d.delay → length d.rows ≡ d.delay * d.ports → length decided ≡ d.ports → map is_signal decided ≡ flags
     → NewestAre flags n d → NewestAre flags (suc n) (moved_on decided d)
@@ -71,12 +71,12 @@ idle_flags (x ∷ xs) h = ap₂ ◌∷◌ (ap is_signal h.0) (idle_flags xs h.1)
 row_within : (k p delay : ℕ) → k < delay → k * p + p ≤ delay * p
 row_within k p delay l = let m : (k + 1) * p ≤ delay * p = mul-le-mul_right p (let a : k + 1 ≤ delay = omega arith in a) in omega arith
 
-idle_row : (k : ℕ) (d : Delayed) → All (λ s. s ≡ Idle) d.rows → length d.rows ≡ d.delay * d.ports → k < d.delay → map is_signal (row_of k d) ≡ replicate d.ports false
+idle_row : (k : ℕ) (d : Delayed) → All (λ s. s ≡ Idle) d.rows → length d.rows ≡ d.delay * d.ports → k < d.delay → map is_signal (delayed_row k d) ≡ replicate d.ports false
 idle_row k d h len l =
     let room = row_within k d.ports d.delay l in
     let a = length-drop (k * d.ports) d.rows in
-    let size : length (row_of k d) ≡ d.ports = length-take-le d.ports (drop (k * d.ports) d.rows) (omega arith) in
-    idle_flags (row_of k d) (recursion_from_All (λ s. s ≡ Idle) (row_of k d) (All-take (λ s. s ≡ Idle) d.ports (drop (k * d.ports) d.rows) (All-drop (λ s. s ≡ Idle) (k * d.ports) d.rows h)))
+    let size : length (delayed_row k d) ≡ d.ports = length-take-le d.ports (drop (k * d.ports) d.rows) (omega arith) in
+    idle_flags (delayed_row k d) (recursion_from_All (λ s. s ≡ Idle) (delayed_row k d) (All-take (λ s. s ≡ Idle) d.ports (drop (k * d.ports) d.rows) (All-drop (λ s. s ≡ Idle) (k * d.ports) d.rows h)))
     ∙ ap (λ n. replicate n false) size
 
 pub idle_newest : (n : ℕ) (d : Delayed) → All (λ s. s ≡ Idle) d.rows → length d.rows ≡ d.delay * d.ports → AreAlikeNewest n d

@@ -5,7 +5,7 @@ use Rattle.std.proofs.lemmas.List.{take_all, drop-drop, take-append-le, drop-app
 use Rattle.std.proofs.Math.Seq.{drop-append-add}
 use Rattle.manchester_line.specs.declared.Sym.{Sym}
 use Rattle.manchester_line.specs.Line.{is_signal}
-use Rattle.repeater_core.specs.Delayed.{Delayed, moved_on, row_of}
+use Rattle.repeater_core.specs.Delayed.{Delayed, moved_on, delayed_row}
 
 pub row_on : (n k p delay : ℕ) (rows decided : List Sym) → length rows ≡ delay * p → k < n → suc n ≤ delay → take p (drop (k * p) (drop p rows ++ decided)) ≡ take p (drop (suc k * p) rows)
 row_on n k p delay rows decided len l m =
@@ -38,7 +38,7 @@ moved_len p delay rows decided some len n =
 
 -- the oldest n rows, or all if they are fewer, have their signals there
 abbrev pub RowsAre : List Bool → ℕ → Delayed → Type 0
-RowsAre flags n d = (k : ℕ) → k < n → k < d.delay → map is_signal (row_of k d) ≡ flags
+RowsAre flags n d = (k : ℕ) → k < n → k < d.delay → map is_signal (delayed_row k d) ≡ flags
 
 pub rows_on : (flags : List Bool) (n : ℕ) (d : Delayed) (decided : List Sym) → 0 < d.delay → length d.rows ≡ d.delay * d.ports → length decided ≡ d.ports → (d.delay < suc n → map is_signal decided ≡ flags)
     → RowsAre flags (suc n) d → RowsAre flags n (moved_on decided d)

@@ -7,7 +7,7 @@ use Rattle.std.specs.List.{AllByRecursion}
 use Rattle.mac_parameters.specs.Parameters.{greatest_delay}
 use Rattle.manchester_line.specs.declared.Sym.{Sym}
 use Rattle.manchester_line.specs.declared.Sym.TheVariants as sy
-use Rattle.repeater_core.specs.Delayed.{Delayed, moved_on, rotated, row_of, turn_after, IsRing}
+use Rattle.repeater_core.specs.Delayed.{Delayed, moved_on, rotated, delayed_row, turn_after, IsRing}
 use Rattle.repeater_core.specs.Steady.{texted}
 use Rattle.repeater_core.specs.Classes.{line_with}
 use Rattle.repeater_core.proofs.NextTurnOfRing.{rotated_turn, same_delayed}
@@ -23,7 +23,7 @@ row_put ports delay turn next xs ys flags text len e put = same_delayed (moved_r
 
 -- the newest row of a ring
 pub newest_row : (ports delay last turn : ℕ) (xs : List Sym) → length xs ≡ delay * ports → last < delay → turn ≡ turn_after last delay
-    → row_of (delay - 1) (ring ports delay turn xs) ≡ take ports (rotated (last * ports) xs)
+    → delayed_row (delay - 1) (ring ports delay turn xs) ≡ take ports (rotated (last * ports) xs)
 newest_row ports delay last turn xs len l e =
     let before = rotated (last * ports) xs in
     let room = row_in last delay ports l in

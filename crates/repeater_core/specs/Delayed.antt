@@ -26,14 +26,14 @@ abbrev pub oldest : Delayed → List Sym
 oldest d = take d.ports d.rows
 
 -- row k, counted from the oldest: what the ports emit k half bits from now
-abbrev pub row_of : ℕ → Delayed → List Sym
-row_of k d = take d.ports (drop (k * d.ports) d.rows)
+abbrev pub delayed_row : ℕ → Delayed → List Sym
+delayed_row k d = take d.ports (drop (k * d.ports) d.rows)
 
 -- the newest n rows have signals at the places of the newest of all
 abbrev pub AreAlikeNewest : ℕ → Delayed → Type 0
 AreAlikeNewest n d =
     (k : ℕ) → k < d.delay → d.delay ≤ k + n
-    → map is_signal (row_of k d) ≡ map is_signal (row_of (d.delay - 1) d)
+    → map is_signal (delayed_row k d) ≡ map is_signal (delayed_row (d.delay - 1) d)
 
 -- the turn after this one, of as many turns as the delay has half bits
 abbrev pub turn_after : ℕ → ℕ → ℕ

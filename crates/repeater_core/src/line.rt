@@ -7,7 +7,7 @@ ghost use Rattle.repeater_core.specs.Limits.{most_calm};
 ghost use Rattle.mac_parameters.specs.Parameters.{greatest_delay};
 ghost use Rattle.mac_parameters.specs.Parameters.{most_ports};
 ghost use Rattle.repeater_core.specs.Classes.{line_with};
-ghost use Rattle.repeater_core.specs.Delayed.{rotated, turn_after, moved_on, oldest, row_of};
+ghost use Rattle.repeater_core.specs.Delayed.{rotated, turn_after, moved_on, oldest, delayed_row};
 ghost use Rattle.repeater_core.specs.SilentParts.{idle_front, line_calm, silent_line};
 ghost use Rattle.manchester_line.specs.Line.{is_signal};
 ghost use Rattle.repeater_core.specs.Steady.{AreAlikeRows, texted};
@@ -216,7 +216,7 @@ impl DelayLine {
     fn alike_to(&self, flags: &[Sym]) -> usize
         requires { length flags.now ≡ self.now.ports }
         ensures few { result ≤ self.now.delay }
-        ensures newest { (k : ℕ) → k < self.now.delay → self.now.delay ≤ k + result → map is_signal (row_of k self.now) ≡ map is_signal flags.now }
+        ensures newest { (k : ℕ) → k < self.now.delay → self.now.delay ≤ k + result → map is_signal (delayed_row k self.now) ≡ map is_signal flags.now }
     {
         let newest = last_turn(self.turn, self.delay);
         if row_alike(&self.slots, newest * self.ports, flags) {

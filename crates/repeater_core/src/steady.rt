@@ -5,7 +5,7 @@ ghost use Rattle.manchester_line.specs.declared.Sym.TheVariants.{Idle};
 ghost use Rattle.manchester_line.specs.Line.{is_signal};
 ghost use Rattle.repeater_core.specs.Counts.{choices_from};
 ghost use Rattle.mac_parameters.specs.Parameters.{greatest_delay, jabber_limit, most_ports};
-ghost use Rattle.repeater_core.specs.Delayed.{oldest, row_of};
+ghost use Rattle.repeater_core.specs.Delayed.{oldest, delayed_row};
 ghost use Rattle.repeater_core.specs.Limits.{most_calm};
 ghost use Rattle.repeater_core.specs.Modes.{IsMode};
 ghost use Rattle.repeater_core.specs.Steady.{at_each, count_by, guard_by, kinds_of, line_later, mode_on, port_steady, ports_steady, sent_from, sent_text, texted, AreAlikeRows, AreSentFor, HaveNoEvents, RunsWithin};
@@ -103,7 +103,7 @@ pub fn rows_steady(line: &DelayLine, mode: Mode, counts: &[PortCount], emits: &[
     requires narrow { line.now.ports ≤ most_ports }
     requires short { line.now.delay ≤ greatest_delay }
     ensures few { result ≤ most_calm }
-    ensures rows { (k : ℕ) → k < result → k < line.now.delay → map is_signal (row_of k line.now) ≡ map is_signal emits.now }
+    ensures rows { (k : ℕ) → k < result → k < line.now.delay → map is_signal (delayed_row k line.now) ≡ map is_signal emits.now }
     ensures past { line.now.delay < result → sent_from mode 0 counts.now ≡ map is_signal emits.now }
     ensures greatest { result < line.now.delay → ¬ AreAlikeRows (result + 1) line.now }
 {

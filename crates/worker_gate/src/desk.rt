@@ -2,7 +2,7 @@
 ghost use Rattle.std.specs.Prelude.{◌≡◌, ◌<◌, ◌≤◌, ◌+◌, ◌↔◌, [], true, false, All, IfSome, IsTrue, None, OnErr, OnOk, Some, if◌then◌else◌, length};
 ghost use Rattle.net_parts.specs.Parcels.{IsTrueParcel, arrived};
 ghost use Rattle.exchange_core.specs.Holdings.{IsHoldingReady, IsHoldingClean, added_repeater, added_segment};
-ghost use Rattle.exchange_core.specs.Shares.{carried, has_place_for, is_refilled, nothing_held, owns, part_of, post_held, posted_parcel, rack, take_held, with_repeater, with_segment};
+ghost use Rattle.exchange_core.specs.Shares.{carry_held, has_place_for, is_refilled, nothing_held, owns, part_of, post_held, posted_parcel, rack, take_held, with_repeater, with_segment};
 ghost use Rattle.worker_gate.specs.PlannedShares.{IsPlannedShare, StaysPlanned};
 ghost use Rattle.worker_gate.specs.SteppedShares.{IsReadyIn, IsStepped};
 
@@ -136,7 +136,7 @@ impl<P: Planned, S: Part, R: Part> Desk<P, S, R> {
     /// Brings the parcel of an edge to the part where it isn't, if it is here and goes there; where that part isn't here, it is
     /// dropped. It is looked for at the segment first, or else at the repeater.
     pub fn carry(&mut self, edge: u32, at_segment: bool)
-        ensures { self.new.share ≡ carried edge self.old.share }
+        ensures { self.new.share ≡ carry_held edge self.old.share }
     {
         self.share.carry(edge, at_segment);
     }

@@ -1,6 +1,6 @@
 use Rattle.std.proofs.Common.{◌≡◌, get_or, ap, ◌∙◌}
 use Rattle.std.specs.Prelude.{if◌then◌else◌}
-use Rattle.exchange_core.specs.Shares.{Held, first_with_edge, may_post, carried}
+use Rattle.exchange_core.specs.Shares.{Held, first_with_edge, may_post, carry_held}
 use Rattle.exchange_core.proofs.TakenParcels.{IsEdgeOf}
 use Rattle.exchange_core.proofs.CarriedParcels.{segment_may, to_segment, repeater_leaves, not_from_repeater, repeater_stays}
 use Rattle.exchange_core.proofs.share.Share.leave_repeater.Given.{Over}
@@ -26,7 +26,7 @@ returns-in-Some-clause-when g c = repeater_leaves _ _ _ _ _ _ _ (edge g (goal.at
 pub returns-in-Some-clause-new : goal.returns-in-Some-clause-new
 returns-in-Some-clause-new g c =
     (to_segment _ _ _ _ _ _ _ (edge g (goal.at.returns-in-Some-clause-new g c).After-leave) c.leave.result c.leave.new.self c.leave.ensures.value c.leave.ensures.new c.in-Some.parcel c.in-Some.is c.receive.new.self c.receive.ensures).new
-    ∙ ap (λ (v : Held). if may_post c.args.edge (first_with_edge c.args.edge v.repeaters.places) then carried c.args.edge v else v) c.self.view_is
+    ∙ ap (λ (v : Held). if may_post c.args.edge (first_with_edge c.args.edge v.repeaters.places) then carry_held c.args.edge v else v) c.self.view_is
 
 pub invariant_of-self-in-None : goal.invariant_of-self-in-None
 invariant_of-self-in-None g c = (not_from_repeater _ _ _ _ _ _ _ (edge g (goal.at.invariant_of-self-in-None g c).After-leave) c.leave.result c.leave.new.self c.leave.ensures.value c.leave.ensures.new c.in-None.is).whole
@@ -37,4 +37,4 @@ returns-in-None-clause-when g c = repeater_stays _ _ _ _ _ _ _ (edge g (goal.at.
 pub returns-in-None-clause-new : goal.returns-in-None-clause-new
 returns-in-None-clause-new g c =
     (not_from_repeater _ _ _ _ _ _ _ (edge g (goal.at.returns-in-None-clause-new g c).After-leave) c.leave.result c.leave.new.self c.leave.ensures.value c.leave.ensures.new c.in-None.is).new
-    ∙ ap (λ (v : Held). if may_post c.args.edge (first_with_edge c.args.edge v.repeaters.places) then carried c.args.edge v else v) c.self.view_is
+    ∙ ap (λ (v : Held). if may_post c.args.edge (first_with_edge c.args.edge v.repeaters.places) then carry_held c.args.edge v else v) c.self.view_is

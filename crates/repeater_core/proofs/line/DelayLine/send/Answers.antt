@@ -1,7 +1,7 @@
 use Rattle.std.proofs.Common.{◌≡◌, ◌+◌, ◌*◌, ◌<◌, ◌≤◌, ℕ, length, map, sym, ap, subst, ◌∙◌, rules, arith}
 use Rattle.std.proofs.lemmas.List.{with_items_is, length-map}
 use Rattle.manchester_line.specs.Line.{is_signal}
-use Rattle.repeater_core.specs.Delayed.{Delayed, rotated, row_of, IsRing}
+use Rattle.repeater_core.specs.Delayed.{Delayed, rotated, delayed_row, IsRing}
 use Rattle.repeater_core.specs.Classes.{line_with}
 use Rattle.repeater_core.proofs.NextTurnOfRing.{same_delayed}
 use Rattle.repeater_core.proofs.RingLeaps.{ring}
@@ -28,7 +28,7 @@ invariant_of-self c =
     let is =
     sent_line q.ports q.delay q.turn c.put_rows-self-inside.result q.filled q.alike (length c.args.flags.now) c.saturating_sub.result q.slots.items c.deref_mut.result.now ys flags texts c.self.invariant len n m
     c.deref_mut.ensures.value c.saturating_sub.ensures c.put_rows-self-inside.ensures.rows in
-    let newest = subst (λ (d : Delayed). (k : ℕ) → k < d.delay → d.delay ≤ k + c.alike_to-alike.result → map is_signal (row_of k d) ≡ flags) (sym c.self.view_is) c.alike_to-alike.ensures.newest in
+    let newest = subst (λ (d : Delayed). (k : ℕ) → k < d.delay → d.delay ≤ k + c.alike_to-alike.result → map is_signal (delayed_row k d) ≡ flags) (sym c.self.view_is) c.alike_to-alike.ensures.newest in
     let sent : IsSent flags texts c.alike_to-alike.result c.args.idle (ring q.ports q.delay q.turn q.slots.items) = record { flags_len = n; keeps = c.requires.alike; newest = newest; silent = c.requires.idle } in
     subst (IsRing q.ports q.delay c.put_rows-self-inside.result c.filled_after-self-inside.result c.min-self-inside.result) (sym (with_items_is q.slots ys (search rules)))
     (sent_ring q.ports q.delay q.turn c.put_rows-self-inside.result q.filled c.filled_after-self-inside.result q.alike c.min-self-inside.result c.alike_to-alike.result q.slots.items ys flags texts c.args.idle
