@@ -11,7 +11,6 @@ mod modes;
 mod ports;
 mod repeater;
 mod steady;
-mod texts;
 
 pub use laws::signals_are_repeated;
 pub use modes::Mode;

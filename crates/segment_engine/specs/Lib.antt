@@ -1,3 +1,4 @@
+pub mod TapLines
 pub mod NewLines
 pub mod StationPasses
 pub mod PartStates

@@ -5,7 +5,6 @@
 mod crew;
 mod dealing;
 mod desk;
-mod duties;
 mod gated;
 mod gather;
 mod kit;

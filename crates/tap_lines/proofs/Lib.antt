@@ -1,4 +1,0 @@
-pub mod Spans
-pub mod ExtendedLines
-pub mod LinesAhead
-pub mod HeardLines

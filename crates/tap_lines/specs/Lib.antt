@@ -1,2 +1,0 @@
-pub mod TapLines
-pub mod Signals
