@@ -313,8 +313,8 @@ fn pass_leaping(repeater: &mut Repeater, hears: &[Sym; 2], times: u32) -> u32
     let mut left = times;
     let mut steps = 0;
     while left > 0 {
-        let steady = repeater.steady(hears, &mut emits);
-        if 0 < steady && steady <= left {
+        let steady = repeater.steady(hears, &mut emits).min(left);
+        if steady > 0 {
             repeater.leap_steady(steady, hears, &mut emits, &mut decided);
             left -= steady;
         } else {

@@ -7,6 +7,7 @@ pub mod SoundShares
 pub mod SidedShares
 pub mod EitherAnswer
 pub mod TakenParcels
+pub mod CarriedParcels
 pub mod HandedParts
 pub mod GrownShares
 pub mod BoardTies

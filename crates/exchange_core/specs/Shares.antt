@@ -188,6 +188,18 @@ HasNoneOf es s =
 abbrev pub has_place_for : Parcel → Held → Bool
 has_place_for p s = is_owned (first_with_edge p.edge (rack_of_way p.to_repeater s).places)
 
+-- A part has this edge, and the edge's parcel, which goes to the other part (profile).
+abbrev pub leaves : ℕ → Option Holding → Bool
+leaves e o = has_place e o && may_post e o
+
+-- A share with a parcel at the part to which it goes, if that is one of its parts (profile).
+abbrev pub received : Parcel → Held → Held
+received p s = if has_place_for p s then take_held p s else s
+
+-- A share in which the parcel of this edge, if it is to be posted, went to the part where it wasn't (profile).
+abbrev pub carry_held : ℕ → Held → Held
+carry_held e s = if is_refilled e s then received (posted_parcel e s) (post_held e s) else s
+
 -- The parcels of part u, in the order of its edges, on the way to it with stamp w, each true or spoiled (profile).
 pub record AreParcelsFor (plan : Plan) (u w : ℕ) (ps : List Parcel) : Type 0 where
   pub edges : edges_of_parcels ps ≡ edges_of_part plan u

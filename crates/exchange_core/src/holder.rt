@@ -1,12 +1,12 @@
 //! One part and the places of its parcels.
-ghost use Rattle.std.specs.Prelude.{◌≡◌, ◌<◌, ◌+◌, ℕ, false, true, not, length, map, All, replicate, IfOk, OnOk, OnErr, IsTrue, ◌↔◌, slice_index_or, slice_set};
+ghost use Rattle.std.specs.Prelude.{◌≡◌, ◌<◌, ◌+◌, ℕ, false, true, not, length, map, All, replicate, IfOk, OnOk, OnErr, IsTrue, ◌↔◌, Some, None, if◌then◌else◌, slice_index_or, slice_set};
 ghost use Rattle.net_parts.specs.declared.parcel.Parcel.{Parcel};
 ghost use Rattle.net_parts.specs.Windows.{windows};
 ghost use Rattle.net_parts.specs.Parts.{is_segment_part, edges_of_part};
 ghost use Rattle.net_parts.specs.Parcels.{IsTrueParcel};
 ghost use Rattle.net_parts.specs.Boards.{place_in, has_edge};
-ghost use Rattle.exchange_core.specs.Holdings.{Holding, IsHoldingReady, IsHoldingClean, IsSoundHolding, IsOnWay, edges_of_parcels, new_holding, absent_parcel, emptied_parcel, parcel_of_edge, is_here, added_segment, added_repeater, reserved_holding, refused_holding, run_holding, spoil_holding, vacate_holding, take_holding};
-ghost use Rattle.exchange_core.specs.Shares.{AreParcelsFor, may_post, has_place};
+ghost use Rattle.exchange_core.specs.Holdings.{Holding, IsHoldingReady, IsHoldingClean, IsSoundHolding, IsOnWay, edges_of_parcels, place_of_edge, new_holding, absent_parcel, emptied_parcel, parcel_of_edge, is_here, added_segment, added_repeater, reserved_holding, refused_holding, run_holding, spoil_holding, vacate_holding, take_holding};
+ghost use Rattle.exchange_core.specs.Shares.{AreParcelsFor, may_post, has_place, leaves};
 
 use lists::OutOfMemory;
 use net_parts::{Parcel, ParcelList, Part, Symbols};
@@ -15,20 +15,21 @@ use std::marker::Model;
 use std::mem::replace;
 
 /// A part with the places of its parcels. In the place of a parcel that is away lies one that has left by the same way,
-/// spoiled and empty, so that whether the part is ready is told by the parcels alone.
+/// spoiled and empty, so that whether the part is ready is told by the parcels alone. What a parcel that comes or goes needs
+/// comes first, and so lies together.
 #[derive(Drop)]
 pub struct Holder<P: Part> {
-    alloc: Global,
-    part: P,
-    number: u32,
+    parcels: Vec<Parcel>,
+    away: Vec<bool>,
     window: u64,
     windows: u64,
+    number: u32,
     segment: bool,
     lost: bool,
     refused: bool,
     reserved: bool,
-    parcels: Vec<Parcel>,
-    away: Vec<bool>,
+    part: P,
+    alloc: Global,
 }
 
 impl<P: Part> Model for Holder<P> {
@@ -202,9 +203,7 @@ impl<P: Part> Holder<P> {
         ensures new { self.new ≡ vacate_holding edge self.old }
     {
         let place = place_in(self.parcels.as_slice(), edge);
-        self.away[place] = true;
-        let absent = absent_parcel(self.alloc, edge, self.segment);
-        replace(&mut self.parcels[place], absent)
+        self.hand_out(place, edge)
     }
 
     /// Puts a parcel in its place.
@@ -214,6 +213,74 @@ impl<P: Part> Holder<P> {
         ensures { self.new ≡ take_holding parcel self.old }
     {
         let place = place_in(self.parcels.as_slice(), parcel.edge);
+        self.put(place, parcel);
+    }
+
+    /// Hands out the parcel of this edge, if it is here and goes to the other part. It is looked for at place `hint` first.
+    pub fn leave(&mut self, edge: u32, hint: u32) -> Option<Parcel>
+        ensures value { result ≡ (if leaves edge (Some self.old) then Some (parcel_of_edge edge self.old) else None) }
+        ensures new { self.new ≡ (if leaves edge (Some self.old) then vacate_holding edge self.old else self.old) }
+    {
+        let place = self.place_of(edge, hint);
+        if self.leaves(place, edge) {
+            Some(self.hand_out(place, edge))
+        } else {
+            None
+        }
+    }
+
+    /// Puts a parcel in its place, if there is one, and drops it otherwise. The place is looked for at `hint` first.
+    pub fn receive(&mut self, parcel: Parcel, hint: u32)
+        requires { IsTrueParcel self.old.plan parcel }
+        ensures { self.new ≡ (if has_place parcel.edge (Some self.old) then take_holding parcel self.old else self.old) }
+    {
+        let place = self.place_of(parcel.edge, hint);
+        if place < self.parcels.len() {
+            self.put(place, parcel);
+        }
+    }
+
+    /// The place of the parcel of this edge, or behind the last, looked for at place `hint` first.
+    fn place_of(&self, edge: u32, hint: u32) -> usize
+        ensures place { result ≡ place_of_edge edge self.now }
+        ensures within { has_edge (edges_of_parcels self.now.parcels) edge ≡ true → result < length self.now.parcels }
+    {
+        let hint = hint as usize;
+        if hint < self.parcels.len() && self.parcels[hint].edge == edge {
+            return hint;
+        }
+        place_in(self.parcels.as_slice(), edge)
+    }
+
+    /// Whether the parcel of this edge, whose place is known, is here and goes to the other part.
+    fn leaves(&self, place: usize, edge: u32) -> bool
+        requires { place ≡ place_of_edge edge self.now }
+        ensures { result ≡ leaves edge (Some self.now) }
+    {
+        place < self.parcels.len()
+            && !self.away[place]
+            && self.parcels[place].to_repeater == self.segment
+    }
+
+    /// Hands out the parcel of this edge, whose place is known.
+    fn hand_out(&mut self, place: usize, edge: u32) -> Parcel
+        requires edge { has_edge (edges_of_parcels self.old.parcels) edge ≡ true }
+        requires place { place ≡ place_of_edge edge self.old }
+        ensures value { result ≡ parcel_of_edge edge self.old }
+        ensures new { self.new ≡ vacate_holding edge self.old }
+    {
+        self.away[place] = true;
+        let absent = absent_parcel(self.alloc, edge, self.segment);
+        replace(&mut self.parcels[place], absent)
+    }
+
+    /// Puts a parcel in its place, which is known.
+    fn put(&mut self, place: usize, parcel: Parcel)
+        requires edge { has_edge (edges_of_parcels self.old.parcels) parcel.edge ≡ true }
+        requires place { place ≡ place_of_edge parcel.edge self.old }
+        requires honest { IsTrueParcel self.old.plan parcel }
+        ensures { self.new ≡ take_holding parcel self.old }
+    {
         self.away[place] = false;
         self.parcels[place] = parcel;
     }

@@ -3,7 +3,7 @@ ghost use Rattle.std.specs.Prelude.{◌≡◌, ◌<◌, ◌≤◌, ◌+◌, ◌+
 ghost use Rattle.net_parts.specs.declared.parcel.Parcel.{Parcel};
 ghost use Rattle.net_parts.specs.Parcels.{IsTrueParcel};
 ghost use Rattle.exchange_core.specs.Holdings.{Holding, IsHoldingReady, IsHoldingClean, reserved_holding, refused_holding, run_holding, spoil_holding, vacate_holding, take_holding};
-ghost use Rattle.exchange_core.specs.Shares.{Rack, part_on, is_owned, changed, change_on, has_place, may_post, parcel_in, widened, add_on, handed, handed_as, handed_out, IsAddedInOrder};
+ghost use Rattle.exchange_core.specs.Shares.{Rack, part_on, is_owned, changed, change_on, has_place, may_post, leaves, parcel_in, widened, add_on, handed, handed_as, handed_out, IsAddedInOrder};
 
 use crate::holder::Holder;
 use lists::OutOfMemory;
@@ -176,6 +176,30 @@ impl<P: Part> Lane<P> {
         unreachable!()
     }
 
+    /// Hands out the parcel of an edge, if it is at a part that has the edge, and goes to the other part. It is looked for at place
+    /// `hint` first.
+    pub fn leave(&mut self, part: u32, edge: u32, hint: u32) -> Option<Parcel>
+        ensures value { result ≡ (if leaves edge (part_on part self.old) then Some (parcel_in edge (part_on part self.old)) else None) }
+        ensures new { self.new ≡ (if leaves edge (part_on part self.old) then change_on (vacate_holding edge) part self.old else self.old) }
+    {
+        let part = part as usize;
+        if part < self.places.len() {
+            return leave_at(&mut self.places[part], edge, hint);
+        }
+        None
+    }
+
+    /// Puts a parcel to a part that has its edge, and drops it where the part doesn't. The place is looked for at `hint` first.
+    pub fn receive(&mut self, part: u32, parcel: Parcel, hint: u32)
+        requires { IfSome (part_on part self.old) (λ h. IsTrueParcel h.plan parcel) }
+        ensures { self.new ≡ (if has_place parcel.edge (part_on part self.old) then change_on (take_holding parcel) part self.old else self.old) }
+    {
+        let part = part as usize;
+        if part < self.places.len() {
+            receive_at(&mut self.places[part], parcel, hint);
+        }
+    }
+
     /// The parts in the order in which they were added, which takes no memory. The parcels are dropped.
     pub fn into_parts(self) -> Vec<P>
         requires { IsAddedInOrder self }
@@ -299,5 +323,26 @@ fn take_at<P: Part>(place: &mut Option<Holder<P>>, parcel: Parcel)
 {
     if let Some(holder) = place {
         holder.take(parcel);
+    }
+}
+
+/// Hands out the parcel of an edge of the part in this place, if it is there and goes to the other part.
+fn leave_at<P: Part>(place: &mut Option<Holder<P>>, edge: u32, hint: u32) -> Option<Parcel>
+    ensures value { result ≡ (if leaves edge place.old then Some (parcel_in edge place.old) else None) }
+    ensures new { place.new ≡ (if leaves edge place.old then changed (vacate_holding edge) place.old else place.old) }
+{
+    match place {
+        Some(holder) => holder.leave(edge, hint),
+        None => None,
+    }
+}
+
+/// Puts a parcel to the part in this place, if that has its edge.
+fn receive_at<P: Part>(place: &mut Option<Holder<P>>, parcel: Parcel, hint: u32)
+    requires { IfSome place.old (λ h. IsTrueParcel h.plan parcel) }
+    ensures { place.new ≡ (if has_place parcel.edge place.old then changed (take_holding parcel) place.old else place.old) }
+{
+    if let Some(holder) = place {
+        holder.receive(parcel, hint);
     }
 }

@@ -6,7 +6,7 @@ ghost use Rattle.net_parts.specs.Parts.{is_segment_part, edges_of_part};
 ghost use Rattle.net_parts.specs.Parcels.{IsTrueParcel};
 ghost use Rattle.net_parts.specs.Boards.{has_edge};
 ghost use Rattle.exchange_core.specs.Holdings.{Holding, IsHoldingReady, IsHoldingClean, MayBeSpoiled, added_segment, added_repeater, reserved_holding, refused_holding, run_holding, spoil_holding};
-ghost use Rattle.exchange_core.specs.Shares.{Held, nothing_held, part_of, owns, is_owned, change, is_refilled, posted_parcel, post_held, has_place_for, take_held, with_segment, with_repeater, handed_as, handed_out, IsOfPlan, HasNoneOf, AreParcelsFor, IsSoundShare};
+ghost use Rattle.exchange_core.specs.Shares.{Held, nothing_held, part_of, owns, is_owned, change, is_refilled, posted_parcel, post_held, has_place_for, take_held, may_post, first_with_edge, carry_held, with_segment, with_repeater, handed_as, handed_out, IsOfPlan, HasNoneOf, AreParcelsFor, IsSoundShare};
 
 use crate::holder::Holder;
 use crate::lane::Lane;
@@ -27,6 +27,8 @@ pub struct Share<S: Part, R: Part> {
     repeaters: Lane<R>,
     segment_of: Vec<u32>,
     repeater_of: Vec<u32>,
+    segment_place: Vec<u32>,
+    repeater_place: Vec<u32>,
 }
 
 impl<S: Part, R: Part> Model for Share<S, R> {
@@ -50,6 +52,8 @@ impl<S: Part, R: Part> Share<S, R> {
             repeaters: Lane::new(alloc),
             segment_of: Vec::new(alloc),
             repeater_of: Vec::new(alloc),
+            segment_place: Vec::new(alloc),
+            repeater_place: Vec::new(alloc),
         }
     }
 
@@ -70,7 +74,12 @@ impl<S: Part, R: Part> Share<S, R> {
         ensures ok { OnOk result (self.new ≡ with_segment (added_segment (S.plan part) (S.number part) (S.at part) parcels) self.old) }
         ensures err { OnErr result (self.new ≡ self.old) }
     {
-        learn(&mut self.segment_of, part.edges(), part.part())?;
+        learn(
+            &mut self.segment_of,
+            &mut self.segment_place,
+            part.edges(),
+            part.part(),
+        )?;
         let holder = Holder::segment(self.alloc, part, parcels)?;
         self.segments.add(holder)
     }
@@ -83,7 +92,12 @@ impl<S: Part, R: Part> Share<S, R> {
         ensures ok { OnOk result (self.new ≡ with_repeater (added_repeater (R.plan part) (R.number part) (R.at part)) self.old) }
         ensures err { OnErr result (self.new ≡ self.old) }
     {
-        learn(&mut self.repeater_of, part.edges(), part.part())?;
+        learn(
+            &mut self.repeater_of,
+            &mut self.repeater_place,
+            part.edges(),
+            part.part(),
+        )?;
         let holder = Holder::repeater(self.alloc, part)?;
         self.repeaters.add(holder)
     }
@@ -242,6 +256,56 @@ impl<S: Part, R: Part> Share<S, R> {
         }
     }
 
+    /// Post and Take at once: brings the parcel of an edge to the part where it isn't, if it is here and goes there. Where that part
+    /// isn't here, the parcel is dropped. It is looked for at the segment first, or else at the repeater. It takes no memory.
+    pub fn carry(&mut self, edge: u32, at_segment: bool)
+        ensures { self.new ≡ carry_held edge self.old }
+    {
+        if at_segment {
+            if !self.leave_segment(edge) {
+                self.leave_repeater(edge);
+            }
+        } else if !self.leave_repeater(edge) {
+            self.leave_segment(edge);
+        }
+    }
+
+    /// Brings the parcel of an edge from its segment to its repeater, and says whether it was at the segment and goes there.
+    fn leave_segment(&mut self, edge: u32) -> bool
+        ensures when { result ≡ may_post edge (first_with_edge edge self.old.segments.places) }
+        ensures new { self.new ≡ (if may_post edge (first_with_edge edge self.old.segments.places) then carry_held edge self.old else self.old) }
+    {
+        let segment = owner(self.segment_of.as_slice(), edge);
+        let repeater = owner(self.repeater_of.as_slice(), edge);
+        let here = owner(self.segment_place.as_slice(), edge);
+        let there = owner(self.repeater_place.as_slice(), edge);
+        match self.segments.leave(segment, edge, here) {
+            Some(parcel) => {
+                self.repeaters.receive(repeater, parcel, there);
+                true
+            }
+            None => false,
+        }
+    }
+
+    /// Brings the parcel of an edge from its repeater to its segment, and says whether it was at the repeater and goes there.
+    fn leave_repeater(&mut self, edge: u32) -> bool
+        ensures when { result ≡ may_post edge (first_with_edge edge self.old.repeaters.places) }
+        ensures new { self.new ≡ (if may_post edge (first_with_edge edge self.old.repeaters.places) then carry_held edge self.old else self.old) }
+    {
+        let segment = owner(self.segment_of.as_slice(), edge);
+        let repeater = owner(self.repeater_of.as_slice(), edge);
+        let here = owner(self.repeater_place.as_slice(), edge);
+        let there = owner(self.segment_place.as_slice(), edge);
+        match self.repeaters.leave(repeater, edge, here) {
+            Some(parcel) => {
+                self.segments.receive(segment, parcel, there);
+                true
+            }
+            None => false,
+        }
+    }
+
     /// The parts in the order in which they were added, which takes no memory. The parcels are dropped.
     pub fn into_parts(self) -> (PartList<S>, PartList<R>)
         ensures segments { map (λ s. handed_as (S.plan s) (S.number s) (S.at s)) result.0.items ≡ handed_out self.segments }
@@ -253,12 +317,14 @@ impl<S: Part, R: Part> Share<S, R> {
             repeaters,
             segment_of: _,
             repeater_of: _,
+            segment_place: _,
+            repeater_place: _,
         } = self;
         (segments.into_parts(), repeaters.into_parts())
     }
 }
 
-/// The part that has this edge, if one has.
+/// What is kept of this edge, or 0.
 fn owner(owners: &[u32], edge: u32) -> u32
     ensures { result ≡ slice_index_or owners.now edge 0 }
 {
@@ -266,18 +332,25 @@ fn owner(owners: &[u32], edge: u32) -> u32
     if edge < owners.len() { owners[edge] } else { 0 }
 }
 
-/// Keeps the number of the part that has these edges. On refusal what is kept of other edges stays.
-fn learn(owners: &mut Vec<u32>, edges: &[u32], part: u32) -> Result<(), OutOfMemory>
+/// Keeps the number of the part that has these edges, and the place of each among them. On refusal what is kept of other edges
+/// stays.
+fn learn(
+    owners: &mut Vec<u32>,
+    places: &mut Vec<u32>,
+    edges: &[u32],
+    part: u32,
+) -> Result<(), OutOfMemory>
     ensures mine { OnOk result ((k : ℕ) → k < length edges.now → slice_index_or owners.new.items (slice_index_or edges.now k 0) 0 ≡ part) }
     ensures others { (e : ℕ) → ((k : ℕ) → k < length edges.now → slice_index_or edges.now k 0 ≢ e) → slice_index_or owners.new.items e 0 ≡ slice_index_or owners.old.items e 0 }
 {
     for k in 0..edges.len() {
         learn_one(owners, edges[k], part)?;
+        learn_one(places, edges[k], u32::try_from(k).unwrap_or(0))?;
     }
     Ok(())
 }
 
-/// Keeps the number of the part that has this edge. On refusal what is kept of other edges stays.
+/// Keeps a number of this edge. On refusal what is kept of other edges stays.
 fn learn_one(owners: &mut Vec<u32>, edge: u32, part: u32) -> Result<(), OutOfMemory>
     ensures mine { OnOk result (slice_index_or owners.new.items edge 0 ≡ part) }
     ensures others { (e : ℕ) → e ≢ edge → slice_index_or owners.new.items e 0 ≡ slice_index_or owners.old.items e 0 }

@@ -1,15 +1,12 @@
--- The half bits of a whole octet, pushed one by one, leave what the octet taken at once leaves.
-use Rattle.std.proofs.Common.{◌≡◌, ℕ, zero, suc, ◌+◌, ◌*◌, ◌<◌, ◌≤◌, Bool, true, false, Option, Some, None, List, [], ◌∷◌, ◌++◌, length, take, drop, drop-cons, get_or, refl, sym, ap, ap₂, ◌∙◌, arith, rules}
-use Rattle.std.proofs.lemmas.List.{drop-drop, drop_all, take-append-drop}
-use Rattle.std.proofs.lemmas.Option.{none-some, same_Some}
-use Rattle.std.specs.Prelude.{IfSome}
+-- The half bits of a whole octet, read at once, and half bits that are pushed one after the other.
+use Rattle.std.proofs.Common.{◌≡◌, ℕ, suc, ◌+◌, ◌*◌, ◌<◌, ◌≤◌, Bool, true, false, Option, Some, None, List, [], ◌∷◌, ◌++◌, length, take, drop, drop-cons, get_or, refl, sym, ap, ◌∙◌, arith}
+use Rattle.std.proofs.lemmas.List.{drop-drop, drop_all, take-append-drop, take_all}
+use Rattle.std.specs.Prelude.{◌&&◌}
 use Rattle.std.specs.Option.{option_map, is_some}
-use Rattle.mac_parameters.specs.Parameters.{half_bits_an_octet}
 use Rattle.manchester_line.specs.declared.Sym.{Sym}
 use Rattle.manchester_line.specs.declared.Sym.TheVariants.{Idle}
 use Rattle.manchester_line.specs.Reading.{bit_of_pair, add_bit, bits_of}
-use Rattle.manchester_line.specs.Decoding.{Decoding, new_decoding, all_shifted, shifted, octet_kept, take_bit, pushed, all_pushed}
-use Rattle.manchester_line.proofs.Packed.{put_few}
+use Rattle.manchester_line.specs.Decoding.{Decoding, new_decoding, all_shifted, shifted, pushed, all_pushed}
 
 pub all_pushed-append : (xs ys : List Sym) (d : Decoding) → all_pushed d (xs ++ ys) ≡ all_pushed (all_pushed d xs) ys
 all_pushed-append [] ys d = refl
@@ -27,80 +24,28 @@ pub no_bit : (rest : ℕ) (o : Option (List Bool)) → option_map (all_shifted r
 no_bit rest None = refl
 no_bit rest (Some bs) = refl
 
-abbrev decoding : ℕ → Bool → Bool → ℕ → List ℕ → ℕ → ℕ → Decoding
-decoding n spoiled last count octets spare rest =
-    record { halves = n; half = None; spoiled = spoiled; found = true; last = last; count = count; octets = octets; spare = spare; rest = rest }
-
--- the last pair of an octet
-last_pair : (n : ℕ) (spoiled last : Bool) (count : ℕ) (octets : List ℕ) (rest octet : ℕ) (p : Option Bool)
-    → option_map (all_shifted rest) (add_bit p (Some [])) ≡ Some octet
-    → take_bit (decoding n spoiled last count octets 7 rest) p ≡ octet_kept (decoding n spoiled last count octets 7 rest) octet
-last_pair n spoiled last count octets rest octet None e = absurd (none-some octet e)
-last_pair n spoiled last count octets rest octet (Some b) e = ap (octet_kept (decoding n spoiled last count octets 7 rest)) (same_Some _ _ e)
-
--- a pair before it
-next_pair : (n : ℕ) (spoiled last : Bool) (count : ℕ) (octets : List ℕ) (spare rest octet : ℕ) (p : Option Bool) (more : List Sym) → spare < 7
-    → option_map (all_shifted rest) (add_bit p (bits_of more)) ≡ Some octet
-    → ((rest' : ℕ) → option_map (all_shifted rest') (bits_of more) ≡ Some octet → all_pushed (decoding n spoiled last count octets (spare + 1) rest') more ≡ octet_kept (decoding (n + length more) spoiled last count octets 0 0) octet)
-    → all_pushed (take_bit (decoding n spoiled last count octets spare rest) p) more ≡ octet_kept (decoding (n + length more) spoiled last count octets 0 0) octet
-next_pair n spoiled last count octets spare rest octet None more few e ih = absurd (none-some octet (sym (no_bit rest (bits_of more)) ∙ e))
-next_pair n spoiled last count octets spare rest octet (Some b) more few e ih =
-    ap (λ d. all_pushed d more) (sym (put_few (decoding n spoiled last count octets spare rest) _ b few refl))
-    ∙ ih (shifted rest b) (sym (shifted_first rest b (bits_of more)) ∙ e)
-
--- so many pairs as are left of an octet
-pairs : (k n : ℕ) (spoiled last : Bool) (count : ℕ) (octets : List ℕ) (spare rest octet : ℕ) (hs : List Sym) → spare + k ≡ 7 → length hs ≡ 2 * k + 2
-    → option_map (all_shifted rest) (bits_of hs) ≡ Some octet
-    → all_pushed (decoding n spoiled last count octets spare rest) hs ≡ octet_kept (decoding (n + length hs) spoiled last count octets 0 0) octet
-pairs k n spoiled last count octets spare rest octet [] s l e = absurd (omega (arith, l))
-pairs k n spoiled last count octets spare rest octet (a ∷ []) s l e = absurd (omega (arith, l))
-pairs zero n spoiled last count octets spare rest octet (a ∷ b ∷ []) s l e =
-    let seven : spare ≡ 7 = omega (arith, s) in
-    ap (λ k. take_bit (decoding (n + 1 + 1) spoiled last count octets k rest) (bit_of_pair a b)) seven
-    ∙ last_pair (n + 1 + 1) spoiled last count octets rest octet (bit_of_pair a b) e
-    ∙ (let two : n + 1 + 1 ≡ n + 2 = omega arith in ap (λ m. octet_kept (decoding m spoiled last count octets 0 0) octet) two)
-pairs zero n spoiled last count octets spare rest octet (a ∷ b ∷ c ∷ more) s l e = absurd (omega (arith, l))
-pairs (suc k) n spoiled last count octets spare rest octet (a ∷ b ∷ more) s l e =
-    next_pair (n + 1 + 1) spoiled last count octets spare rest octet (bit_of_pair a b) more (omega (arith, s)) e
-    (λ rest' e'. pairs k (n + 1 + 1) spoiled last count octets (spare + 1) rest' octet more (omega (arith, s)) (omega (arith, l)) e')
-    ∙ (let on : n + 1 + 1 + length more ≡ n + suc (suc (length more)) = omega arith in ap (λ m. octet_kept (decoding m spoiled last count octets 0 0) octet) on)
-
-same_start : (d : Decoding) → d.half ≡ None → d.found ≡ true → d.spare ≡ 0 → d ≡ decoding d.halves d.spoiled d.last d.count d.octets 0 d.rest
-same_start d h f s =
-    ap₂ (λ (x : Option Sym) (y : Bool). let r : Decoding = record d { half = x; found = y } in r) h f
-    ∙ ap (λ (k : ℕ). let r : Decoding = record d { half = None; found = true; spare = k } in r) s
-
--- an octet's half bits, one by one, where an octet begins
-pub octet_pushed : (d : Decoding) (hs : List Sym) (octet : ℕ) → d.half ≡ None → d.found ≡ true → d.spare ≡ 0 → length hs ≡ half_bits_an_octet
-    → option_map (all_shifted d.rest) (bits_of hs) ≡ Some octet → all_pushed d hs ≡ octet_kept (record d { halves = d.halves + half_bits_an_octet }) octet
-octet_pushed d hs octet h f s l e =
-    let start = same_start d h f s in
-    ap (λ x. all_pushed x hs) start
-    ∙ pairs 7 d.halves d.spoiled d.last d.count d.octets 0 d.rest octet hs refl l e
-    ∙ ap (λ n. octet_kept (decoding (d.halves + n) d.spoiled d.last d.count d.octets 0 0) octet) l
-    ∙ sym (ap (λ (x : Decoding). octet_kept (record x { halves = x.halves + half_bits_an_octet }) octet) start)
-
-pub none_of : (o : Option Sym) → is_some o ≡ false → o ≡ None
-none_of None e = refl
-none_of (Some s) e = absurd (cc)
-
--- the same, where there may be no octet
-pub octet_if : (d : Decoding) (hs : List Sym) (o : Option ℕ) → d.half ≡ None → d.found ≡ true → d.spare ≡ 0 → length hs ≡ half_bits_an_octet
-    → o ≡ option_map (all_shifted d.rest) (bits_of hs) → IfSome o (λ octet. all_pushed d hs ≡ octet_kept (record d { halves = d.halves + half_bits_an_octet }) octet)
-octet_if d hs None h f s l e = search rules
-octet_if d hs (Some octet) h f s l e = octet_pushed d hs octet h f s l (sym e)
-
--- an octet's half bits on in a piece
-pub octet_on : (piece : List Sym) (at : ℕ) (d e : Decoding) → e ≡ all_pushed d (take half_bits_an_octet (drop at piece)) → all_pushed e (drop (at + half_bits_an_octet) piece) ≡ all_pushed d (drop at piece)
-octet_on piece at d e h =
-    let n = half_bits_an_octet in
+-- so many half bits on in a piece
+pub piece_on : (piece : List Sym) (at n : ℕ) (d e : Decoding) → e ≡ all_pushed d (take n (drop at piece)) → all_pushed e (drop (at + n) piece) ≡ all_pushed d (drop at piece)
+piece_on piece at n d e h =
     ap (λ x. all_pushed x (drop (at + n) piece)) h
     ∙ ap (all_pushed (all_pushed d (take n (drop at piece)))) (sym (drop-drop n at piece))
     ∙ sym (all_pushed-append (take n (drop at piece)) (drop n (drop at piece)) d)
     ∙ ap (all_pushed d) (take-append-drop n (drop at piece))
 
+-- a first half bit, and those after it
+pub first_half : (piece : List Sym) (n : ℕ) (d e f : Decoding) → length piece ≡ n + 1 → e ≡ pushed d (get_or piece 0 Idle) → f ≡ all_pushed e (take n (drop 1 piece)) → f ≡ all_pushed d piece
+first_half [] n d e f l h is = absurd (omega (arith, l))
+first_half (s ∷ ss) n d e f l h is = is ∙ ap (all_pushed e) (take_all n ss (omega (arith, l))) ∙ ap (λ x. all_pushed x ss) h
+
+-- a last half bit
+pub last_half : (piece : List Sym) (at n : ℕ) (d e : Decoding) → e ≡ all_pushed d (take n (drop at piece)) → length piece ≡ at + n + 1 → pushed e (get_or piece (at + n) Idle) ≡ all_pushed d (drop at piece)
+last_half piece at n d e h l =
+    ap (λ xs. all_pushed e (get_or piece (at + n) Idle ∷ xs)) (sym (drop_all (suc (at + n)) piece (omega arith)))
+    ∙ ap (all_pushed e) (sym (drop-cons piece (at + n) Idle (omega arith)))
+    ∙ piece_on piece at n d e h
+
 -- the pair of half bits in front
-pair_at : (hs : List Sym) (j : ℕ) → 2 * j + 1 < length hs → drop (2 * j) hs ≡ get_or hs (2 * j) Idle ∷ get_or hs (2 * j + 1) Idle ∷ drop (2 * (j + 1)) hs
+pub pair_at : (hs : List Sym) (j : ℕ) → 2 * j + 1 < length hs → drop (2 * j) hs ≡ get_or hs (2 * j) Idle ∷ get_or hs (2 * j + 1) Idle ∷ drop (2 * (j + 1)) hs
 pair_at hs j h =
     drop-cons hs (2 * j) Idle (omega arith)
     ∙ ap (λ xs. get_or hs (2 * j) Idle ∷ xs)
@@ -108,24 +53,28 @@ pair_at hs j h =
     ∙ drop-cons hs (2 * j + 1) Idle h
     ∙ (let e : suc (2 * j + 1) ≡ 2 * (j + 1) = omega arith in ap (λ i. get_or hs (2 * j + 1) Idle ∷ drop i hs) e))
 
--- one pair on
-pub shift_step : (hs : List Sym) (j rest : ℕ) (b : Bool) (o : Option ℕ) → 2 * j + 1 < length hs → bit_of_pair (get_or hs (2 * j) Idle) (get_or hs (2 * j + 1) Idle) ≡ Some b
-    → option_map (all_shifted rest) (bits_of (drop (2 * j) hs)) ≡ o → option_map (all_shifted (shifted rest b)) (bits_of (drop (2 * (j + 1)) hs)) ≡ o
-shift_step hs j rest b o h e is =
-    sym (shifted_first rest b (bits_of (drop (2 * (j + 1)) hs)))
-    ∙ ap (λ p. option_map (all_shifted rest) (add_bit p (bits_of (drop (2 * (j + 1)) hs)))) (sym e)
-    ∙ ap (λ xs. option_map (all_shifted rest) (bits_of xs)) (sym (pair_at hs j h))
-    ∙ is
+-- what has come of an octet, if each pair so far is a bit
+abbrev pub if_whole : Bool → Option ℕ → Option ℕ
+if_whole true o = o
+if_whole false o = None
 
--- a pair that is no bit
-pub shift_stop : (hs : List Sym) (j rest : ℕ) (o : Option ℕ) → 2 * j + 1 < length hs → bit_of_pair (get_or hs (2 * j) Idle) (get_or hs (2 * j + 1) Idle) ≡ None
-    → option_map (all_shifted rest) (bits_of (drop (2 * j) hs)) ≡ o → None ≡ o
-shift_stop hs j rest o h e is =
-    sym (no_bit rest (bits_of (drop (2 * (j + 1)) hs)))
-    ∙ ap (λ p. option_map (all_shifted rest) (add_bit p (bits_of (drop (2 * (j + 1)) hs)))) (sym e)
-    ∙ ap (λ xs. option_map (all_shifted rest) (bits_of xs)) (sym (pair_at hs j h))
-    ∙ is
+pair_on : (whole : Bool) (octet rest : ℕ) (p : Option Bool) (o : Option (List Bool)) → ((b : Bool) → p ≡ Some b → octet ≡ shifted rest b)
+    → if_whole (whole && is_some p) (option_map (all_shifted octet) o) ≡ if_whole whole (option_map (all_shifted rest) (add_bit p o))
+pair_on true octet rest None o is = sym (no_bit rest o)
+pair_on false octet rest None o is = refl
+pair_on true octet rest (Some b) o is = ap (λ k. option_map (all_shifted k) o) (is b refl) ∙ sym (shifted_first rest b o)
+pair_on false octet rest (Some b) o is = refl
+
+-- one pair on
+pub shift_step : (hs : List Sym) (j octet rest : ℕ) (whole : Bool) (o : Option ℕ) → 2 * j + 1 < length hs
+    → ((b : Bool) → bit_of_pair (get_or hs (2 * j) Idle) (get_or hs (2 * j + 1) Idle) ≡ Some b → octet ≡ shifted rest b)
+    → if_whole whole (option_map (all_shifted rest) (bits_of (drop (2 * j) hs))) ≡ o
+    → if_whole (whole && is_some (bit_of_pair (get_or hs (2 * j) Idle) (get_or hs (2 * j + 1) Idle))) (option_map (all_shifted octet) (bits_of (drop (2 * (j + 1)) hs))) ≡ o
+shift_step hs j octet rest whole o h is e =
+    pair_on whole octet rest (bit_of_pair (get_or hs (2 * j) Idle) (get_or hs (2 * j + 1) Idle)) (bits_of (drop (2 * (j + 1)) hs)) is
+    ∙ ap (λ xs. if_whole whole (option_map (all_shifted rest) (bits_of xs))) (sym (pair_at hs j h))
+    ∙ e
 
 -- all pairs are shifted in
-pub shift_end : (hs : List Sym) (j rest : ℕ) (o : Option ℕ) → length hs ≤ 2 * j → option_map (all_shifted rest) (bits_of (drop (2 * j) hs)) ≡ o → Some rest ≡ o
-shift_end hs j rest o h is = sym (ap (λ xs. option_map (all_shifted rest) (bits_of xs)) (drop_all (2 * j) hs h)) ∙ is
+pub shift_end : (hs : List Sym) (j rest : ℕ) (whole : Bool) (o : Option ℕ) → length hs ≤ 2 * j → if_whole whole (option_map (all_shifted rest) (bits_of (drop (2 * j) hs))) ≡ o → if_whole whole (Some rest) ≡ o
+shift_end hs j rest whole o h is = sym (ap (λ xs. if_whole whole (option_map (all_shifted rest) (bits_of xs))) (drop_all (2 * j) hs h)) ∙ is

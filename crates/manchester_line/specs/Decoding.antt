@@ -65,6 +65,11 @@ put_bit d b =
     if d.spare == 7 then octet_kept d (shifted d.rest b)
     else record d { spare = d.spare + 1; rest = shifted d.rest b }
 
+-- more bits of the frame, in this order
+abbrev pub all_put : Decoding → List Bool → Decoding
+all_put d [] = d
+all_put d (b ∷ bs) = all_put (put_bit d b) bs
+
 -- one more bit of the reception, if it is one
 abbrev pub take_bit : Decoding → Option Bool → Decoding
 take_bit d None = record d { spoiled = true }

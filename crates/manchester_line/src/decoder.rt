@@ -1,8 +1,8 @@
-ghost use Rattle.std.specs.Prelude.{◌≡◌, ◌≢◌, ◌+◌, ◌*◌, ◌<◌, ◌≤◌, ℕ, Bool, false, IfSome, List, Some, [], ◌∷◌, ◌++◌, length, take};
+ghost use Rattle.std.specs.Prelude.{◌≡◌, ◌≢◌, ◌+◌, ◌-◌, ◌*◌, ◌%◌, ◌<◌, ◌≤◌, ℕ, Bool, false, List, Some, None, [], ◌∷◌, ◌++◌, length, take, drop};
 ghost use Rattle.std.specs.List.{All};
-ghost use Rattle.std.specs.Option.{is_none, option_map};
+ghost use Rattle.std.specs.Option.{is_none, is_some, option_map};
 ghost use Rattle.mac_parameters.specs.Parameters.{half_bits_an_octet, preamble_length};
-ghost use Rattle.manchester_line.specs.Decoding.{Decodes, all_pushed, all_shifted, new_decoding, octet_kept, put_bit, pushed, shifted, take_bit};
+ghost use Rattle.manchester_line.specs.Decoding.{Decodes, all_pushed, all_put, all_shifted, new_decoding, octet_kept, put_bit, pushed, shifted, take_bit};
 ghost use Rattle.manchester_line.specs.Line.{line};
 ghost use Rattle.manchester_line.specs.Reading.{bit_of_pair, bits_of, octets_of_bits, reading, spare_of_bits};
 ghost use Rattle.manchester_line.specs.declared.Sym.TheVariants.{Idle};
@@ -70,14 +70,28 @@ impl Model for Decoder {
     ghost invariant = { λ s. (s.count ≤ s.halves) × (s.spare ≤ 7) };
 }
 
+/// Whether a pair of half bits is a bit, with no branch: Hi counts 1 and Lo 2 (clause 7).
+fn is_bit(first: Sym, second: Sym) -> bool
+    ensures { result ≡ is_some (bit_of_pair first second) }
+{
+    first as u8 * second as u8 == 2
+}
+
+/// The bit of a pair with this second half, if the pair is one (clause 7).
+fn bit_by(second: Sym) -> bool
+    ensures { (first : Sym) (bit : Bool) → bit_of_pair first second ≡ Some bit → result ≡ bit }
+{
+    second as u8 % 2 == 1
+}
+
 /// The bit of a pair of half bits, if it is one (clause 7).
 fn bit_of(first: Sym, second: Sym) -> Option<bool>
     ensures { result ≡ bit_of_pair first second }
 {
-    match (first, second) {
-        (Sym::Lo, Sym::Hi) => Some(true),
-        (Sym::Hi, Sym::Lo) => Some(false),
-        _ => None,
+    if is_bit(first, second) {
+        Some(bit_by(second))
+    } else {
+        None
     }
 }
 
@@ -88,20 +102,40 @@ fn shift(rest: u8, bit: bool) -> u8
     if bit { rest / 2 + TOP_BIT } else { rest / 2 }
 }
 
-/// What is at the top of an octet once the eight bits of these half bits have come there, one after the other; none where a
-/// pair is no bit (clause 7).
-fn shift_all(rest: u8, halves: &[Sym]) -> Option<u8>
+/// The octet whose bits these half bits are, the first one the least; none where a pair is no bit (3.3, clause 7). All pairs
+/// are looked at, so that no branch goes by what is heard.
+fn octet_of(halves: &[Sym]) -> Option<u8>
     requires { length halves.now ≡ half_bits_an_octet }
-    ensures { result ≡ option_map (all_shifted rest) (bits_of halves.now) }
+    ensures { result ≡ option_map (all_shifted 0) (bits_of halves.now) }
 {
-    let mut octet = rest;
+    let mut octet = 0;
+    let mut whole = true;
     for j in 0..8 {
-        match bit_of(halves[2 * j], halves[2 * j + 1]) {
-            None => return None,
-            Some(bit) => octet = shift(octet, bit),
-        }
+        let second = halves[2 * j + 1];
+        whole = whole & is_bit(halves[2 * j], second);
+        octet = shift(octet, bit_by(second));
     }
-    Some(octet)
+    if whole { Some(octet) } else { None }
+}
+
+/// What is at the top of an octet once the first of eight bits have come there, where `spare` bits were there before.
+fn filled(rest: u8, spare: u32, octet: u8) -> u8
+    requires { spare ≤ 7 }
+    ensures { (bits : List Bool) → length bits ≡ 8 → octet ≡ all_shifted 0 bits →
+        result ≡ all_shifted rest (take (8 - spare) bits) }
+{
+    let all = u32::from(octet) * 256 + u32::from(rest);
+    ((all >> (8 - spare)) % 256) as u8
+}
+
+/// The last `spare` ones of eight bits, at the top of an octet.
+fn left_over(octet: u8, spare: u32) -> u8
+    requires { spare ≤ 7 }
+    ensures { (bits : List Bool) → length bits ≡ 8 → octet ≡ all_shifted 0 bits →
+        result ≡ all_shifted 0 (drop (8 - spare) bits) }
+{
+    let places = 8 - spare;
+    ((u32::from(octet) >> places) << places) as u8
 }
 
 /// Keeps octet number `count`, from 0, where there is room.
@@ -242,14 +276,22 @@ impl Decoder {
         }
     }
 
-    /// Takes one more half bit of the reception.
-    #[tactic(auto, using(crate::proofs::PushedMore::decodes_next))]
-    pub fn push(&mut self, s: Sym)
-        requires signal { s ≢ Idle }
-        requires count { self.old.halves < 2000000000 }
-        ensures moved { self.new ≡ pushed self.old s }
-        ensures decodes { (halves : List Sym) → Decodes halves self.old →
-            Decodes (halves ++ s ∷ []) self.new }
+    /// Eight more bits of the frame.
+    fn put_octet(&mut self, octet: u8)
+        requires { self.old.count < self.old.halves }
+        ensures { (bits : List Bool) → length bits ≡ 8 → octet ≡ all_shifted 0 bits →
+            self.new ≡ all_put self.old bits }
+    {
+        let whole = filled(self.rest, self.spare, octet);
+        keep(&mut self.buffer, self.count, whole);
+        self.count += 1;
+        self.rest = left_over(octet, self.spare);
+    }
+
+    /// Takes one more half bit, whatever it is.
+    fn push_half(&mut self, s: Sym)
+        requires { self.old.halves < 2000000000 }
+        ensures { self.new ≡ pushed self.old s }
     {
         self.halves += 1;
         match self.half {
@@ -261,20 +303,69 @@ impl Decoder {
         }
     }
 
-    /// The octet that comes next as a whole, if one begins here and each pair of its half bits is a bit.
-    fn next_octet(&self, piece: &[Sym]) -> Option<u8>
-        ensures room { IfSome result (λ octet. half_bits_an_octet ≤ length piece.now) }
-        ensures octet { IfSome result (λ octet. all_pushed self.now (take half_bits_an_octet piece.now)
-            ≡ octet_kept (record self.now { halves = self.now.halves + half_bits_an_octet }) octet) }
+    /// Takes pairs of half bits, where no first half is left over.
+    fn push_pairs(&mut self, halves: &[Sym])
+        requires half { self.old.half ≡ None }
+        requires even { length halves.now % 2 ≡ 0 }
+        requires count { self.old.halves + length halves.now ≤ 2000000000 }
+        ensures { self.new ≡ all_pushed self.old halves.now }
     {
-        if !self.found || self.half.is_some() || self.spare > 0 || piece.len() < OCTET_HALVES {
-            return None;
+        for j in 0..halves.len() / 2 {
+            self.halves += 2;
+            self.take_bit(bit_of(halves[2 * j], halves[2 * j + 1]));
         }
-        shift_all(self.rest, &piece[..OCTET_HALVES])
     }
 
-    /// Takes more half bits of the reception, in this order, each as `push` does. Once the delimiter is found, whole octets
-    /// are taken at once.
+    /// Takes the half bits of eight bits, at once where they are bits of the frame.
+    fn push_octet(&mut self, halves: &[Sym])
+        requires half { self.old.half ≡ None }
+        requires eight { length halves.now ≡ half_bits_an_octet }
+        requires count { self.old.halves + length halves.now ≤ 2000000000 }
+        ensures { self.new ≡ all_pushed self.old halves.now }
+    {
+        if self.found {
+            if let Some(octet) = octet_of(halves) {
+                self.halves += HALF_BITS_AN_OCTET;
+                self.put_octet(octet);
+                return;
+            }
+        }
+        self.push_pairs(halves);
+    }
+
+    /// Takes half bits, where no first half is left over: eight bits at a time, then the pairs that are left, and then a last
+    /// half.
+    fn push_whole(&mut self, halves: &[Sym])
+        requires half { self.old.half ≡ None }
+        requires count { self.old.halves + length halves.now ≤ 2000000000 }
+        ensures { self.new ≡ all_pushed self.old halves.now }
+    {
+        let mut at = 0;
+        while OCTET_HALVES <= halves.len() - at {
+            self.push_octet(&halves[at..at + OCTET_HALVES]);
+            at += OCTET_HALVES;
+        }
+        let end = halves.len() - halves.len() % 2;
+        self.push_pairs(&halves[at..end]);
+        if end < halves.len() {
+            self.push_half(halves[end]);
+        }
+    }
+
+    /// Takes one more half bit of the reception.
+    #[tactic(auto, using(crate::proofs::PushedMore::decodes_next))]
+    pub fn push(&mut self, s: Sym)
+        requires signal { s ≢ Idle }
+        requires count { self.old.halves < 2000000000 }
+        ensures moved { self.new ≡ pushed self.old s }
+        ensures decodes { (halves : List Sym) → Decodes halves self.old →
+            Decodes (halves ++ s ∷ []) self.new }
+    {
+        self.push_half(s);
+    }
+
+    /// Takes more half bits of the reception, in this order, each as `push` does. Once the delimiter is found, eight bits are
+    /// taken at once.
     pub fn push_all(&mut self, piece: &[Sym])
         requires signal { All (λ s. s ≢ Idle) piece.now }
         requires count { self.old.halves + length piece.now ≤ 2000000000 }
@@ -283,19 +374,11 @@ impl Decoder {
         ensures decodes { (halves : List Sym) → Decodes halves self.old →
             Decodes (halves ++ piece.now) self.new }
     {
-        let mut at = 0;
-        while at < piece.len() {
-            match self.next_octet(&piece[at..]) {
-                Some(octet) => {
-                    self.halves += HALF_BITS_AN_OCTET;
-                    self.keep_octet(octet);
-                    at += OCTET_HALVES;
-                }
-                None => {
-                    self.push(piece[at]);
-                    at += 1;
-                }
-            }
+        if self.half.is_none() {
+            self.push_whole(piece);
+        } else if let [second, rest @ ..] = piece {
+            self.push_half(*second);
+            self.push_whole(rest);
         }
     }
 }

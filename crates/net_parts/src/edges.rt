@@ -8,8 +8,8 @@ ghost use Rattle.net_parts.specs.RepeaterParts.{edges_at, edges_before};
 ghost use Rattle.network.specs.TapsOnSegments.{numbers_on};
 ghost use Rattle.net_parts.specs.SegmentParts.{wiring};
 
+use crate::pace::Pace;
 use crate::parcel::{Parcel, ParcelList, Symbols};
-use crate::timing::lookahead;
 use layout::{Layout, PortLine};
 use lists::{List, OutOfMemory};
 use load_plan::Plan;
@@ -107,8 +107,22 @@ pub fn opening(alloc: Global, plan: &Plan, segment: u32) -> Result<ParcelList, O
     requires { segment < length plan.now.layout.segments }
     ensures { IfOk result (λ parcels. parcels ≡ arrived plan.now segment 0) }
 {
+    paced_opening(alloc, plan, &Pace::of(plan), segment)
+}
+
+/// The same at a pace that was reckoned before.
+pub fn paced_opening(
+    alloc: Global,
+    plan: &Plan,
+    pace: &Pace,
+    segment: u32,
+) -> Result<ParcelList, OutOfMemory>
+    requires pace { pace.now.plan.value ≡ plan.now }
+    requires within { segment < length plan.now.layout.segments }
+    ensures { IfOk result (λ parcels. parcels ≡ arrived plan.now segment 0) }
+{
     let mut parcels = List::new(alloc);
-    let half_bits = lookahead(&plan.layout) as usize;
+    let half_bits = pace.lookahead as usize;
     let edges = edges_of(alloc, plan, segment)?;
     for k in 0..edges.len() {
         parcels.push(opening_parcel(alloc, edges.as_slice()[k], half_bits)?)?;

@@ -3,11 +3,13 @@
 
 mod edges;
 pub mod laws;
+mod pace;
 mod parcel;
 mod part;
 mod timing;
 
-pub use edges::{edges_of, opening};
+pub use edges::{edges_of, opening, paced_opening};
+pub use pace::Pace;
 pub use parcel::{Parcel, ParcelList, Symbols};
 pub use part::{Part, PartOutputs};
 pub use timing::{lookahead, windows};

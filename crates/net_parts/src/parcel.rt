@@ -79,14 +79,14 @@ impl Symbols {
     }
 }
 
-/// The one parcel of an edge: its stamp, which is a window; its way, to its repeater or else to its segment; the symbols for
-/// that window; and whether it is spoiled, which follows want of memory.
+/// The one parcel of an edge: the symbols for a window; that window, which is its stamp; its way, to its repeater or else to its
+/// segment; and whether it is spoiled, which follows want of memory. The widest fields come first, so that it is short.
 #[derive(Debug, Drop)]
 pub struct Parcel {
-    pub edge: u32,
-    pub window: u64,
-    pub to_repeater: bool,
     pub symbols: Symbols,
+    pub window: u64,
+    pub edge: u32,
+    pub to_repeater: bool,
     pub spoiled: bool,
 }
 

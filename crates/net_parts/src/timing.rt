@@ -106,7 +106,16 @@ fn way(here: PortLine, segment: u32, at: u32, itself: bool) -> u32
 pub fn windows(plan: &Plan) -> u64
     ensures { result ≡ windows plan.now }
 {
+    count_windows(plan, lookahead(&plan.layout))
+}
+
+/// How many windows of the lookahead's length a run has.
+pub fn count_windows(plan: &Plan, length: u32) -> u64
+    requires lookahead { length ≡ lookahead plan.now.layout }
+    requires some { 0 < length }
+    ensures { result ≡ windows plan.now }
+{
     let half_bits = u64::from(HALF_BITS_A_BIT) * plan.layout.until_bits;
-    let window = u64::from(lookahead(&plan.layout));
+    let window = u64::from(length);
     (half_bits + window - 1) / window
 }

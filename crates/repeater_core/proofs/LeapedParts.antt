@@ -1,8 +1,9 @@
 -- What a leap over steady half bits makes of a repeater, told by what its calls give. r is the repeater as it is kept, and
 -- s the same one as the contract names it.
-use Rattle.std.proofs.Common.{◌≡◌, ℕ, ◌-◌, ◌<◌, List, length, map, sym, ap, ap₂, subst, ◌∙◌}
+use Rattle.std.proofs.Common.{◌≡◌, ℕ, ◌-◌, ◌<◌, List, length, map, get_or, sym, ap, ap₂, subst, ◌∙◌}
 use Rattle.std.specs.Fn.{iterate}
 use Rattle.manchester_line.specs.declared.Sym.{Sym}
+use Rattle.manchester_line.specs.declared.Sym.TheVariants.{Idle}
 use Rattle.manchester_line.specs.Line.{is_signal}
 use Rattle.port_partition.specs.Guard.{Guard}
 use Rattle.repeater_core.specs.declared.modes.Mode.{Mode}
@@ -13,7 +14,7 @@ use Rattle.repeater_core.specs.Steady.{mode_on, IsSteady, sent_text, texted, kin
 use Rattle.repeater_core.specs.Classes.{after_rows, texts_after, line_with, IsOfSource, AreHeardAs}
 use Rattle.repeater_core.proofs.SteadyMost.{last_emitted, last_decided}
 use Rattle.repeater_core.proofs.SteadyState.{first_decided, have_no_events, are_sent, texts_are, leapt, state_later}
-use Rattle.repeater_core.proofs.SteadyRows.{state_is, later_state, leapt_classes}
+use Rattle.repeater_core.proofs.SteadyRows.{state_is, later_state, leapt_classes, texts_alike}
 
 -- what may be taken for granted: r is a repeater, hears a symbol for each port, and its next n half bits are steady
 pub record MayLeap (n : ℕ) (hears : List Sym) (r : State) : Type 0 where
@@ -49,6 +50,14 @@ pub texts_all_along : (n : ℕ) (hears ds : List Sym) (r : State) → MayLeap n 
 texts_all_along n hears ds r may decided =
     subst (λ ds. (k : ℕ) → k < n → map is_signal (texted (map is_signal ds) (sent_text (mode_on (iterate mode_on k r.mode)) hears)) ≡ map is_signal ds) (sym decided)
     (texts_are n r hears may.steady)
+
+-- each text leaves the signals where they are
+pub texts_keep : (hears heard ds : List Sym) (r s : State) → r ≡ s → MayLeap (length heard) hears r → 0 < length heard → IsOfSource s.mode hears heard → ds ≡ decided_by hears r
+    → (k : ℕ) → k < length heard → map is_signal (texted (map is_signal ds) (get_or (texts_after r.mode heard) k Idle)) ≡ map is_signal ds
+texts_keep hears heard ds r s same may some source decided =
+    let here = subst (λ (r : State). IsOfSource r.mode hears heard) (sym same) source in
+    subst (λ ds. (k : ℕ) → k < length heard → map is_signal (texted (map is_signal ds) (get_or (texts_after r.mode heard) k Idle)) ≡ map is_signal ds) (sym decided)
+    (texts_alike hears heard r may.state may.ports some here may.steady)
 
 -- the guards and the counts after n half bits alike
 guards_told : (n : ℕ) (hears es : List Sym) (gs gs' : List Guard) (r : State) → es ≡ emitted_by r → gs ≡ r.guards

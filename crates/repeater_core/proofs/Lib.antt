@@ -14,7 +14,11 @@ pub mod SteadyHalfBits
 pub mod SteadyLeap
 pub mod SteadyState
 pub mod SteadyCount
+pub mod DelayRows
+pub mod AlikeNewest
 pub mod AlikeRows
+pub mod RowsPut
+pub mod LaterTexts
 pub mod SteadyMost
 pub mod SteadyRows
 pub mod LeapedParts

@@ -1,5 +1,5 @@
 -- A ring of rows turns on by n rows where n rows of Idle are taken out and put in, and keeps what it says of its rows.
-use Rattle.std.proofs.Common.{◌≡◌, ℕ, zero, suc, ◌+◌, ◌-◌, ◌*◌, ◌%◌, ◌<◌, ◌≤◌, Bool, true, false, List, ◌++◌, length, take, drop, replicate, refl, sym, ap, ap₂, subst, ◌∙◌, inl, inr, cond, arith, length-drop, append_assoc, mul-le-mul_right}
+use Rattle.std.proofs.Common.{◌≡◌, ℕ, zero, suc, ◌+◌, ◌-◌, ◌*◌, ◌%◌, ◌<◌, ◌≤◌, Bool, true, false, eqb, List, ◌++◌, length, take, drop, replicate, refl, sym, ap, ap₂, subst, ◌∙◌, inl, inr, cond, arith, length-drop, append_assoc, mul-le-mul_right}
 use Rattle.std.proofs.lemmas.Bool.{cases_eq, cases_lt}
 use Rattle.std.proofs.lemmas.Bool.Decides.{nat_tests}
 use Rattle.std.proofs.lemmas.List.{drop_all, drop-drop, take-append-le, drop-append-le}
@@ -17,6 +17,7 @@ use Rattle.repeater_core.specs.SilentParts.{idle_front, line_calm, silent_line}
 use Rattle.repeater_core.proofs.SilentModes.{fallen}
 use Rattle.repeater_core.proofs.DelayLineCalm.{IsLine, front_take, first_row_idle, line_falls}
 use Rattle.repeater_core.proofs.NextTurnOfRing.{rotated_turn}
+use Rattle.repeater_core.proofs.AlikeNewest.{known_newest}
 
 -- all these symbols are Idle
 abbrev pub AllIdle : List Sym → Type 0
@@ -160,17 +161,21 @@ moved_row ports delay turn next k xs xs' ys decided n len e same rows =
     ap (λ t. rotated (t * ports) ys) e ∙ rotated_turn turn delay ports ys len ∙ ap (λ k. rotated (turn * ports + k) ys) (sym n) ∙ rows
     ∙ ap₂ (λ k (xs : List Sym). drop k (rotated (turn * ports) xs) ++ decided) n same
 
-pub stepped_ring : (ports delay turn next filled filled' : ℕ) (xs ys decided : List Sym) (idle : Bool) → IsRing ports delay turn filled xs → length ys ≡ delay * ports
+pub stepped_ring : (ports delay turn next filled filled' alike alike' : ℕ) (xs ys decided : List Sym) (idle : Bool) → IsRing ports delay turn filled alike xs → length ys ≡ delay * ports
     → rotated (next * ports) ys ≡ drop ports (rotated (turn * ports) xs) ++ decided
-    → next < delay → (idle ≡ true → AllIdle decided) → filled' ≡ cond idle (filled - 1) delay → IsRing ports delay next filled' ys
-stepped_ring ports delay turn next filled filled' xs ys decided idle h len moved below d f =
+    → next < delay → (idle ≡ true → AllIdle decided) → filled' ≡ cond idle (filled - 1) delay → alike' ≡ cond (eqb filled' 0) delay 0 → IsRing ports delay next filled' alike' ys
+stepped_ring ports delay turn next filled filled' alike alike' xs ys decided idle h len moved below d f e =
     let whole : length (drop ports (rotated (turn * ports) xs) ++ decided) ≡ delay * ports = ap length (sym moved) ∙ rotated_len (next * ports) ys ∙ len in
+    let rest = subst (λ k. AllIdle (drop (k * ports) (rotated (next * ports) ys))) (sym f)
+    (subst (λ zs. AllIdle (drop (cond idle (filled - 1) delay * ports) zs)) (sym moved)
+    (filled_kept idle filled delay ports (rotated (turn * ports) xs) decided whole d h.rest_idle)) in
+    let known = known_newest ports delay filled' alike' (rotated (next * ports) ys) (rotated_len (next * ports) ys ∙ len) rest e in
     record {
       turn_below = below;
       slots_len = len;
       delay_at_most = h.delay_at_most;
       filled_at_most = subst (λ k. k ≤ delay) (sym f) (filled_within idle filled delay h.filled_at_most);
-      rest_idle = subst (λ k. AllIdle (drop (k * ports) (rotated (next * ports) ys))) (sym f)
-          (subst (λ zs. AllIdle (drop (cond idle (filled - 1) delay * ports) zs)) (sym moved)
-          (filled_kept idle filled delay ports (rotated (turn * ports) xs) decided whole d h.rest_idle));
+      rest_idle = rest;
+      alike_at_most = known.0;
+      newest_alike = known.1;
     }

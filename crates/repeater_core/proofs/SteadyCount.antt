@@ -1,7 +1,7 @@
 -- As many half bits are steady as the mode, the ports, the guards and the delay line tell.
-use Rattle.std.proofs.Common.{◌≡◌, ℕ, zero, suc, ◌+◌, ◌-◌, ◌*◌, ◌^◌, ◌<◌, ◌≤◌, min, Bool, true, false, not, cond, ltb, eqb, ◌&&◌, List, [], ◌∷◌, ◌++◌, length, map, take, drop, get_or, refl, sym, ap, ap₂, subst, ◌∙◌, arith, length-drop, mul-le-mul_right}
+use Rattle.std.proofs.Common.{◌≡◌, ℕ, zero, suc, ◌+◌, ◌-◌, ◌*◌, ◌^◌, ◌<◌, ◌≤◌, min, Bool, true, false, not, cond, ltb, eqb, ◌&&◌, List, [], ◌∷◌, length, map, take, drop, get_or, refl, sym, ap, ap₂, subst, ◌∙◌, arith}
 use Rattle.std.proofs.lemmas.Bool.Decides.{nat_tests}
-use Rattle.std.proofs.lemmas.List.{length-map, drop-drop, take-append-le, drop-append-le}
+use Rattle.std.proofs.lemmas.List.{length-map}
 use Rattle.std.specs.Fn.{iterate}
 use Rattle.mac_parameters.specs.Parameters.{jabber_limit, preamble_length}
 use Rattle.manchester_line.specs.declared.Sym.{Sym}
@@ -21,12 +21,14 @@ use Rattle.repeater_core.specs.Modes.{activity_from, joined, mode_after, wish_of
 use Rattle.repeater_core.specs.Counts.{Count, Choice, choice, choice_awake, choices_from}
 use Rattle.repeater_core.specs.SilentParts.{sends_to}
 use Rattle.repeater_core.specs.Step.{State, IsState, mode_next, chosen, after, emitted_by, decided_by, is_closing, is_opening, mask_from}
-use Rattle.repeater_core.specs.Steady.{mode_on, mode_steady, port_steady, ports_steady, AreAlikeRows, IsSteadyStep, IsSteady, Kind, kind_of, kinds_of, at_each, guard_by, count_by, HaveNoEvents}
+use Rattle.repeater_core.specs.Delayed.{Delayed}
+use Rattle.repeater_core.specs.Steady.{mode_on, mode_steady, port_steady, ports_steady, sent_from, IsSteadyStep, IsSteady, Kind, kind_of, kinds_of, at_each, guard_by, count_by, HaveNoEvents}
 use Rattle.repeater_core.proofs.SendsToOthers.{choose, IsRepeatable, repeatable, hears_as, carrier}
 use Rattle.repeater_core.proofs.CalmIsExact.{length_emitted}
 use Rattle.repeater_core.proofs.SteadyHalfBits.{each_length, steady_once}
 use Rattle.repeater_core.proofs.SteadyLeap.{kind_is}
-use Rattle.repeater_core.proofs.SteadyState.{events_by, events_by_kind, state_after}
+use Rattle.repeater_core.proofs.SteadyState.{events_by, events_by_kind, state_after, length_decided}
+use Rattle.repeater_core.proofs.DelayRows.{RowsAre, rows_on}
 
 -- the mode
 mode_stays : (m : Mode) (a : Activity) → 0 < mode_steady m a → mode_after m a ≡ mode_on m
@@ -86,12 +88,8 @@ class_choice s w c e l = choose (λ (x : Choice). (is_signal x.symbol ≡ s && e
     and_false' false = refl
 
 -- what is sent to each port
-abbrev pub flags_from : Mode → ℕ → List Count → List Bool
-flags_from m q [] = []
-flags_from m q (c ∷ cs) = (sends_to m q && eqb c.rest 0) ∷ flags_from m (q + 1) cs
-
 decides_flags : (m next : Mode) (hears : List Sym) (q : ℕ) (cs : List Count) → ((q : ℕ) → is_signal (wish_of next hears q) ≡ sends_to m q) → 0 < ports_steady m q cs
-    → map is_signal (map (λ c. c.symbol) (choices_from next hears q cs)) ≡ flags_from m q cs
+    → map is_signal (map (λ c. c.symbol) (choices_from next hears q cs)) ≡ sent_from m q cs
 decides_flags m next hears q [] w l = refl
 decides_flags m next hears q (c ∷ cs) w l =
     ap₂ ◌∷◌ (class_choice (sends_to m q) (wish_of next hears q) c (w q) (omega arith)).0 (decides_flags m next hears (q + 1) cs w (omega arith))
@@ -103,13 +101,13 @@ none_halted m next hears q p (c ∷ cs) w l =
     let here = ap (λ b. cond b (2 ^ p) 0) (class_choice (sends_to m q) (wish_of next hears q) c (w q) (omega arith)).1 in
     let rest = none_halted m next hears (q + 1) (p + 1) cs w (omega arith) in omega arith
 
-ports_fall : (n : ℕ) (m : Mode) (q : ℕ) (cs : List Count) → suc n ≤ ports_steady m q cs → n ≤ ports_steady m q (at_each count_by (flags_from m q cs) cs)
+ports_fall : (n : ℕ) (m : Mode) (q : ℕ) (cs : List Count) → suc n ≤ ports_steady m q cs → n ≤ ports_steady m q (at_each count_by (sent_from m q cs) cs)
 ports_fall n m q [] l = omega arith
 ports_fall n m q (c ∷ cs) l =
     let a = port_falls n (sends_to m q) c (omega arith) in
     let b = ports_fall n m (q + 1) cs (omega arith) in omega arith
 
-flags_same : (n : ℕ) (m : Mode) (q : ℕ) (cs : List Count) → suc (suc n) ≤ ports_steady m q cs → flags_from (mode_on m) q (at_each count_by (flags_from m q cs) cs) ≡ flags_from m q cs
+flags_same : (n : ℕ) (m : Mode) (q : ℕ) (cs : List Count) → suc (suc n) ≤ ports_steady m q cs → sent_from (mode_on m) q (at_each count_by (sent_from m q cs) cs) ≡ sent_from m q cs
 flags_same n m q [] l = refl
 flags_same n m q (c ∷ cs) l =
     ap₂ ◌∷◌ (ap (λ s. s && eqb (count_by (sends_to m q && eqb c.rest 0) c).rest 0) (sends_same m q) ∙ flag_same n (sends_to m q) c (omega arith)) (flags_same n m (q + 1) cs (omega arith))
@@ -163,17 +161,6 @@ active_same n k (x ∷ hs) (b ∷ bs) (g ∷ gs) l m h =
     ap₂ joined (ap (λ c. cond (not c && is_signal x) (One k x) Nobody) (closed_same (kind_of x b) g (h.0 0 (omega arith))))
     (active_same n (k + 1) hs bs gs (omega arith) (omega arith) h.1)
 
--- the delay line
-pub row_on : (n k p delay : ℕ) (rows decided : List Sym) → length rows ≡ delay * p → k < n → suc n ≤ delay → take p (drop (k * p) (drop p rows ++ decided)) ≡ take p (drop (suc k * p) rows)
-row_on n k p delay rows decided len l m =
-    let room : (k + 2) * p ≤ delay * p = mul-le-mul_right p (let a : k + 2 ≤ delay = omega arith in a) in
-    let a = length-drop p rows in
-    let b = length-drop (k * p) (drop p rows) in
-    let next : p + k * p ≡ suc k * p = omega arith in
-    ap (take p) (drop-append-le (k * p) (drop p rows) decided (omega arith))
-    ∙ take-append-le p (drop (k * p) (drop p rows)) decided (omega arith)
-    ∙ ap (take p) (drop-drop (k * p) p rows ∙ ap (λ i. drop i rows) next)
-
 -- what the count of steady half bits rests on
 pub record Fits (hears : List Sym) (emitting : List Bool) (a : Activity) (n : ℕ) (r : State) : Type 0 where
   pub state : IsState r
@@ -183,8 +170,8 @@ pub record Fits (hears : List Sym) (emitting : List Bool) (a : Activity) (n : �
   pub mode_fits : n ≤ mode_steady r.mode a
   pub ports : n ≤ ports_steady r.mode 0 r.counts
   pub guards : CalmBy n (kinds_of hears emitting) r.guards
-  pub few : n ≤ r.line.delay
-  pub rows : (k : ℕ) → k < n → map is_signal (take r.line.ports (drop (k * r.line.ports) r.line.rows)) ≡ emitting
+  pub rows : RowsAre emitting n r.line
+  pub past : r.line.delay < n → sent_from r.mode 0 r.counts ≡ emitting
 
 fits_mode : (hears : List Sym) (emitting : List Bool) (a : Activity) (n : ℕ) (r : State) → Fits hears emitting a (suc n) r → mode_next hears r ≡ mode_on r.mode
 unfolding mode_next
@@ -199,9 +186,10 @@ fits_wish hears emitting a n r f = λ q.
 fits_emits : (hears : List Sym) (emitting : List Bool) (a : Activity) (n : ℕ) (r : State) → Fits hears emitting a (suc n) r → map is_signal (emitted_by r) ≡ emitting
 fits_emits hears emitting a n r f =
     let none : 0 * r.line.ports ≡ 0 = omega arith in
-    ap (λ i. map is_signal (take r.line.ports (drop i r.line.rows))) (sym none) ∙ f.rows 0 (omega arith)
+    let some = f.state.some_delay in
+    ap (λ i. map is_signal (take r.line.ports (drop i r.line.rows))) (sym none) ∙ f.rows 0 (omega arith) (omega arith)
 
-fits_step : (hears : List Sym) (emitting : List Bool) (a : Activity) (n : ℕ) (r : State) → Fits hears emitting a (suc n) r → IsSteadyStep hears emitting (flags_from r.mode 0 r.counts) r
+fits_step : (hears : List Sym) (emitting : List Bool) (a : Activity) (n : ℕ) (r : State) → Fits hears emitting a (suc n) r → IsSteadyStep hears emitting (sent_from r.mode 0 r.counts) r
 unfolding chosen
 fits_step hears emitting a n r f =
     let m = fits_mode hears emitting a n r f in
@@ -223,9 +211,19 @@ kinds_fit [] bs l = refl
 kinds_fit (h ∷ hs) [] l = absurd (omega arith)
 kinds_fit (h ∷ hs) (b ∷ bs) l = ap suc (kinds_fit hs bs (omega arith))
 
+line_next : (hears : List Sym) (emitting : List Bool) (a : Activity) (n : ℕ) (r : State) → Fits hears emitting a (suc n) r → RowsAre emitting n (after hears r).line
+line_next hears emitting a n r f =
+    let some = f.state.some_delay in
+    rows_on emitting n r.line (decided_by hears r) (omega arith) (f.state.rows_len ∙ ap (λ p. r.line.delay * p) (sym f.state.line_ports)) (length_decided r hears f.state ∙ sym f.state.line_ports)
+    (λ l. (fits_step hears emitting a n r f).decides ∙ f.past l) f.rows
+
+flags_next : (n : ℕ) (m : Mode) (q : ℕ) (cs : List Count) → 0 < n → suc n ≤ ports_steady m q cs → sent_from (mode_on m) q (at_each count_by (sent_from m q cs) cs) ≡ sent_from m q cs
+flags_next zero m q cs some l = absurd (omega arith)
+flags_next (suc n) m q cs some l = flags_same n m q cs l
+
 fits_next : (hears : List Sym) (emitting : List Bool) (a : Activity) (n : ℕ) (r : State) → Fits hears emitting a (suc n) r → Fits hears emitting a n (after hears r)
 fits_next hears emitting a n r f =
-    let flags = flags_from r.mode 0 r.counts in
+    let flags = sent_from r.mode 0 r.counts in
     let once = steady_once hears emitting flags r (fits_step hears emitting a n r f) in
     let kinds = kinds_of hears emitting in
     let gs : length (at_each guard_by kinds r.guards) ≡ length r.guards = each_length guard_by kinds r.guards (kinds_fit hears emitting (f.emits_len ∙ sym f.hears_len) ∙ f.hears_len) in
@@ -237,20 +235,19 @@ fits_next hears emitting a n r f =
       mode_fits = mode_falls n r.mode a f.mode_fits;
       ports = subst (λ x. n ≤ x) (sym (ports_same r.mode 0 (at_each count_by flags r.counts))) (ports_fall n r.mode 0 r.counts f.ports);
       guards = calm_falls n kinds r.guards f.guards;
-      few = (let m = f.few in omega arith);
-      rows = λ k l.
-          ap (map is_signal) (row_on n k r.line.ports r.line.delay r.line.rows _ (f.state.rows_len ∙ ap (λ p. r.line.delay * p) (sym f.state.line_ports)) l f.few) ∙ f.rows (suc k) (omega arith);
+      rows = subst (λ (d : Delayed). RowsAre emitting n d) (ap (λ (x : State). x.line) once) (line_next hears emitting a n r f);
+      past = λ l. flags_next n r.mode 0 r.counts (omega arith) f.ports ∙ f.past (omega arith);
     })
 
-fits_steady : (n : ℕ) (hears : List Sym) (emitting flags : List Bool) (a : Activity) (r : State) → flags ≡ flags_from r.mode 0 r.counts → Fits hears emitting a n r
+fits_steady : (n : ℕ) (hears : List Sym) (emitting flags : List Bool) (a : Activity) (r : State) → flags ≡ sent_from r.mode 0 r.counts → Fits hears emitting a n r
     → (k : ℕ) → k < n → IsSteadyStep hears emitting flags (iterate (after hears) k r)
 fits_steady zero hears emitting flags a r e f k l = absurd (omega arith)
 fits_steady (suc n) hears emitting flags a r e f zero l = subst (λ bs. IsSteadyStep hears emitting bs r) (sym e) (fits_step hears emitting a n r f)
 fits_steady (suc zero) hears emitting flags a r e f (suc k) l = absurd (omega arith)
 fits_steady (suc (suc n)) hears emitting flags a r e f (suc k) l =
-    let once = steady_once hears emitting (flags_from r.mode 0 r.counts) r (fits_step hears emitting a (suc n) r f) in
+    let once = steady_once hears emitting (sent_from r.mode 0 r.counts) r (fits_step hears emitting a (suc n) r f) in
     fits_steady (suc n) hears emitting flags a (after hears r)
-    (e ∙ sym (flags_same n r.mode 0 r.counts f.ports) ∙ sym (ap (λ (x : State). flags_from x.mode 0 x.counts) once))
+    (e ∙ sym (flags_same n r.mode 0 r.counts f.ports) ∙ sym (ap (λ (x : State). sent_from x.mode 0 x.counts) once))
     (fits_next hears emitting a (suc n) r f) k (omega arith)
 
 pub steady_for : (n : ℕ) (hears : List Sym) (a : Activity) (r : State) → Fits hears (map is_signal (emitted_by r)) a n r → IsSteady hears r n
@@ -260,8 +257,8 @@ steady_for (suc n) hears a r f =
 
 -- from what the parts tell
 pub fits : (n : ℕ) (hears es : List Sym) (r : State) → IsState r → length hears ≡ length r.guards → es ≡ emitted_by r → n ≤ mode_steady r.mode (activity_from 0 r.guards hears) → n ≤ ports_steady r.mode 0 r.counts
-    → HaveNoEvents n hears es r.guards → n ≤ r.line.delay → AreAlikeRows n r.line → IsSteady hears r n
-fits n hears es r h l e m p g few rows =
+    → HaveNoEvents n hears es r.guards → RowsAre (map is_signal es) n r.line → (r.line.delay < n → sent_from r.mode 0 r.counts ≡ map is_signal es) → IsSteady hears r n
+fits n hears es r h l e m p g rows past =
     steady_for n hears (activity_from 0 r.guards hears) r (record {
       state = h;
       hears_len = l;
@@ -270,8 +267,8 @@ fits n hears es r h l e m p g few rows =
       mode_fits = m;
       ports = p;
       guards = calm_by n hears (emitted_by r) r.guards l (length_emitted r h) (subst (λ xs. HaveNoEvents n hears xs r.guards) e g);
-      few = few;
-      rows = rows;
+      rows = subst (λ xs. RowsAre (map is_signal xs) n r.line) e rows;
+      past = λ k. past k ∙ ap (map is_signal) e;
     })
 
 pub ports_most : (m : Mode) (q : ℕ) (cs : List Count) → ports_steady m q cs ≤ most_calm

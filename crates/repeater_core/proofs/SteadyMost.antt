@@ -21,7 +21,8 @@ use Rattle.repeater_core.proofs.SendsToOthers.{IsRepeatable, repeatable, hears_a
 use Rattle.repeater_core.proofs.CalmIsExact.{length_emitted}
 use Rattle.repeater_core.proofs.SteadyHalfBits.{guards_by_kind, not_one}
 use Rattle.repeater_core.proofs.SteadyState.{state_after, ports_after, length_decided, at_k, have_no_events, counts_at, sent_at_k, texts_at}
-use Rattle.repeater_core.proofs.SteadyCount.{sends_same, class_choice, wish_signal, calm_by, active_same, row_on}
+use Rattle.repeater_core.proofs.SteadyCount.{sends_same, class_choice, wish_signal, calm_by, active_same}
+use Rattle.repeater_core.proofs.DelayRows.{row_on}
 
 -- the mode
 mode_some : (m : Mode) (a : Activity) → mode_after m a ≡ mode_on m → 0 < mode_steady m a

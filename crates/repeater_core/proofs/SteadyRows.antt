@@ -27,7 +27,7 @@ use Rattle.repeater_core.proofs.SteadyState.{events_by, events_by_kind, kinds_le
 use Rattle.repeater_core.proofs.SendsToOthers.{IsRepeatable}
 use Rattle.repeater_core.proofs.CalmIsExact.{same_state, length_emitted}
 use Rattle.repeater_core.proofs.SteadyMost.{repeats}
-use Rattle.repeater_core.proofs.SteadyCount.{row_on}
+use Rattle.repeater_core.proofs.DelayRows.{row_on}
 
 -- the classes of what is heard
 signal_class : (s : Sym) → is_signal (class_of s) ≡ is_signal s
@@ -375,6 +375,15 @@ decisions_are rows hears heard texts r e s a = λ k l.
 
 pub emissions_are : (rows : List (List Sym)) (hears heard : List Sym) (r : State) → IsState r → length hears ≡ length r.guards → AreHeardAs hears r.mode heard rows → EmitRows rows r
 emissions_are rows hears heard r h l a = emits_rows rows hears r h l a.classes
+
+-- what is sent is a signal in each of them, or in none
+pub texts_alike : (hears heard : List Sym) (r : State) → IsState r → length hears ≡ length r.guards → 0 < length heard → IsOfSource r.mode hears heard → IsSteady hears r (length heard)
+    → (k : ℕ) → k < length heard → map is_signal (texted (map is_signal (decided_by hears r)) (get_or (texts_after r.mode heard) k sy.Idle)) ≡ map is_signal (decided_by hears r)
+texts_alike hears heard r h l some o s = λ k b.
+    let x = heard_rows r.mode hears heard (subst (IsRepeatable hears) (s 0 some).mode (repeats hears r)) o in
+    let n = x.1.count in
+    let c : k < length x.0 = omega arith in
+    ap (map is_signal) (sym (decisions_are x.0 hears heard (texts_after r.mode heard) r refl s x.1 k c)) ∙ (steps_are x.0 hears heard r s x.1 k c).decides
 
 pub later_state : (hears heard : List Sym) (r : State) → IsState r → length hears ≡ length r.guards → 0 < length heard → IsOfSource r.mode hears heard → IsSteady hears r (length heard) → IsState (later_by hears heard r)
 later_state hears heard r h l some o s =

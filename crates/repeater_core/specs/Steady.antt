@@ -139,6 +139,11 @@ abbrev pub ports_steady : Mode → ℕ → List Count → ℕ
 ports_steady mode q [] = most_calm
 ports_steady mode q (c ∷ cs) = min (port_steady (sends_to mode q) c) (ports_steady mode (q + 1) cs)
 
+-- whether each of the ports from port q on is sent a signal: those that the mode sends to and that don't rest
+abbrev pub sent_from : Mode → ℕ → List Count → List Bool
+sent_from mode q [] = []
+sent_from mode q (c ∷ cs) = (sends_to mode q && c.rest == 0) ∷ sent_from mode (q + 1) cs
+
 -- the oldest n rows have signals at the places of the first
 abbrev pub AreAlikeRows : ℕ → Delayed → Type 0
 AreAlikeRows n d =

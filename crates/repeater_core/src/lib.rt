@@ -11,6 +11,7 @@ mod modes;
 mod ports;
 mod repeater;
 mod steady;
+mod texts;
 
 pub use laws::signals_are_repeated;
 pub use modes::Mode;

@@ -1,12 +1,13 @@
 //! A repeater's delay: rows of symbols that come out `delay` half bits after they were put in.
-ghost use Rattle.std.specs.Prelude.{◌≡◌, ◌<◌, ◌≤◌, ◌+◌, ◌-◌, ◌*◌, ◌++◌, if◌then◌else◌, length, map, take, drop, replicate, IfOk, IsTrue};
+ghost use Rattle.std.specs.Prelude.{◌≡◌, ◌<◌, ◌≤◌, ◌+◌, ◌-◌, ◌*◌, [], ◌∷◌, ◌++◌, ◌==◌, ℕ, if◌then◌else◌, length, map, take, drop, replicate, slice_index_or, IfOk, IsTrue};
 ghost use Rattle.std.specs.List.{All};
 ghost use Rattle.manchester_line.specs.declared.Sym.TheVariants.{Idle};
 ghost use Rattle.std.specs.Fn.{iterate};
 ghost use Rattle.repeater_core.specs.Limits.{most_calm};
 ghost use Rattle.mac_parameters.specs.Parameters.{greatest_delay};
 ghost use Rattle.mac_parameters.specs.Parameters.{most_ports};
-ghost use Rattle.repeater_core.specs.Delayed.{rotated, turn_after, moved_on, oldest};
+ghost use Rattle.repeater_core.specs.Classes.{line_with};
+ghost use Rattle.repeater_core.specs.Delayed.{rotated, turn_after, moved_on, oldest, delayed_row};
 ghost use Rattle.repeater_core.specs.SilentParts.{idle_front, line_calm, silent_line};
 ghost use Rattle.manchester_line.specs.Line.{is_signal};
 ghost use Rattle.repeater_core.specs.Steady.{AreAlikeRows, texted};
@@ -19,13 +20,15 @@ use std::alloc::Global;
 use std::marker::Model;
 
 /// What was decided and not yet emitted: a ring of `delay` rows of one symbol a port. `turn` is the row
-/// that is emitted next, and all but the oldest `filled` rows are Idle.
+/// that is emitted next, all but the oldest `filled` rows are Idle, and the newest `alike` rows have signals at the same
+/// places.
 #[derive(Drop)]
 pub struct DelayLine {
     ports: usize,
     delay: usize,
     turn: usize,
     filled: usize,
+    alike: usize,
     slots: Vec<Sym>,
 }
 
@@ -37,7 +40,7 @@ impl Model for DelayLine {
 
     ghost view = { λ a. record { ports = a.ports; delay = a.delay; rows = rotated (a.turn * a.ports) a.slots.items } };
 
-    ghost invariant = { λ a. IsRing a.ports a.delay a.turn a.filled a.slots.items };
+    ghost invariant = { λ a. IsRing a.ports a.delay a.turn a.filled a.alike a.slots.items };
 }
 
 /// Takes the row at `head` out and puts another in.
@@ -61,12 +64,26 @@ fn text_at(flag: Sym, text: Sym) -> Sym
     if is_signal(flag) { text } else { Sym::Idle }
 }
 
+/// Puts a row of two ports in at `head`, as `put_row` does.
+fn put_pair(slots: &mut [Sym], head: usize, first: Sym, second: Sym, text: Sym)
+    requires { head + 2 ≤ length slots.old }
+    ensures len { length slots.new ≡ length slots.old }
+    ensures rows { rotated (head + 2) slots.new ≡ drop 2 (rotated head slots.old) ++ texted (map is_signal (first ∷ second ∷ [])) text }
+{
+    slots[head] = text_at(first, text);
+    slots[head + 1] = text_at(second, text);
+}
+
 /// Puts a row in at `head`: the text at the places of signals in `flags`, and Idle at the others.
 fn put_row(slots: &mut [Sym], head: usize, flags: &[Sym], text: Sym)
     requires { head + length flags.now ≤ length slots.old }
     ensures len { length slots.new ≡ length slots.old }
     ensures rows { rotated (head + length flags.now) slots.new ≡ drop (length flags.now) (rotated head slots.old) ++ texted (map is_signal flags.now) text }
 {
+    if flags.len() == 2 {
+        put_pair(slots, head, flags[0], flags[1], text);
+        return;
+    }
     for k in 0..flags.len() {
         slots[head + k] = text_at(flags[k], text);
     }
@@ -117,15 +134,48 @@ fn next_turn(turn: usize, delay: usize) -> usize
     if turn + 1 == delay { 0 } else { turn + 1 }
 }
 
-/// How many of the oldest rows may have a signal after a half bit; if `idle`, all that was decided in it is Idle.
-fn filled_after(idle: bool, filled: usize, delay: usize) -> usize
-    ensures { result ≡ (if idle then filled - 1 else delay) }
+/// The turn before this one.
+fn last_turn(turn: usize, delay: usize) -> usize
+    requires { turn < delay }
+    ensures last { turn ≡ turn_after result delay }
+    ensures within { result < delay }
+{
+    if turn == 0 { delay - 1 } else { turn - 1 }
+}
+
+/// How many of the oldest rows may have a signal after so many half bits; if `idle`, all that was decided in them is Idle.
+fn filled_after(idle: bool, filled: usize, delay: usize, half_bits: usize) -> usize
+    ensures { result ≡ (if idle then filled - half_bits else delay) }
 {
     if idle {
-        filled.saturating_sub(1)
+        filled.saturating_sub(half_bits)
     } else {
         delay
     }
+}
+
+/// How many of the newest rows are known to be alike where the oldest `filled` may have a signal: all, where none has.
+fn alike_where(filled: usize, delay: usize) -> usize
+    ensures { result ≡ (if filled == 0 then delay else 0) }
+{
+    if filled == 0 { delay } else { 0 }
+}
+
+/// Puts rows in, the first one at turn `turn`: each text at the places of signals in `flags`, and Idle at the others.
+/// Answers the turn after them.
+fn put_rows(slots: &mut [Sym], delay: usize, turn: usize, flags: &[Sym], texts: &[Sym]) -> usize
+    requires ring { length slots.old ≡ delay * length flags.now }
+    requires turn { turn < delay }
+    ensures len { length slots.new ≡ length slots.old }
+    ensures within { result < delay }
+    ensures rows { rotated (result * length flags.now) slots.new ≡ (line_with (map is_signal flags.now) texts.now (record { ports = length flags.now; delay = delay; rows = rotated (turn * length flags.now) slots.old })).rows }
+{
+    let mut turn = turn;
+    for k in 0..texts.len() {
+        put_row(slots, turn * flags.len(), flags, texts[k]);
+        turn = next_turn(turn, delay);
+    }
+    turn
 }
 
 impl DelayLine {
@@ -142,6 +192,7 @@ impl DelayLine {
             delay,
             turn: 0,
             filled: 0,
+            alike: delay,
             slots,
         })
     }
@@ -157,17 +208,50 @@ impl DelayLine {
     {
         turn_row(&mut self.slots, self.turn * self.ports, decided, emits);
         self.turn = next_turn(self.turn, self.delay);
-        self.filled = filled_after(idle, self.filled, self.delay);
+        self.filled = filled_after(idle, self.filled, self.delay, 1);
+        self.alike = alike_where(self.filled, self.delay);
     }
 
-    /// One half bit, in which this text is decided for the ports that have a signal in `flags`, and Idle for the others.
-    pub fn send(&mut self, flags: &[Sym], text: Sym)
-        requires { length flags.now ≡ self.old.ports }
-        ensures { self.new ≡ moved_on (texted (map is_signal flags.now) text) self.old }
+    /// How many of the newest rows are known to have signals at the places of these.
+    fn alike_to(&self, flags: &[Sym]) -> usize
+        requires { length flags.now ≡ self.now.ports }
+        ensures few { result ≤ self.now.delay }
+        ensures newest { (k : ℕ) → k < self.now.delay → self.now.delay ≤ k + result → map is_signal (delayed_row k self.now) ≡ map is_signal flags.now }
     {
-        put_row(&mut self.slots, self.turn * self.ports, flags, text);
-        self.turn = next_turn(self.turn, self.delay);
-        self.filled = filled_after(text == Sym::Idle, self.filled, self.delay);
+        let newest = last_turn(self.turn, self.delay);
+        if row_alike(&self.slots, newest * self.ports, flags) {
+            self.alike
+        } else {
+            0
+        }
+    }
+
+    /// Half bits in each of which its text is decided for the ports that have a signal in `flags`, and Idle for the others,
+    /// so that each is sent a signal or not as there. Only where all texts are Idle may `idle` be set. A row that goes out
+    /// again in the same half bits isn't written.
+    pub fn send(&mut self, idle: bool, flags: &[Sym], texts: &[Sym])
+        requires flags_len { length flags.now ≡ self.old.ports }
+        requires few { length texts.now ≤ most_calm }
+        requires alike { (k : ℕ) → k < length texts.now → map is_signal (texted (map is_signal flags.now) (slice_index_or texts.now k Idle)) ≡ map is_signal flags.now }
+        requires idle { IsTrue idle → All (λ s. s ≡ Idle) texts.now }
+        ensures { self.new ≡ line_with (map is_signal flags.now) texts.now self.old }
+    {
+        if idle && self.filled == 0 {
+            return;
+        }
+        let n = texts.len();
+        let alike = self.alike_to(flags);
+        let written = &texts[n.saturating_sub(self.delay)..];
+        self.turn = put_rows(&mut self.slots, self.delay, self.turn, flags, written);
+        self.filled = filled_after(idle, self.filled, self.delay, n);
+        self.alike = (alike + n).min(self.delay);
+    }
+
+    /// The half bits of the delay.
+    pub fn delay(&self) -> usize
+        ensures { result ≡ self.now.delay }
+    {
+        self.delay
     }
 
     /// What the ports emit in this half bit.
@@ -178,7 +262,8 @@ impl DelayLine {
         copy_row(&self.slots, self.turn * self.ports, emits);
     }
 
-    /// How many of the oldest rows have signals at the places of the first, which is `front`.
+    /// How many of the oldest rows have signals at the places of the first, which is `front`. Where all are known to, none is
+    /// looked at.
     pub fn alike(&self, front: &[Sym]) -> u32
         requires front { front.now ≡ oldest self.now }
         requires front_len { length front.now ≡ self.now.ports }
@@ -186,6 +271,9 @@ impl DelayLine {
         ensures alike { AreAlikeRows result self.now }
         ensures greatest { result < self.now.delay → ¬ AreAlikeRows (result + 1) self.now }
     {
+        if self.alike == self.delay {
+            return self.delay as u32;
+        }
         let mut turn = self.turn;
         for row in 0..self.delay {
             if !row_alike(&self.slots, turn * self.ports, front) {
@@ -229,5 +317,6 @@ impl DelayLine {
         let n = n as usize;
         self.turn = (self.turn + n) % self.delay;
         self.filled = self.filled.saturating_sub(n);
+        self.alike = alike_where(self.filled, self.delay);
     }
 }

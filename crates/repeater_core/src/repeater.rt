@@ -26,6 +26,7 @@ use crate::modes::{Mode, active_ports, collision, mode_on, mode_steady, next_mod
 use crate::ports::{decide_all, guard_all};
 use crate::steady::{
     decide_row, guards_calm, leap_counts, leap_guards, leap_line, leap_texts, ports_steady,
+    rows_steady,
 };
 use lists::OutOfMemory;
 use manchester_line::Sym;
@@ -251,11 +252,13 @@ impl Repeater {
         self.line.leap(n);
     }
 
-    /// For how many half bits, as far as the delay, in which the ports hear these symbols nothing happens but counts: the
-    /// steady half bits. What is emitted in the first of them is written.
+    /// For how many half bits in which the ports hear these symbols nothing happens but counts: the steady half bits. They are
+    /// told as far as the delay, and beyond it where all that is not yet emitted has signals at the places of what is decided
+    /// now. What is emitted in the first of them is written.
     pub fn steady(&self, hears: &[Sym], emits: &mut [Sym]) -> u32
         requires hears_len { length hears.now ≡ length self.now.guards }
         requires emits_len { length emits.old ≡ length self.now.guards }
+        ensures few { result ≤ most_calm }
         ensures steady { IsSteady hears.now self.now result }
         ensures greatest { result < self.now.line.delay → ¬ IsSteady hears.now self.now (result + 1) }
         ensures emits { emits.new ≡ emitted_by self.now }
@@ -265,7 +268,7 @@ impl Repeater {
         mode_steady(self.mode, active)
             .min(ports_steady(self.mode, &self.counts))
             .min(guards_calm(&self.guards, hears, emits))
-            .min(self.line.alike(emits))
+            .min(rows_steady(&self.line, self.mode, &self.counts, emits))
     }
 
     /// The state after `n` half bits in which the ports hear these symbols, and which are steady: nothing happens in them but

@@ -1,19 +1,21 @@
 //! Steady half bits, in which nothing happens but counts: what becomes of guards, counts and the delay line in them.
-ghost use Rattle.std.specs.Prelude.{◌≡◌, ◌≤◌, ◌<◌, ◌+◌, ◌-◌, ℕ, suc, length, map};
+ghost use Rattle.std.specs.Prelude.{◌≡◌, ◌≤◌, ◌<◌, ◌+◌, ◌-◌, ℕ, suc, length, map, slice_index_or, IsTrue};
 ghost use Rattle.std.specs.Fn.{iterate};
+ghost use Rattle.manchester_line.specs.declared.Sym.TheVariants.{Idle};
 ghost use Rattle.manchester_line.specs.Line.{is_signal};
 ghost use Rattle.repeater_core.specs.Counts.{choices_from};
-ghost use Rattle.mac_parameters.specs.Parameters.{jabber_limit, most_ports};
-ghost use Rattle.repeater_core.specs.Delayed.{oldest};
+ghost use Rattle.mac_parameters.specs.Parameters.{greatest_delay, jabber_limit, most_ports};
+ghost use Rattle.repeater_core.specs.Delayed.{oldest, delayed_row};
 ghost use Rattle.repeater_core.specs.Limits.{most_calm};
 ghost use Rattle.repeater_core.specs.Modes.{IsMode};
-ghost use Rattle.repeater_core.specs.Steady.{at_each, count_by, guard_by, kinds_of, line_later, mode_on, port_steady, ports_steady, sent_text, texted, AreSentFor, HaveNoEvents, RunsWithin};
+ghost use Rattle.repeater_core.specs.Steady.{at_each, count_by, guard_by, kinds_of, line_later, mode_on, port_steady, ports_steady, sent_from, sent_text, texted, AreAlikeRows, AreSentFor, HaveNoEvents, RunsWithin};
 ghost use Rattle.repeater_core.specs.Classes.{line_with, texts_after};
 
 use crate::counts::PortCount;
 use crate::line::DelayLine;
-use crate::modes::{MOST_STEADY, Mode, mode_on, sends_to, sent_text, text_for, wish};
+use crate::modes::{MOST_STEADY, Mode, mode_on, sends_to, sent_text, wish};
 use crate::ports::collision_at;
+use crate::texts::write_texts;
 use mac_parameters::JABBER_LIMIT;
 use manchester_line::{Sym, is_signal};
 use port_partition::PortGuard;
@@ -74,6 +76,42 @@ pub fn guards_calm(guards: &[PortGuard], hears: &[Sym], emits: &[Sym]) -> u32
         ));
     }
     calm
+}
+
+/// Whether the ports that are sent a signal in this mode are those that have one in this row.
+fn sends_as(mode: Mode, counts: &[PortCount], row: &[Sym]) -> bool
+    requires few { length counts.now ≤ most_ports }
+    requires as_many { length row.now ≡ length counts.now }
+    ensures { IsTrue result → sent_from mode 0 counts.now ≡ map is_signal row.now }
+{
+    for k in 0..counts.len() {
+        let count = &counts[k];
+        if (sends_to(mode, k as u32) && count.rest == 0) != is_signal(row[k]) {
+            return false;
+        }
+    }
+    true
+}
+
+/// For how many half bits the ports emit signals as in the first, in which they emit this row and are sent signals as the
+/// mode and the counts tell: as far as the delay, or all that are told where all that is not yet emitted has signals at the
+/// places of what is sent.
+pub fn rows_steady(line: &DelayLine, mode: Mode, counts: &[PortCount], emits: &[Sym]) -> u32
+    requires front { emits.now ≡ oldest line.now }
+    requires emits_len { length emits.now ≡ line.now.ports }
+    requires counts_len { length counts.now ≡ line.now.ports }
+    requires narrow { line.now.ports ≤ most_ports }
+    requires short { line.now.delay ≤ greatest_delay }
+    ensures few { result ≤ most_calm }
+    ensures rows { (k : ℕ) → k < result → k < line.now.delay → map is_signal (delayed_row k line.now) ≡ map is_signal emits.now }
+    ensures past { line.now.delay < result → sent_from mode 0 counts.now ≡ map is_signal emits.now }
+    ensures greatest { result < line.now.delay → ¬ AreAlikeRows (result + 1) line.now }
+{
+    let alike = line.alike(emits);
+    if alike as usize == line.delay() && sends_as(mode, counts, emits) {
+        return MOST_STEADY;
+    }
+    alike
 }
 
 /// Each guard's n half bits alike.
@@ -158,17 +196,15 @@ pub fn leap_texts(
 ) -> Mode
     requires decided_len { length decided.now ≡ line.old.ports }
     requires sent_len { length sent.old ≡ length heard.now }
+    requires some { 0 < length heard.now }
+    requires few { length heard.now ≤ most_calm }
     requires modes { (k : ℕ) → k < length heard.now → IsMode (iterate mode_on k mode) }
+    requires alike { (k : ℕ) → k < length heard.now → map is_signal (texted (map is_signal decided.now) (slice_index_or (texts_after mode heard.now) k Idle)) ≡ map is_signal decided.now }
     ensures mode { result ≡ iterate mode_on (length heard.now) mode }
     ensures line { line.new ≡ line_with (map is_signal decided.now) (texts_after mode heard.now) line.old }
     ensures sent { sent.new ≡ texts_after mode heard.now }
 {
-    let mut mode = mode;
-    for k in 0..heard.len() {
-        mode = mode_on(mode);
-        let text = text_for(mode, heard[k]);
-        sent[k] = text;
-        line.send(decided, text);
-    }
-    mode
+    let after = write_texts(mode, heard, sent);
+    line.send(mode == Mode::Idle, decided, sent);
+    after
 }

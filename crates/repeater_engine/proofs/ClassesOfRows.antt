@@ -1,8 +1,8 @@
 -- Rows of what the ports hear, by the classes of their symbols.
-use Rattle.std.proofs.Common.{◌≡◌, ◌≢◌, ℕ, zero, suc, ◌+◌, ◌<◌, ◌≤◌, All, List, [], ◌∷◌, map, take, drop, length, length-append, get_or, length-take-le, length-drop, get_or-take, get_or-drop, replicate, refl, sym, subst, ap, ap₂, inl, inr, ◌∙◌, arith}
+use Rattle.std.proofs.Common.{◌≡◌, ◌≢◌, ℕ, zero, suc, ◌+◌, ◌<◌, ◌≤◌, List, [], ◌∷◌, map, take, drop, length, get_or, length-take-le, length-drop, get_or-take, get_or-drop, replicate, refl, sym, subst, ap, ap₂, inl, inr, ◌∙◌, arith}
 use Rattle.std.specs.List.{AllByRecursion}
 use Rattle.std.proofs.lemmas.Bool.{cases_lt}
-use Rattle.std.proofs.lemmas.List.{length-map, length-replicate, get_or-map, get_or-replicate, get_or_default, get_or_past, same_lists}
+use Rattle.std.proofs.lemmas.List.{length-map, get_or-map, get_or_default, get_or_past, same_lists}
 use Rattle.manchester_line.specs.declared.Sym.{Sym}
 use Rattle.manchester_line.specs.declared.Sym.TheVariants.{Idle}
 use Rattle.repeater_core.specs.declared.modes.Mode.{Mode}
@@ -12,7 +12,7 @@ use Rattle.net_parts.specs.declared.parcel.Parcel.{Parcel}
 use Rattle.net_parts.specs.Machines.{span}
 use Rattle.net_parts.proofs.RepeaterSteps.{length-span, get_or-span}
 use Rattle.repeater_engine.specs.KeptRepeaters.{row_brought}
-use Rattle.repeater_engine.specs.LeapedHalfBits.{rows_brought, AreOfClasses, ReachFrom}
+use Rattle.repeater_engine.specs.LeapedHalfBits.{rows_brought, AreOfClasses}
 
 -- what holds of each of so many numbers holds of a span
 all_of_span : {X : Type 0} (P : X → Type 0) (f : ℕ → X) (k m : ℕ) → ((j : ℕ) → j < m → P (f (k + j))) → AllByRecursion P (span f k m)

@@ -1,5 +1,5 @@
 -- The parcels of a repeater in a window, over some of its half bits at once.
-use Rattle.std.proofs.Common.{◌≡◌, ℕ, zero, suc, ◌+◌, ◌-◌, ◌<◌, ◌≤◌, true, false, All, List, [], ◌∷◌, ◌++◌, map, take, drop, length, length-append, get_or, refl, sym, ap, ap₂, ◌∙◌, arith, append_assoc}
+use Rattle.std.proofs.Common.{◌≡◌, ℕ, zero, suc, ◌+◌, ◌-◌, ◌<◌, ◌≤◌, true, false, List, [], ◌∷◌, ◌++◌, map, take, drop, length, length-append, get_or, refl, sym, ap, ap₂, ◌∙◌, arith, append_assoc}
 use Rattle.std.proofs.Math.Seq.{take-append_seam, drop-append_seam}
 use Rattle.std.proofs.lemmas.List.{length-map, get_or-map, get_or-append_right, same_lists}
 use Rattle.manchester_line.specs.declared.Sym.{Sym}
@@ -7,7 +7,7 @@ use Rattle.manchester_line.specs.declared.Sym.TheVariants.{Idle}
 use Rattle.load_plan.specs.declared.plan.Plan.{Plan}
 use Rattle.network.specs.Times.{decided}
 use Rattle.net_parts.specs.declared.parcel.Parcel.{Parcel}
-use Rattle.net_parts.specs.Machines.{span, Ran}
+use Rattle.net_parts.specs.Machines.{span}
 use Rattle.net_parts.specs.RepeaterParts.{RepeaterState, repeater_machine, edges_at}
 use Rattle.net_parts.specs.Standing.{port_hears, repeater_at}
 use Rattle.net_parts.proofs.RepeaterSteps.{length-span, get_or-span, repeaters_go_on}

@@ -1,21 +1,15 @@
 -- A repeater in a window, half bit by half bit.
-use Rattle.std.proofs.Common.{◌≡◌, ℕ, zero, suc, ◌+◌, ◌-◌, ◌<◌, true, false, All, List, [], ◌∷◌, ◌++◌, map, length, length-append, get_or, set, refl, sym, ap, ap₂, ◌∙◌, arith}
-use Rattle.std.proofs.lemmas.List.{length-map, get_or-map, same_lists}
+use Rattle.std.proofs.Common.{◌≡◌, ℕ, ◌+◌, ◌<◌, List, ◌++◌, length, sym, ap, ap₂, ◌∙◌}
 use Rattle.manchester_line.specs.declared.Sym.{Sym}
-use Rattle.manchester_line.specs.declared.Sym.TheVariants.{Idle}
 use Rattle.collision_log.specs.declared.row.Body.{Body}
 use Rattle.collision_log.specs.declared.row.Row.{Row}
 use Rattle.load_plan.specs.declared.plan.Plan.{Plan}
-use Rattle.repeater_core.specs.Step.{State, after, decided_by}
+use Rattle.repeater_core.specs.Step.{State, after}
 use Rattle.network.specs.Rows.{rows_of_bodies, repeater_bodies}
-use Rattle.network.specs.Times.{decided}
-use Rattle.net_parts.specs.declared.parcel.Parcel.{Parcel}
-use Rattle.net_parts.specs.Machines.{span}
 use Rattle.net_parts.specs.RepeaterParts.{RepeaterState, repeater_step, edges_before, edges_in, edges_at}
-use Rattle.net_parts.specs.Standing.{port_hears, repeater_at}
+use Rattle.net_parts.specs.Standing.{repeater_at}
 use Rattle.net_parts.proofs.NetworkFacts.{repeater_facts}
-use Rattle.net_parts.proofs.RepeaterSteps.{length-span, repeaters_go_on}
-use Rattle.repeater_engine.specs.KeptRepeaters.{HaveRow, parcel_after, parcels_after, row_brought, with_symbol}
+use Rattle.net_parts.proofs.RepeaterSteps.{length-span}
 
 -- a half bit of a repeater, by its parts
 pub stepped : (device t : ℕ) (row heard : List Sym) (r s : State) (rows rows' : List Row) (bodies : List Body) → heard ≡ row → s ≡ after heard r → bodies ≡ repeater_bodies heard r → rows' ≡ rows ++ rows_of_bodies t device bodies →

@@ -1,6 +1,6 @@
 -- Runs of a repeater over half bits in which nothing happens but counts: its state, what is decided in them, its rows and
 -- the room for more of them.
-use Rattle.std.proofs.Common.{◌≡◌, ℕ, zero, suc, ◌+◌, ◌-◌, ◌*◌, ◌<◌, ◌≤◌, Bool, true, false, not, cond, ◌&&◌, List, [], ◌∷◌, ◌++◌, map, take, length, get_or, replicate, refl, sym, ap, ap₂, ◌∙◌, arith, append-nil}
+use Rattle.std.proofs.Common.{◌≡◌, ℕ, zero, suc, ◌+◌, ◌-◌, ◌*◌, ◌<◌, ◌≤◌, Bool, true, false, not, cond, ◌&&◌, List, [], ◌∷◌, ◌++◌, map, length, get_or, replicate, refl, sym, ap, ap₂, ◌∙◌, arith, append-nil}
 use Rattle.std.specs.List.{AllByRecursion}
 use Rattle.std.proofs.lemmas.List.{length-map}
 use Rattle.manchester_line.specs.declared.Sym.{Sym}
@@ -14,7 +14,7 @@ use Rattle.repeater_core.specs.Classes.{after_rows, AreSteadyRows, DecideTexts}
 use Rattle.repeater_core.specs.Counts.{Choice}
 use Rattle.repeater_core.specs.Modes.{is_tx_clash}
 use Rattle.repeater_core.specs.Steady.{IsSteadyStep, mode_on, texted}
-use Rattle.repeater_core.specs.Step.{State, after, chosen, emitted_by, decided_by, clash_begins, guard_events}
+use Rattle.repeater_core.specs.Step.{State, after, chosen, emitted_by, clash_begins, guard_events}
 use Rattle.repeater_core.proofs.Lawful.{length_chosen}
 use Rattle.network.specs.Rows.{rows_of_bodies, repeater_bodies}
 use Rattle.network.proofs.PortFlags.{told_are, no_bits}

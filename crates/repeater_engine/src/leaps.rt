@@ -25,6 +25,17 @@ fn class_of(symbol: Sym) -> Sym
     }
 }
 
+/// Whether all symbols are of the class that this one names. None is the last that is looked at, so that many are at once.
+fn all_of(symbols: &[Sym], class: Sym) -> bool
+    ensures { IsTrue result → (j : ℕ) → j < length symbols.now → class_of (slice_index_or symbols.now j Idle) ≡ class }
+{
+    let mut same = true;
+    for j in 0..symbols.len() {
+        same &= class_of(symbols[j]) == class;
+    }
+    same
+}
+
 /// How many symbols come before the first of another class than this one's.
 fn alike_in(symbols: &[Sym], first: Sym) -> usize
     ensures within { result ≤ length symbols.now }
@@ -32,6 +43,9 @@ fn alike_in(symbols: &[Sym], first: Sym) -> usize
     ensures differs { result < length symbols.now → class_of (slice_index_or symbols.now result Idle) ≢ class_of first }
 {
     let class = class_of(first);
+    if all_of(symbols, class) {
+        return symbols.len();
+    }
     for j in 0..symbols.len() {
         if class_of(symbols[j]) != class {
             return j;

@@ -12,7 +12,7 @@ use crate::parcels::turn_all;
 use lists::{List, OutOfMemory};
 use load_plan::Plan;
 use mac_parameters::HALF_BITS_A_BIT;
-use net_parts::{Parcel, Part, PartOutputs, edges_of, lookahead, windows};
+use net_parts::{Pace, Parcel, Part, PartOutputs, edges_of};
 use std::alloc::Global;
 use std::snapshot::Snapshot;
 
@@ -44,6 +44,22 @@ impl RepeaterPart {
         ensures number { IfOk result (λ made. made.part ≡ length plan.now.layout.segments + repeater) }
         ensures at { IfOk result (λ made. made.window ≡ 0) }
     {
+        RepeaterPart::paced(alloc, plan, &Pace::of(plan), repeater)
+    }
+
+    /// The same at a pace that was reckoned before.
+    pub fn paced(
+        alloc: Global,
+        plan: &Plan,
+        pace: &Pace,
+        repeater: u32,
+    ) -> Result<RepeaterPart, OutOfMemory>
+        requires pace { pace.now.plan.value ≡ plan.now }
+        requires within { repeater < length plan.now.layout.repeaters }
+        ensures plan { IfOk result (λ made. made.plan.value ≡ plan.now) }
+        ensures number { IfOk result (λ made. made.part ≡ length plan.now.layout.segments + repeater) }
+        ensures at { IfOk result (λ made. made.window ≡ 0) }
+    {
         let layout = &plan.layout;
         let part = layout.segments.len() as u32 + repeater;
         let device = layout.stations.len() as u32 + repeater;
@@ -54,8 +70,8 @@ impl RepeaterPart {
             part,
             repeater,
             window: 0,
-            last: windows(plan),
-            lookahead: lookahead(layout),
+            last: pace.windows,
+            lookahead: pace.lookahead,
             half_bits: u64::from(HALF_BITS_A_BIT) * layout.until_bits,
             edges: edges_of(alloc, plan, part)?,
             engine,

@@ -27,7 +27,7 @@ use Rattle.net_parts.proofs.NetworkFacts.{station_facts}
 use Rattle.net_parts.proofs.LookaheadLeads.{leads}
 use Rattle.net_parts.proofs.SegmentSteps.{below}
 use Rattle.net_parts.proofs.StationNumbers.{numbered, length-both}
-use Rattle.segment_engine.specs.TapLines.{TapLine, no_line, reach}
+use Rattle.tap_lines.specs.TapLines.{TapLine, no_line, reach}
 use Rattle.segment_engine.specs.NewLines.{IsNewLine, AreNewLines, new_delay}
 use Rattle.segment_engine.specs.PartStates.{IsLineOf, AreLinesAt, AreStationsAt}
 

@@ -26,10 +26,10 @@ use Rattle.net_parts.proofs.LookaheadLeads.{leads}
 use Rattle.net_parts.proofs.SegmentHearing.{stations_hear}
 use Rattle.net_parts.proofs.SegmentSteps.{segments_go_on}
 use Rattle.net_parts.proofs.RepeaterSteps.{length-span}
-use Rattle.segment_engine.specs.TapLines.{TapLine, no_line, reach, line_extended}
+use Rattle.tap_lines.specs.TapLines.{TapLine, no_line, reach, line_extended}
 use Rattle.segment_engine.specs.StationPasses.{receptions_by, rows_heard, captures_heard}
 use Rattle.segment_engine.specs.PartStates.{IsLineOf, AreLinesAt, AreStationsAt, half_filled, with_symbol_at}
-use Rattle.segment_engine.proofs.Spans.{span_more}
+use Rattle.tap_lines.proofs.Spans.{span_more}
 use Rattle.segment_engine.proofs.HeldLines.{line_more, line_later}
 
 first_row : List (List Sym) → List Sym

@@ -1,9 +1,7 @@
-pub mod Spans
 pub mod HeldLines
 pub mod LinesHear
 pub mod StationRoom
 pub mod StationsStep
-pub mod HeardLines
 pub mod HalfBits
 pub mod TapsNear
 pub mod WindowLines
@@ -17,7 +15,6 @@ pub mod QuietStations
 pub mod QuietRoom
 pub mod PiecesAhead
 pub mod QuietHalfBits
-pub mod LinesAhead
 pub mod SteadyHalfBits
 pub mod SteadyStations
 pub mod SteadyReceivers

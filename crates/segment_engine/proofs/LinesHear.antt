@@ -19,9 +19,9 @@ use Rattle.net_parts.specs.PartLaws.{IsLead}
 use Rattle.net_parts.proofs.NetworkFacts.{StationFacts}
 use Rattle.net_parts.proofs.LateRows.{if_true, if_false, span_of}
 use Rattle.net_parts.proofs.SegmentHearing.{station_hears, port_hears_so}
-use Rattle.segment_engine.specs.TapLines.{TapLine, no_line, reach, symbol_on, half_bits_back, heard_of_lines, heard_by_lines, IsReachOf}
+use Rattle.tap_lines.specs.TapLines.{TapLine, no_line, reach, symbol_on, half_bits_back, heard_of_lines, heard_by_lines, IsReachOf}
 use Rattle.segment_engine.specs.PartStates.{AreLinesAt}
-use Rattle.segment_engine.proofs.Spans.{take-span, drop-span}
+use Rattle.tap_lines.proofs.Spans.{take-span, drop-span}
 use Rattle.segment_engine.proofs.HeldLines.{line_at}
 
 test_true : {X : Type 0} (a b : ℕ) (x y : X) → a < b → cond (ltb a b) x y ≡ x

@@ -17,7 +17,7 @@ use Rattle.net_parts.specs.Standing.{port_hears}
 use Rattle.net_parts.proofs.NetworkFacts.{station_facts}
 use Rattle.net_parts.proofs.LookaheadLeads.{leads}
 use Rattle.net_parts.proofs.RepeaterSteps.{length-span, get_or-span}
-use Rattle.segment_engine.specs.TapLines.{TapLine, no_line, symbol_on, heard_by_lines}
+use Rattle.tap_lines.specs.TapLines.{TapLine, no_line, symbol_on, heard_by_lines}
 use Rattle.segment_engine.proofs.LinesHear.{KnowLines, station_by_lines, port_by_lines}
 use Rattle.segment_engine.proofs.StationsLater.{sender_runs, station}
 use Rattle.segment_engine.proofs.TapsNear.{near, short}

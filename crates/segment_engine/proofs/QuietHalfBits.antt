@@ -19,9 +19,9 @@ use Rattle.net_parts.specs.Machines.{span}
 use Rattle.net_parts.specs.SegmentParts.{Wiring, wiring}
 use Rattle.net_parts.specs.Standing.{arrives, port_hears}
 use Rattle.net_parts.proofs.LateRows.{if_true, if_false}
-use Rattle.segment_engine.specs.TapLines.{TapLine, no_line, symbol_on, half_bits_back, heard_of_lines, heard_by_lines, IsReachOf}
+use Rattle.tap_lines.specs.TapLines.{TapLine, no_line, symbol_on, half_bits_back, heard_of_lines, heard_by_lines, IsReachOf, AreIdleFrom}
 use Rattle.segment_engine.specs.PartStates.{AreLinesAt}
-use Rattle.segment_engine.specs.QuietHalfBits.{IsCalmFor, AreIdleFrom}
+use Rattle.segment_engine.specs.QuietHalfBits.{IsCalmFor}
 use Rattle.segment_engine.proofs.HeldLines.{line_at}
 use Rattle.segment_engine.proofs.LinesHear.{known}
 use Rattle.segment_engine.proofs.PiecesAhead.{ahead_emitted, ahead_heard, ahead_ports}

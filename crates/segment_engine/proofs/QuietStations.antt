@@ -20,12 +20,12 @@ use Rattle.net_parts.specs.SegmentParts.{Wiring, wiring}
 use Rattle.net_parts.specs.Standing.{arrives, port_hears, receiver_at}
 use Rattle.net_parts.specs.declared.parcel.Parcel.{Parcel}
 use Rattle.net_parts.proofs.LateRows.{map_alike}
-use Rattle.segment_engine.specs.TapLines.{TapLine, no_line, line_extended, IsReachOf}
+use Rattle.tap_lines.specs.TapLines.{TapLine, no_line, line_extended, IsReachOf, AreIdleFrom}
 use Rattle.segment_engine.specs.PartStates.{AreLinesAt, AreStationsAt, half_filled}
-use Rattle.segment_engine.specs.QuietHalfBits.{IsCalmFor, AreIdleFrom, AreAtRest}
+use Rattle.segment_engine.specs.QuietHalfBits.{IsCalmFor, AreAtRest}
 use Rattle.segment_engine.proofs.HalfBits.{lines_later}
 use Rattle.segment_engine.proofs.KeptParts.{hear_each}
-use Rattle.segment_engine.proofs.Spans.{span_two}
+use Rattle.tap_lines.proofs.Spans.{span_two}
 use Rattle.segment_engine.proofs.StationsLater.{receiver_runs, station, no_bodies, no_halves, last_still, rows_stay, captures_stay}
 use Rattle.segment_engine.proofs.QuietHalfBits.{all_emit, all_hear, ports_hear_idle, arrive_idle, hears_all, senders_later, no_sending, span_same}
 

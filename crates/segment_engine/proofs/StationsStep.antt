@@ -14,11 +14,8 @@ use Rattle.network.specs.Net.{sendings, receptions}
 use Rattle.network.specs.Rows.{row_of}
 use Rattle.net_step.specs.KeptNet.{AllHear}
 use Rattle.net_step.proofs.KeptReceivers.{receptions-more, AllHear-more}
+use Rattle.tap_lines.proofs.Spans.{rest_of}
 use Rattle.segment_engine.specs.StationPasses.{rows_heard, captures_heard}
-
--- a list from place i on
-pub rest_of : {X : Type 0} (xs : List X) (i : ℕ) (d : X) → i < length xs → get_or xs i d ∷ drop (i + 1) xs ≡ drop i xs
-rest_of xs i d h = let one : i + 1 ≡ suc i = omega arith in ap (λ m. get_or xs i d ∷ drop m xs) one ∙ sym (drop-cons xs i d h)
 
 -- what one sender more does
 pub pass_next : {Y : Type 0} (f : SendOutcome → Y) (i : ℕ) (hs : List Sym) (ss : List Sender) (s' ds : Sender) (ys : List Y) (y : Y) (all : List Y) → i < length hs → i < length ss → i < length ys →

@@ -9,7 +9,7 @@ use Rattle.mac_transmit.specs.declared.phase.Phase.TheVariants.{Sending}
 use Rattle.mac_transmit.specs.Sender.{Sender, is_sending, frame_at, symbol_of}
 use Rattle.mac_transmit.specs.Calm.{AllHeardAs, AreCalm, calm_of}
 use Rattle.mac_transmit.specs.Emissions.{emission_by}
-use Rattle.segment_engine.specs.TapLines.{TapLine, line_extended}
+use Rattle.tap_lines.specs.TapLines.{TapLine, line_extended}
 use Rattle.segment_engine.specs.SteadyPieces.{IsCalmAs, IsToldAhead, sent_ahead}
 use Rattle.segment_engine.proofs.QuietHalfBits.{emits_idle, span_same}
 

@@ -18,14 +18,14 @@ use Rattle.net_parts.specs.Machines.{span}
 use Rattle.net_parts.specs.SegmentParts.{Wiring, wiring}
 use Rattle.net_parts.specs.Standing.{port_hears}
 use Rattle.net_parts.proofs.RepeaterSteps.{length-span, get_or-span}
-use Rattle.segment_engine.specs.TapLines.{TapLine, no_line, symbol_on, line_extended, heard_by_lines}
+use Rattle.tap_lines.specs.TapLines.{TapLine, no_line, symbol_on, line_extended, heard_by_lines, heard_for}
 use Rattle.segment_engine.specs.PartStates.{AreLinesAt}
-use Rattle.segment_engine.specs.SteadyPieces.{heard_for, sent_ahead, IsToldAhead, IsCalmAs}
+use Rattle.segment_engine.specs.SteadyPieces.{sent_ahead, IsToldAhead, IsCalmAs}
 use Rattle.segment_engine.proofs.HeldLines.{line_size}
-use Rattle.segment_engine.proofs.LinesAhead.{span_alike, symbol_before, symbol_ahead, places_same}
+use Rattle.tap_lines.proofs.LinesAhead.{span_alike, symbol_before, symbol_ahead, places_same}
 use Rattle.segment_engine.proofs.LinesHear.{KnowLines, known}
 use Rattle.segment_engine.proofs.PiecesAhead.{ahead_emitted, ahead_heard, ahead_ports}
-use Rattle.segment_engine.proofs.Spans.{span_more}
+use Rattle.tap_lines.proofs.Spans.{span_more}
 use Rattle.segment_engine.proofs.StationsLater.{sender_runs, station, last_calm}
 
 -- each station hears a signal all the time, or Idle all the time, for m half bits, and its line tells ahead what it emits

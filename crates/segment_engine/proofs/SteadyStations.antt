@@ -23,14 +23,14 @@ use Rattle.net_parts.specs.Standing.{arrives, port_hears, receiver_at}
 use Rattle.net_parts.specs.declared.parcel.Parcel.{Parcel}
 use Rattle.net_parts.proofs.RepeaterSteps.{length-span}
 use Rattle.mac_parameters.specs.Distances.{distance}
-use Rattle.segment_engine.specs.TapLines.{TapLine, no_line, line_extended, heard_by_lines, IsReachOf}
+use Rattle.tap_lines.specs.TapLines.{TapLine, no_line, line_extended, heard_by_lines, IsReachOf, heard_for, line_cut}
 use Rattle.segment_engine.specs.PartStates.{AreLinesAt, AreStationsAt, half_filled}
-use Rattle.segment_engine.specs.SteadyPieces.{heard_for, sent_ahead, line_cut, with_piece_at, IsToldAhead}
+use Rattle.segment_engine.specs.SteadyPieces.{sent_ahead, with_piece_at, IsToldAhead}
 use Rattle.segment_engine.proofs.HalfBits.{lines_later, lines_room_later}
 use Rattle.segment_engine.proofs.HeldLines.{line_size}
 use Rattle.segment_engine.proofs.KeptParts.{hear_each}
-use Rattle.segment_engine.proofs.LinesAhead.{span_alike, cut_ahead}
-use Rattle.segment_engine.proofs.Spans.{span_two, span_more, drop-span}
+use Rattle.tap_lines.proofs.LinesAhead.{span_alike, cut_ahead}
+use Rattle.tap_lines.proofs.Spans.{span_two, span_more, drop-span}
 use Rattle.segment_engine.proofs.StationsLater.{receiver_runs, station, with_none, last_still, rows_stay, captures_stay}
 use Rattle.segment_engine.proofs.SteadyHalfBits.{GoesAhead, all_emit, all_signal, all_hear, hears_all, port_hears_all, heard_as, heard_size, senders_later, no_sending}
 

@@ -11,9 +11,10 @@ use Rattle.net_parts.specs.Machines.{span}
 use Rattle.net_parts.specs.SegmentParts.{Wiring}
 use Rattle.net_parts.specs.Standing.{arrives}
 use Rattle.net_parts.proofs.RepeaterSteps.{length-span}
-use Rattle.segment_engine.specs.TapLines.{TapLine, no_line, reach, line_extended, dropped_from, slid}
+use Rattle.tap_lines.specs.TapLines.{TapLine, no_line, reach, line_extended, dropped_from, slid}
 use Rattle.segment_engine.specs.PartStates.{IsLineOf, AreLinesAt, half_filled}
-use Rattle.segment_engine.proofs.HeldLines.{line_more, line_slid, line_size, slid_room}
+use Rattle.segment_engine.proofs.HeldLines.{line_more, line_slid, line_size}
+use Rattle.tap_lines.proofs.ExtendedLines.{slid_room}
 
 either_way : (f : TapLine → ℕ) (b : Bool) (x y : TapLine) (z : ℕ) → f x ≡ z → f y ≡ z → f (cond b x y) ≡ z
 either_way f true x y z a c = a

@@ -9,7 +9,7 @@ use Rattle.net_parts.specs.Standing.{receiver_at, captures_at, rows_of_devices}
 use Rattle.net_parts.specs.Parts.{PartState, OfSegment, OfRepeater}
 use Rattle.net_parts.specs.SegmentParts.{SegmentState, wiring}
 use Rattle.segment_engine.specs.declared.running.Running.{Running}
-use Rattle.segment_engine.specs.TapLines.{IsReachOf}
+use Rattle.tap_lines.specs.TapLines.{IsReachOf}
 use Rattle.segment_engine.specs.PartStates.{AreLinesAt}
 
 -- Whether the state is a segment's (profile).

@@ -1,4 +1,3 @@
-pub mod TapLines
 pub mod NewLines
 pub mod StationPasses
 pub mod PartStates

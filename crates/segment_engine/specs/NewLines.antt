@@ -1,6 +1,6 @@
 -- The lines of a segment's taps before half bit 0 (profile). Taps and edges count from 0.
 use Rattle.std.specs.Prelude.{ℕ, ◌≡◌, ◌+◌, ◌-◌, ◌*◌, ◌<◌, ◌≤◌, nat_lt, if◌then◌else◌, List, [], length, slice_index, slice_index_or}
-use Rattle.segment_engine.specs.TapLines.{TapLine, reach}
+use Rattle.tap_lines.specs.TapLines.{TapLine, reach}
 
 -- The delay of tap r's line, where the first n taps are stations', a window has L half bits, and these are the delays
 -- of all ports (profile).

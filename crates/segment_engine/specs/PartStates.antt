@@ -14,7 +14,7 @@ use Rattle.net_parts.specs.declared.parcel.Parcel.{Parcel}
 use Rattle.net_parts.specs.Machines.{span}
 use Rattle.net_parts.specs.SegmentParts.{Wiring}
 use Rattle.net_parts.specs.Standing.{arrives, port_hears, receiver_at, captures_at, rows_of_devices}
-use Rattle.segment_engine.specs.TapLines.{TapLine, no_line, reach}
+use Rattle.tap_lines.specs.TapLines.{TapLine, no_line, reach}
 
 -- The symbols of a line for the half bits below `front` are what f says of them, and what it has dropped was further
 -- back of half bit t than anything that reaches another tap (profile).

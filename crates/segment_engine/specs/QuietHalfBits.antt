@@ -1,23 +1,18 @@
 -- Half bits in which nothing happens on a segment: all lines are Idle, no station sends or begins to, and no reception
 -- is under way (profile). Half bits and taps count from 0.
-use Rattle.std.specs.Prelude.{ℕ, ◌≡◌, ◌≤◌, ◌<◌, ◌-◌, All, false, List, length, slice_index_or}
+use Rattle.std.specs.Prelude.{ℕ, ◌≡◌, ◌≤◌, ◌<◌, ◌-◌, All, false, List, length}
 use Rattle.manchester_line.specs.declared.Sym.{Sym}
-use Rattle.manchester_line.specs.declared.Sym.TheVariants.{Idle}
 use Rattle.mac_receive.specs.KeptReceiver.{Kept}
 use Rattle.mac_transmit.specs.Sender.{Sender, is_sending}
 use Rattle.mac_transmit.specs.Calm.{AllHeardAs, AreCalm, calm_of}
 use Rattle.segment_engine.specs.declared.running.Running.{Running}
-use Rattle.segment_engine.specs.TapLines.{TapLine, no_line, symbol_on}
+use Rattle.tap_lines.specs.TapLines.{AreIdleFrom}
 
 -- A sender doesn't send, and nothing happens to it in n half bits in which its station hears Idle (profile).
 pub record IsCalmFor (n : ℕ) (s : Sender) : Type 0 where
   pub not_sending : is_sending s.phase ≡ false
   pub number : n ≤ calm_of s false
   pub calm : (hs : List Sym) → AllHeardAs false hs → length hs ≤ n → AreCalm s hs
-
--- Nothing but Idle stands on these lines from half bit u on (profile).
-abbrev pub AreIdleFrom : ℕ → List TapLine → Type 0
-AreIdleFrom u ls = (r v : ℕ) → r < length ls → u ≤ v → symbol_on (slice_index_or ls r no_line) v ≡ Idle
 
 -- No reception is under way at these receivers (profile).
 abbrev pub AreAtRest : List Kept → Type 0

@@ -4,7 +4,7 @@ use Rattle.load_plan.specs.declared.plan.Plan.{Plan}
 use Rattle.net_parts.specs.Windows.{lookahead}
 use Rattle.net_parts.specs.SegmentParts.{wiring}
 use Rattle.segment_engine.specs.declared.running.Running.{Running}
-use Rattle.segment_engine.specs.TapLines.{TapLine, no_line, IsReachOf}
+use Rattle.tap_lines.specs.TapLines.{TapLine, no_line, IsReachOf}
 use Rattle.segment_engine.specs.PartStates.{AreLinesAt, AreStationsAt}
 
 -- Segment s of a plan stands in the network before half bit t, and what comes in for its ports is known for the half

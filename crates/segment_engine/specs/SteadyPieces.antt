@@ -9,11 +9,7 @@ use Rattle.mac_transmit.specs.Calm.{AllHeardAs, AreCalm, calm_of}
 use Rattle.mac_transmit.specs.Emissions.{emission_by}
 use Rattle.net_parts.specs.declared.parcel.Parcel.{Parcel}
 use Rattle.net_parts.specs.Machines.{span}
-use Rattle.segment_engine.specs.TapLines.{TapLine, line_extended, heard_by_lines}
-
--- What tap p hears by these lines in the n half bits from t on, where a window has L half bits (clause 8, profile).
-abbrev pub heard_for : ℕ → ℕ → ℕ → List TapLine → ℕ → List Sym
-heard_for L t n ls p = span (λ u. heard_by_lines L u ls p) t n
+use Rattle.tap_lines.specs.TapLines.{TapLine, line_extended, heard_by_lines}
 
 -- What a sender emits in the n half bits from now on, if nothing happens to it until then (4.2.8).
 abbrev pub sent_ahead : Sender → ℕ → List Sym
@@ -34,13 +30,6 @@ pub record IsCalmAs (n : ℕ) (carrier : Bool) (s : Sender) (k : Kept) : Type 0 
   pub number : n ≤ calm_of s carrier
   pub calm : (hs : List Sym) → AllHeardAs carrier hs → length hs ≤ n → AreCalm s hs
   pub at_rest : is_sending s.phase ≡ false → carrier ≡ false → k.halves ≡ 0
-
--- A line without what stands on it for half bit u and later ones (profile).
-abbrev pub line_cut : ℕ → TapLine → TapLine
-line_cut u l = record l {
-  symbols = take (u - l.base) l.symbols;
-  room = l.room + (length l.symbols - (u - l.base));
-}
 
 -- A parcel with these symbols for the half bits of its window from k on (profile).
 abbrev pub with_piece_at : ℕ → List Sym → Parcel → Parcel

@@ -4,14 +4,14 @@ ghost use Rattle.manchester_line.specs.Line.{is_signal as is_signal_of};
 ghost use Rattle.mac_transmit.specs.Emissions.{emission_by};
 ghost use Rattle.mac_transmit.specs.Sender.{Sender, jam_start, line_at, symbol_of, is_sending as is_sending_in};
 ghost use Rattle.net_parts.specs.Machines.{span};
-ghost use Rattle.segment_engine.specs.SteadyPieces.{IsToldAhead, sent_ahead, line_cut};
-ghost use Rattle.segment_engine.specs.TapLines.{TapLine, line_extended};
+ghost use Rattle.segment_engine.specs.SteadyPieces.{IsToldAhead, sent_ahead};
+ghost use Rattle.tap_lines.specs.TapLines.{line_cut, TapLine, line_extended};
 
-use crate::line::Line;
 use crate::quiet::is_sending;
 use mac_parameters::{HALF_BITS_A_BIT, PREAMBLE};
 use mac_transmit::{Phase, Transmitter};
 use manchester_line::{Sym, is_signal, jam_sym, line_sym};
+use tap_lines::Line;
 
 /// The position, from 0, at which the jam of a sending with this hit begins.
 fn start_of_jam(hit: u32) -> u64
@@ -133,15 +133,4 @@ pub fn emit_ahead(t: u64, count: u32, senders: &[Transmitter], lines: &mut [Line
         ahead = ahead.min(go_ahead(t, count, &senders[r], line));
     }
     ahead
-}
-
-/// Takes from the line of each station what stands on it for half bit `u` and later ones: so many lines come first.
-pub fn cut_all(lines: &mut [Line], stations: usize, u: u64)
-    requires { stations ≤ length lines.old }
-    ensures cut { (r : ℕ) (d : TapLine) → r < stations → slice_index_or lines.new r d ≡ line_cut u (slice_index_or lines.old r d) }
-    ensures others { (r : ℕ) (d : TapLine) → stations ≤ r → slice_index_or lines.new r d ≡ slice_index_or lines.old r d }
-{
-    for r in 0..stations {
-        lines[r].cut(u);
-    }
 }

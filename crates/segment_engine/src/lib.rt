@@ -4,11 +4,8 @@
 #![tactic(auto)]
 
 mod ahead;
-mod line;
-mod lines;
 mod parcels;
 mod part;
-mod pieces;
 mod quiet;
 mod running;
 mod segment;

@@ -16,7 +16,7 @@ use lists::OutOfMemory;
 use load_plan::Plan;
 use mac_parameters::most_octets;
 use mac_transmit::Transmitter;
-use net_parts::{Parcel, Part, PartOutputs};
+use net_parts::{Pace, Parcel, Part, PartOutputs};
 use net_step::push_row;
 use std::alloc::Global;
 use window_room::reserve_stations;
@@ -60,7 +60,23 @@ impl SegmentPart {
         ensures number { IfOk result (λ part. part.segment.number ≡ segment) }
         ensures at { IfOk result (λ part. part.window ≡ 0) }
     {
-        let of = Segment::new(alloc, plan, segment)?;
+        SegmentPart::paced(alloc, plan, &Pace::of(plan), segment)
+    }
+
+    /// The same at a pace that was reckoned before.
+    pub fn paced(
+        alloc: Global,
+        plan: &Plan,
+        pace: &Pace,
+        segment: u32,
+    ) -> Result<SegmentPart, OutOfMemory>
+        requires pace { pace.now.plan.value ≡ plan.now }
+        requires within { segment < length plan.now.layout.segments }
+        ensures plan { IfOk result (λ part. part.segment.plan.value ≡ plan.now) }
+        ensures number { IfOk result (λ part. part.segment.number ≡ segment) }
+        ensures at { IfOk result (λ part. part.window ≡ 0) }
+    {
+        let of = Segment::new(alloc, plan, pace, segment)?;
         let state = start(alloc, &of, plan)?;
         Ok(SegmentPart {
             segment: of,

@@ -11,11 +11,11 @@ ghost use Rattle.segment_engine.specs.QuietHalfBits.{AreAtRest, IsCalmFor, IsQui
 ghost use Rattle.segment_engine.specs.RunningStates.{IsRunningAt, HaveLinesRoom};
 ghost use Rattle.window_room.specs.NeededRoom.{Covers, stations_demand};
 
-use crate::lines::{are_idle_from, rest_all};
 use crate::running::Running;
 use crate::segment::Segment;
 use mac_receive::Receiver;
 use mac_transmit::{Phase, Transmitter};
+use tap_lines::{are_idle_from, rest_all};
 
 /// Whether no reception is under way.
 fn are_at_rest(receivers: &[Receiver]) -> bool

@@ -5,8 +5,6 @@ ghost use Rattle.segment_engine.specs.PartStates.{half_filled};
 ghost use Rattle.segment_engine.specs.RunningStates.{IsRunningAt, HaveLinesRoom};
 ghost use Rattle.window_room.specs.NeededRoom.{Covers, stations_demand};
 
-use crate::line::Line;
-use crate::lines::{hear_all, tell};
 use crate::parcels::fill;
 use crate::segment::Segment;
 use crate::stations::step_stations;
@@ -14,6 +12,7 @@ use mac_receive::Receiver;
 use mac_transmit::Transmitter;
 use manchester_line::Sym;
 use net_parts::Parcel;
+use tap_lines::{Line, hear_all, tell};
 use window_room::RowRoom;
 
 /// A segment before half bit `t`: its stations, the lines of its taps, and what was logged and captured. `heard` has a symbol

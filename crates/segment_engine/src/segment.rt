@@ -15,7 +15,7 @@ use layout::{Layout, PortLine, StationLine};
 use lists::{List, OutOfMemory};
 use load_plan::Plan;
 use mac_parameters::HALF_BITS_A_BIT;
-use net_parts::{edges_of, lookahead, windows};
+use net_parts::{Pace, edges_of};
 use std::alloc::Global;
 use std::snapshot::Snapshot;
 
@@ -59,9 +59,10 @@ fn stations_on(
 }
 
 impl Segment {
-    /// Segment number `number`, from 0, of a plan.
-    pub fn new(alloc: Global, plan: &Plan, number: u32) -> Result<Segment, OutOfMemory>
-        requires { number < length plan.now.layout.segments }
+    /// Segment number `number`, from 0, of a plan whose run has this pace.
+    pub fn new(alloc: Global, plan: &Plan, pace: &Pace, number: u32) -> Result<Segment, OutOfMemory>
+        requires pace { pace.now.plan.value ≡ plan.now }
+        requires within { number < length plan.now.layout.segments }
         ensures plan { IfOk result (λ segment. segment.plan.value ≡ plan.now) }
         ensures number { IfOk result (λ segment. segment.number ≡ number) }
     {
@@ -70,9 +71,9 @@ impl Segment {
             number,
             stations: stations_on(alloc, plan.layout.stations.as_slice(), number)?,
             edges: edges_of(alloc, plan, number)?,
-            lookahead: lookahead(&plan.layout),
+            lookahead: pace.lookahead,
             half_bits: u64::from(HALF_BITS_A_BIT) * plan.layout.until_bits,
-            windows: windows(plan),
+            windows: pace.windows,
         })
     }
 }

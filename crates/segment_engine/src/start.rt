@@ -6,8 +6,6 @@ ghost use Rattle.net_step.specs.KeptNet.{AllHear};
 ghost use Rattle.segment_engine.specs.NewLines.{AreNewLines, IsNewLine, new_delay};
 ghost use Rattle.segment_engine.specs.RunningStates.{IsRunningAt};
 
-use crate::line::{Line, REACH};
-use crate::lines::farthest;
 use crate::running::Running;
 use crate::segment::Segment;
 use crate::taps::{delays_of, places_on};
@@ -20,6 +18,7 @@ use mac_transmit::Transmitter;
 use manchester_line::Sym;
 use net_step::taps_of;
 use std::alloc::Global;
+use tap_lines::{Line, REACH, farthest};
 use window_room::RowRoom;
 
 /// The senders of these stations.

@@ -1,6 +1,6 @@
 //! Several half bits at once in which each station hears a signal all the time, or Idle all the time, and goes on with what it
 //! does.
-ghost use Rattle.std.specs.Prelude.{◌≡◌, ◌≤◌, ◌<◌, ◌+◌, ◌*◌, ◌^◌, ℕ, List, [], true, false, All, map, length, slice_index_or};
+ghost use Rattle.std.specs.Prelude.{◌≡◌, ◌≤◌, ◌<◌, ◌+◌, ◌-◌, ◌*◌, ◌^◌, ℕ, List, [], true, false, All, map, length, slice_index_or, IfSome};
 ghost use Rattle.manchester_line.specs.declared.Sym.{Sym};
 ghost use Rattle.manchester_line.specs.declared.Sym.TheVariants.{Idle};
 ghost use Rattle.manchester_line.specs.Line.{is_signal as is_signal_of};
@@ -12,13 +12,11 @@ ghost use Rattle.net_parts.specs.declared.parcel.Parcel.{Parcel};
 ghost use Rattle.net_parts.specs.SegmentParts.{wiring};
 ghost use Rattle.segment_engine.specs.PartStates.{half_filled};
 ghost use Rattle.segment_engine.specs.RunningStates.{IsRunningAt, HaveLinesRoom};
-ghost use Rattle.segment_engine.specs.SteadyPieces.{IsCalmAs, heard_for, with_piece_at};
-ghost use Rattle.segment_engine.specs.TapLines.{IsReachOf, heard_by_lines};
+ghost use Rattle.segment_engine.specs.SteadyPieces.{IsCalmAs, with_piece_at};
+ghost use Rattle.tap_lines.specs.TapLines.{heard_for, IsOnlySource, IsReachOf, heard_by_lines};
 ghost use Rattle.window_room.specs.NeededRoom.{Covers, stations_demand};
 
-use crate::ahead::{cut_all, emit_ahead};
-use crate::line::Line;
-use crate::pieces::{hear_piece, steady_ahead};
+use crate::ahead::emit_ahead;
 use crate::quiet::is_sending;
 use crate::running::Running;
 use crate::segment::Segment;
@@ -26,6 +24,7 @@ use mac_receive::Receiver;
 use mac_transmit::Transmitter;
 use manchester_line::{Sym, is_signal};
 use net_parts::Parcel;
+use tap_lines::{Line, cut_all, hear_piece, only_source, piece_of, steady_ahead};
 
 /// Whether no reception ends at a station that hears a signal, or Idle, as `carrier` says.
 fn is_ready(sender: &Transmitter, receiver: &Receiver, carrier: bool) -> bool
@@ -64,10 +63,11 @@ pub fn calm_ahead(
 }
 
 /// The half bits from `t` on of a receiver, tap `p`, as many as the piece has: its station sends in all of them or in none, and
-/// hears a signal in all of them or Idle in all.
+/// hears a signal in all of them or Idle in all. `source` is the only tap that may be heard, where that is known.
 fn take_one(
     t: u64,
     lines: &[Line],
+    source: Option<usize>,
     p: usize,
     lookahead: u32,
     far: u64,
@@ -78,6 +78,7 @@ fn take_one(
 )
     requires tap { p < length lines.now }
     requires reach { IsReachOf far lookahead lines.now }
+    requires source { IfSome source (IsOnlySource (t - far) lines.now) }
     requires steps { receiver.old.steps ≡ t }
     requires in_time { t + length piece.old ≤ 2000000000 }
     requires ready { sending ≡ false → carrier ≡ false → receiver.old.halves ≡ 0 }
@@ -95,6 +96,8 @@ fn take_one(
         receiver.leap_quiet(count);
     } else if receiver.is_deaf() {
         receiver.leap_deaf(count);
+    } else if let Some(heard) = piece_of(lines, source, p, lookahead, far, t, piece.len()) {
+        receiver.take(heard);
     } else {
         hear_piece(lines, p, lookahead, far, t, piece);
         receiver.take(piece);
@@ -105,6 +108,7 @@ fn take_one(
 fn take_all(
     t: u64,
     lines: &[Line],
+    source: Option<usize>,
     lookahead: u32,
     far: u64,
     heard: &[Sym],
@@ -116,6 +120,7 @@ fn take_all(
     requires many { length senders.now ≤ length heard.now }
     requires receivers_len { length receivers.old ≡ length senders.now }
     requires reach { IsReachOf far lookahead lines.now }
+    requires source { IfSome source (IsOnlySource (t - far) lines.now) }
     requires steps { All (λ r. r.steps ≡ t) receivers.old }
     requires in_time { t + length piece.old ≤ 2000000000 }
     requires ready { (r : ℕ) (d : Sender) (k : Kept) → r < length senders.now → is_sending_in (slice_index_or senders.now r d).phase ≡ false →
@@ -134,7 +139,7 @@ fn take_all(
         let carrier = is_signal(heard[k]);
         let receiver = &mut receivers[k];
         take_one(
-            t, lines, k, lookahead, far, sending, carrier, receiver, piece,
+            t, lines, source, k, lookahead, far, sending, carrier, receiver, piece,
         );
     }
 }
@@ -145,6 +150,7 @@ fn put_all(
     t: u64,
     k: usize,
     lines: &[Line],
+    source: Option<usize>,
     from: usize,
     lookahead: u32,
     far: u64,
@@ -153,14 +159,20 @@ fn put_all(
 )
     requires many { from + length parcels.old ≤ length lines.now }
     requires reach { IsReachOf far lookahead lines.now }
+    requires source { IfSome source (IsOnlySource (t - far) lines.now) }
     requires in_time { t + length piece.old < 2 ^ 64 }
     requires long { All (λ p. k + length piece.old ≤ length p.symbols) parcels.old }
     ensures { (p : ℕ) (d : Parcel) → p < length parcels.new → slice_index_or parcels.new p d
         ≡ with_piece_at k (heard_for lookahead t (length piece.old) lines.now (from + p)) (slice_index_or parcels.old p d) }
 {
     for p in 0..parcels.len() {
-        hear_piece(lines, from + p, lookahead, far, t, piece);
-        parcels[p].symbols.put(k, piece);
+        let parcel = &mut parcels[p];
+        if let Some(heard) = piece_of(lines, source, from + p, lookahead, far, t, piece.len()) {
+            parcel.symbols.put(k, heard);
+        } else {
+            hear_piece(lines, from + p, lookahead, far, t, piece);
+            parcel.symbols.put(k, piece);
+        }
     }
 }
 
@@ -218,10 +230,12 @@ pub fn leap_steady(
     let t = state.t;
     let stations = of.stations.len();
     let ahead = emit_ahead(t, count, &state.senders, &mut state.lines);
+    let source = only_source(&state.lines, t.saturating_sub(state.far));
     let piece: &mut [Sym] = &mut state.piece;
     let steady = steady_ahead(
         &state.lines,
         stations,
+        source,
         of.lookahead,
         state.far,
         t,
@@ -231,6 +245,7 @@ pub fn leap_steady(
     take_all(
         t,
         &state.lines,
+        source,
         of.lookahead,
         state.far,
         &state.heard,
@@ -242,6 +257,7 @@ pub fn leap_steady(
         t,
         k as usize,
         &state.lines,
+        source,
         stations,
         of.lookahead,
         state.far,

@@ -7,13 +7,13 @@ ghost use Rattle.segment_engine.specs.PartStates.{half_filled};
 ghost use Rattle.segment_engine.specs.RunningStates.{IsRunningAt, HaveLinesRoom};
 ghost use Rattle.window_room.specs.NeededRoom.{Covers, stations_demand};
 
-use crate::lines::{hear_all, slide_all, take_in};
 use crate::parcels::turn;
 use crate::quiet::{leap_quiet, quiet_half_bits};
 use crate::running::{Running, half_bit};
 use crate::segment::Segment;
 use crate::steady::{calm_ahead, leap_steady};
 use net_parts::Parcel;
+use tap_lines::{hear_all, slide_all, take_in};
 
 /// The half bits that are told ahead at first, and after a piece that was cut.
 const FEW_AHEAD: u32 = 64;

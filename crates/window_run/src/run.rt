@@ -8,6 +8,7 @@ use crate::parts::collect_parts;
 use collision_log::RowsList;
 use lists::OutOfMemory;
 use load_plan::Plan;
+use net_parts::Pace;
 use network::Outputs;
 use outside::Gate;
 use repeater_engine::RepeaterPart;
@@ -51,6 +52,8 @@ fn run_parts<S: Kind, R: Kind, G: Gate, X: Threads + Wait + Sync>(
     ensures rows { IfOk result (λ outputs. outputs.rows ≡ rows plan.now) }
     ensures captures { IfOk result (λ outputs. outputs.captures ≡ captures plan.now) }
 {
+    let reckoned = Pace::of(plan);
+    let pace = &reckoned;
     let (segments, repeaters) = run_planned(
         rt,
         alloc,
@@ -58,11 +61,13 @@ fn run_parts<S: Kind, R: Kind, G: Gate, X: Threads + Wait + Sync>(
         workers,
         gate,
         &|i| -> Result<Gated<'_, S, G>, OutOfMemory>
-            requires { i < S.many plan.now }
-        { gated(alloc, plan, i, gate) },
+            requires within { i < S.many plan.now }
+            requires paced { pace.now.plan.value ≡ plan.now }
+        { gated(alloc, plan, pace, i, gate) },
         &|i| -> Result<Gated<'_, R, G>, OutOfMemory>
-            requires { i < R.many plan.now }
-        { gated(alloc, plan, i, gate) },
+            requires within { i < R.many plan.now }
+            requires paced { pace.now.plan.value ≡ plan.now }
+        { gated(alloc, plan, pace, i, gate) },
     )?;
     let mut logs = RowsList::new(alloc);
     let mut of_parts = Vec::new(alloc);
@@ -75,13 +80,15 @@ fn run_parts<S: Kind, R: Kind, G: Gate, X: Threads + Wait + Sync>(
 fn gated<'g, K: Kind, G: Gate>(
     alloc: Global,
     plan: &Plan,
+    pace: &Pace,
     number: u32,
     gate: &'g G,
 ) -> Result<Gated<'g, K, G>, OutOfMemory>
-    requires { number < K.many plan.now }
+    requires paced { pace.now.plan.value ≡ plan.now }
+    requires within { number < K.many plan.now }
     ensures plan { IfOk result (λ gated. K.plan gated.part ≡ plan.now) }
     ensures number { IfOk result (λ gated. K.number gated.part ≡ K.first plan.now + number) }
     ensures at { IfOk result (λ gated. K.at gated.part ≡ 0) }
 {
-    Ok(Gated::new(K::make(alloc, plan, number)?, gate))
+    Ok(Gated::new(K::make(alloc, plan, pace, number)?, gate))
 }

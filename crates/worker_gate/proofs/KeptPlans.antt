@@ -5,7 +5,7 @@ use Rattle.load_plan.specs.declared.plan.Plan.{Plan}
 use Rattle.net_parts.specs.declared.parcel.Parcel.{Parcel}
 use Rattle.net_parts.specs.Parcels.{IsTrueParcel, arrived}
 use Rattle.exchange_core.specs.Holdings.{Holding, IsHoldingReady, IsHoldingClean, MayBeSpoiled, reserved_holding, refused_holding, run_holding, spoil_holding, vacate_holding, take_holding}
-use Rattle.exchange_core.specs.Shares.{Rack, Held, nothing_held, AreParcelsFor, rack_of_way, has_place_for, IsOfPlan, part_on, part_of, owns, is_owned, changed, change, change_on, has_place, change_first, change_edge, may_post, first_with_edge, post_held, take_held, take_of_way, add_on, with_segment, with_repeater}
+use Rattle.exchange_core.specs.Shares.{Rack, Held, nothing_held, AreParcelsFor, rack_of_way, has_place_for, IsOfPlan, part_on, part_of, owns, is_owned, changed, change, change_on, has_place, change_first, change_edge, may_post, first_with_edge, is_refilled, posted_parcel, post_held, take_held, received, carry_held, take_of_way, add_on, with_segment, with_repeater}
 use Rattle.exchange_core.proofs.ChangedRacks.{comes_of, some_same, none_not_some}
 use Rattle.exchange_core.proofs.GrownShares.{added_on}
 use Rattle.exchange_core.proofs.ShareLaws.{parts_change, parcels_serve}
@@ -74,6 +74,18 @@ module _ (boxed : Option Plan) where
 
   pub taken : (parcel : Parcel) (s : Held) → IsPlannedShare boxed s → (s' : Held) → s' ≡ take_held parcel s → IsPlannedShare boxed s'
   taken parcel s p s' is = subst (IsPlannedShare boxed) (sym is) (of_way parcel.to_repeater parcel s p)
+
+  come : (parcel : Parcel) (s : Held) → IsPlannedShare boxed s → IsPlannedShare boxed (received parcel s)
+  come parcel s p = elim (has_place_for parcel s) as (λ b. IsPlannedShare boxed (if b then take_held parcel s else s)) [
+    | true ↦ taken parcel s p (take_held parcel s) refl
+    | false ↦ p
+  ]
+
+  pub brought : (e : ℕ) (s : Held) → IsPlannedShare boxed s → (s' : Held) → s' ≡ carry_held e s → IsPlannedShare boxed s'
+  brought e s p s' is = subst (IsPlannedShare boxed) (sym is) (elim (is_refilled e s) as (λ b. IsPlannedShare boxed (if b then received (posted_parcel e s) (post_held e s) else s)) [
+    | true ↦ come (posted_parcel e s) (post_held e s) (posted e s p (post_held e s) refl)
+    | false ↦ p
+  ])
 
   rack_grown : (h : Holding) (r : Rack) → Some h.plan ≡ boxed → IsPlannedRack boxed r → IsPlannedRack boxed (add_on h r)
   rack_grown h r of all v g is = added_on h r v g is (Some g.plan ≡ boxed) (λ _ it. of_plan h g (ap (λ (x : Holding). x.plan) it) of) (λ was. all v g was)

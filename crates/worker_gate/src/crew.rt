@@ -4,10 +4,11 @@ ghost use Rattle.worker_gate.specs.PartMakers.{MakesSegments, MakesRepeaters};
 
 use crate::dealing::{outlets_of, owner_of, owners};
 use crate::desk::{Desk, Segments};
-use crate::kit::{Duty, Kit};
+use crate::duties::{Duties, last_segment};
+use crate::kit::Kit;
 use lists::OutOfMemory;
 use load_plan::Plan;
-use net_parts::Part;
+use net_parts::{Pace, Part};
 use std::alloc::Global;
 use window_exchange::Planned;
 
@@ -21,11 +22,13 @@ pub fn make_kits<
 >(
     alloc: Global,
     plan: &Plan,
+    pace: &Pace,
     workers: u32,
     segment: &F,
     repeater: &H,
 ) -> Result<Vec<Kit<P, S, R>>, OutOfMemory>
     requires boxed { Some plan.now ≡ P.plan }
+    requires paced { pace.now.plan.value ≡ plan.now }
     requires segments { MakesSegments S.plan S.number S.at plan.now (F.pre segment.now) (F.post segment.now) }
     requires repeaters { MakesRepeaters R.plan R.number R.at plan.now (H.pre repeater.now) (H.post repeater.now) }
     ensures { IfOk result (λ kits. length kits.items ≡ workers) }
@@ -33,7 +36,16 @@ pub fn make_kits<
     let owners = owners(alloc, &plan.layout, workers)?;
     let mut kits = Vec::new(alloc);
     for number in 0..workers {
-        kits.push(make_kit(alloc, plan, owners.as_slice(), number, segment, repeater)?)?;
+        let kit = make_kit(
+            alloc,
+            plan,
+            pace,
+            owners.as_slice(),
+            number,
+            segment,
+            repeater,
+        )?;
+        kits.push(kit)?;
     }
     Ok(kits)
 }
@@ -48,19 +60,22 @@ fn make_kit<
 >(
     alloc: Global,
     plan: &Plan,
+    pace: &Pace,
     owners: &[u32],
     number: u32,
     segment: &F,
     repeater: &H,
 ) -> Result<Kit<P, S, R>, OutOfMemory>
     requires boxed { Some plan.now ≡ P.plan }
+    requires paced { pace.now.plan.value ≡ plan.now }
     requires segments { MakesSegments S.plan S.number S.at plan.now (F.pre segment.now) (F.post segment.now) }
     requires repeaters { MakesRepeaters R.plan R.number R.at plan.now (H.pre repeater.now) (H.post repeater.now) }
 {
-    let mut duties = Vec::new(alloc);
+    let mut duties = Duties::new(alloc);
     let segments: Segments<P, S, R> = deal_segments(
         alloc,
         plan,
+        pace,
         owners,
         number,
         segment,
@@ -76,19 +91,21 @@ fn make_kit<
         &mut desk,
         &mut duties,
     )?;
-    Ok(Kit::new(number, plan, desk, duties))
+    Ok(Kit::new(number, pace, desk, duties))
 }
 
 /// The segments of one worker, and its duties with them.
 fn deal_segments<P: Planned, S: Part, R: Part, F: Fn(u32) -> Result<S, OutOfMemory>>(
     alloc: Global,
     plan: &Plan,
+    pace: &Pace,
     owners: &[u32],
     number: u32,
     segment: &F,
-    duties: &mut Vec<Duty>,
+    duties: &mut Duties,
 ) -> Result<Segments<P, S, R>, OutOfMemory>
     requires boxed { Some plan.now ≡ P.plan }
+    requires paced { pace.now.plan.value ≡ plan.now }
     requires segments { MakesSegments S.plan S.number S.at plan.now (F.pre segment.now) (F.post segment.now) }
 {
     let Ok(count) = u32::try_from(plan.layout.segments.len()) else {
@@ -100,9 +117,9 @@ fn deal_segments<P: Planned, S: Part, R: Part, F: Fn(u32) -> Result<S, OutOfMemo
             continue;
         }
         let part = segment(i)?;
-        segments.add(alloc, plan, part)?;
+        segments.add(alloc, plan, pace, part)?;
         let outlets = outlets_of(alloc, plan, owners, i)?;
-        duties.push(Duty { part: i, outlets })?;
+        duties.add(i, i, &outlets)?;
     }
     Ok(segments)
 }
@@ -115,7 +132,7 @@ fn deal_repeaters<P: Planned, S: Part, R: Part, H: Fn(u32) -> Result<R, OutOfMem
     number: u32,
     repeater: &H,
     desk: &mut Desk<P, S, R>,
-    duties: &mut Vec<Duty>,
+    duties: &mut Duties,
 ) -> Result<(), OutOfMemory>
     requires boxed { Some plan.now ≡ P.plan }
     requires repeaters { MakesRepeaters R.plan R.number R.at plan.now (H.pre repeater.now) (H.post repeater.now) }
@@ -132,10 +149,7 @@ fn deal_repeaters<P: Planned, S: Part, R: Part, H: Fn(u32) -> Result<R, OutOfMem
         let number = part.part();
         desk.add_repeater(plan, part)?;
         let outlets = outlets_of(alloc, plan, owners, number)?;
-        duties.push(Duty {
-            part: number,
-            outlets,
-        })?;
+        duties.add(number, last_segment(&plan.layout, i as usize), &outlets)?;
     }
     Ok(())
 }

@@ -2,14 +2,14 @@
 ghost use Rattle.std.specs.Prelude.{◌≡◌, ◌<◌, ◌≤◌, ◌+◌, ◌↔◌, [], true, false, All, IfSome, IsTrue, None, OnErr, OnOk, Some, if◌then◌else◌, length};
 ghost use Rattle.net_parts.specs.Parcels.{IsTrueParcel, arrived};
 ghost use Rattle.exchange_core.specs.Holdings.{IsHoldingReady, IsHoldingClean, added_repeater, added_segment};
-ghost use Rattle.exchange_core.specs.Shares.{has_place_for, is_refilled, nothing_held, owns, part_of, post_held, posted_parcel, rack, take_held, with_repeater, with_segment};
+ghost use Rattle.exchange_core.specs.Shares.{carry_held, has_place_for, is_refilled, nothing_held, owns, part_of, post_held, posted_parcel, rack, take_held, with_repeater, with_segment};
 ghost use Rattle.worker_gate.specs.PlannedShares.{IsPlannedShare, StaysPlanned};
 ghost use Rattle.worker_gate.specs.SteppedShares.{IsReadyIn, IsStepped};
 
 use exchange_core::Share;
 use lists::OutOfMemory;
 use load_plan::Plan;
-use net_parts::{Parcel, Part, opening};
+use net_parts::{Pace, Parcel, Part, paced_opening};
 use std::alloc::Global;
 use std::marker::PhantomData;
 use window_exchange::Planned;
@@ -43,8 +43,15 @@ impl<P: Planned, S: Part, R: Part> Segments<P, S, R> {
     }
 
     /// Adds a segment with the parcels of the first window. On refusal both are dropped.
-    pub fn add(&mut self, alloc: Global, plan: &Plan, part: S) -> Result<(), OutOfMemory>
+    pub fn add(
+        &mut self,
+        alloc: Global,
+        plan: &Plan,
+        pace: &Pace,
+        part: S,
+    ) -> Result<(), OutOfMemory>
         requires boxed { Some plan.now ≡ P.plan }
+        requires paced { pace.now.plan.value ≡ plan.now }
         requires plan { S.plan part ≡ plan.now }
         requires number { S.number part < length plan.now.layout.segments }
         requires start { S.at part ≡ 0 }
@@ -55,7 +62,7 @@ impl<P: Planned, S: Part, R: Part> Segments<P, S, R> {
         if self.share.owns(number) {
             return Err(OutOfMemory);
         }
-        let parcels = opening(alloc, plan, number)?;
+        let parcels = paced_opening(alloc, plan, pace, number)?;
         self.share.add_segment(part, parcels)
     }
 
@@ -124,6 +131,14 @@ impl<P: Planned, S: Part, R: Part> Desk<P, S, R> {
         if self.share.awaits(&parcel) {
             self.share.take(parcel);
         }
+    }
+
+    /// Brings the parcel of an edge to the part where it isn't, if it is here and goes there; where that part isn't here, it is
+    /// dropped. It is looked for at the segment first, or else at the repeater.
+    pub fn carry(&mut self, edge: u32, at_segment: bool)
+        ensures { self.new.share ≡ carry_held edge self.old.share }
+    {
+        self.share.carry(edge, at_segment);
     }
 
     /// Whether the part has made so many windows, or was given up for them, or isn't here.

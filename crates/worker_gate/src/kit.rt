@@ -5,13 +5,13 @@ ghost use Rattle.net_parts.specs.Parcels.{IsTrueParcel};
 ghost use Rattle.net_parts.specs.Windows.{windows};
 ghost use Rattle.exchange_core.specs.Shares.{has_place_for, nothing_held, part_of, take_held};
 ghost use Rattle.worker_gate.specs.PlannedShares.{has_plan, the_plan};
-ghost use Rattle.worker_gate.specs.declared.kit.Duty.{Duty};
+ghost use Rattle.worker_gate.specs.declared.duties.Duty.{Duty};
 
 use crate::dealing::Outlet;
 use crate::desk::Desk;
+use crate::duties::{Duties, Duty};
 use crate::port::Port;
-use load_plan::Plan;
-use net_parts::{Parcel, Part, windows};
+use net_parts::{Pace, Parcel, Part};
 use std::alloc::Global;
 use std::sync::Wait;
 use window_exchange::{Mail, Named, Planned};
@@ -19,20 +19,13 @@ use window_exchange::{Mail, Named, Planned};
 /// The ports of a worker to the boxes of all.
 pub type Ports<P, S, R> = Vec<Port<P, Kit<P, S, R>>>;
 
-/// A part of a worker, and to which workers its parcels go.
-#[derive(Drop)]
-pub struct Duty {
-    pub part: u32,
-    pub outlets: Vec<Outlet>,
-}
-
 /// All that a worker works on: parts of the plan that the type carries, and what to do with them.
 #[derive(Drop)]
 pub struct Kit<P: Planned, S: Part, R: Part> {
     number: u32,
     windows: u64,
     desk: Desk<P, S, R>,
-    duties: Vec<Duty>,
+    duties: Duties,
     ghost named: { has_plan P.plan ≡ true },
 }
 
@@ -49,46 +42,40 @@ impl<P: Planned + Send, S: Part, R: Part> Named for Kit<P, S, R> {
 impl<P: Planned + Send, S: Part, R: Part> Kit<P, S, R> {
     /// Parts of the plan for the worker of this number.
     #[tactic(auto, using(crate::proofs::KeptPlans::plan_is_there))]
-    pub fn new(number: u32, plan: &Plan, desk: Desk<P, S, R>, duties: Vec<Duty>) -> Kit<P, S, R>
-        requires { Some plan.now ≡ P.plan }
+    pub fn new(number: u32, pace: &Pace, desk: Desk<P, S, R>, duties: Duties) -> Kit<P, S, R>
+        requires { Some pace.now.plan.value ≡ P.plan }
         ensures number { result.number ≡ number }
-        ensures windows { result.windows ≡ windows plan.now }
+        ensures windows { result.windows ≡ windows pace.now.plan.value }
         ensures desk { result.desk.share ≡ desk.share }
         ensures duties { result.duties ≡ duties }
     {
         Kit {
             number,
-            windows: windows(plan),
+            windows: pace.windows,
             desk,
             duties,
         }
     }
 
     /// No parts, with which a worker ends.
-    pub fn idle(alloc: Global, number: u32, plan: &Plan) -> Kit<P, S, R>
-        requires { Some plan.now ≡ P.plan }
+    pub fn idle(alloc: Global, number: u32, pace: &Pace) -> Kit<P, S, R>
+        requires { Some pace.now.plan.value ≡ P.plan }
         ensures number { result.number ≡ number }
         ensures desk { result.desk.share ≡ nothing_held }
-        ensures duties { result.duties.items ≡ [] }
+        ensures duties { result.duties.turns.items ≡ [] }
     {
-        Kit::new(number, plan, Desk::new(alloc), Vec::new(alloc))
+        Kit::new(number, pace, Desk::new(alloc), Duties::new(alloc))
     }
 
     /// Makes one window of each part whose parcels are here, and hands its parcels on. Says whether it made one.
     pub fn turn<X: Wait>(&mut self, rt: &X, ports: &mut Ports<P, S, R>) -> bool {
-        turn(
-            rt,
-            &mut self.desk,
-            self.duties.as_slice(),
-            self.number,
-            ports,
-        )
+        turn(rt, &mut self.desk, &self.duties, self.number, ports)
     }
 
     /// Makes all windows where all parts are this worker's.
     pub fn run_alone(&mut self) {
         for _window in 0..self.windows {
-            turn_alone(&mut self.desk, self.duties.as_slice());
+            turn_alone(&mut self.desk, &self.duties);
         }
     }
 
@@ -102,16 +89,16 @@ impl<P: Planned + Send, S: Part, R: Part> Kit<P, S, R> {
 
     /// Whether all windows of all parts are made, or the parts were given up for them.
     pub fn is_done(&self) -> bool
-        ensures { IsTrue result ↔ All (λ (duty : Duty). IfSome (part_of duty.part self.now.desk.share) (λ h. self.now.windows ≤ h.window)) self.now.duties.items }
+        ensures { IsTrue result ↔ All (λ (duty : Duty). IfSome (part_of duty.part self.now.desk.share) (λ h. self.now.windows ≤ h.window)) self.now.duties.turns.items }
     {
-        are_past(&self.desk, self.duties.as_slice(), self.windows)
+        are_past(&self.desk, self.duties.turns.as_slice(), self.windows)
     }
 
     /// Whether no part was given up.
     pub fn is_kept(&self) -> bool
-        ensures { IsTrue result ↔ All (λ (duty : Duty). IfSome (part_of duty.part self.now.desk.share) (λ h. h.lost ≡ false)) self.now.duties.items }
+        ensures { IsTrue result ↔ All (λ (duty : Duty). IfSome (part_of duty.part self.now.desk.share) (λ h. h.lost ≡ false)) self.now.duties.turns.items }
     {
-        are_kept(&self.desk, self.duties.as_slice())
+        are_kept(&self.desk, self.duties.turns.as_slice())
     }
 
     /// The parts alone.
@@ -151,44 +138,46 @@ fn are_kept<P: Planned, S: Part, R: Part>(desk: &Desk<P, S, R>, duties: &[Duty])
 fn turn<P: Planned + Send, S: Part, R: Part, X: Wait>(
     rt: &X,
     desk: &mut Desk<P, S, R>,
-    duties: &[Duty],
+    duties: &Duties,
     number: u32,
     ports: &mut Ports<P, S, R>,
 ) -> bool {
     let mut made = false;
-    for i in 0..duties.len() {
-        if desk.step(duties[i].part) {
+    for i in 0..duties.turns.len() {
+        let duty = duties.turns[i];
+        if desk.step(duty.part) {
             made = true;
-            hand_on(rt, desk, duties[i].outlets.as_slice(), number, ports);
+            hand_on(rt, desk, duty, duties.outlets.as_slice(), number, ports);
         }
     }
     made
 }
 
 /// The same where all parts are this worker's.
-fn turn_alone<P: Planned, S: Part, R: Part>(desk: &mut Desk<P, S, R>, duties: &[Duty]) {
-    for i in 0..duties.len() {
-        if desk.step(duties[i].part) {
-            hand_over(desk, duties[i].outlets.as_slice());
+fn turn_alone<P: Planned, S: Part, R: Part>(desk: &mut Desk<P, S, R>, duties: &Duties) {
+    for i in 0..duties.turns.len() {
+        let duty = duties.turns[i];
+        if desk.step(duty.part) {
+            hand_over(desk, duty, duties.outlets.as_slice());
         }
     }
 }
 
-/// Brings the parcels of these edges that leave to the workers of their parts.
+/// Brings the parcels of a part that leave to the workers of their parts.
 fn hand_on<P: Planned + Send, S: Part, R: Part, X: Wait>(
     rt: &X,
     desk: &mut Desk<P, S, R>,
+    duty: Duty,
     outlets: &[Outlet],
     number: u32,
     ports: &mut Ports<P, S, R>,
 ) {
-    for k in 0..outlets.len() {
-        let Some(parcel) = desk.post(outlets[k].edge) else {
-            continue;
-        };
+    for k in duty.first..duty.end.min(outlets.len()) {
         if outlets[k].worker == number {
-            desk.take(parcel);
-        } else {
+            desk.carry(outlets[k].edge, duty.is_segment());
+            continue;
+        }
+        if let Some(parcel) = desk.post(outlets[k].edge) {
             send_to(rt, ports, outlets[k].worker, parcel);
         }
     }
@@ -208,11 +197,13 @@ fn send_to<P: Planned + Send, S: Part, R: Part, X: Wait>(
     }
 }
 
-/// Brings the parcels of these edges that leave to the parts here.
-fn hand_over<P: Planned, S: Part, R: Part>(desk: &mut Desk<P, S, R>, outlets: &[Outlet]) {
-    for k in 0..outlets.len() {
-        if let Some(parcel) = desk.post(outlets[k].edge) {
-            desk.take(parcel);
-        }
+/// Brings the parcels of a part that leave to the parts here.
+fn hand_over<P: Planned, S: Part, R: Part>(
+    desk: &mut Desk<P, S, R>,
+    duty: Duty,
+    outlets: &[Outlet],
+) {
+    for k in duty.first..duty.end.min(outlets.len()) {
+        desk.carry(outlets[k].edge, duty.is_segment());
     }
 }

@@ -5,6 +5,7 @@
 mod crew;
 mod dealing;
 mod desk;
+mod duties;
 mod gated;
 mod gather;
 mod kit;

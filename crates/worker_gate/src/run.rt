@@ -11,7 +11,7 @@ use exchange_core::PartList;
 use lists::OutOfMemory;
 use load_plan::Plan;
 use mac_parameters::HALF_BITS_A_BIT;
-use net_parts::{Part, windows};
+use net_parts::{Pace, Part};
 use outside::Gate;
 use std::alloc::Global;
 use std::marker::Brand;
@@ -54,12 +54,13 @@ pub fn run_planned<
         .layout
         .until_bits
         .saturating_mul(u64::from(HALF_BITS_A_BIT));
+    let pace = Pace::of(plan);
     gate.begin(
         u32::try_from(parts).unwrap_or(u32::MAX),
-        windows(plan),
+        pace.windows,
         half_bits,
     );
-    run_boxed::<Brand, S, R, F, H, X>(rt, alloc, plan, workers, make_segment, make_repeater)
+    run_boxed::<Brand, S, R, F, H, X>(rt, alloc, plan, &pace, workers, make_segment, make_repeater)
 }
 
 /// The same for a plan that a type carries, without the gate. Where the workers' parts aren't whole, they are made anew and run
@@ -75,23 +76,27 @@ fn run_boxed<
     rt: &X,
     alloc: Global,
     plan: &Plan,
+    pace: &Pace,
     workers: u32,
     segment: &F,
     repeater: &H,
 ) -> Result<(Vec<S>, Vec<R>), OutOfMemory>
     requires boxed { Some plan.now ≡ P.plan }
+    requires paced { pace.now.plan.value ≡ plan.now }
     requires segments { MakesSegments S.plan S.number S.at plan.now (F.pre segment.now) (F.post segment.now) }
     requires repeaters { MakesRepeaters R.plan R.number R.at plan.now (H.pre repeater.now) (H.post repeater.now) }
     ensures segments { IfOk result (λ r. AreFinished S.plan S.number S.at plan.now 0 (length plan.now.layout.segments) r.0.items) }
     ensures repeaters { IfOk result (λ r. AreFinished R.plan R.number R.at plan.now (length plan.now.layout.segments) (length plan.now.layout.repeaters) r.1.items) }
 {
     if workers > 1 {
-        let kits = run_threads::<P, S, R, F, H, X>(rt, alloc, plan, workers, segment, repeater)?;
+        let kits = run_threads::<P, S, R, F, H, X>(
+            rt, alloc, plan, pace, workers, segment, repeater,
+        )?;
         if let Some(parts) = whole::<P, S, R>(alloc, plan, kits)? {
             return Ok(parts);
         }
     }
-    let kits = run_alone::<P, S, R, F, H>(alloc, plan, segment, repeater)?;
+    let kits = run_alone::<P, S, R, F, H>(alloc, plan, pace, segment, repeater)?;
     match whole::<P, S, R>(alloc, plan, kits)? {
         Some(parts) => Ok(parts),
         None => Err(OutOfMemory),
@@ -105,12 +110,19 @@ fn run_alone<
     R: Part,
     F: Fn(u32) -> Result<S, OutOfMemory>,
     H: Fn(u32) -> Result<R, OutOfMemory>,
->(alloc: Global, plan: &Plan, segment: &F, repeater: &H) -> Result<Vec<Kit<P, S, R>>, OutOfMemory>
+>(
+    alloc: Global,
+    plan: &Plan,
+    pace: &Pace,
+    segment: &F,
+    repeater: &H,
+) -> Result<Vec<Kit<P, S, R>>, OutOfMemory>
     requires boxed { Some plan.now ≡ P.plan }
+    requires paced { pace.now.plan.value ≡ plan.now }
     requires segments { MakesSegments S.plan S.number S.at plan.now (F.pre segment.now) (F.post segment.now) }
     requires repeaters { MakesRepeaters R.plan R.number R.at plan.now (H.pre repeater.now) (H.post repeater.now) }
 {
-    let mut kits = make_kits::<P, S, R, F, H>(alloc, plan, 1, segment, repeater)?;
+    let mut kits = make_kits::<P, S, R, F, H>(alloc, plan, pace, 1, segment, repeater)?;
     for i in 0..kits.len() {
         kits[i].run_alone();
     }

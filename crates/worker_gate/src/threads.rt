@@ -10,7 +10,7 @@ use crate::port::make_ports;
 use crate::worker::{live, work};
 use lists::OutOfMemory;
 use load_plan::Plan;
-use net_parts::Part;
+use net_parts::{Pace, Part};
 use std::alloc::Global;
 use std::sync::Wait;
 use std::thread;
@@ -75,24 +75,26 @@ fn lead<
     rt: &X,
     alloc: Global,
     plan: &Plan,
+    pace: &Pace,
     ports: &mut Ports<P, S, R>,
     workers: u32,
     segment: &F,
     repeater: &H,
 ) -> Result<Kit<P, S, R>, OutOfMemory>
     requires boxed { Some plan.now ≡ P.plan }
+    requires paced { pace.now.plan.value ≡ plan.now }
     requires segments { MakesSegments S.plan S.number S.at plan.now (F.pre segment.now) (F.post segment.now) }
     requires repeaters { MakesRepeaters R.plan R.number R.at plan.now (H.pre repeater.now) (H.post repeater.now) }
 {
-    match make_kits::<P, S, R, F, H>(alloc, plan, workers, segment, repeater) {
+    match make_kits::<P, S, R, F, H>(alloc, plan, pace, workers, segment, repeater) {
         Ok(kits) => {
-            let mut own = send_kits(rt, alloc, plan, ports, kits);
+            let mut own = send_kits(rt, alloc, pace, ports, kits);
             work(rt, 0, &mut own, ports);
             Ok(own)
         }
         Err(fault) => {
             for number in 1..workers {
-                send_kit(rt, ports, Kit::idle(alloc, number, plan));
+                send_kit(rt, ports, Kit::idle(alloc, number, pace));
             }
             Err(fault)
         }
@@ -103,13 +105,13 @@ fn lead<
 fn send_kits<P: Planned + Send, S: Part, R: Part, X: Wait>(
     rt: &X,
     alloc: Global,
-    plan: &Plan,
+    pace: &Pace,
     ports: &mut Ports<P, S, R>,
     kits: Vec<Kit<P, S, R>>,
 ) -> Kit<P, S, R>
-    requires { Some plan.now ≡ P.plan }
+    requires { Some pace.now.plan.value ≡ P.plan }
 {
-    let mut own = Kit::idle(alloc, 0, plan);
+    let mut own = Kit::idle(alloc, 0, pace);
     for kit in kits {
         if kit.number() == 0 {
             own = kit;
@@ -144,11 +146,13 @@ pub fn run_threads<
     rt: &X,
     alloc: Global,
     plan: &Plan,
+    pace: &Pace,
     workers: u32,
     segment: &F,
     repeater: &H,
 ) -> Result<Vec<Kit<P, S, R>>, OutOfMemory>
     requires boxed { Some plan.now ≡ P.plan }
+    requires paced { pace.now.plan.value ≡ plan.now }
     requires segments { MakesSegments S.plan S.number S.at plan.now (F.pre segment.now) (F.post segment.now) }
     requires repeaters { MakesRepeaters R.plan R.number R.at plan.now (H.pre repeater.now) (H.post repeater.now) }
 {
@@ -168,6 +172,7 @@ pub fn run_threads<
         |scope| -> Result<Vec<Kit<P, S, R>>, OutOfMemory>
             requires crossing { IsSend P.row × IsSend S.row × IsSend R.row }
             requires boxed { Some plan.now ≡ P.plan }
+            requires paced { pace.now.plan.value ≡ plan.now }
             requires segments { MakesSegments S.plan S.number S.at plan.now (F.pre segment.now) (F.post segment.now) }
             requires repeaters { MakesRepeaters R.plan R.number R.at plan.now (H.pre repeater.now) (H.post repeater.now) }
         {
@@ -176,7 +181,7 @@ pub fn run_threads<
             let mut kits = kits;
             let count = start_all(scope, rt, rows, &mut handles);
             let own = lead::<P, S, R, F, H, X>(
-                rt, alloc, plan, &mut mine, count, segment, repeater,
+                rt, alloc, plan, pace, &mut mine, count, segment, repeater,
             );
             join_all(rt, handles, &mut kits);
             kits.push(own?)?;

@@ -1,4 +1,4 @@
-use Rattle.std.proofs.Common.{◌≡◌, ℕ, ◌+◌, ◌-◌, ◌<◌, ◌≤◌, [], false, take, drop, length, arith, refl, sym, ap, ◌∙◌}
+use Rattle.std.proofs.Common.{◌≡◌, ◌+◌, ◌-◌, ◌≤◌, [], false, take, drop, length, arith, refl, ap, ◌∙◌}
 use Rattle.net_parts.specs.declared.parcel.Parcel.{Parcel}
 use Rattle.repeater_engine.proofs.ClassesOfRows.{of_classes, class_kept, next_port}
 use Rattle.repeater_engine.proofs.leaps.alike_ahead.Goals as goal

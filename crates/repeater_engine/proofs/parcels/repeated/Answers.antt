@@ -1,4 +1,4 @@
-use Rattle.std.proofs.Common.{◌≡◌, ℕ, ◌+◌, ◌-◌, ◌<◌, ◌≤◌, List, length, map, take, drop, replicate, get_or, refl, sym, subst, ap, ◌∙◌, arith}
+use Rattle.std.proofs.Common.{◌≡◌, ℕ, ◌+◌, ◌-◌, List, map, take, drop, get_or, refl, sym, subst, ap, ◌∙◌, arith}
 use Rattle.manchester_line.specs.declared.Sym.{Sym}
 use Rattle.manchester_line.specs.declared.Sym.TheVariants.{Idle}
 use Rattle.repeater_core.specs.declared.modes.Mode.{Mode}

@@ -1,7 +1,7 @@
 use Rattle.std.proofs.Common.{◌≡◌, ◌<◌, inl, inr, set, length, get_or, get_or-set_same, length-set, sym, subst, ap, ◌∙◌, arith}
 use Rattle.std.proofs.lemmas.List.{get_or-set_other, get_or_default, get_or_read}
 use Rattle.std.proofs.lemmas.Bool.{cases_lt}
-use Rattle.segment_engine.specs.TapLines.{TapLine, line_extended}
+use Rattle.tap_lines.specs.TapLines.{TapLine, line_extended}
 use Rattle.segment_engine.specs.SteadyPieces.{IsToldAhead, sent_ahead}
 use Rattle.segment_engine.proofs.SteadyCalm.{told_less, told_one}
 use Rattle.segment_engine.proofs.ahead.emit_ahead.Goals as goal

@@ -1,6 +1,6 @@
 use Rattle.std.proofs.Common.{◌≡◌, ℕ, ◌<◌, ◌≤◌, length, slice_index_or}
 use Rattle.mac_transmit.specs.Sender.{Sender}
-use Rattle.segment_engine.specs.TapLines.{TapLine}
+use Rattle.tap_lines.specs.TapLines.{TapLine}
 use Rattle.segment_engine.specs.SteadyPieces.{IsToldAhead}
 use Rattle.segment_engine.proofs.ahead.emit_ahead.Given as goal
 

@@ -1,5 +1,5 @@
 use Rattle.std.proofs.Common.{sym, ap, ◌∙◌}
-use Rattle.segment_engine.specs.TapLines.{line_extended}
+use Rattle.tap_lines.specs.TapLines.{line_extended}
 use Rattle.segment_engine.proofs.SteadyCalm.{idle_ahead}
 use Rattle.segment_engine.proofs.ahead.go_ahead.Goals as goal
 

@@ -3,7 +3,7 @@ use Rattle.std.proofs.lemmas.Bool.{cases_lt}
 use Rattle.manchester_line.specs.Line.{is_signal}
 use Rattle.mac_transmit.specs.Sender.{symbol_of}
 use Rattle.net_parts.proofs.RepeaterSteps.{length-span}
-use Rattle.segment_engine.proofs.LinesAhead.{room_left, sent_more}
+use Rattle.tap_lines.proofs.LinesAhead.{room_left, sent_more}
 use Rattle.segment_engine.proofs.ahead.send_ahead.Goals as goal
 
 pub push-requires : goal.push-requires

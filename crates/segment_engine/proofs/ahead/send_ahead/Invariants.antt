@@ -2,7 +2,7 @@ use Rattle.std.proofs.Common.{◌≡◌, ℕ, ◌+◌, ◌<◌, true}
 use Rattle.manchester_line.specs.Line.{is_signal}
 use Rattle.mac_transmit.specs.Sender.{symbol_of}
 use Rattle.net_parts.specs.Machines.{span}
-use Rattle.segment_engine.specs.TapLines.{line_extended}
+use Rattle.tap_lines.specs.TapLines.{line_extended}
 use Rattle.segment_engine.proofs.ahead.send_ahead.Given as goal
 
 -- the symbols below j stand on it, and are a signal

@@ -12,7 +12,7 @@ use Rattle.net_step.proofs.KeptReceivers.{length-AllHear, AllHear-at}
 use Rattle.net_parts.specs.Windows.{lookahead}
 use Rattle.net_parts.specs.SegmentParts.{Wiring, wiring}
 use Rattle.net_parts.specs.Standing.{receiver_at}
-use Rattle.segment_engine.specs.TapLines.{TapLine, no_line, line_extended, IsReachOf}
+use Rattle.tap_lines.specs.TapLines.{TapLine, no_line, line_extended, IsReachOf}
 use Rattle.segment_engine.specs.PartStates.{AreLinesAt, AreStationsAt, half_filled}
 use Rattle.segment_engine.proofs.LinesHear.{same_reach}
 use Rattle.segment_engine.proofs.QuietRoom.{GoesOn, room_later}

@@ -16,7 +16,7 @@ use Rattle.net_parts.specs.SegmentParts.{Wiring, wiring}
 use Rattle.net_parts.specs.Standing.{port_hears, receiver_at}
 use Rattle.net_parts.proofs.NetworkFacts.{station_facts}
 use Rattle.net_parts.proofs.LookaheadLeads.{leads}
-use Rattle.segment_engine.specs.TapLines.{TapLine, no_line, heard_by_lines, IsReachOf}
+use Rattle.tap_lines.specs.TapLines.{TapLine, no_line, heard_by_lines, IsReachOf}
 use Rattle.segment_engine.specs.StationPasses.{rows_heard}
 use Rattle.segment_engine.specs.PartStates.{AreLinesAt, AreStationsAt}
 use Rattle.segment_engine.proofs.LinesHear.{known, same_reach, stations_by_lines, ports_by_lines}

@@ -1,5 +1,5 @@
 use Rattle.std.proofs.Common.{◌≡◌, ℕ, ◌<◌, ◌+◌, ◌*◌, length, get_or}
-use Rattle.segment_engine.specs.TapLines.{TapLine, reach}
+use Rattle.tap_lines.specs.TapLines.{TapLine, reach}
 use Rattle.segment_engine.specs.NewLines.{IsNewLine, new_delay}
 use Rattle.segment_engine.proofs.start.lines_of.Given as goal
 

@@ -9,7 +9,7 @@ use Rattle.network.specs.Times.{port_delays}
 use Rattle.network.specs.TapsOnSegments.{positions_on}
 use Rattle.net_parts.specs.Windows.{lookahead}
 use Rattle.net_parts.specs.SegmentParts.{wiring}
-use Rattle.segment_engine.specs.TapLines.{TapLine, IsReachOf}
+use Rattle.tap_lines.specs.TapLines.{TapLine, IsReachOf}
 use Rattle.segment_engine.specs.declared.segment.Segment.{Segment}
 use Rattle.segment_engine.specs.NewLines.{AreNewLines}
 use Rattle.segment_engine.proofs.Beginnings.{stations_within, edges_within, taps_many, stations_begin, lines_new}

@@ -16,11 +16,11 @@ use Rattle.net_parts.specs.Windows.{lookahead}
 use Rattle.net_parts.specs.SegmentParts.{Wiring, wiring}
 use Rattle.net_parts.specs.Standing.{receiver_at}
 use Rattle.net_parts.specs.declared.parcel.Parcel.{Parcel}
-use Rattle.segment_engine.specs.TapLines.{TapLine, no_line, heard_by_lines, IsReachOf}
+use Rattle.tap_lines.specs.TapLines.{TapLine, no_line, heard_by_lines, IsReachOf, heard_for, line_cut}
 use Rattle.segment_engine.specs.PartStates.{AreLinesAt, AreStationsAt, half_filled}
-use Rattle.segment_engine.specs.SteadyPieces.{IsToldAhead, heard_for, line_cut, with_piece_at}
+use Rattle.segment_engine.specs.SteadyPieces.{IsToldAhead, with_piece_at}
 use Rattle.segment_engine.proofs.LinesHear.{same_reach}
-use Rattle.segment_engine.proofs.LinesAhead.{cut_fits, cut_size, cut_size_twice}
+use Rattle.tap_lines.proofs.LinesAhead.{cut_fits, cut_size, cut_size_twice}
 use Rattle.segment_engine.proofs.QuietRoom.{GoesOn, room_later_each}
 use Rattle.segment_engine.proofs.SteadyCalm.{fewer_calm}
 use Rattle.segment_engine.proofs.SteadyHalfBits.{GoesAhead, heard_as, heard_size}
@@ -36,7 +36,7 @@ steady_ahead-steady-requires-clause-reach c =
     let a = c.args.state.now in
     let g = c.args.of.now in
     let x = sender_at g.plan.value 0 a.t in
-    let is = c.deref-2.ensures.value ∙ with_items_is a.lines c.emit_ahead-ahead.new.lines (search rules) in
+    let is = c.deref-3.ensures.value ∙ with_items_is a.lines c.emit_ahead-ahead.new.lines (search rules) in
     let before = subst (IsReachOf a.far g.lookahead) (sym c.deref_mut.ensures.value) (subst (λ y. IsReachOf a.far y a.lines.items) (sym g.window_length) c.requires.at.reach) in
     subst (IsReachOf a.far g.lookahead) (sym is)
     (reach_ahead a.far g.lookahead (length c.deref.result.now) c.emit_ahead-ahead.result c.args.count c.deref_mut.result.now c.emit_ahead-ahead.new.lines c.deref.result.now x c.emit_ahead-ahead.auto.lines
@@ -55,14 +55,14 @@ take_all-requires-clause-receivers_len c =
     ap length c.deref_mut-2.ensures.value
     ∙ sym (length-AllHear (map (λ k. receiver_at plan k t) ks) c.args.state.now.receivers.items st.receivers)
     ∙ length-map ks (λ k. receiver_at plan k t)
-    ∙ sym (ap length c.deref-6.ensures.value ∙ ap length st.senders ∙ length-map ks (λ k. sender_at plan k t))
+    ∙ sym (ap length c.deref-7.ensures.value ∙ ap length st.senders ∙ length-map ks (λ k. sender_at plan k t))
 
 pub take_all-requires-clause-reach : goal.take_all-requires-clause-reach
 take_all-requires-clause-reach c =
     let a = c.args.state.now in
     let g = c.args.of.now in
     let x = sender_at g.plan.value 0 a.t in
-    let is = c.deref-4.ensures.value ∙ with_items_is a.lines c.emit_ahead-ahead.new.lines (search rules) in
+    let is = c.deref-5.ensures.value ∙ with_items_is a.lines c.emit_ahead-ahead.new.lines (search rules) in
     let before = subst (IsReachOf a.far g.lookahead) (sym c.deref_mut.ensures.value) (subst (λ y. IsReachOf a.far y a.lines.items) (sym g.window_length) c.requires.at.reach) in
     subst (IsReachOf a.far g.lookahead) (sym is)
     (reach_ahead a.far g.lookahead (length c.deref.result.now) c.emit_ahead-ahead.result c.args.count c.deref_mut.result.now c.emit_ahead-ahead.new.lines c.deref.result.now x c.emit_ahead-ahead.auto.lines
@@ -71,17 +71,17 @@ take_all-requires-clause-reach c =
 pub take_all-requires-clause-ready : goal.take_all-requires-clause-ready
 take_all-requires-clause-ready c = λ r d k h rests silent.
     let a = c.args.state.now in
-    let size = ap length c.deref-6.ensures.value in
+    let size = ap length c.deref-7.ensures.value in
     let is = c.requires.calm r d k (omega (arith, h, size)) in
     ap (λ (xs : List Kept). (get_or xs r k).halves) c.deref_mut-2.ensures.value
-    ∙ is.at_rest (ap (λ (xs : List Sender). is_sending (get_or xs r d).phase) (sym c.deref-6.ensures.value) ∙ rests) (ap (λ xs. is_signal (get_or xs r Idle)) (sym c.deref-5.ensures.value) ∙ silent)
+    ∙ is.at_rest (ap (λ (xs : List Sender). is_sending (get_or xs r d).phase) (sym c.deref-7.ensures.value) ∙ rests) (ap (λ xs. is_signal (get_or xs r Idle)) (sym c.deref-6.ensures.value) ∙ silent)
 
 pub take_all-requires-clause-steady : goal.take_all-requires-clause-steady
 take_all-requires-clause-steady c = λ r j h l.
     let a = c.args.state.now in
     let g = c.args.of.now in
     let ks = (wiring g.plan.value.layout g.number).stations in
-    let size = ap length c.deref-6.ensures.value ∙ ap length c.requires.at.stations.senders ∙ length-map ks (λ k. sender_at g.plan.value k a.t) in
+    let size = ap length c.deref-7.ensures.value ∙ ap length c.requires.at.stations.senders ∙ length-map ks (λ k. sender_at g.plan.value k a.t) in
     let numbers = ap length g.station_numbers in
     let count = c.len-stations.ensures in
     let inside : r < c.len-stations.result = omega (arith, h, size, numbers, count) in
@@ -90,8 +90,8 @@ take_all-requires-clause-steady c = λ r j h l.
     let ahead = c.emit_ahead-ahead.ensures.within in
     let many = cut_size c.deref_mut-piece.result.now c.steady_ahead-steady.new.piece c.emit_ahead-ahead.result c.steady_ahead-steady.result (omega (arith, items, few, ahead)) c.steady_ahead-steady.auto.piece c.steady_ahead-steady.ensures.within in
     let few : j < c.steady_ahead-steady.result = omega (arith, l, many) in
-    let lines = c.deref-4.ensures.value ∙ sym c.deref-2.ensures.value in
-    let heard = c.deref-5.ensures.value ∙ sym c.deref-3.ensures.value in
+    let lines = c.deref-5.ensures.value ∙ sym c.deref-3.ensures.value in
+    let heard = c.deref-6.ensures.value ∙ sym c.deref-4.ensures.value in
     ap (λ (xs : List TapLine). is_signal (heard_by_lines g.lookahead (a.t + j) xs r)) lines
     ∙ c.steady_ahead-steady.ensures.steady r j inside few
     ∙ ap (λ xs. is_signal (get_or xs r Idle)) (sym heard)
@@ -108,7 +108,7 @@ put_all-requires-clause-reach c =
     let a = c.args.state.now in
     let g = c.args.of.now in
     let x = sender_at g.plan.value 0 a.t in
-    let is = c.deref-7.ensures.value ∙ with_items_is a.lines c.emit_ahead-ahead.new.lines (search rules) in
+    let is = c.deref-8.ensures.value ∙ with_items_is a.lines c.emit_ahead-ahead.new.lines (search rules) in
     let before = subst (IsReachOf a.far g.lookahead) (sym c.deref_mut.ensures.value) (subst (λ y. IsReachOf a.far y a.lines.items) (sym g.window_length) c.requires.at.reach) in
     subst (IsReachOf a.far g.lookahead) (sym is)
     (reach_ahead a.far g.lookahead (length c.deref.result.now) c.emit_ahead-ahead.result c.args.count c.deref_mut.result.now c.emit_ahead-ahead.new.lines c.deref.result.now x c.emit_ahead-ahead.auto.lines
@@ -139,7 +139,7 @@ leap_all-requires-clause-calm c = λ r d h.
     let enough = c.requires.piece in
     let cut = length-take-le c.emit_ahead-ahead.result c.deref_mut-piece.result.now (omega (arith, items, enough, ahead)) in
     let fewer : c.steady_ahead-steady.result ≤ calm_of (get_or a.senders.items r d) (is_signal (get_or a.heard.items r Idle)) = omega (arith, is, few, ahead, cut) in
-    subst (λ (xs : List Sym). c.steady_ahead-steady.result ≤ calm_of (get_or c.deref_mut-3.result.now r d) (is_signal (get_or xs r Idle))) (sym c.deref-8.ensures.value)
+    subst (λ (xs : List Sym). c.steady_ahead-steady.result ≤ calm_of (get_or c.deref_mut-3.result.now r d) (is_signal (get_or xs r Idle))) (sym c.deref-9.ensures.value)
     (subst (λ (xs : List Sender). c.steady_ahead-steady.result ≤ calm_of (get_or xs r d) (is_signal (get_or a.heard.items r Idle))) (sym c.deref_mut-3.ensures.value) fewer)
 
 module _ (c : After-state-6-1) where
@@ -230,14 +230,14 @@ module _ (c : After-state-6-1) where
       let many = senders_are in
       c.emit_ahead-ahead.ensures.others r no_line (omega (arith, h, size, many)) ∙ ap (λ (xs : List TapLine). get_or xs r no_line) c.deref_mut.ensures.value
 
-  lines_2 : c.deref-2.result.now ≡ ls'
-  lines_2 = c.deref-2.ensures.value ∙ with_items_is c.args.state.now.lines ls' (search rules)
+  lines_2 : c.deref-3.result.now ≡ ls'
+  lines_2 = c.deref-3.ensures.value ∙ with_items_is c.args.state.now.lines ls' (search rules)
 
-  lines_4 : c.deref-4.result.now ≡ ls'
-  lines_4 = c.deref-4.ensures.value ∙ with_items_is c.args.state.now.lines ls' (search rules)
+  lines_4 : c.deref-5.result.now ≡ ls'
+  lines_4 = c.deref-5.ensures.value ∙ with_items_is c.args.state.now.lines ls' (search rules)
 
-  lines_7 : c.deref-7.result.now ≡ ls'
-  lines_7 = c.deref-7.ensures.value ∙ with_items_is c.args.state.now.lines ls' (search rules)
+  lines_7 : c.deref-8.result.now ≡ ls'
+  lines_7 = c.deref-8.ensures.value ∙ with_items_is c.args.state.now.lines ls' (search rules)
 
   lines_8 : c.deref_mut-4.result.now ≡ ls'
   lines_8 = c.deref_mut-4.ensures.value ∙ with_items_is c.args.state.now.lines ls' (search rules)
@@ -247,7 +247,7 @@ module _ (c : After-state-6-1) where
       let count = stations_are in
       ap₂ (λ x (xs : List TapLine). is_signal (heard_by_lines x (t + j) xs r)) (sym c.args.of.now.window_length) (sym lines_2)
       ∙ c.steady_ahead-steady.ensures.steady r j (omega (arith, h, count)) l
-      ∙ ap (λ xs. is_signal (get_or xs r Idle)) c.deref-3.ensures.value
+      ∙ ap (λ xs. is_signal (get_or xs r Idle)) c.deref-4.ensures.value
 
   going : GoesAhead plan s t front m least most ls ls' ss ks carrier a_sender a_kept
   going =
@@ -288,21 +288,21 @@ module _ (c : After-state-6-1) where
       let ahead = c.emit_ahead-ahead.ensures.within in
       cut_size_twice c.deref_mut-piece.result.now c.steady_ahead-steady.new.piece c.take_all.new.piece c.emit_ahead-ahead.result c.steady_ahead-steady.result (omega (arith, items, few, ahead)) c.steady_ahead-steady.auto.piece c.steady_ahead-steady.ensures.within c.take_all.auto.piece
 
-  heard_4 : (i : ℕ) → heard_for c.args.of.now.lookahead t (length (take m now)) c.deref-4.result.now i ≡ heard_for L t m ls' i
+  heard_4 : (i : ℕ) → heard_for c.args.of.now.lookahead t (length (take m now)) c.deref-5.result.now i ≡ heard_for L t m ls' i
   heard_4 i =
-      ap₂ (λ x y. heard_for x t y c.deref-4.result.now i) c.args.of.now.window_length piece_4
+      ap₂ (λ x y. heard_for x t y c.deref-5.result.now i) c.args.of.now.window_length piece_4
       ∙ ap (λ (xs : List TapLine). heard_for L t m xs i) lines_4
 
-  heard_7 : (i : ℕ) → heard_for c.args.of.now.lookahead t (length (take m after)) c.deref-7.result.now i ≡ heard_for L t m ls' i
+  heard_7 : (i : ℕ) → heard_for c.args.of.now.lookahead t (length (take m after)) c.deref-8.result.now i ≡ heard_for L t m ls' i
   heard_7 i =
-      ap₂ (λ x y. heard_for x t y c.deref-7.result.now i) c.args.of.now.window_length piece_5
+      ap₂ (λ x y. heard_for x t y c.deref-8.result.now i) c.args.of.now.window_length piece_5
       ∙ ap (λ (xs : List TapLine). heard_for L t m xs i) lines_7
 
   abbrev sends : ℕ → Bool
   sends i = is_sending (get_or ss i a_sender).phase
 
-  sends_6 : (i : ℕ) → is_sending (get_or c.deref-6.result.now i a_sender).phase ≡ sends i
-  sends_6 i = ap (λ (xs : List Sender). is_sending (get_or xs i a_sender).phase) c.deref-6.ensures.value
+  sends_6 : (i : ℕ) → is_sending (get_or c.deref-7.result.now i a_sender).phase ≡ sends i
+  sends_6 i = ap (λ (xs : List Sender). is_sending (get_or xs i a_sender).phase) c.deref-7.ensures.value
 
   ks_len : length c.take_all.new.receivers ≡ length ks
   ks_len = c.take_all.auto.receivers ∙ ap length c.deref_mut-2.ensures.value
@@ -314,7 +314,7 @@ module _ (c : After-state-6-1) where
   hear i d r h kept =
       let one = c.take_all.ensures.states i d a_sender r h (subst (λ (xs : List Kept). Hears r (get_or xs i d)) (sym c.deref_mut-2.ensures.value) kept) in
       subst (λ b. Hears (receiver_after r (heard_for L t m ls' i) b) (get_or c.take_all.new.receivers i d)) (sends_6 i)
-      (subst (λ xs. Hears (receiver_after r xs (is_sending (get_or c.deref-6.result.now i a_sender).phase)) (get_or c.take_all.new.receivers i d)) (heard_4 i) one)
+      (subst (λ xs. Hears (receiver_after r xs (is_sending (get_or c.deref-7.result.now i a_sender).phase)) (get_or c.take_all.new.receivers i d)) (heard_4 i) one)
 
   bodies : (i : ℕ) (r : Receiving) → i < length w.stations → Hears r (get_or ks i a_kept) → receiver_bodies r (heard_for L t m ls' i) (sends i) ≡ []
   bodies i r h kept =
@@ -325,7 +325,7 @@ module _ (c : After-state-6-1) where
 
   states : (i : ℕ) (d : Sender) (hs : List Sym) → i < length c.leap_all.new.senders → AllHeardAs (carrier i) hs → length hs ≡ m → get_or c.leap_all.new.senders i d ≡ after_all (get_or ss i d) hs
   states i d hs h so size =
-      let at : AllHeardAs (is_signal (get_or c.deref-8.result.now i Idle)) hs = subst (λ (xs : List Sym). AllHeardAs (is_signal (get_or xs i Idle)) hs) (sym c.deref-8.ensures.value) so in
+      let at : AllHeardAs (is_signal (get_or c.deref-9.result.now i Idle)) hs = subst (λ (xs : List Sym). AllHeardAs (is_signal (get_or xs i Idle)) hs) (sym c.deref-9.ensures.value) so in
       c.leap_all.ensures.states i d hs h at size ∙ ap (λ (xs : List Sender). after_all (get_or xs i d) hs) c.deref_mut-3.ensures.value
 
   stations_after : AreStationsAt plan w.stations (t + m) c.leap_all.new.senders c.take_all.new.receivers c.args.state.now.room.rows c.args.state.now.room.captures

@@ -1,6 +1,7 @@
 use Rattle.std.proofs.Common.{◌≡◌, ℕ, ◌+◌, ◌<◌, ◌≤◌, length, slice_index_or}
 use Rattle.net_parts.specs.declared.parcel.Parcel.{Parcel}
-use Rattle.segment_engine.specs.SteadyPieces.{heard_for, with_piece_at}
+use Rattle.segment_engine.specs.SteadyPieces.{with_piece_at}
+use Rattle.tap_lines.specs.TapLines.{heard_for}
 use Rattle.segment_engine.proofs.steady.put_all.Given as goal
 
 -- the parcels below p are filled, and the others are not

@@ -2,7 +2,7 @@ use Rattle.std.proofs.Common.{◌≡◌, ℕ, ◌+◌, ◌<◌, ◌≤◌, [], l
 use Rattle.mac_receive.specs.KeptReceiver.{Kept, Hears}
 use Rattle.mac_receive.specs.Receiver.{Receiving, receiver_after, receiver_bodies}
 use Rattle.mac_transmit.specs.Sender.{Sender, is_sending}
-use Rattle.segment_engine.specs.SteadyPieces.{heard_for}
+use Rattle.tap_lines.specs.TapLines.{heard_for}
 use Rattle.segment_engine.proofs.steady.take_all.Given as goal
 
 -- the receivers below k have heard the piece, and the others have not

@@ -3,13 +3,20 @@ use Rattle.manchester_line.specs.declared.Sym.TheVariants.{Idle}
 use Rattle.mac_receive.specs.KeptReceiver.{Hears}
 use Rattle.mac_receive.specs.Receiver.{receiver_after, receiver_bodies}
 use Rattle.net_parts.proofs.RepeaterSteps.{length-span}
-use Rattle.segment_engine.specs.TapLines.{heard_by_lines}
-use Rattle.segment_engine.specs.SteadyPieces.{heard_for}
+use Rattle.tap_lines.specs.TapLines.{heard_by_lines, heard_for}
 use Rattle.segment_engine.proofs.SteadyReceivers.{idle_piece, signal_piece}
 use Rattle.segment_engine.proofs.steady.take_one.Goals as goal
 
 pub take-requires-clause-signal : goal.take-requires-clause-signal
 take-requires-clause-signal c =
+    let f = λ (u : ℕ). heard_by_lines c.args.lookahead u c.args.lines.now c.args.p in
+    let n = length c.args.piece.now in
+    let carrier : c.args.carrier ≡ true = search rules in
+    let is : c.in-Some.heard.now ≡ heard_for c.args.lookahead c.args.t n c.args.lines.now c.args.p = search rules in
+    subst (All (λ s. s ≢ Idle)) (sym is) (signal_piece f c.args.t n (λ j l. c.requires.steady j l ∙ carrier))
+
+pub take-requires-in_default-clause-signal : goal.take-requires-in_default-clause-signal
+take-requires-in_default-clause-signal c =
     let f = λ (u : ℕ). heard_by_lines c.args.lookahead u c.args.lines.now c.args.p in
     let n = length c.args.piece.now in
     let carrier : c.args.carrier ≡ true = search rules in

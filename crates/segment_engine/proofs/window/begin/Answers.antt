@@ -4,7 +4,7 @@ use Rattle.std.proofs.lemmas.List.{with_items_is, get_or_default}
 use Rattle.load_plan.specs.declared.plan.Plan.{Plan}
 use Rattle.net_parts.specs.Windows.{lookahead}
 use Rattle.net_parts.specs.SegmentParts.{Wiring, wiring}
-use Rattle.segment_engine.specs.TapLines.{TapLine, no_line, slid, line_extended, IsReachOf}
+use Rattle.tap_lines.specs.TapLines.{TapLine, no_line, slid, line_extended, IsReachOf}
 use Rattle.segment_engine.specs.PartStates.{AreLinesAt}
 use Rattle.segment_engine.proofs.LinesHear.{same_reach}
 use Rattle.segment_engine.proofs.WindowLines.{ends, lines_begin, room_begin, room_for_parcels}

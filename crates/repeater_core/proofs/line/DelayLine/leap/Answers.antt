@@ -3,7 +3,8 @@ use Rattle.std.specs.Fn.{iterate}
 use Rattle.std.proofs.Math.Nat.{mod-lt}
 use Rattle.repeater_core.specs.Delayed.{Delayed, rotated}
 use Rattle.repeater_core.specs.SilentParts.{line_calm, silent_line}
-use Rattle.repeater_core.proofs.RingLeaps.{AllIdle, ring, IsRound, ring_leaps, ring_filled}
+use Rattle.repeater_core.proofs.AlikeNewest.{known_newest}
+use Rattle.repeater_core.proofs.RingLeaps.{AllIdle, ring, rotated_len, IsRound, ring_leaps, ring_filled}
 use Rattle.repeater_core.proofs.line.DelayLine.leap.Goals as goal
 
 pub overflow_add-self : goal.overflow_add-self
@@ -26,13 +27,19 @@ invariant_of-self c =
     let calm : c.args.n ≤ line_calm (ring q.ports q.delay q.turn q.slots.items) = subst (λ d. c.args.n ≤ line_calm d) (sym c.self.view_is) c.requires.calm in
     let less = c.saturating_sub-self-inside.ensures in
     let most = h.filled_at_most in
+    let turn = (q.turn + c.args.n) % q.delay in
+    let rest = subst (λ f. AllIdle (drop (f * q.ports) (rotated (turn * q.ports) q.slots.items))) (sym less)
+    (ring_filled c.args.n q.filled q.ports q.delay q.turn q.slots.items round calm h.rest_idle) in
+    let known = known_newest q.ports q.delay c.saturating_sub-self-inside.result c.alike_where-self-inside.result (rotated (turn * q.ports) q.slots.items)
+    (rotated_len (turn * q.ports) q.slots.items ∙ h.slots_len) rest c.alike_where-self-inside.ensures in
     record {
       turn_below = mod-lt (q.turn + c.args.n) (let some : 0 < q.delay = omega arith in some);
       slots_len = h.slots_len;
       delay_at_most = h.delay_at_most;
       filled_at_most = omega arith;
-      rest_idle = subst (λ f. AllIdle (drop (f * q.ports) (rotated ((q.turn + c.args.n) % q.delay * q.ports) q.slots.items))) (sym less)
-          (ring_filled c.args.n q.filled q.ports q.delay q.turn q.slots.items round calm h.rest_idle);
+      rest_idle = rest;
+      alike_at_most = known.0;
+      newest_alike = known.1;
     }
 
 pub returns : goal.returns

@@ -1,32 +1,49 @@
-use Rattle.std.proofs.Common.{◌≡◌, ◌*◌, true, length, map, ap, subst, ◌∙◌, sym, rules, arith}
-use Rattle.std.proofs.lemmas.List.{with_items_is}
-use Rattle.std.proofs.lemmas.Grind.{common_steps}
-use Rattle.manchester_line.specs.declared.Sym.TheVariants.{Idle}
+use Rattle.std.proofs.Common.{◌≡◌, ◌+◌, ◌*◌, ◌<◌, ◌≤◌, ℕ, length, map, sym, ap, subst, ◌∙◌, rules, arith}
+use Rattle.std.proofs.lemmas.List.{with_items_is, length-map}
 use Rattle.manchester_line.specs.Line.{is_signal}
-use Rattle.repeater_core.specs.Delayed.{Delayed, rotated, moved_on, IsRing}
-use Rattle.repeater_core.specs.Steady.{texted}
-use Rattle.repeater_core.proofs.RingLeaps.{moved_row, stepped_ring}
+use Rattle.repeater_core.specs.Delayed.{Delayed, rotated, delayed_row, IsRing}
+use Rattle.repeater_core.specs.Classes.{line_with}
 use Rattle.repeater_core.proofs.NextTurnOfRing.{same_delayed}
-use Rattle.repeater_core.proofs.PutRow.{all_idle_texts}
+use Rattle.repeater_core.proofs.RingLeaps.{ring}
+use Rattle.repeater_core.proofs.RowsPut.{idle_ring, sent_line, sent_ring, IsSent}
 use Rattle.repeater_core.proofs.line.DelayLine.send.Goals as goal
 
-pub returns : goal.returns
-returns c =
+pub returns-then-self-eq0 : goal.returns-then-self-eq0
+returns-then-self-eq0 c =
     let q = c.self.inside in
-    let decided = texted (map is_signal c.args.flags.now) c.args.text in
-    let n : length c.args.flags.now ≡ q.ports = c.requires ∙ sym (ap (λ (d : Delayed). d.ports) c.self.view_is) in
-    let len : length c.put_row.new.slots ≡ q.delay * q.ports = search rules in
-    let moved = moved_row q.ports q.delay q.turn _ _ _ _ _ decided n len c.next_turn-self-inside.ensures.next c.deref_mut.ensures.value c.put_row.ensures.rows in
-    same_delayed (ap (rotated (c.next_turn-self-inside.result * q.ports)) (with_items_is q.slots c.put_row.new.slots (search rules)) ∙ moved) ∙ ap (moved_on decided) c.self.view_is
+    let flags = map is_signal c.args.flags.now in
+    let n : length flags ≡ q.ports = length-map c.args.flags.now is_signal ∙ c.requires.flags_len ∙ sym (ap (λ (d : Delayed). d.ports) c.self.view_is) in
+    sym (ap (line_with flags c.args.texts.now) (sym c.self.view_is)
+    ∙ idle_ring q.ports q.delay q.turn q.filled q.alike q.slots.items flags c.args.texts.now c.self.invariant c.if-self-eq0.true n (c.requires.idle c.if-idle.true) ∙ c.self.view_is)
 
 pub invariant_of-self : goal.invariant_of-self
 invariant_of-self c =
     let q = c.self.inside in
-    let decided = texted (map is_signal c.args.flags.now) c.args.text in
-    let n : length c.args.flags.now ≡ q.ports = c.requires ∙ sym (ap (λ (d : Delayed). d.ports) c.self.view_is) in
-    let len : length c.put_row.new.slots ≡ q.delay * q.ports = search rules in
-    let moved = moved_row q.ports q.delay q.turn _ _ _ _ _ decided n len c.next_turn-self-inside.ensures.next c.deref_mut.ensures.value c.put_row.ensures.rows in
-    let idle : c.eq.result ≡ true → c.args.text ≡ Idle = λ e. grind (arith, common_steps) in
-    subst (IsRing q.ports q.delay c.next_turn-self-inside.result c.filled_after-self-inside.result) (sym (with_items_is q.slots c.put_row.new.slots (search rules)))
-    (stepped_ring q.ports q.delay q.turn c.next_turn-self-inside.result q.filled c.filled_after-self-inside.result q.slots.items c.put_row.new.slots decided c.eq.result
-    c.self.invariant len moved c.next_turn-self-inside.ensures.within (λ e. all_idle_texts (map is_signal c.args.flags.now) c.args.text (idle e)) c.filled_after-self-inside.ensures)
+    let ys = c.put_rows-self-inside.new.slots in
+    let flags = map is_signal c.args.flags.now in
+    let texts = c.args.texts.now in
+    let m : length c.args.flags.now ≡ q.ports = c.requires.flags_len ∙ sym (ap (λ (d : Delayed). d.ports) c.self.view_is) in
+    let n : length flags ≡ q.ports = length-map c.args.flags.now is_signal ∙ m in
+    let len : length ys ≡ q.delay * q.ports = search rules in
+    let is =
+    sent_line q.ports q.delay q.turn c.put_rows-self-inside.result q.filled q.alike (length c.args.flags.now) c.saturating_sub.result q.slots.items c.deref_mut.result.now ys flags texts c.self.invariant len n m
+    c.deref_mut.ensures.value c.saturating_sub.ensures c.put_rows-self-inside.ensures.rows in
+    let newest = subst (λ (d : Delayed). (k : ℕ) → k < d.delay → d.delay ≤ k + c.alike_to-alike.result → map is_signal (delayed_row k d) ≡ flags) (sym c.self.view_is) c.alike_to-alike.ensures.newest in
+    let sent : IsSent flags texts c.alike_to-alike.result c.args.idle (ring q.ports q.delay q.turn q.slots.items) = record { flags_len = n; keeps = c.requires.alike; newest = newest; silent = c.requires.idle } in
+    subst (IsRing q.ports q.delay c.put_rows-self-inside.result c.filled_after-self-inside.result c.min-self-inside.result) (sym (with_items_is q.slots ys (search rules)))
+    (sent_ring q.ports q.delay q.turn c.put_rows-self-inside.result q.filled c.filled_after-self-inside.result q.alike c.min-self-inside.result c.alike_to-alike.result q.slots.items ys flags texts c.args.idle
+    c.self.invariant len sent c.put_rows-self-inside.ensures.within is c.filled_after-self-inside.ensures (omega arith) (omega arith))
+
+pub returns : goal.returns
+returns c =
+    let q = c.self.inside in
+    let ys = c.put_rows-self-inside.new.slots in
+    let flags = map is_signal c.args.flags.now in
+    let texts = c.args.texts.now in
+    let m : length c.args.flags.now ≡ q.ports = c.requires.flags_len ∙ sym (ap (λ (d : Delayed). d.ports) c.self.view_is) in
+    let n : length flags ≡ q.ports = length-map c.args.flags.now is_signal ∙ m in
+    let len : length ys ≡ q.delay * q.ports = search rules in
+    let is =
+    sent_line q.ports q.delay q.turn c.put_rows-self-inside.result q.filled q.alike (length c.args.flags.now) c.saturating_sub.result q.slots.items c.deref_mut.result.now ys flags texts c.self.invariant len n m
+    c.deref_mut.ensures.value c.saturating_sub.ensures c.put_rows-self-inside.ensures.rows in
+    same_delayed (ap (rotated (c.put_rows-self-inside.result * q.ports)) (with_items_is q.slots ys (search rules))) ∙ is ∙ ap (line_with flags texts) c.self.view_is

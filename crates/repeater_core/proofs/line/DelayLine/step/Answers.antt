@@ -19,6 +19,6 @@ invariant_of-self c =
     let n : length c.args.decided.now ≡ q.ports = c.requires.decided_len ∙ sym (ap (λ (d : Delayed). d.ports) c.self.view_is) in
     let len : length c.turn_row.new.slots ≡ q.delay * q.ports = search rules in
     let moved = moved_row q.ports q.delay q.turn _ _ _ _ _ c.args.decided.now n len c.next_turn-self-inside.ensures.next c.deref_mut.ensures.value c.turn_row.ensures.rows in
-    subst (IsRing q.ports q.delay c.next_turn-self-inside.result c.filled_after-self-inside.result) (sym (with_items_is q.slots c.turn_row.new.slots (search rules)))
-    (stepped_ring q.ports q.delay q.turn c.next_turn-self-inside.result q.filled c.filled_after-self-inside.result q.slots.items c.turn_row.new.slots c.args.decided.now c.args.idle
-    c.self.invariant len moved c.next_turn-self-inside.ensures.within c.requires.idle c.filled_after-self-inside.ensures)
+    subst (IsRing q.ports q.delay c.next_turn-self-inside.result c.filled_after-self-inside.result c.alike_where-self-inside.result) (sym (with_items_is q.slots c.turn_row.new.slots (search rules)))
+    (stepped_ring q.ports q.delay q.turn c.next_turn-self-inside.result q.filled c.filled_after-self-inside.result q.alike c.alike_where-self-inside.result q.slots.items c.turn_row.new.slots c.args.decided.now c.args.idle
+    c.self.invariant len moved c.next_turn-self-inside.ensures.within c.requires.idle c.filled_after-self-inside.ensures c.alike_where-self-inside.ensures)

@@ -5,7 +5,7 @@ use Rattle.repeater_core.specs.Step.{State, IsState, decided_by}
 use Rattle.repeater_core.specs.Classes.{texts_after}
 use Rattle.repeater_core.proofs.SteadyState.{modes_are}
 use Rattle.repeater_core.proofs.SteadyRows.{steps_are, decisions_are, emissions_are}
-use Rattle.repeater_core.proofs.LeapedParts.{may_leap, no_event_heard, decided_first, sent_all_along, class_leap}
+use Rattle.repeater_core.proofs.LeapedParts.{may_leap, no_event_heard, decided_first, sent_all_along, texts_keep, class_leap}
 use Rattle.repeater_core.proofs.repeater.Repeater.leap_classes.Goals as goal
 
 pub leap_guards-requires-clause-calm : goal.leap_guards-requires-clause-calm
@@ -24,6 +24,13 @@ pub leap_texts-self-inside-requires-clause-modes : goal.leap_texts-self-inside-r
 leap_texts-self-inside-requires-clause-modes c =
     let may = may_leap (length c.args.heard.now) c.args.hears.now _ _ c.self.view_is c.self.invariant c.requires.hears_len c.requires.steady in
     modes_are _ _ _ may.state may.ports may.steady
+
+pub leap_texts-self-inside-requires-clause-alike : goal.leap_texts-self-inside-requires-clause-alike
+leap_texts-self-inside-requires-clause-alike c =
+    let may = may_leap (length c.args.heard.now) c.args.hears.now _ _ c.self.view_is c.self.invariant c.requires.hears_len c.requires.steady in
+    let some : 0 < length c.args.heard.now = grind (arith, common_steps) in
+    let decided = decided_first _ _ _ _ _ _ may some c.decide_row.ensures c.mode_on.ensures c.deref.ensures.value in
+    texts_keep _ _ _ _ _ c.self.view_is may some c.requires.source decided
 
 pub invariant_of-self : goal.invariant_of-self
 invariant_of-self c =

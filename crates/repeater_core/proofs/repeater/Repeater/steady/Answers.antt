@@ -1,8 +1,9 @@
-use Rattle.std.proofs.Common.{◌≡◌, ◌+◌, ◌<◌, ◌∙◌, length, sym, ap, subst, arith}
+use Rattle.std.proofs.Common.{◌≡◌, ◌+◌, ◌<◌, ◌∙◌, length, map, sym, ap, subst, arith}
 use Rattle.repeater_core.specs.Limits.{most_calm}
 use Rattle.repeater_core.specs.Modes.{activity_from}
 use Rattle.repeater_core.specs.Step.{State, emitted_by}
-use Rattle.repeater_core.specs.Steady.{mode_steady, ports_steady, IsSteady, HaveNoEvents, RunsWithin}
+use Rattle.manchester_line.specs.Line.{is_signal}
+use Rattle.repeater_core.specs.Steady.{mode_steady, ports_steady, sent_from, IsSteady, HaveNoEvents, RunsWithin}
 use Rattle.repeater_core.proofs.SteadyCount.{fits}
 use Rattle.repeater_core.proofs.SteadyMost.{no_more}
 use Rattle.repeater_core.proofs.repeater.Repeater.steady.Goals as goal
@@ -21,14 +22,18 @@ returns c =
     let some =
     subst (λ gs. c.guards_calm.result < most_calm → ¬ HaveNoEvents (c.guards_calm.result + 1) hears c.front.new.emits gs) c.deref-3.ensures.value c.guards_calm.ensures.greatest in
     let runs = subst RunsWithin c.deref-2.ensures.value c.ports_steady.ensures.within in
+    let rows = c.rows_steady.ensures.rows in
+    let past =
+    subst (λ cs. r.line.delay < c.rows_steady.result → sent_from r.mode 0 cs ≡ map is_signal c.front.new.emits) c.deref-4.ensures.value c.rows_steady.ensures.past in
     record {
+      few = omega arith;
       steady =
           subst (λ r. IsSteady hears r n) c.self.view_is
           (fits n hears c.front.new.emits r c.self.invariant l c.front.ensures (omega arith) (omega arith)
-          (λ i b k d. guards i b k (omega arith)) (let few = c.alike.ensures.few in omega arith) (λ k b. c.alike.ensures.alike k (omega arith)));
+          (λ i b k d. guards i b k (omega arith)) (λ k b d. rows k (omega arith) d) (λ b. past (omega arith)));
       greatest =
           subst (λ r. n < r.line.delay → ¬ IsSteady hears r (n + 1)) c.self.view_is
-          (no_more n c.mode_steady.result c.ports_steady.result c.guards_calm.result c.alike.result hears c.front.new.emits r c.self.invariant l c.front.ensures runs
-          (omega arith) mode ports some c.alike.ensures.greatest);
+          (no_more n c.mode_steady.result c.ports_steady.result c.guards_calm.result c.rows_steady.result hears c.front.new.emits r c.self.invariant l c.front.ensures runs
+          (omega arith) mode ports some c.rows_steady.ensures.greatest);
       emits = c.front.ensures ∙ ap emitted_by c.self.view_is;
     }

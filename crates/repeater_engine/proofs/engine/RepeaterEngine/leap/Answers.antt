@@ -1,12 +1,11 @@
-use Rattle.std.proofs.Common.{◌≡◌, ℕ, zero, suc, ◌+◌, ◌-◌, ◌<◌, false, List, [], ◌∷◌, ◌++◌, map, length, length-take-le, take, drop, get_or, refl, sym, subst, ap, ap₂, ◌∙◌, arith, rules}
+use Rattle.std.proofs.Common.{◌≡◌, ℕ, zero, suc, ◌+◌, ◌-◌, false, List, [], ◌∷◌, ◌++◌, map, length, length-take-le, take, drop, get_or, refl, sym, subst, ap, ap₂, ◌∙◌, arith, rules}
 use Rattle.std.proofs.Math.Seq.{take-append_seam}
 use Rattle.std.proofs.lemmas.List.{length-map}
 use Rattle.manchester_line.specs.declared.Sym.{Sym}
 use Rattle.manchester_line.specs.declared.Sym.TheVariants.{Idle}
 use Rattle.manchester_line.specs.Line.{is_signal}
-use Rattle.repeater_core.specs.Classes.{after_rows, AreSteadyRows}
 use Rattle.repeater_core.specs.Counts.{Choice}
-use Rattle.repeater_core.specs.Step.{State, chosen, emitted_by, decided_by}
+use Rattle.repeater_core.specs.Step.{State, chosen, emitted_by}
 use Rattle.repeater_core.proofs.Lawful.{length_chosen}
 use Rattle.net_parts.specs.RepeaterParts.{RepeaterState}
 use Rattle.net_parts.proofs.RepeaterSteps.{length-span}

@@ -1,10 +1,6 @@
 use Rattle.std.proofs.Common.{◌≡◌, ◌*◌, ap, arith}
-use Rattle.load_plan.proofs.PlansAreSound.{sound_of_plan}
 use Rattle.network.proofs.RunnablePlans.{runnable_plan}
 use Rattle.segment_engine.proofs.segment.Segment.new.Goals as goal
-
-pub lookahead-requires : goal.lookahead-requires
-lookahead-requires c = sound_of_plan c.args.plan.now
 
 pub overflow_mul-result : goal.overflow_mul-result
 overflow_mul-result c =

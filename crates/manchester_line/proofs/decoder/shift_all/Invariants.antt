@@ -1,8 +1,0 @@
-use Rattle.std.proofs.Common.{◌≡◌, ◌*◌, drop}
-use Rattle.std.specs.Option.{option_map}
-use Rattle.manchester_line.specs.Decoding.{all_shifted}
-use Rattle.manchester_line.specs.Reading.{bits_of}
-use Rattle.manchester_line.proofs.decoder.shift_all.Given as goal
-
-abbrev pub invariant-loop-j : goal.invariant-loop-j
-invariant-loop-j l = option_map (all_shifted l.octet) (bits_of (drop (2 * l.j) l.halves)) ≡ option_map (all_shifted l.rest) (bits_of l.halves)

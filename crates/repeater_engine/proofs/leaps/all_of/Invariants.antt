@@ -1,0 +1,8 @@
+use Rattle.std.proofs.Common.{◌≡◌, ℕ, ◌<◌, true, slice_index_or}
+use Rattle.manchester_line.specs.declared.Sym.TheVariants.{Idle}
+use Rattle.repeater_core.specs.Classes.{class_of}
+use Rattle.repeater_engine.proofs.leaps.all_of.Given as goal
+
+-- the symbols below j are of the class, if so said
+abbrev pub invariant-loop-j : goal.invariant-loop-j
+invariant-loop-j l = l.same ≡ true → (i : ℕ) → i < l.j → class_of (slice_index_or l.symbols i Idle) ≡ l.class

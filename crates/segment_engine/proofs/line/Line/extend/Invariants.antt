@@ -1,7 +1,0 @@
-use Rattle.std.proofs.Common.{◌≡◌, take}
-use Rattle.segment_engine.specs.TapLines.{line_extended}
-use Rattle.segment_engine.proofs.line.Line.extend.Given as goal
-
--- the symbols below i stand on it
-abbrev pub invariant-loop-i : goal.invariant-loop-i
-invariant-loop-i l = l.self ≡ line_extended l.fn.self (take l.i l.piece)

@@ -1,0 +1,4 @@
+pub mod Spans
+pub mod ExtendedLines
+pub mod LinesAhead
+pub mod HeardLines

@@ -1,0 +1,12 @@
+use Rattle.std.proofs.Common.{length, replicate, sym, ◌∙◌, arith}
+use Rattle.std.proofs.lemmas.List.{length-replicate, get_or-replicate, same_lists}
+use Rattle.manchester_line.specs.declared.Sym.TheVariants.{Idle}
+use Rattle.tap_lines.proofs.line.is_idle.Goals as goal
+
+pub returns : goal.returns
+returns c = λ yes.
+    let xs = c.args.piece.now in
+    let n = length xs in
+    let ended = c.loop-j-test.false in
+    same_lists xs (replicate n Idle) (sym (length-replicate n Idle)) (λ j d h.
+    c.loop-j.invariant j d (omega (arith, h, ended)) ∙ sym (get_or-replicate n j Idle d h))

@@ -1,0 +1,2 @@
+pub mod TapLines
+pub mod Signals

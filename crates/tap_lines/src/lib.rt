@@ -1,0 +1,13 @@
+//! The lines of a segment's taps: what each tap emitted or what comes in for it, half bit by half bit, and what the taps hear
+//! of it.
+#![tactic(auto)]
+
+mod line;
+mod lines;
+mod pieces;
+mod sources;
+
+pub use line::{Line, REACH};
+pub use lines::{are_idle_from, cut_all, farthest, hear_all, rest_all, slide_all, take_in, tell};
+pub use pieces::{hear_piece, steady_ahead};
+pub use sources::{only_source, piece_of};

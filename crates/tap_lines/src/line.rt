@@ -1,0 +1,356 @@
+//! The line of a tap: the symbols of half bits one after another, the latest of which still reach other taps.
+ghost use Rattle.std.specs.Prelude.{◌≡◌, ◌<◌, ◌≤◌, ◌+◌, ◌-◌, ◌++◌, ◌^◌, ℕ, [], ◌∷◌, length, take, replicate, true, slice_index_or, IfOk, IfSome};
+ghost use Rattle.manchester_line.specs.declared.Sym.{Sym};
+ghost use Rattle.manchester_line.specs.declared.Sym.TheVariants.{Idle};
+ghost use Rattle.manchester_line.specs.Line.{mix_of, is_signal as is_signal_of};
+ghost use Rattle.net_parts.specs.Machines.{span};
+ghost use Rattle.tap_lines.specs.TapLines.{line_cut, TapLine, symbol_on, half_bits_back, line_extended, slid};
+ghost use Rattle.network.specs.Times.{earlier};
+
+use lists::OutOfMemory;
+use mac_parameters::{GREATEST_DELAY, GREATEST_PLACE};
+use manchester_line::{Sym, mix};
+use std::alloc::Global;
+use std::marker::Model;
+
+/// Nothing that is further back on a line reaches another tap.
+pub const REACH: usize = GREATEST_PLACE as usize + GREATEST_DELAY as usize;
+
+/// A line, from half bit `base` on, of a tap at a place in half bits from its segment's end. What stands on it for a half
+/// bit is emitted `delay` half bits later, less the half bits of a window. The first `written` symbols of the buffer stand on
+/// it, of which the last `loud` are signals; the Idle behind them, `quiet` half bits, isn't written.
+#[derive(Drop)]
+pub struct Line {
+    at: u32,
+    delay: u32,
+    base: u64,
+    buffer: Vec<Sym>,
+    written: usize,
+    quiet: usize,
+    loud: usize,
+}
+
+impl Model for Line {
+    ghost use Rattle.std.specs.Prelude.{◌+◌, ◌-◌, ◌≤◌, ◌++◌, length, replicate, take};
+    ghost use Rattle.manchester_line.specs.declared.Sym.TheVariants.{Idle};
+    ghost use Rattle.tap_lines.specs.Signals.{EndsInSignals};
+    ghost use Rattle.tap_lines.specs.TapLines.{TapLine};
+
+    ghost Value = { TapLine };
+
+    ghost view = { λ s. record {
+      at = s.at;
+      delay = s.delay;
+      base = s.base;
+      symbols = take s.written s.buffer.items ++ replicate s.quiet Idle;
+      room = length s.buffer.items - (s.written + s.quiet);
+    } };
+
+    ghost invariant = { λ s. (s.written + s.quiet ≤ length s.buffer.items) × EndsInSignals s.loud (take s.written s.buffer.items) };
+}
+
+/// Writes a piece into a buffer from place `at` on, from 0.
+fn write_piece(buffer: &mut [Sym], at: usize, piece: &[Sym])
+    requires { at + length piece.now ≤ length buffer.old }
+    ensures len { length buffer.new ≡ length buffer.old }
+    ensures text { take (at + length piece.now) buffer.new ≡ take at buffer.old ++ piece.now }
+{
+    buffer[at..at + piece.len()].copy_from_slice(piece);
+}
+
+/// Writes so many times Idle into a buffer from place `at` on, from 0.
+fn write_idle(buffer: &mut [Sym], at: usize, count: usize)
+    requires { at + count ≤ length buffer.old }
+    ensures len { length buffer.new ≡ length buffer.old }
+    ensures text { take (at + count) buffer.new ≡ take at buffer.old ++ replicate count Idle }
+{
+    buffer[at..at + count].fill(Sym::Idle);
+}
+
+/// Adds the symbols from place `from` on, from 0, to those of a piece.
+fn mix_from(piece: &mut [Sym], symbols: &[Sym], from: u64)
+    ensures { (j : ℕ) (d : Sym) → j < length piece.new → slice_index_or piece.new j d
+        ≡ mix_of (slice_index_or piece.old j d) (slice_index_or symbols.now (from + j) Idle) }
+{
+    let first = from.min(symbols.len() as u64) as usize;
+    let count = piece.len().min(symbols.len() - first);
+    for j in 0..count {
+        piece[j] = mix(piece[j], symbols[first + j]);
+    }
+}
+
+/// Writes the symbols from place `from` on, from 0, into a piece in which all is Idle.
+fn copy_from(piece: &mut [Sym], symbols: &[Sym], from: u64)
+    requires { (j : ℕ) (d : Sym) → j < length piece.old → slice_index_or piece.old j d ≡ Idle }
+    ensures { (j : ℕ) (d : Sym) → j < length piece.new → slice_index_or piece.new j d ≡ slice_index_or symbols.now (from + j) Idle }
+{
+    let first = from.min(symbols.len() as u64) as usize;
+    let count = piece.len().min(symbols.len() - first);
+    piece[..count].copy_from_slice(&symbols[first..first + count]);
+}
+
+/// Whether all symbols of a piece are Idle.
+fn is_idle(piece: &[Sym]) -> bool
+    ensures { result ≡ true → piece.now ≡ replicate (length piece.now) Idle }
+{
+    for j in 0..piece.len() {
+        if piece[j] != Sym::Idle {
+            return false;
+        }
+    }
+    true
+}
+
+/// Whether all symbols of a piece are signals.
+fn are_signals(piece: &[Sym]) -> bool
+    ensures { result ≡ true → (j : ℕ) → j < length piece.now → is_signal_of (slice_index_or piece.now j Idle) ≡ true }
+{
+    let mut all = true;
+    for j in 0..piece.len() {
+        all &= piece[j] != Sym::Idle;
+    }
+    all
+}
+
+impl Line {
+    /// The empty line of a tap from half bit 0 on, with room for so many symbols.
+    pub fn new(alloc: Global, at: u32, delay: u32, room: usize) -> Result<Line, OutOfMemory>
+        ensures place { IfOk result (λ line. line.at ≡ at) }
+        ensures delay { IfOk result (λ line. line.delay ≡ delay) }
+        ensures base { IfOk result (λ line. line.base ≡ 0) }
+        ensures symbols { IfOk result (λ line. line.symbols ≡ []) }
+        ensures room { IfOk result (λ line. room ≤ line.room) }
+    {
+        Ok(Line {
+            at,
+            delay,
+            base: 0,
+            buffer: vec![in alloc; Sym::Idle; room]?,
+            written: 0,
+            quiet: 0,
+            loud: 0,
+        })
+    }
+
+    /// The place of its tap.
+    pub fn place(&self) -> u32
+        ensures { result ≡ self.now.at }
+    {
+        self.at
+    }
+
+    /// How many half bits later its tap emits what stands on it, less those of a window.
+    pub fn delay(&self) -> u32
+        ensures { result ≡ self.now.delay }
+    {
+        self.delay
+    }
+
+    /// What is written on it: behind that only Idle stands on it.
+    fn text(&self) -> &[Sym]
+        ensures { self.now.symbols ≡ result.now ++ replicate (length self.now.symbols - length result.now) Idle }
+    {
+        &self.buffer[..self.written]
+    }
+
+    /// What stands on it for a half bit.
+    fn symbol(&self, u: u64) -> Sym
+        ensures { result ≡ symbol_on self.now u }
+    {
+        if u < self.base {
+            return Sym::Idle;
+        }
+        let text = self.text();
+        let place = u - self.base;
+        if place < text.len() as u64 {
+            text[place as usize]
+        } else {
+            Sym::Idle
+        }
+    }
+
+    /// How far back on it, in half bits, is what a tap at a place hears.
+    pub fn back(&self, at: u32, lookahead: u32) -> u64
+        ensures { result ≡ half_bits_back lookahead at self.now }
+    {
+        let way = u64::from(at.abs_diff(self.at)) + u64::from(self.delay);
+        way.saturating_sub(u64::from(lookahead))
+    }
+
+    /// What stands on it so many half bits before half bit `t`.
+    fn back_from(&self, back: u64, t: u64) -> Sym
+        ensures { result ≡ earlier (symbol_on self.now) t back }
+    {
+        if back <= t {
+            self.symbol(t - back)
+        } else {
+            Sym::Idle
+        }
+    }
+
+    /// What a tap at a place hears of it in half bit `t`.
+    pub fn reaches(&self, at: u32, lookahead: u32, t: u64) -> Sym
+        ensures { result ≡ earlier (symbol_on self.now) t (half_bits_back lookahead at self.now) }
+    {
+        self.back_from(self.back(at, lookahead), t)
+    }
+
+    /// Adds to what a tap hears in the half bits from `t` on, as many as the piece has, what stands on it so many half bits
+    /// before.
+    fn mix_back(&self, back: u64, t: u64, piece: &mut [Sym])
+        requires { t + length piece.old < 2 ^ 64 }
+        ensures { (j : ℕ) (d : Sym) → j < length piece.new → slice_index_or piece.new j d
+            ≡ mix_of (slice_index_or piece.old j d) (earlier (symbol_on self.now) (t + j) back) }
+    {
+        for j in 0..piece.len() {
+            piece[j] = mix(piece[j], self.back_from(back, t + j as u64));
+        }
+    }
+
+    /// Adds to what a tap at a place hears in the half bits from `t` on, as many as the piece has, what reaches it of the line.
+    /// Only where that was nothing so far may `fresh` be set.
+    pub fn mix_over(&self, at: u32, lookahead: u32, t: u64, piece: &mut [Sym], fresh: bool)
+        requires in_time { t + length piece.old < 2 ^ 64 }
+        requires fresh { fresh ≡ true → (j : ℕ) (d : Sym) → j < length piece.old → slice_index_or piece.old j d ≡ Idle }
+        ensures { (j : ℕ) (d : Sym) → j < length piece.new → slice_index_or piece.new j d
+            ≡ mix_of (slice_index_or piece.old j d) (earlier (symbol_on self.now) (t + j) (half_bits_back lookahead at self.now)) }
+    {
+        let back = self.back(at, lookahead);
+        if t < back || t - back < self.base {
+            self.mix_back(back, t, piece);
+            return;
+        }
+        if fresh {
+            copy_from(piece, self.text(), t - back - self.base);
+        } else {
+            mix_from(piece, self.text(), t - back - self.base);
+        }
+    }
+
+    /// For how many half bits from `t` on what stands on it so many half bits before is known to be a signal.
+    pub fn signals_back(&self, back: u64, t: u64) -> u64
+        ensures { (j : ℕ) → j < result → is_signal_of (earlier (symbol_on self.now) (t + j) back) ≡ true }
+    {
+        if t < back || t - back < self.base {
+            return 0;
+        }
+        let place = t - back - self.base;
+        let written = self.written as u64;
+        if place < written - self.loud as u64 {
+            return 0;
+        }
+        written.saturating_sub(place)
+    }
+
+    /// What stands on it so many half bits before those from `t` on, as many as `count`; none where not all of it is written.
+    pub fn written_back(&self, back: u64, t: u64, count: usize) -> Option<&[Sym]>
+        ensures len { IfSome result (λ piece. length piece.now ≡ count) }
+        ensures piece { IfSome result (λ piece. piece.now ≡ span (λ u. earlier (symbol_on self.now) u back) t count) }
+    {
+        if t < back || t - back < self.base {
+            return None;
+        }
+        let text = self.text();
+        let first = t - back - self.base;
+        let len = text.len() as u64;
+        if len < first || len - first < count as u64 {
+            return None;
+        }
+        let first = first as usize;
+        Some(&text[first..first + count])
+    }
+
+    /// Whether nothing but Idle stands on it from half bit `u` on.
+    pub fn is_quiet_from(&self, u: u64) -> bool
+        ensures { result ≡ true → (v : ℕ) → u ≤ v → symbol_on self.now v ≡ Idle }
+    {
+        self.base <= u && self.text().len() as u64 <= u - self.base
+    }
+
+    /// Puts the next symbols on it, which are signals.
+    fn put(&mut self, piece: &[Sym])
+        requires room { length piece.now ≤ self.old.room }
+        requires signals { (j : ℕ) → j < length piece.now → is_signal_of (slice_index_or piece.now j Idle) ≡ true }
+        ensures { self.new ≡ line_extended self.old piece.now }
+    {
+        let from = self.written + self.quiet;
+        if self.quiet > 0 {
+            write_idle(&mut self.buffer, self.written, self.quiet);
+            self.loud = 0;
+        }
+        write_piece(&mut self.buffer, from, piece);
+        self.written = from + piece.len();
+        self.quiet = 0;
+        self.loud += piece.len();
+    }
+
+    /// Puts the next symbol on it.
+    pub fn push(&mut self, s: Sym)
+        requires { 0 < self.old.room }
+        ensures { self.new ≡ line_extended self.old (s ∷ []) }
+    {
+        if s == Sym::Idle {
+            self.rest(1);
+        } else {
+            self.put(&[s]);
+        }
+    }
+
+    /// Puts the next symbols on it.
+    pub fn extend(&mut self, piece: &[Sym])
+        requires { length piece.now ≤ self.old.room }
+        ensures { self.new ≡ line_extended self.old piece.now }
+    {
+        if is_idle(piece) {
+            self.rest(piece.len());
+            return;
+        }
+        if are_signals(piece) {
+            self.put(piece);
+            return;
+        }
+        for i in 0..piece.len() {
+            self.push(piece[i]);
+        }
+    }
+
+    /// Puts so many times Idle on it.
+    pub fn rest(&mut self, count: usize)
+        requires { count ≤ self.old.room }
+        ensures { self.new ≡ line_extended self.old (replicate count Idle) }
+    {
+        self.quiet += count;
+    }
+
+    /// Takes from it what stands on it for half bit `u` and later ones.
+    pub fn cut(&mut self, u: u64)
+        ensures { self.new ≡ line_cut u self.old }
+    {
+        let written = self.written as u64;
+        let kept = u.saturating_sub(self.base);
+        if kept < written {
+            self.loud = (self.loud as u64).saturating_sub(written - kept) as usize;
+            self.written = kept as usize;
+            self.quiet = 0;
+        } else {
+            self.quiet = (self.quiet as u64).min(kept - written) as usize;
+        }
+    }
+
+    /// Makes room for so many symbols: where there is less, it drops those that reach no other tap any more.
+    pub fn slide(&mut self, room: usize)
+        requires { self.old.base + length self.old.symbols < 2 ^ 64 }
+        ensures { self.new ≡ slid room self.old }
+    {
+        let len = self.written + self.quiet;
+        if self.buffer.len() - len < room {
+            let gone = len.saturating_sub(REACH);
+            let first = gone.min(self.written);
+            self.buffer.copy_within(first..self.written, 0);
+            self.written -= first;
+            self.quiet -= gone - first;
+            self.loud = self.loud.min(self.written);
+            self.base += gone as u64;
+        }
+    }
+}
