@@ -88,7 +88,7 @@ class_choice s w c e l = choose (λ (x : Choice). (is_signal x.symbol ≡ s && e
     and_false' false = refl
 
 -- what is sent to each port
-decides_flags : (m next : Mode) (hears : List Sym) (q : ℕ) (cs : List Count) → ((q : ℕ) → is_signal (wish_of next hears q) ≡ sends_to m q) → 0 < ports_steady m q cs
+pub decides_flags : (m next : Mode) (hears : List Sym) (q : ℕ) (cs : List Count) → ((q : ℕ) → is_signal (wish_of next hears q) ≡ sends_to m q) → 0 < ports_steady m q cs
     → map is_signal (map (λ c. c.symbol) (choices_from next hears q cs)) ≡ sent_from m q cs
 decides_flags m next hears q [] w l = refl
 decides_flags m next hears q (c ∷ cs) w l =

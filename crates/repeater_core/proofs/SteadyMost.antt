@@ -1,6 +1,6 @@
 -- What steady half bits need of the mode, the ports, the guards and the delay line: no more of them than each tells.
-use Rattle.std.proofs.Common.{◌≡◌, ℕ, zero, suc, ◌+◌, ◌-◌, ◌*◌, ◌<◌, ◌≤◌, ◌⊎◌, min, Bool, true, false, eqb, List, [], ◌∷◌, length, map, take, drop, get_or, refl, sym, ap, ap₂, subst, ◌∙◌, arith, inl, inr}
-use Rattle.std.proofs.lemmas.Bool.{cases_eq}
+use Rattle.std.proofs.Common.{◌≡◌, ℕ, zero, suc, ◌+◌, ◌-◌, ◌*◌, ◌<◌, ◌≤◌, ◌⊎◌, min, Bool, true, false, eqb, List, [], ◌∷◌, ◌++◌, length, map, take, drop, get_or, refl, sym, ap, ap₂, subst, ◌∙◌, arith, inl, inr}
+use Rattle.std.proofs.lemmas.Bool.{cases_eq, cases_lt}
 use Rattle.std.proofs.lemmas.Bool.Decides.{nat_tests}
 use Rattle.std.proofs.lemmas.List.{length-map}
 use Rattle.std.specs.Fn.{iterate}
@@ -16,13 +16,13 @@ use Rattle.repeater_core.specs.Counts.{Count, choice, choices_from}
 use Rattle.repeater_core.specs.Delayed.{oldest}
 use Rattle.repeater_core.specs.SilentParts.{sends_to}
 use Rattle.repeater_core.specs.Step.{State, IsState, mode_next, chosen, after, emitted_by, decided_by, mask_from}
-use Rattle.repeater_core.specs.Steady.{mode_on, mode_steady, port_steady, ports_steady, AreAlikeRows, IsSteadyStep, IsSteady, at_each, count_by, sent_text, texted, line_later, HaveNoEvents, RunsWithin}
+use Rattle.repeater_core.specs.Steady.{mode_on, mode_steady, port_steady, ports_steady, sent_from, AreAlikeRows, IsSteadyStep, IsSteady, at_each, count_by, sent_text, texted, line_later, HaveNoEvents, RunsWithin}
 use Rattle.repeater_core.proofs.SendsToOthers.{IsRepeatable, repeatable, hears_as}
 use Rattle.repeater_core.proofs.CalmIsExact.{length_emitted}
 use Rattle.repeater_core.proofs.SteadyHalfBits.{guards_by_kind, not_one}
 use Rattle.repeater_core.proofs.SteadyState.{state_after, ports_after, length_decided, at_k, have_no_events, counts_at, sent_at_k, texts_at}
-use Rattle.repeater_core.proofs.SteadyCount.{sends_same, class_choice, wish_signal, calm_by, active_same}
-use Rattle.repeater_core.proofs.DelayRows.{row_on}
+use Rattle.repeater_core.proofs.SteadyCount.{sends_same, class_choice, decides_flags, wish_signal, calm_by, active_same}
+use Rattle.repeater_core.proofs.DelayRows.{row_on, row_last}
 
 -- the mode
 mode_some : (m : Mode) (a : Activity) → mode_after m a ≡ mode_on m → 0 < mode_steady m a
@@ -143,20 +143,42 @@ emitted_later (suc k) hears r h l b =
 rows_are : (n : ℕ) (hears : List Sym) (r : State) → IsState r → length hears ≡ length r.guards → IsSteady hears r n → n ≤ r.line.delay → AreAlikeRows n r.line
 rows_are n hears r h l s few = λ k b. ap (map is_signal) (sym (emitted_later k hears r h l (omega arith))) ∙ (s k b).emits
 
+-- past the delay what was decided in the first of them is emitted
+emitted_past : (d : ℕ) (hears : List Sym) (r : State) → IsState r → length hears ≡ length r.guards → r.line.delay ≡ suc d → emitted_by (iterate (after hears) (suc d) r) ≡ decided_by hears r
+emitted_past d hears r h l more =
+    let p = r.line.ports in
+    let last : d ≡ r.line.delay - 1 = omega arith in
+    emitted_later d hears (after hears r) (state_after r hears h l) (l ∙ sym (ports_after r hears h l)) (omega arith)
+    ∙ ap (λ i. take p (drop (i * p) (drop p r.line.rows ++ decided_by hears r))) last
+    ∙ row_last p r.line.delay r.line.rows (decided_by hears r) (omega arith) (h.rows_len ∙ ap (λ p. r.line.delay * p) (sym h.line_ports)) (length_decided r hears h ∙ sym h.line_ports)
+
+sent_first : (n : ℕ) (hears : List Sym) (r : State) → IsSteady hears r n → 0 < n → 0 < ports_steady r.mode 0 r.counts → map is_signal (decided_by hears r) ≡ sent_from r.mode 0 r.counts
+unfolding chosen
+sent_first n hears r s b some = decides_flags r.mode (mode_next hears r) hears 0 r.counts (λ q. wish_at n 0 q r hears s b) some
+
+sent_past : (n : ℕ) (hears : List Sym) (r : State) → IsState r → length hears ≡ length r.guards → 0 < ports_steady r.mode 0 r.counts → IsSteady hears r n → r.line.delay < n
+    → sent_from r.mode 0 r.counts ≡ map is_signal (emitted_by r)
+sent_past n hears r h l some s b =
+    let d = r.line.delay - 1 in
+    let more : r.line.delay ≡ suc d = (let a = h.some_delay in omega arith) in
+    sym (sent_first n hears r s (omega arith) some) ∙ ap (map is_signal) (sym (emitted_past d hears r h l more)) ∙ (s (suc d) (omega arith)).emits
+
 -- one half bit more isn't steady
 pub no_more : (n modes ports guards rows : ℕ) (hears es : List Sym) (r : State) → IsState r → length hears ≡ length r.guards → es ≡ emitted_by r → RunsWithin r.counts
     → n ≡ min (min (min modes ports) guards) rows → modes ≡ mode_steady r.mode (activity_from 0 r.guards hears) → ports ≡ ports_steady r.mode 0 r.counts
-    → (guards < most_calm → ¬ HaveNoEvents (guards + 1) hears es r.guards) → (rows < r.line.delay → ¬ AreAlikeRows (rows + 1) r.line) → n < r.line.delay → ¬ IsSteady hears r (n + 1)
-no_more n modes ports guards rows hears es r h l e runs is m p g w few s =
-    let most : n + 1 ≤ most_calm = (let d = h.delay_at_most in omega arith) in
-    let a = mode_needs (n + 1) hears (map is_signal (emitted_by r)) (map is_signal (decided_by hears r)) r h l s most in
-    let b = ports_are (n + 1) r hears h runs s most in
+    → (guards < most_calm → ¬ HaveNoEvents (guards + 1) hears es r.guards) → (rows < r.line.delay → ¬ AreAlikeRows (rows + 1) r.line)
+    → (r.line.delay ≤ rows → rows < most_calm → ¬ (sent_from r.mode 0 r.counts ≡ map is_signal es)) → n < most_calm → ¬ IsSteady hears r (n + 1)
+no_more n modes ports guards rows hears es r h l e runs is m p g w o few s =
+    let a = mode_needs (n + 1) hears (map is_signal (emitted_by r)) (map is_signal (decided_by hears r)) r h l s (omega arith) in
+    let b = ports_are (n + 1) r hears h runs s (omega arith) in
     let calm = subst (λ xs. HaveNoEvents (n + 1) hears xs r.guards) (sym e) (have_no_events (n + 1) r hears h l s) in
-    let alike = rows_are (n + 1) hears r h l s (omega arith) in
     elim (cases_eq guards n) [
       | inl same ↦ g (omega arith) (subst (λ x. HaveNoEvents (x + 1) hears es r.guards) (sym same) calm)
       | inr other ↦ elim (cases_eq rows n) [
-        | inl same ↦ w (omega arith) (subst (λ x. AreAlikeRows (x + 1) r.line) (sym same) alike)
+        | inl same ↦ elim (cases_lt rows r.line.delay) [
+          | inl below ↦ w below (subst (λ x. AreAlikeRows (x + 1) r.line) (sym same) (rows_are (n + 1) hears r h l s (omega arith)))
+          | inr past ↦ o past (omega arith) (sent_past (n + 1) hears r h l (omega arith) s (omega arith) ∙ ap (map is_signal) (sym e))
+        ]
         | inr differ ↦ absurd (omega arith)
       ]
     ]

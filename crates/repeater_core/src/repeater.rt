@@ -252,15 +252,14 @@ impl Repeater {
         self.line.leap(n);
     }
 
-    /// For how many half bits in which the ports hear these symbols nothing happens but counts: the steady half bits. They are
-    /// told as far as the delay, and beyond it where all that is not yet emitted has signals at the places of what is decided
-    /// now. What is emitted in the first of them is written.
+    /// The greatest n up to 4,096 such that n half bits in which the ports hear these symbols are steady: nothing happens in
+    /// them but counts. What is emitted in the first of them is written.
     pub fn steady(&self, hears: &[Sym], emits: &mut [Sym]) -> u32
         requires hears_len { length hears.now ≡ length self.now.guards }
         requires emits_len { length emits.old ≡ length self.now.guards }
         ensures few { result ≤ most_calm }
         ensures steady { IsSteady hears.now self.now result }
-        ensures greatest { result < self.now.line.delay → ¬ IsSteady hears.now self.now (result + 1) }
+        ensures greatest { result < most_calm → ¬ IsSteady hears.now self.now (result + 1) }
         ensures emits { emits.new ≡ emitted_by self.now }
     {
         self.line.front(emits);

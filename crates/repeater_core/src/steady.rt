@@ -82,7 +82,8 @@ pub fn guards_calm(guards: &[PortGuard], hears: &[Sym], emits: &[Sym]) -> u32
 fn sends_as(mode: Mode, counts: &[PortCount], row: &[Sym]) -> bool
     requires few { length counts.now ≤ most_ports }
     requires as_many { length row.now ≡ length counts.now }
-    ensures { IsTrue result → sent_from mode 0 counts.now ≡ map is_signal row.now }
+    ensures alike { IsTrue result → sent_from mode 0 counts.now ≡ map is_signal row.now }
+    ensures differs { sent_from mode 0 counts.now ≡ map is_signal row.now → IsTrue result }
 {
     for k in 0..counts.len() {
         let count = &counts[k];
@@ -106,6 +107,7 @@ pub fn rows_steady(line: &DelayLine, mode: Mode, counts: &[PortCount], emits: &[
     ensures rows { (k : ℕ) → k < result → k < line.now.delay → map is_signal (delayed_row k line.now) ≡ map is_signal emits.now }
     ensures past { line.now.delay < result → sent_from mode 0 counts.now ≡ map is_signal emits.now }
     ensures greatest { result < line.now.delay → ¬ AreAlikeRows (result + 1) line.now }
+    ensures stopped { line.now.delay ≤ result → result < most_calm → ¬ (sent_from mode 0 counts.now ≡ map is_signal emits.now) }
 {
     let alike = line.alike(emits);
     if alike as usize == line.delay() && sends_as(mode, counts, emits) {

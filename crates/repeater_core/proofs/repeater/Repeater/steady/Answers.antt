@@ -1,4 +1,4 @@
-use Rattle.std.proofs.Common.{◌≡◌, ◌+◌, ◌<◌, ◌∙◌, length, map, sym, ap, subst, arith}
+use Rattle.std.proofs.Common.{◌≡◌, ◌+◌, ◌<◌, ◌≤◌, ◌∙◌, length, map, sym, ap, subst, arith}
 use Rattle.repeater_core.specs.Limits.{most_calm}
 use Rattle.repeater_core.specs.Modes.{activity_from}
 use Rattle.repeater_core.specs.Step.{State, emitted_by}
@@ -25,6 +25,9 @@ returns c =
     let rows = c.rows_steady.ensures.rows in
     let past =
     subst (λ cs. r.line.delay < c.rows_steady.result → sent_from r.mode 0 cs ≡ map is_signal c.front.new.emits) c.deref-4.ensures.value c.rows_steady.ensures.past in
+    let stopped =
+    subst (λ cs. r.line.delay ≤ c.rows_steady.result → c.rows_steady.result < most_calm → ¬ (sent_from r.mode 0 cs ≡ map is_signal c.front.new.emits)) c.deref-4.ensures.value
+    c.rows_steady.ensures.stopped in
     record {
       few = omega arith;
       steady =
@@ -32,8 +35,8 @@ returns c =
           (fits n hears c.front.new.emits r c.self.invariant l c.front.ensures (omega arith) (omega arith)
           (λ i b k d. guards i b k (omega arith)) (λ k b d. rows k (omega arith) d) (λ b. past (omega arith)));
       greatest =
-          subst (λ r. n < r.line.delay → ¬ IsSteady hears r (n + 1)) c.self.view_is
+          subst (λ r. n < most_calm → ¬ IsSteady hears r (n + 1)) c.self.view_is
           (no_more n c.mode_steady.result c.ports_steady.result c.guards_calm.result c.rows_steady.result hears c.front.new.emits r c.self.invariant l c.front.ensures runs
-          (omega arith) mode ports some c.rows_steady.ensures.greatest);
+          (omega arith) mode ports some c.rows_steady.ensures.greatest stopped);
       emits = c.front.ensures ∙ ap emitted_by c.self.view_is;
     }
