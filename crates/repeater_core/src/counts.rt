@@ -18,7 +18,7 @@ const REST_LEFT: u32 = JABBER_REST - 1;
 
 /// A port's counts: the half bits of its unbroken output, as far as the limit at which it is halted, the half bits of rest
 /// that are left, 0 to 191, and whether the output comes right after a rest.
-#[derive(Clone, Copy, Debug, PartialEq, Eq)]
+#[derive(Clone, Copy)]
 pub struct PortCount {
     pub run: u32,
     pub rest: u32,
@@ -26,7 +26,7 @@ pub struct PortCount {
 }
 
 /// What is decided for a port in a half bit.
-#[derive(Clone, Copy, Debug, PartialEq, Eq)]
+#[derive(Clone, Copy)]
 pub struct Decision {
     pub symbol: Sym,
     pub halted: bool,

@@ -44,7 +44,7 @@ pub enum Mode {
 }
 
 /// Which ports are active in a half bit.
-#[derive(Clone, Copy, Debug, PartialEq, Eq)]
+#[derive(Clone, Copy)]
 pub enum Activity {
     Nobody,
     One { n: u32, heard: Sym },

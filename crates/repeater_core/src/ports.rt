@@ -38,7 +38,7 @@ pub fn collision_at(hears: Sym, emits: Sym) -> bool
 }
 
 /// The ports that were closed (partition) or opened (reconnection), bit p for port p, counted from 0.
-#[derive(Clone, Copy, Debug, PartialEq, Eq)]
+#[derive(Clone, Copy)]
 pub struct Changes {
     pub closed: u32,
     pub opened: u32,
