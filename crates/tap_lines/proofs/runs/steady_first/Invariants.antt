@@ -1,7 +1,7 @@
 use Rattle.std.proofs.Common.{◌≡◌, ℕ, ◌<◌, slice_index_or}
 use Rattle.manchester_line.specs.declared.Sym.TheVariants.{Idle}
 use Rattle.manchester_line.specs.Line.{is_signal}
-use Rattle.tap_lines.proofs.pieces.steady_first.Given as goal
+use Rattle.tap_lines.proofs.runs.steady_first.Given as goal
 
 -- those below j are so
 abbrev pub invariant-loop-j : goal.invariant-loop-j

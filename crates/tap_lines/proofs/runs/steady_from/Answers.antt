@@ -1,0 +1,25 @@
+use Rattle.std.proofs.Common.{◌≡◌, ◌≤◌, ◌+◌, ◌-◌, inl, inr, false, length, drop, get_or, sym, ap, ◌∙◌, arith, rules}
+use Rattle.std.proofs.lemmas.Bool.{cases_lt}
+use Rattle.std.proofs.lemmas.List.{get_or-take, get_or-drop, get_or_past}
+use Rattle.manchester_line.specs.declared.Sym.TheVariants.{Idle}
+use Rattle.manchester_line.specs.Line.{is_signal}
+use Rattle.tap_lines.proofs.runs.steady_from.Goals as goal
+
+pub returns-else-steady-count-clause-steady : goal.returns-else-steady-count-clause-steady
+returns-else-steady-count-clause-steady c = λ j h.
+    let xs = c.args.text.now in
+    let first = c.min-first.result in
+    let count = c.min-count.result in
+    let hf = c.min-first.ensures in
+    let hc = c.min-count.ensures in
+    let carrier : c.args.carrier ≡ false = search rules in
+    let enough : count ≤ c.steady_first-steady.result = search rules in
+    elim (cases_lt j count) [
+      | inl before ↦
+          let e : first + j ≡ c.args.place + j = omega (arith, hf, hc, before) in
+          ap is_signal (ap (λ i. get_or xs i Idle) (sym e) ∙ sym (get_or-drop first xs j Idle) ∙ sym (get_or-take (first + count - first) (drop first xs) j Idle (omega (arith, before))))
+          ∙ c.steady_first-steady.ensures.steady j (omega (arith, before, enough))
+      | inr after ↦
+          let past : length xs ≤ c.args.place + j = omega (arith, hf, hc, after, h) in
+          ap is_signal (get_or_past xs (c.args.place + j) Idle past) ∙ sym carrier
+    ]
