@@ -1,5 +1,5 @@
 use Rattle.std.proofs.Common.{◌<◌, All}
-use Rattle.worker_gate.proofs.dealing.owners.Given as goal
+use Rattle.part_dealing.proofs.dealing.owners.Given as goal
 
 -- all are workers
 abbrev pub invariant-loop-i : goal.invariant-loop-i

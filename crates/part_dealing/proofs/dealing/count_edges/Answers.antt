@@ -1,7 +1,7 @@
 use Rattle.std.proofs.Common.{◌<◌, length, get_or, sym, ap, arith}
 use Rattle.load_plan.proofs.PlansAreSound.{sound_of_plan}
 use Rattle.net_parts.proofs.EdgeNumbers.{none_before, one_more_before}
-use Rattle.worker_gate.proofs.dealing.count_edges.Goals as goal
+use Rattle.part_dealing.proofs.dealing.count_edges.Goals as goal
 
 pub loop-k-init : goal.loop-k-init
 loop-k-init c = record { so_far = sym (none_before c.as_slice-repeaters.result.now); few = omega arith }

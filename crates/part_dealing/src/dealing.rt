@@ -1,9 +1,11 @@
 //! Which worker gets which part: parts are dealt along a walk of the tree, in runs of about equal work.
-ghost use Rattle.std.specs.Prelude.{◌≡◌, ◌<◌, ◌≤◌, ◌==◌, All, IfOk, count_by, length, map, slice_index_or};
+ghost use Rattle.std.specs.Prelude.{◌≡◌, ◌<◌, ◌≤◌, ◌==◌, true, All, IfOk, count_by, length, map, slice_index_or};
+ghost use Rattle.net_parts.specs.Boards.{has_edge};
+ghost use Rattle.part_dealing.specs.OtherEnds.{GoesToOwner, IsOtherEnd};
 ghost use Rattle.layout.specs.declared.lines.PortLine.{PortLine};
 ghost use Rattle.net_parts.specs.Parts.{edges_of_part, parts};
 ghost use Rattle.net_parts.specs.RepeaterParts.{edges_before};
-ghost use Rattle.worker_gate.specs.declared.dealing.Outlet.{Outlet};
+ghost use Rattle.part_dealing.specs.declared.dealing.Outlet.{Outlet};
 
 use layout::{Layout, PortLine};
 use lists::OutOfMemory;
@@ -166,38 +168,40 @@ pub fn outlets_of(
     part: u32,
 ) -> Result<Vec<Outlet>, OutOfMemory>
     requires { part < parts plan.now }
-    ensures { IfOk result (λ outlets. map (λ (o : Outlet). o.edge) outlets.items ≡ edges_of_part plan.now part) }
+    ensures edges { IfOk result (λ outlets. map (λ (o : Outlet). o.edge) outlets.items ≡ edges_of_part plan.now part) }
+    ensures workers { IfOk result (λ outlets. All (GoesToOwner plan.now owners.now part) outlets.items) }
 {
     let list = edges_of(alloc, plan, part)?;
     let edges = list.as_slice();
     let mut outlets = Vec::new(alloc);
     for k in 0..edges.len() {
         let edge = edges[k];
-        let worker = owner_of(
-            owners,
-            other_end(&plan.layout, part as usize, edge as usize),
-        );
+        let end = other_end(plan, part as usize, edge as usize);
+        let worker = owner_of(owners, end);
         outlets.push(Outlet { edge, worker })?;
     }
     Ok(outlets)
 }
 
-/// The part at the other end of an edge of this part.
-pub fn other_end(layout: &Layout, part: usize, edge: usize) -> usize {
-    let segments = layout.segments.len();
-    let repeaters = layout.repeaters.as_slice();
+/// The part at the other end of an edge of this part: the repeater of the edge's port, or the segment on which the port is.
+pub fn other_end(plan: &Plan, part: usize, edge: usize) -> usize
+    requires { has_edge (edges_of_part plan.now part) edge ≡ true }
+    ensures { IsOtherEnd plan.now part edge result }
+{
+    let segments = plan.layout.segments.len();
+    let repeaters = plan.layout.repeaters.as_slice();
     let mut first = 0usize;
     for k in 0..repeaters.len() {
         let ports = repeaters[k].ports.as_slice();
-        if first <= edge && edge - first < ports.len() {
+        if edge - first < ports.len() {
             if part < segments {
-                return segments.saturating_add(k);
+                return segments + k;
             }
             return ports[edge - first].segment as usize;
         }
-        first = first.saturating_add(ports.len());
+        first += ports.len();
     }
-    segments
+    unreachable!()
 }
 
 /// The worker that has a part, and the first where none has it.

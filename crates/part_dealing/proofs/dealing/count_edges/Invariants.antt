@@ -1,6 +1,6 @@
 use Rattle.std.proofs.Common.{◌≡◌, ◌≤◌, ◌*◌}
 use Rattle.net_parts.specs.RepeaterParts.{edges_before}
-use Rattle.worker_gate.proofs.dealing.count_edges.Given as goal
+use Rattle.part_dealing.proofs.dealing.count_edges.Given as goal
 
 -- the edges of the repeaters so far
 abbrev pub invariant-loop-k : goal.invariant-loop-k
