@@ -136,8 +136,8 @@ module _ (plan : Plan) (u e k : ℕ) (d : RepeaterLine) (ports : List PortLine) 
       let same = ap length are in
       let here = in_span (edges_before rs k) (edges_in rs k) e (omega (arith, low, starts)) (omega (arith, low, high, starts, size, same)) in
       let its : has_edge (edges_of_part plan v) e ≡ true =
-          ap (λ b. has_edge (edges_of_kind plan b v) e) is
-          ∙ ap (λ i. has_edge (span (λ (j : ℕ). j) (edges_before rs i) (edges_in rs i)) e) which ∙ here in
+      ap (λ b. has_edge (edges_of_kind plan b v) e) is
+      ∙ ap (λ i. has_edge (span (λ (j : ℕ). j) (edges_before rs i) (edges_in rs i)) e) which ∙ here in
       record {
         part = omega (arith, within);
         other = λ back. omega (arith, back, segment);
@@ -162,8 +162,8 @@ module _ (plan : Plan) (u e k : ℕ) (d : RepeaterLine) (ports : List PortLine) 
       let in_all : edges_before rs k + p < length (ports_of_all rs) = omega (arith, many, end, size, below) in
       let here = in_numbers v 0 (edge_ports plan.layout) (edges_before rs k + p) x in_all (ap (λ (y : PortLine). y.segment) (port_at rs k p d x within below)) in
       let its : has_edge (edges_of_part plan v) e ≡ true =
-          ap (λ b. has_edge (edges_of_kind plan b v) e) is
-          ∙ ap (has_edge (numbers_on v 0 (edge_ports plan.layout))) place ∙ here in
+      ap (λ b. has_edge (edges_of_kind plan b v) e) is
+      ∙ ap (has_edge (numbers_on v 0 (edge_ports plan.layout))) place ∙ here in
       subst (λ ys. IsOtherEnd plan u e (get_or ys p x).segment) (sym are) (record {
         part = omega (arith, sound);
         other = λ back. omega (arith, back, sound, repeater);
