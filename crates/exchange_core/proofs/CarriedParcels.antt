@@ -303,10 +303,10 @@ module _ (so ro : List ℕ) (a b : Rack) (e s r : ℕ) (f : IsEdgeOf so ro a b e
 
 -- by what goes from the one kind to the other
 module _ (so ro : List ℕ) (a b : Rack) (e s r : ℕ) (f : IsEdgeOf so ro a b e s r) where
-  from_a : Option Parcel
+  abbrev from_a : Option Parcel
   from_a = if leaves e (part_on s a) then Some (parcel_in e (part_on s a)) else None
 
-  from_b : Option Parcel
+  abbrev from_b : Option Parcel
   from_b = if leaves e (part_on r b) then Some (parcel_in e (part_on r b)) else None
 
   pub goes_segment : leaves e (part_on s a) ≡ may_post e (first_with_edge e a.places)

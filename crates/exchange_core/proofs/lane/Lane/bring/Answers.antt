@@ -6,8 +6,8 @@ use Rattle.exchange_core.specs.Shares.{Rack, rack, part_on, leaves, parcel_in, r
 use Rattle.exchange_core.proofs.CarriedParcels.{changed_if, part_in_place}
 use Rattle.exchange_core.proofs.lane.Lane.bring.Goals as goal
 
-pub bring_at-requires : goal.bring_at-requires
-bring_at-requires g c κs within =
+pub bring_at-requires-after_bounds : goal.bring_at-requires-after_bounds
+bring_at-requires-after_bounds g c κs within =
     let s = c.self.inside in
     let r = rack s.places.items s.order.items in
     let same = part_in_place r c.args.from.part c.index_mut.result.now (let n = c.if-part-len.true in let l = c.len.ensures in omega (arith, n, l)) c.index_mut.ensures.value ∙ ap (part_on c.args.from.part) c.self.view_is in

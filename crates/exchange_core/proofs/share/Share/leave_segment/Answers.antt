@@ -14,8 +14,8 @@ edge g c = record {
   repeater = c.spot-repeater.ensures ∙ ap (λ xs. get_or xs c.args.edge 0) c.as_slice-3.ensures.value;
 }
 
-pub bring-requires : goal.bring-requires
-bring-requires g c κs within = repeater_fits _ _ _ _ _ _ _ (edge g (goal.at.bring-requires g c).After-spot-repeater)
+pub bring-requires-after_bounds : goal.bring-requires-after_bounds
+bring-requires-after_bounds g c κs within = repeater_fits _ _ _ _ _ _ _ (edge g (goal.at.bring-requires-after_bounds g c).After-spot-repeater)
 
 pub invariant_of-self : goal.invariant_of-self
 invariant_of-self g c = (brought_to_repeater _ _ _ _ _ _ _ (edge g (goal.at.invariant_of-self g c).After-spot-repeater) c.bring.new.self c.bring.new.to c.bring.ensures.left c.bring.ensures.come).whole
