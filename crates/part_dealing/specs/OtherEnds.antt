@@ -1,5 +1,5 @@
--- The other end of an edge, and the worker to whom a parcel goes that leaves over it (profile). Parts, edges and workers
--- count from 0.
+-- The other end of an edge, and the worker to whom a parcel goes that leaves over it (profile). Parts, edges and
+-- workers count from 0.
 use Rattle.std.specs.Prelude.{◌≡◌, ◌≢◌, ℕ, ◌<◌, true, List, slice_index_or}
 use Rattle.load_plan.specs.declared.plan.Plan.{Plan}
 use Rattle.net_parts.specs.Boards.{has_edge}
