@@ -8,7 +8,7 @@ use Rattle.net_parts.specs.Parts.{is_segment_part}
 use Rattle.net_parts.specs.Parcels.{IsTrueParcel}
 use Rattle.net_parts.specs.Boards.{has_edge, place_in}
 use Rattle.exchange_core.specs.Holdings.{Holding, edges_of_parcels, place_of_edge, absent_parcel, is_here, vacate_holding, take_holding}
-use Rattle.exchange_core.specs.Shares.{Rack, rack, Held, share_of, part_on, is_owned, changed, change_on, has_place, first_with_edge, may_post, is_same_way, leaves, parcel_in, is_refilled, posted_parcel, post_held, has_place_for, take_held, received, carry_held, IsOfPlan, IsWholeShare}
+use Rattle.exchange_core.specs.Shares.{Rack, rack, Held, share_of, part_on, is_owned, changed, change_on, has_place, first_with_edge, may_post, is_same_way, leaves, parcel_in, is_refilled, posted_parcel, post_held, has_place_for, take_held, received, received_on, carry_held, IsOfPlan, IsWholeShare}
 use Rattle.exchange_core.proofs.SoundHoldings.{edges_set}
 use Rattle.exchange_core.proofs.ChangedRacks.{found_changed, some_part, without_place, may_post_first}
 use Rattle.exchange_core.proofs.SidedShares.{sided}
@@ -37,6 +37,10 @@ left_again e u r x is has = elim (has_place e (part_on u x)) as (λ b. x ≡ (if
       (λ h at. is ∙ sym (changed_twice (vacate_holding e) u r h at (vacated_twice e h (sym (ap (has_place e) at) ∙ has))) ∙ ap (change_on (vacate_holding e) u) (sym is))
   | false ↦ refl
 ]
+
+-- what lies at the place of a number is the part of that number
+pub part_in_place : (r : Rack) (u : ℕ) (was : Option Holding) → u < length r.places → was ≡ get_or r.places u was → was ≡ part_on u r
+part_in_place r u was in' at = at ∙ get_or_default r.places u was None in'
 
 -- a part of a rack that becomes another, or stays
 pub changed_if : (goes : Option Holding → Bool) (f : Holding → Holding) (r : Rack) (u : ℕ) (was o : Option Holding) → u < length r.places → was ≡ get_or r.places u was
@@ -296,3 +300,43 @@ module _ (so ro : List ℕ) (a b : Rack) (e s r : ℕ) (f : IsEdgeOf so ro a b e
       not_from_repeater =
           let same : share_of a x ≡ share_of a b = ap (λ z. share_of a z) (new ∙ ap (λ z. if z then change_on (vacate_holding e) r b else b) stays') in
           record { whole = subst (IsWholeShare so ro) (sym same) f.whole; new = same ∙ ap (λ z. if z then carry_held e (share_of a b) else share_of a b) repeater_stays }
+
+-- by what goes from the one kind to the other
+module _ (so ro : List ℕ) (a b : Rack) (e s r : ℕ) (f : IsEdgeOf so ro a b e s r) where
+  abbrev from_a : Option Parcel
+  from_a = if leaves e (part_on s a) then Some (parcel_in e (part_on s a)) else None
+
+  abbrev from_b : Option Parcel
+  from_b = if leaves e (part_on r b) then Some (parcel_in e (part_on r b)) else None
+
+  pub goes_segment : leaves e (part_on s a) ≡ may_post e (first_with_edge e a.places)
+  goes_segment = sym (may_post_first so a f.whole.segments_known e s f.segment)
+
+  pub goes_repeater : leaves e (part_on r b) ≡ may_post e (first_with_edge e b.places)
+  goes_repeater = sym (may_post_first ro b f.whole.repeaters_known e r f.repeater)
+
+  pub repeater_fits : leaves e (part_on s a) ≡ true → IfSome (part_on r b) (λ h. IsTrueParcel h.plan (parcel_in e (part_on s a)))
+  repeater_fits goes = if_each (part_on r b) (λ h. IsTrueParcel h.plan (parcel_in e (part_on s a))) (segment_honest so ro a b e s r f (parcel_in e (part_on s a)) goes refl)
+
+  pub segment_fits : leaves e (part_on r b) ≡ true → IfSome (part_on s a) (λ h. IsTrueParcel h.plan (parcel_in e (part_on r b)))
+  segment_fits goes = if_each (part_on s a) (λ h. IsTrueParcel h.plan (parcel_in e (part_on r b))) (repeater_honest so ro a b e s r f (parcel_in e (part_on r b)) (one_leaves so ro a b e s r f goes) goes refl)
+
+  pub brought_to_repeater : (x y : Rack) → x ≡ (if leaves e (part_on s a) then change_on (vacate_holding e) s a else a)
+      → y ≡ (if leaves e (part_on s a) then received_on (parcel_in e (part_on s a)) r b else b) → IsCarried so ro a b e (may_post e (first_with_edge e a.places)) x y
+  brought_to_repeater x y new come =
+      let p = parcel_in e (part_on s a) in
+      elim (leaves e (part_on s a)) as (λ z. leaves e (part_on s a) ≡ z → y ≡ (if z then received_on p r b else b) → IsCarried so ro a b e (may_post e (first_with_edge e a.places)) x y) [
+        | true ↦ λ is at. to_repeater so ro a b e s r f from_a x refl new p (ap (λ z. let o : Option Parcel = if z then Some p else None in o) is) y at
+        | false ↦ λ is at. subst (IsCarried so ro a b e (may_post e (first_with_edge e a.places)) x) (sym at)
+            (not_from_segment so ro a b e s r f from_a x refl new (ap (λ z. let o : Option Parcel = if z then Some p else None in o) is))
+      ] refl come
+
+  pub brought_to_segment : (x y : Rack) → x ≡ (if leaves e (part_on r b) then change_on (vacate_holding e) r b else b)
+      → y ≡ (if leaves e (part_on r b) then received_on (parcel_in e (part_on r b)) s a else a) → IsCarried so ro a b e (may_post e (first_with_edge e b.places)) y x
+  brought_to_segment x y new come =
+      let p = parcel_in e (part_on r b) in
+      elim (leaves e (part_on r b)) as (λ z. leaves e (part_on r b) ≡ z → y ≡ (if z then received_on p s a else a) → IsCarried so ro a b e (may_post e (first_with_edge e b.places)) y x) [
+        | true ↦ λ is at. to_segment so ro a b e s r f from_b x refl new p (ap (λ z. let o : Option Parcel = if z then Some p else None in o) is) y at
+        | false ↦ λ is at. subst (λ z. IsCarried so ro a b e (may_post e (first_with_edge e b.places)) z x) (sym at)
+            (not_from_repeater so ro a b e s r f from_b x refl new (ap (λ z. let o : Option Parcel = if z then Some p else None in o) is))
+      ] refl come

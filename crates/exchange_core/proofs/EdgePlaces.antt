@@ -11,7 +11,7 @@ use Rattle.net_parts.specs.Boards.{has_edge, place_in}
 use Rattle.exchange_core.specs.Holdings.{Holding, IsSoundHolding, edges_of_parcels, place_of_edge, parcel_of_edge, absent_parcel}
 use Rattle.exchange_core.specs.Shares.{is_same_way, leaves}
 use Rattle.exchange_core.proofs.EdgesOfParts.{AreApart, has_same, has_other, place_same, place_other, place_within, place_of_each, edges_apart}
-use Rattle.exchange_core.proofs.SoundHoldings.{edge_at, place_here}
+use Rattle.exchange_core.proofs.SoundHoldings.{edge_at, edge_in_place, place_here}
 
 pub place_found : (ps : List Parcel) (e i : ℕ) (d : Parcel) → i < length ps → (get_or ps i d).edge ≡ e → ((k : ℕ) (d : Parcel) → k < i → (get_or ps k d).edge ≢ e)
     → (place_in (edges_of_parcels ps) e ≡ i) × (has_edge (edges_of_parcels ps) e ≡ true)
@@ -75,6 +75,9 @@ module _ (h now : Holding) (e k : ℕ) (view : h ≡ now) where
   pub parcel_at_place : (p : Parcel) → has_edge (edges_of_parcels now.parcels) e ≡ true → k ≡ place_of_edge e now → p ≡ get_or h.parcels k p → p ≡ parcel_of_edge e now
   parcel_at_place p has is at =
       at ∙ (λ i. get_or (view i).parcels (is i) p) ∙ get_or_default now.parcels (place_of_edge e now) p (absent_parcel false e) (place_here e now.parcels has)
+
+  pub edge_at_place : (p : Parcel) → has_edge (edges_of_parcels now.parcels) e ≡ true → k ≡ place_of_edge e now → p ≡ get_or h.parcels k p → p.edge ≡ e
+  edge_at_place p has is at = ap (λ (q : Parcel). q.edge) (parcel_at_place p has is at) ∙ edge_in_place e now.parcels (absent_parcel false e) has
 
   pub has_where : k ≡ place_of_edge e now → k < length h.parcels → has_edge (edges_of_parcels now.parcels) e ≡ true
   has_where is in' =

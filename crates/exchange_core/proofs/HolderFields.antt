@@ -43,6 +43,14 @@ module _ (u n : ℕ) (segment room : Bool) (h : Holding) (s : IsHolder u n segme
       λ i. held_as h.plan h.number h.at h.window h.lost h.refused h.reserved (set h.parcels (is i) (gone i)) (set h.away (is i) true) in
       subst (IsHolder u n segment room) (sym same) (record { number_is = s.number_is; windows_are = s.windows_are; segment_is = s.segment_is; room_is = s.room_is; sound = vacate_sound e h has s.sound })
 
+  pub vacated_is : (now : Holding) (e k : ℕ) (p : Parcel) → h ≡ now → k ≡ place_of_edge e h → p ≡ absent_parcel segment e
+      → held_as h.plan h.number h.at h.window h.lost h.refused h.reserved (set h.parcels k p) (set h.away k true) ≡ vacate_holding e now
+  vacated_is now e k p view is q =
+      let gone : p ≡ absent_parcel (is_segment_part h.plan h.number) e = q ∙ ap (λ b. absent_parcel b e) s.segment_is in
+      let same : held_as h.plan h.number h.at h.window h.lost h.refused h.reserved (set h.parcels k p) (set h.away k true) ≡ vacate_holding e h =
+      λ i. held_as h.plan h.number h.at h.window h.lost h.refused h.reserved (set h.parcels (is i) (gone i)) (set h.away (is i) true) in
+      same ∙ ap (vacate_holding e) view
+
   pub holder_take : (k : ℕ) (p : Parcel) → has_edge (edges_of_parcels h.parcels) p.edge ≡ true → IsTrueParcel h.plan p → k ≡ place_of_edge p.edge h
       → IsHolder u n segment room (held_as h.plan h.number h.at h.window h.lost h.refused h.reserved (set h.parcels k p) (set h.away k false))
   holder_take k p has honest is =

@@ -192,6 +192,10 @@ has_place_for p s = is_owned (first_with_edge p.edge (rack_of_way p.to_repeater 
 abbrev pub leaves : ℕ → Option Holding → Bool
 leaves e o = has_place e o && may_post e o
 
+-- A rack whose part of this number has got a parcel, if it has the parcel's edge (profile).
+abbrev pub received_on : Parcel → ℕ → Rack → Rack
+received_on p u r = if has_place p.edge (part_on u r) then change_on (take_holding p) u r else r
+
 -- A share with a parcel at the part to which it goes, if that is one of its parts (profile).
 abbrev pub received : Parcel → Held → Held
 received p s = if has_place_for p s then take_held p s else s

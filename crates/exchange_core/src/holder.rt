@@ -1,18 +1,19 @@
 //! One part and the places of its parcels.
-ghost use Rattle.std.specs.Prelude.{◌≡◌, ◌<◌, ◌+◌, ℕ, false, true, not, length, map, All, replicate, IfOk, OnOk, OnErr, IsTrue, ◌↔◌, Some, None, if◌then◌else◌, slice_index_or, slice_set};
+ghost use Rattle.std.specs.Prelude.{◌≡◌, ◌<◌, ◌+◌, ℕ, false, true, not, length, map, All, replicate, IfOk, OnOk, OnErr, IsTrue, ◌↔◌, Some, None, IfSome, if◌then◌else◌, slice_index_or, slice_set};
 ghost use Rattle.net_parts.specs.declared.parcel.Parcel.{Parcel};
 ghost use Rattle.net_parts.specs.Windows.{windows};
 ghost use Rattle.net_parts.specs.Parts.{is_segment_part, edges_of_part};
 ghost use Rattle.net_parts.specs.Parcels.{IsTrueParcel};
 ghost use Rattle.net_parts.specs.Boards.{place_in, has_edge};
 ghost use Rattle.exchange_core.specs.Holdings.{Holding, IsHoldingReady, IsHoldingClean, IsSoundHolding, IsOnWay, edges_of_parcels, place_of_edge, new_holding, absent_parcel, emptied_parcel, parcel_of_edge, is_here, added_segment, added_repeater, reserved_holding, refused_holding, run_holding, spoil_holding, vacate_holding, take_holding};
-ghost use Rattle.exchange_core.specs.Shares.{AreParcelsFor, may_post, has_place, leaves};
+ghost use Rattle.exchange_core.specs.Shares.{AreParcelsFor, part_on, may_post, has_place, leaves, received_on};
 
+use crate::lane::Lane;
 use lists::OutOfMemory;
 use net_parts::{Parcel, ParcelList, Part, Symbols};
 use std::alloc::Global;
 use std::marker::Model;
-use std::mem::replace;
+use std::mem::{replace, swap};
 
 /// A part with the places of its parcels. In the place of a parcel that is away lies one that has left by the same way,
 /// spoiled and empty, so that whether the part is ready is told by the parcels alone. What a parcel that comes or goes needs
@@ -212,27 +213,40 @@ impl<P: Part> Holder<P> {
         requires honest { IsTrueParcel self.old.plan parcel }
         ensures { self.new ≡ take_holding parcel self.old }
     {
+        let mut parcel = parcel;
         let place = place_in(self.parcels.as_slice(), parcel.edge);
-        self.put(place, parcel);
+        self.put(place, &mut parcel);
     }
 
-    /// Hands out the parcel of this edge, if it is here and goes to the other part. It is looked for at place `hint` first.
-    pub fn leave(&mut self, edge: u32, hint: u32) -> Option<Parcel>
-        ensures value { result ≡ (if leaves edge (Some self.old) then Some (parcel_of_edge edge self.old) else None) }
-        ensures new { self.new ≡ (if leaves edge (Some self.old) then vacate_holding edge self.old else self.old) }
+    /// Brings the parcel of this edge to another part, if it is here and goes there, and says whether it is so. Where that part
+    /// isn't there, the parcel is dropped. It is looked for at place `hint` first, and its place there at `there`.
+    pub fn bring<Q: Part>(
+        &mut self,
+        edge: u32,
+        hint: u32,
+        to: &mut Lane<Q>,
+        part: u32,
+        there: u32,
+    ) -> bool
+        requires { leaves edge (Some self.old) ≡ true → IfSome (part_on part to.old) (λ h. IsTrueParcel h.plan (parcel_of_edge edge self.old)) }
+        ensures value { result ≡ leaves edge (Some self.old) }
+        ensures left { self.new ≡ (if leaves edge (Some self.old) then vacate_holding edge self.old else self.old) }
+        ensures come { to.new ≡ (if leaves edge (Some self.old) then received_on (parcel_of_edge edge self.old) part to.old else to.old) }
     {
         let place = self.place_of(edge, hint);
         if self.leaves(place, edge) {
-            Some(self.hand_out(place, edge))
+            self.hand_over(place, edge, to, part, there);
+            true
         } else {
-            None
+            false
         }
     }
 
-    /// Puts a parcel in its place, if there is one, and drops it otherwise. The place is looked for at `hint` first.
-    pub fn receive(&mut self, parcel: Parcel, hint: u32)
-        requires { IsTrueParcel self.old.plan parcel }
-        ensures { self.new ≡ (if has_place parcel.edge (Some self.old) then take_holding parcel self.old else self.old) }
+    /// Puts a parcel in its place, if there is one, and hands out what lay there. The place is looked for at `hint` first.
+    pub fn receive(&mut self, parcel: &mut Parcel, hint: u32)
+        requires { IsTrueParcel self.old.plan parcel.old }
+        ensures new { self.new ≡ (if has_place parcel.old.edge (Some self.old) then take_holding parcel.old self.old else self.old) }
+        ensures edge { parcel.new.edge ≡ parcel.old.edge }
     {
         let place = self.place_of(parcel.edge, hint);
         if place < self.parcels.len() {
@@ -274,15 +288,38 @@ impl<P: Part> Holder<P> {
         replace(&mut self.parcels[place], absent)
     }
 
-    /// Puts a parcel in its place, which is known.
-    fn put(&mut self, place: usize, parcel: Parcel)
-        requires edge { has_edge (edges_of_parcels self.old.parcels) parcel.edge ≡ true }
-        requires place { place ≡ place_of_edge parcel.edge self.old }
-        requires honest { IsTrueParcel self.old.plan parcel }
-        ensures { self.new ≡ take_holding parcel self.old }
+    /// Brings the parcel of this edge, whose place is known, to another part, and drops it where that isn't there.
+    fn hand_over<Q: Part>(
+        &mut self,
+        here: usize,
+        edge: u32,
+        to: &mut Lane<Q>,
+        part: u32,
+        there: u32,
+    )
+        requires edge { has_edge (edges_of_parcels self.old.parcels) edge ≡ true }
+        requires place { here ≡ place_of_edge edge self.old }
+        requires honest { IfSome (part_on part to.old) (λ h. IsTrueParcel h.plan (parcel_of_edge edge self.old)) }
+        ensures left { self.new ≡ vacate_holding edge self.old }
+        ensures come { to.new ≡ received_on (parcel_of_edge edge self.old) part to.old }
+    {
+        let segment = self.segment;
+        let parcel = &mut self.parcels[here];
+        to.receive(part, parcel, there);
+        empty(parcel, segment, 0);
+        self.away[here] = true;
+    }
+
+    /// Puts a parcel in its place, which is known, and hands out what lay there.
+    fn put(&mut self, place: usize, parcel: &mut Parcel)
+        requires edge { has_edge (edges_of_parcels self.old.parcels) parcel.old.edge ≡ true }
+        requires place { place ≡ place_of_edge parcel.old.edge self.old }
+        requires honest { IsTrueParcel self.old.plan parcel.old }
+        ensures new { self.new ≡ take_holding parcel.old self.old }
+        ensures edge { parcel.new.edge ≡ parcel.old.edge }
     {
         self.away[place] = false;
-        self.parcels[place] = parcel;
+        swap(&mut self.parcels[place], parcel);
     }
 
     /// The part alone.

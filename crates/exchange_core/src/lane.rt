@@ -3,13 +3,20 @@ ghost use Rattle.std.specs.Prelude.{◌≡◌, ◌<◌, ◌≤◌, ◌+◌, ◌+
 ghost use Rattle.net_parts.specs.declared.parcel.Parcel.{Parcel};
 ghost use Rattle.net_parts.specs.Parcels.{IsTrueParcel};
 ghost use Rattle.exchange_core.specs.Holdings.{Holding, IsHoldingReady, IsHoldingClean, reserved_holding, refused_holding, run_holding, spoil_holding, vacate_holding, take_holding};
-ghost use Rattle.exchange_core.specs.Shares.{Rack, part_on, is_owned, changed, change_on, has_place, may_post, leaves, parcel_in, widened, add_on, handed, handed_as, handed_out, IsAddedInOrder};
+ghost use Rattle.exchange_core.specs.Shares.{Rack, part_on, is_owned, changed, change_on, has_place, may_post, leaves, parcel_in, received_on, widened, add_on, handed, handed_as, handed_out, IsAddedInOrder};
 
 use crate::holder::Holder;
 use lists::OutOfMemory;
 use net_parts::{Parcel, Part};
 use std::alloc::Global;
 use std::marker::Model;
+
+/// Where the parcel of an edge belongs: a part's number, and the place there where it is looked for first.
+#[derive(Clone, Copy)]
+pub struct Spot {
+    pub part: u32,
+    pub place: u32,
+}
 
 /// Parts of one kind, each at the place of its number, and room to hand them out in the order in which they were added.
 #[derive(Drop)]
@@ -176,23 +183,26 @@ impl<P: Part> Lane<P> {
         unreachable!()
     }
 
-    /// Hands out the parcel of an edge, if it is at a part that has the edge, and goes to the other part. It is looked for at place
-    /// `hint` first.
-    pub fn leave(&mut self, part: u32, edge: u32, hint: u32) -> Option<Parcel>
-        ensures value { result ≡ (if leaves edge (part_on part self.old) then Some (parcel_in edge (part_on part self.old)) else None) }
-        ensures new { self.new ≡ (if leaves edge (part_on part self.old) then change_on (vacate_holding edge) part self.old else self.old) }
+    /// Brings the parcel of an edge to a part of the other kind, if it is at this part, which has the edge, and goes there, and
+    /// says whether it is so. Where that part isn't there, the parcel is dropped. It is looked for at the places that are given.
+    pub fn bring<Q: Part>(&mut self, from: Spot, edge: u32, to: &mut Lane<Q>, at: Spot) -> bool
+        requires { leaves edge (part_on from.part self.old) ≡ true → IfSome (part_on at.part to.old) (λ h. IsTrueParcel h.plan (parcel_in edge (part_on from.part self.old))) }
+        ensures value { result ≡ leaves edge (part_on from.part self.old) }
+        ensures left { self.new ≡ (if leaves edge (part_on from.part self.old) then change_on (vacate_holding edge) from.part self.old else self.old) }
+        ensures come { to.new ≡ (if leaves edge (part_on from.part self.old) then received_on (parcel_in edge (part_on from.part self.old)) at.part to.old else to.old) }
     {
-        let part = part as usize;
+        let part = from.part as usize;
         if part < self.places.len() {
-            return leave_at(&mut self.places[part], edge, hint);
+            return bring_at(&mut self.places[part], edge, from.place, to, at);
         }
-        None
+        false
     }
 
-    /// Puts a parcel to a part that has its edge, and drops it where the part doesn't. The place is looked for at `hint` first.
-    pub fn receive(&mut self, part: u32, parcel: Parcel, hint: u32)
-        requires { IfSome (part_on part self.old) (λ h. IsTrueParcel h.plan parcel) }
-        ensures { self.new ≡ (if has_place parcel.edge (part_on part self.old) then change_on (take_holding parcel) part self.old else self.old) }
+    /// Puts a parcel to a part that has its edge, and hands out what lay there. The place is looked for at `hint` first.
+    pub fn receive(&mut self, part: u32, parcel: &mut Parcel, hint: u32)
+        requires { IfSome (part_on part self.old) (λ h. IsTrueParcel h.plan parcel.old) }
+        ensures new { self.new ≡ received_on parcel.old part self.old }
+        ensures edge { parcel.new.edge ≡ parcel.old.edge }
     {
         let part = part as usize;
         if part < self.places.len() {
@@ -326,21 +336,31 @@ fn take_at<P: Part>(place: &mut Option<Holder<P>>, parcel: Parcel)
     }
 }
 
-/// Hands out the parcel of an edge of the part in this place, if it is there and goes to the other part.
-fn leave_at<P: Part>(place: &mut Option<Holder<P>>, edge: u32, hint: u32) -> Option<Parcel>
-    ensures value { result ≡ (if leaves edge place.old then Some (parcel_in edge place.old) else None) }
-    ensures new { place.new ≡ (if leaves edge place.old then changed (vacate_holding edge) place.old else place.old) }
+/// Brings the parcel of an edge of the part in this place to one of the other kind, if it is there and goes to that, and says
+/// whether it is so.
+fn bring_at<P: Part, Q: Part>(
+    place: &mut Option<Holder<P>>,
+    edge: u32,
+    hint: u32,
+    to: &mut Lane<Q>,
+    at: Spot,
+) -> bool
+    requires { leaves edge place.old ≡ true → IfSome (part_on at.part to.old) (λ h. IsTrueParcel h.plan (parcel_in edge place.old)) }
+    ensures value { result ≡ leaves edge place.old }
+    ensures left { place.new ≡ (if leaves edge place.old then changed (vacate_holding edge) place.old else place.old) }
+    ensures come { to.new ≡ (if leaves edge place.old then received_on (parcel_in edge place.old) at.part to.old else to.old) }
 {
     match place {
-        Some(holder) => holder.leave(edge, hint),
-        None => None,
+        Some(holder) => holder.bring(edge, hint, to, at.part, at.place),
+        None => false,
     }
 }
 
-/// Puts a parcel to the part in this place, if that has its edge.
-fn receive_at<P: Part>(place: &mut Option<Holder<P>>, parcel: Parcel, hint: u32)
-    requires { IfSome place.old (λ h. IsTrueParcel h.plan parcel) }
-    ensures { place.new ≡ (if has_place parcel.edge place.old then changed (take_holding parcel) place.old else place.old) }
+/// Puts a parcel to the part in this place, if that has its edge, and hands out what lay there.
+fn receive_at<P: Part>(place: &mut Option<Holder<P>>, parcel: &mut Parcel, hint: u32)
+    requires { IfSome place.old (λ h. IsTrueParcel h.plan parcel.old) }
+    ensures new { place.new ≡ (if has_place parcel.old.edge place.old then changed (take_holding parcel.old) place.old else place.old) }
+    ensures edge { parcel.new.edge ≡ parcel.old.edge }
 {
     if let Some(holder) = place {
         holder.receive(parcel, hint);

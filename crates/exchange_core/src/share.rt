@@ -9,7 +9,7 @@ ghost use Rattle.exchange_core.specs.Holdings.{Holding, IsHoldingReady, IsHoldin
 ghost use Rattle.exchange_core.specs.Shares.{Held, nothing_held, part_of, owns, is_owned, change, is_refilled, posted_parcel, post_held, has_place_for, take_held, may_post, first_with_edge, carry_held, with_segment, with_repeater, handed_as, handed_out, IsOfPlan, HasNoneOf, AreParcelsFor, IsSoundShare};
 
 use crate::holder::Holder;
-use crate::lane::Lane;
+use crate::lane::{Lane, Spot};
 use lists::OutOfMemory;
 use net_parts::{Parcel, ParcelList, Part};
 use std::alloc::Global;
@@ -275,17 +275,18 @@ impl<S: Part, R: Part> Share<S, R> {
         ensures when { result ≡ may_post edge (first_with_edge edge self.old.segments.places) }
         ensures new { self.new ≡ (if may_post edge (first_with_edge edge self.old.segments.places) then carry_held edge self.old else self.old) }
     {
-        let segment = owner(self.segment_of.as_slice(), edge);
-        let repeater = owner(self.repeater_of.as_slice(), edge);
-        let here = owner(self.segment_place.as_slice(), edge);
-        let there = owner(self.repeater_place.as_slice(), edge);
-        match self.segments.leave(segment, edge, here) {
-            Some(parcel) => {
-                self.repeaters.receive(repeater, parcel, there);
-                true
-            }
-            None => false,
-        }
+        let segment = spot(
+            self.segment_of.as_slice(),
+            self.segment_place.as_slice(),
+            edge,
+        );
+        let repeater = spot(
+            self.repeater_of.as_slice(),
+            self.repeater_place.as_slice(),
+            edge,
+        );
+        self.segments
+            .bring(segment, edge, &mut self.repeaters, repeater)
     }
 
     /// Brings the parcel of an edge from its repeater to its segment, and says whether it was at the repeater and goes there.
@@ -293,17 +294,18 @@ impl<S: Part, R: Part> Share<S, R> {
         ensures when { result ≡ may_post edge (first_with_edge edge self.old.repeaters.places) }
         ensures new { self.new ≡ (if may_post edge (first_with_edge edge self.old.repeaters.places) then carry_held edge self.old else self.old) }
     {
-        let segment = owner(self.segment_of.as_slice(), edge);
-        let repeater = owner(self.repeater_of.as_slice(), edge);
-        let here = owner(self.repeater_place.as_slice(), edge);
-        let there = owner(self.segment_place.as_slice(), edge);
-        match self.repeaters.leave(repeater, edge, here) {
-            Some(parcel) => {
-                self.segments.receive(segment, parcel, there);
-                true
-            }
-            None => false,
-        }
+        let segment = spot(
+            self.segment_of.as_slice(),
+            self.segment_place.as_slice(),
+            edge,
+        );
+        let repeater = spot(
+            self.repeater_of.as_slice(),
+            self.repeater_place.as_slice(),
+            edge,
+        );
+        self.repeaters
+            .bring(repeater, edge, &mut self.segments, segment)
     }
 
     /// The parts in the order in which they were added, which takes no memory. The parcels are dropped.
@@ -330,6 +332,16 @@ fn owner(owners: &[u32], edge: u32) -> u32
 {
     let edge = edge as usize;
     if edge < owners.len() { owners[edge] } else { 0 }
+}
+
+/// Where the parcel of this edge belongs, as is kept, or the first place of part 0.
+fn spot(owners: &[u32], places: &[u32], edge: u32) -> Spot
+    ensures { result.part ≡ slice_index_or owners.now edge 0 }
+{
+    Spot {
+        part: owner(owners, edge),
+        place: owner(places, edge),
+    }
 }
 
 /// Keeps the number of the part that has these edges, and the place of each among them. On refusal what is kept of other edges

@@ -4,6 +4,8 @@
 #[cfg(test)]
 mod fake_part;
 #[cfg(test)]
+mod lines;
+#[cfg(test)]
 mod orders;
 #[cfg(test)]
 mod parcels;

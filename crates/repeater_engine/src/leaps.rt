@@ -25,15 +25,28 @@ fn class_of(symbol: Sym) -> Sym
     }
 }
 
-/// Whether all symbols are of the class that this one names. None is the last that is looked at, so that many are at once.
-fn all_of(symbols: &[Sym], class: Sym) -> bool
-    ensures { IsTrue result → (j : ℕ) → j < length symbols.now → class_of (slice_index_or symbols.now j Idle) ≡ class }
+/// The other symbol of the same class: of a level the other level, and else the symbol itself.
+fn twin_of(symbol: Sym) -> Sym
+    ensures { class_of result ≡ class_of symbol }
 {
-    let mut same = true;
-    for j in 0..symbols.len() {
-        same &= class_of(symbols[j]) == class;
+    match symbol {
+        Sym::Hi => Sym::Lo,
+        Sym::Lo => Sym::Hi,
+        other => other,
     }
-    same
+}
+
+/// Whether all symbols are one of these two, which are of one class. None is the last that is looked at, so that many are at
+/// once.
+fn all_of(symbols: &[Sym], one: Sym, twin: Sym) -> bool
+    requires { class_of twin ≡ class_of one }
+    ensures { IsTrue result → (j : ℕ) → j < length symbols.now → class_of (slice_index_or symbols.now j Idle) ≡ class_of one }
+{
+    let mut all = true;
+    for j in 0..symbols.len() {
+        all &= (symbols[j] == one) | (symbols[j] == twin);
+    }
+    all
 }
 
 /// How many symbols come before the first of another class than this one's.
@@ -42,10 +55,10 @@ fn alike_in(symbols: &[Sym], first: Sym) -> usize
     ensures alike { (j : ℕ) → j < result → class_of (slice_index_or symbols.now j Idle) ≡ class_of first }
     ensures differs { result < length symbols.now → class_of (slice_index_or symbols.now result Idle) ≢ class_of first }
 {
-    let class = class_of(first);
-    if all_of(symbols, class) {
+    if all_of(symbols, first, twin_of(first)) {
         return symbols.len();
     }
+    let class = class_of(first);
     for j in 0..symbols.len() {
         if class_of(symbols[j]) != class {
             return j;

@@ -1,5 +1,5 @@
 -- The stations of a segment, one after another.
-use Rattle.std.proofs.Common.{◌≡◌, ℕ, suc, ◌+◌, ◌<◌, ◌≤◌, List, [], ◌∷◌, ◌++◌, length, map, take, drop, set, get_or, sym, subst, ap, ap₂, ◌∙◌, arith, append_assoc, drop-cons, get_or-set_same, length-set}
+use Rattle.std.proofs.Common.{◌≡◌, ℕ, ◌+◌, ◌<◌, ◌≤◌, List, [], ◌∷◌, ◌++◌, length, map, take, drop, set, get_or, sym, subst, ap, ap₂, ◌∙◌, arith, append_assoc, get_or-set_same, length-set}
 use Rattle.std.proofs.lemmas.List.{take_more_set, drop-set-lt, take-set, map-append, append-nil, drop_all, take_all}
 use Rattle.manchester_line.specs.declared.Sym.{Sym}
 use Rattle.manchester_line.specs.declared.Sym.TheVariants.{Idle}

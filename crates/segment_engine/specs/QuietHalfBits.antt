@@ -1,6 +1,6 @@
 -- Half bits in which nothing happens on a segment: all lines are Idle, no station sends or begins to, and no reception
 -- is under way (profile). Half bits and taps count from 0.
-use Rattle.std.specs.Prelude.{ℕ, ◌≡◌, ◌≤◌, ◌<◌, ◌-◌, All, false, List, length}
+use Rattle.std.specs.Prelude.{ℕ, ◌≡◌, ◌≤◌, ◌-◌, All, false, List, length}
 use Rattle.manchester_line.specs.declared.Sym.{Sym}
 use Rattle.mac_receive.specs.KeptReceiver.{Kept}
 use Rattle.mac_transmit.specs.Sender.{Sender, is_sending}

@@ -1,5 +1,5 @@
 //! What stations emit in the half bits ahead, if nothing happens to them.
-ghost use Rattle.std.specs.Prelude.{◌≡◌, ◌≤◌, ◌<◌, ◌+◌, ◌^◌, ℕ, true, All, length, slice_index_or};
+ghost use Rattle.std.specs.Prelude.{◌≡◌, ◌≤◌, ◌<◌, ◌+◌, ◌^◌, ℕ, true, All, length, take, slice_index_or};
 ghost use Rattle.manchester_line.specs.Line.{is_signal as is_signal_of};
 ghost use Rattle.mac_transmit.specs.Emissions.{emission_by};
 ghost use Rattle.mac_transmit.specs.Sender.{Sender, jam_start, line_at, symbol_of, is_sending as is_sending_in};
@@ -55,32 +55,55 @@ fn sending_symbol(octets: &[u8], hit: Option<u32>, p: u64) -> Sym
     }
 }
 
+/// Writes the symbols of a sending from position `p` on into a piece, as long as they are a signal. It answers how many.
+fn write_ahead(octets: &[u8], hit: Option<u32>, p: u64, piece: &mut [Sym]) -> usize
+    requires length { length octets.now ≤ 1600 }
+    requires place { p + length piece.old < 2 ^ 32 }
+    ensures within { result ≤ length piece.old }
+    ensures text { take result piece.new ≡ span (λ j. symbol_of octets.now hit (p + j)) 0 result }
+    ensures signal { (j : ℕ) → j < result → is_signal_of (symbol_of octets.now hit (p + j)) ≡ true }
+{
+    for j in 0..piece.len() {
+        let s = sending_symbol(octets, hit, p + j as u64);
+        if !is_signal(s) {
+            return j;
+        }
+        piece[j] = s;
+    }
+    piece.len()
+}
+
 /// Puts the symbols of a sending from position `p` on behind a line's, as long as they are a signal and at most so many. It
-/// answers how many.
-fn send_ahead(octets: &[u8], hit: Option<u32>, p: u64, count: u32, line: &mut Line) -> u32
+/// answers how many, and writes them at the front of a piece first.
+fn send_ahead(
+    octets: &[u8],
+    hit: Option<u32>,
+    p: u64,
+    count: u32,
+    line: &mut Line,
+    piece: &mut [Sym],
+) -> u32
     requires length { length octets.now ≤ 1600 }
     requires place { p + count < 2 ^ 32 }
     requires room { count ≤ line.old.room }
+    requires piece { count ≤ length piece.old }
     ensures within { result ≤ count }
     ensures line { line.new ≡ line_extended line.old (span (λ j. symbol_of octets.now hit (p + j)) 0 result) }
     ensures signal { (j : ℕ) → j < result → is_signal_of (symbol_of octets.now hit (p + j)) ≡ true }
 {
-    for j in 0..count {
-        let s = sending_symbol(octets, hit, p + u64::from(j));
-        if !is_signal(s) {
-            return j;
-        }
-        line.push(s);
-    }
-    count
+    let part = &mut piece[..count as usize];
+    let told = write_ahead(octets, hit, p, part);
+    line.extend(&part[..told]);
+    told as u32
 }
 
 /// Puts on a station's line what its sending has for the half bits from `t` on, as long as that is a signal and at most so many.
 /// It answers how many.
-fn send_on(t: u64, count: u32, sender: &Transmitter, line: &mut Line) -> u32
+fn send_on(t: u64, count: u32, sender: &Transmitter, line: &mut Line, piece: &mut [Sym]) -> u32
     requires time { t ≡ sender.now.t }
     requires in_time { t + count ≤ 2000000000 }
     requires room { count ≤ line.old.room }
+    requires piece { count ≤ length piece.old }
     ensures within { result ≤ count }
     ensures line { line.new ≡ line_extended line.old (sent_ahead sender.now result) }
     ensures signal { (j : ℕ) → j < result → is_signal_of (emission_by sender.now j sender.now.phase) ≡ true }
@@ -94,21 +117,22 @@ fn send_on(t: u64, count: u32, sender: &Transmitter, line: &mut Line) -> u32
     let Some(frame) = sender.frame() else {
         return 0;
     };
-    send_ahead(frame.octets(), hit, t - start, count, line)
+    send_ahead(frame.octets(), hit, t - start, count, line, piece)
 }
 
 /// Puts on a station's line what it emits in the half bits from `t` on, at most so many, if nothing happens to its sender. It
 /// answers for how many.
-fn go_ahead(t: u64, count: u32, sender: &Transmitter, line: &mut Line) -> u32
+fn go_ahead(t: u64, count: u32, sender: &Transmitter, line: &mut Line, piece: &mut [Sym]) -> u32
     requires time { t ≡ sender.now.t }
     requires in_time { t + count ≤ 2000000000 }
     requires room { count ≤ line.old.room }
+    requires piece { count ≤ length piece.old }
     ensures within { result ≤ count }
     ensures line { line.new ≡ line_extended line.old (sent_ahead sender.now result) }
     ensures signal { (j : ℕ) → j < result → is_signal_of (emission_by sender.now j sender.now.phase) ≡ is_sending_in sender.now.phase }
 {
     if is_sending(sender) {
-        return send_on(t, count, sender, line);
+        return send_on(t, count, sender, line, piece);
     }
     line.rest(count as usize);
     count
@@ -116,10 +140,17 @@ fn go_ahead(t: u64, count: u32, sender: &Transmitter, line: &mut Line) -> u32
 
 /// Puts on the line of each station what it emits in the half bits from `t` on, at most so many, if nothing happens to its
 /// sender: those lines come first. It answers for how many half bits all of them have that.
-pub fn emit_ahead(t: u64, count: u32, senders: &[Transmitter], lines: &mut [Line]) -> u32
+pub fn emit_ahead(
+    t: u64,
+    count: u32,
+    senders: &[Transmitter],
+    lines: &mut [Line],
+    piece: &mut [Sym],
+) -> u32
     requires few { length senders.now ≤ length lines.old }
     requires times { All (λ s. s.t ≡ t) senders.now }
     requires in_time { t + count ≤ 2000000000 }
+    requires piece { count ≤ length piece.old }
     requires room { (r : ℕ) (d : TapLine) → r < length senders.now → count ≤ (slice_index_or lines.old r d).room }
     ensures within { result ≤ count }
     ensures told { (r : ℕ) (d : TapLine) (e : Sender) → r < length senders.now →
@@ -130,7 +161,7 @@ pub fn emit_ahead(t: u64, count: u32, senders: &[Transmitter], lines: &mut [Line
     let mut ahead = count;
     for r in 0..senders.len() {
         let line = &mut lines[r];
-        ahead = ahead.min(go_ahead(t, count, &senders[r], line));
+        ahead = ahead.min(go_ahead(t, count, &senders[r], line, piece));
     }
     ahead
 }

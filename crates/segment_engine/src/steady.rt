@@ -17,6 +17,7 @@ ghost use Rattle.tap_lines.specs.TapLines.{heard_for, IsOnlySource, IsReachOf, h
 ghost use Rattle.window_room.specs.NeededRoom.{Covers, stations_demand};
 
 use crate::ahead::emit_ahead;
+use crate::hearing::hear_tap;
 use crate::quiet::is_sending;
 use crate::running::Running;
 use crate::segment::Segment;
@@ -24,7 +25,7 @@ use mac_receive::Receiver;
 use mac_transmit::Transmitter;
 use manchester_line::{Sym, is_signal};
 use net_parts::Parcel;
-use tap_lines::{Line, cut_all, hear_piece, only_source, piece_of, steady_ahead};
+use tap_lines::{Line, cut_all, only_source, piece_of, steady_ahead};
 
 /// Whether no reception ends at a station that hears a signal, or Idle, as `carrier` says.
 fn is_ready(sender: &Transmitter, receiver: &Receiver, carrier: bool) -> bool
@@ -99,7 +100,7 @@ fn take_one(
     } else if let Some(heard) = piece_of(lines, source, p, lookahead, far, t, piece.len()) {
         receiver.take(heard);
     } else {
-        hear_piece(lines, p, lookahead, far, t, piece);
+        hear_tap(lines, source, p, lookahead, far, t, piece);
         receiver.take(piece);
     }
 }
@@ -170,7 +171,7 @@ fn put_all(
         if let Some(heard) = piece_of(lines, source, from + p, lookahead, far, t, piece.len()) {
             parcel.symbols.put(k, heard);
         } else {
-            hear_piece(lines, from + p, lookahead, far, t, piece);
+            hear_tap(lines, source, from + p, lookahead, far, t, piece);
             parcel.symbols.put(k, piece);
         }
     }
@@ -228,43 +229,26 @@ pub fn leap_steady(
         HaveLinesRoom of.now.plan.value of.now.number n state.new.lines.items }
 {
     let t = state.t;
+    let far = state.far;
+    let lookahead = of.lookahead;
     let stations = of.stations.len();
-    let ahead = emit_ahead(t, count, &state.senders, &mut state.lines);
-    let source = only_source(&state.lines, t.saturating_sub(state.far));
     let piece: &mut [Sym] = &mut state.piece;
-    let steady = steady_ahead(
-        &state.lines,
-        stations,
-        source,
-        of.lookahead,
-        state.far,
-        t,
-        &state.heard,
-        &mut piece[..ahead as usize],
-    );
+    let ahead = emit_ahead(t, count, &state.senders, &mut state.lines, piece);
+    let lines: &[Line] = &state.lines;
+    let heard: &[Sym] = &state.heard;
+    let source = only_source(lines, t.saturating_sub(far));
+    let part = &mut piece[..ahead as usize];
+    let steady = steady_ahead(lines, stations, source, lookahead, far, t, heard, part);
+    let senders: &[Transmitter] = &state.senders;
+    let receivers: &mut [Receiver] = &mut state.receivers;
+    let part = &mut piece[..steady];
     take_all(
-        t,
-        &state.lines,
-        source,
-        of.lookahead,
-        state.far,
-        &state.heard,
-        &state.senders,
-        &mut state.receivers,
-        &mut piece[..steady],
+        t, lines, source, lookahead, far, heard, senders, receivers, part,
     );
     put_all(
-        t,
-        k as usize,
-        &state.lines,
-        source,
-        stations,
-        of.lookahead,
-        state.far,
-        parcels,
-        &mut piece[..steady],
+        t, k as usize, lines, source, stations, lookahead, far, parcels, part,
     );
-    leap_all(t, steady as u32, &state.heard, &mut state.senders);
+    leap_all(t, steady as u32, heard, &mut state.senders);
     cut_all(&mut state.lines, stations, t + steady as u64);
     state.t = t + steady as u64;
     steady as u32

@@ -36,9 +36,48 @@ fn begin(of: &Segment, window: u64, state: &mut Running, parcels: &[Parcel])
     take_in(&mut state.lines, of.stations.len(), parcels);
 }
 
-/// Half bits of a window of a segment from half bit `k` on, from 0, at most `most`, in which each station goes on with what it
-/// does: what they emit is told ahead for at most `ahead` of them. It answers how many.
-fn go_steadily(
+/// Half bits of a window of a segment from half bit `k` on, from 0, at most `most`, in which each station hears what it was
+/// last said to hear, a signal or Idle, and goes on with what it does: what they emit is told ahead for at most `ahead` of
+/// them. It answers how many.
+fn go_as_heard(
+    of: &Segment,
+    window: u64,
+    k: u32,
+    most: u32,
+    ahead: u32,
+    state: &mut Running,
+    parcels: &mut [Parcel],
+) -> u32
+    requires at { IsRunningAt of.now.plan.value of.now.number ((window + 1) * of.now.lookahead) state.old }
+    requires time { state.old.t ≡ window * of.now.lookahead + k }
+    requires some { 0 < most }
+    requires within { k + most ≤ of.now.lookahead }
+    requires in_time { state.old.t + most ≤ 2000000000 }
+    requires parcels { parcels.old
+        ≡ map (half_filled of.now.plan.value of.now.lookahead window k) (wiring of.now.plan.value.layout of.now.number).edges }
+    requires lines { HaveLinesRoom of.now.plan.value of.now.number most state.old.lines.items }
+    ensures within { result ≤ most }
+    ensures at { IsRunningAt of.now.plan.value of.now.number ((window + 1) * of.now.lookahead) state.new }
+    ensures time { state.new.t ≡ state.old.t + result }
+    ensures parcels { parcels.new
+        ≡ map (half_filled of.now.plan.value of.now.lookahead window (k + result)) (wiring of.now.plan.value.layout of.now.number).edges }
+    ensures room { (n : ℕ) →
+        Covers (stations_demand (n + result) state.old.senders.items state.old.receivers.items) state.old.room →
+        Covers (stations_demand n state.new.senders.items state.new.receivers.items) state.new.room }
+    ensures lines { (n : ℕ) → HaveLinesRoom of.now.plan.value of.now.number (n + result) state.old.lines.items →
+        HaveLinesRoom of.now.plan.value of.now.number n state.new.lines.items }
+{
+    let t = state.t;
+    let most = (most.min(ahead) as usize).min(state.piece.len()) as u32;
+    let calm = calm_ahead(t, &state.heard, &state.senders, &state.receivers, most);
+    if calm == 0 {
+        return 0;
+    }
+    leap_steady(of, window, k, calm, state, parcels)
+}
+
+/// The same after all taps have heard half bit `k`.
+fn hear_and_go(
     of: &Segment,
     window: u64,
     k: u32,
@@ -68,12 +107,48 @@ fn go_steadily(
 {
     let t = state.t;
     hear_all(&state.lines, of.lookahead, state.far, t, &mut state.heard);
-    let most = (most.min(ahead) as usize).min(state.piece.len()) as u32;
-    let calm = calm_ahead(t, &state.heard, &state.senders, &state.receivers, most);
-    if calm == 0 {
-        return 0;
+    go_as_heard(of, window, k, most, ahead, state, parcels)
+}
+
+/// Half bits of a window of a segment from half bit `k` on, from 0, at most `most`, in which each station goes on with what it
+/// does: what they emit is told ahead for at most `ahead` of them. It answers how many. At the front of a window the stations
+/// mostly hear what they heard before, so that is tried first.
+fn go_steadily(
+    of: &Segment,
+    window: u64,
+    k: u32,
+    most: u32,
+    ahead: u32,
+    state: &mut Running,
+    parcels: &mut [Parcel],
+) -> u32
+    requires at { IsRunningAt of.now.plan.value of.now.number ((window + 1) * of.now.lookahead) state.old }
+    requires time { state.old.t ≡ window * of.now.lookahead + k }
+    requires some { 0 < most }
+    requires within { k + most ≤ of.now.lookahead }
+    requires in_time { state.old.t + most ≤ 2000000000 }
+    requires parcels { parcels.old
+        ≡ map (half_filled of.now.plan.value of.now.lookahead window k) (wiring of.now.plan.value.layout of.now.number).edges }
+    requires lines { HaveLinesRoom of.now.plan.value of.now.number most state.old.lines.items }
+    ensures within { result ≤ most }
+    ensures at { IsRunningAt of.now.plan.value of.now.number ((window + 1) * of.now.lookahead) state.new }
+    ensures time { state.new.t ≡ state.old.t + result }
+    ensures parcels { parcels.new
+        ≡ map (half_filled of.now.plan.value of.now.lookahead window (k + result)) (wiring of.now.plan.value.layout of.now.number).edges }
+    ensures room { (n : ℕ) →
+        Covers (stations_demand (n + result) state.old.senders.items state.old.receivers.items) state.old.room →
+        Covers (stations_demand n state.new.senders.items state.new.receivers.items) state.new.room }
+    ensures lines { (n : ℕ) → HaveLinesRoom of.now.plan.value of.now.number (n + result) state.old.lines.items →
+        HaveLinesRoom of.now.plan.value of.now.number n state.new.lines.items }
+{
+    if k > 0 {
+        return hear_and_go(of, window, k, most, ahead, state, parcels);
     }
-    leap_steady(of, window, k, calm, state, parcels)
+    let steady = go_as_heard(of, window, k, most, ahead, state, parcels);
+    if steady > 0 {
+        return steady;
+    }
+    hear_and_go(of, window, k, most, ahead, state, parcels)
 }
 
 /// Half bits of a window of a segment from half bit `k` on, from 0, at least one and at most `most`: as many as nothing

@@ -1,14 +1,11 @@
 -- Lines that are extended and slide.
-use Rattle.std.proofs.Common.{◌≡◌, ℕ, zero, suc, min, ◌+◌, ◌-◌, ◌<◌, ◌≤◌, true, false, ltb, inl, inr, List, [], ◌∷◌, ◌++◌, replicate, take, drop, length, length-append, length-drop, length-take-le, get_or, sym, ap, ap₂, ◌∙◌, arith, append_assoc}
+use Rattle.std.proofs.Common.{◌≡◌, ℕ, zero, suc, min, ◌+◌, ◌-◌, ◌<◌, ◌≤◌, true, false, ltb, inl, inr, List, [], ◌∷◌, ◌++◌, replicate, take, drop, length, length-append, length-drop, length-take-le, get_or, sym, ap, ◌∙◌, arith, append_assoc}
 use Rattle.std.proofs.lemmas.Bool.{cases_lt}
 use Rattle.std.proofs.lemmas.List.{append-nil, length-replicate, drop-replicate, same_lists, get_or-take, get_or-drop}
 use Rattle.std.proofs.lemmas.Bool.Decides.{nat_tests}
 use Rattle.manchester_line.specs.declared.Sym.{Sym}
 use Rattle.manchester_line.specs.declared.Sym.TheVariants.{Idle}
-use Rattle.net_parts.specs.Machines.{span}
-use Rattle.net_parts.proofs.LateRows.{if_true}
-use Rattle.net_parts.proofs.RepeaterSteps.{length-span, get_or-span}
-use Rattle.tap_lines.specs.TapLines.{TapLine, reach, symbol_on, line_extended, dropped_from, slid}
+use Rattle.tap_lines.specs.TapLines.{TapLine, reach, line_extended, slid}
 
 -- a line that is extended twice
 pub extended_more : (l : TapLine) (xs ys : List Sym) → line_extended (line_extended l xs) ys ≡ line_extended l (xs ++ ys)

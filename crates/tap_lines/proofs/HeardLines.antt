@@ -1,7 +1,8 @@
 -- What a tap hears, line after line.
 use Rattle.std.proofs.Common.{◌≡◌, ◌≢◌, ℕ, zero, suc, ◌+◌, ◌-◌, ◌<◌, ◌≤◌, Bool, true, false, cond, eqb, inl, inr, List, [], ◌∷◌, drop, length, get_or, refl, sym, ap, ap₂, ◌∙◌, arith}
 use Rattle.std.proofs.lemmas.List.{drop_all, same_lists, get_or_default}
-use Rattle.std.proofs.lemmas.Bool.{cases_lt}
+use Rattle.std.proofs.lemmas.Bool.{cases_lt, ne_eqb}
+use Rattle.std.proofs.lemmas.Bool.Decides.{nat_tests}
 use Rattle.manchester_line.specs.declared.Sym.{Sym}
 use Rattle.manchester_line.specs.declared.Sym.TheVariants.{Idle, Hi, Lo, Clash}
 use Rattle.manchester_line.specs.Line.{mix_of}
@@ -133,3 +134,27 @@ only_heard L t far u p q ls within hp only late =
     ap (λ n. cond (eqb n p) Idle (earlier (symbol_on (get_or ls i no_line)) u (half_bits_back L at (get_or ls i no_line)))) first
     ∙ silent_line L u far p i ls within hp m (λ v after. only.others i v m other (omega (arith, late, after))))
     ∙ ap (λ n. cond (eqb n p) Idle (earlier (symbol_on (get_or ls q no_line)) u (half_bits_back L at (get_or ls q no_line)))) none
+
+-- the same, where it isn't the tap's own
+pub other_heard : (L t far u p q : ℕ) (ls : List TapLine) → IsReachOf far L ls → p < length ls → IsOnlySource (t - far) ls q → t ≤ u → q ≢ p →
+    heard_by_lines L u ls p ≡ earlier (symbol_on (get_or ls q no_line)) u (half_bits_back L (get_or ls p no_line).at (get_or ls q no_line))
+other_heard L t far u p q ls within hp only late differs =
+    only_heard L t far u p q ls within hp only late
+    ∙ ap (λ b. cond b Idle (earlier (symbol_on (get_or ls q no_line)) u (half_bits_back L (get_or ls p no_line).at (get_or ls q no_line)))) (ne_eqb q p differs)
+
+pub own_heard : (L t far u p q : ℕ) (ls : List TapLine) → IsReachOf far L ls → p < length ls → IsOnlySource (t - far) ls q → t ≤ u → q ≡ p →
+    heard_by_lines L u ls p ≡ Idle
+own_heard L t far u p q ls within hp only late own =
+    let same : eqb q p ≡ true = grind (arith, nat_tests, own) in
+    only_heard L t far u p q ls within hp only late
+    ∙ ap (λ b. cond b Idle (earlier (symbol_on (get_or ls q no_line)) u (half_bits_back L (get_or ls p no_line).at (get_or ls q no_line)))) same
+
+-- the same, as it is read from a line
+pub heard_back : (L t far u p q at back : ℕ) (ls : List TapLine) (tap line : TapLine) → IsReachOf far L ls → p < length ls → IsOnlySource (t - far) ls q → t ≤ u → q ≢ p →
+    tap ≡ get_or ls p no_line → line ≡ get_or ls q no_line → at ≡ tap.at → back ≡ half_bits_back L at line →
+    heard_by_lines L u ls p ≡ earlier (symbol_on line) u back
+heard_back L t far u p q at back ls tap line within hp only late differs tap_is line_is at_is back_is =
+    let there : at ≡ (get_or ls p no_line).at = at_is ∙ ap (λ (l : TapLine). l.at) tap_is in
+    let way : back ≡ half_bits_back L (get_or ls p no_line).at (get_or ls q no_line) = back_is ∙ ap₂ (λ x l. half_bits_back L x l) there line_is in
+    other_heard L t far u p q ls within hp only late differs
+    ∙ sym (ap₂ (λ l b. earlier (symbol_on l) u b) line_is way)

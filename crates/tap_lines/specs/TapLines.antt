@@ -8,6 +8,7 @@ use Rattle.manchester_line.specs.declared.Sym.TheVariants.{Idle}
 use Rattle.manchester_line.specs.Line.{mix_of}
 use Rattle.network.specs.Times.{earlier}
 use Rattle.net_parts.specs.Machines.{span}
+use Rattle.tap_lines.specs.Signals.{signals_end}
 
 -- The line of a tap that is at a place, in half bits from the segment's end: symbols of half bits one after another,
 -- the first of them for half bit `base`. What stands on it for a half bit the tap emits `delay` half bits later, less
@@ -84,6 +85,16 @@ line_cut u l = record l {
   symbols = take (u - l.base) l.symbols;
   room = l.room + (length l.symbols - (u - l.base));
 }
+
+-- Nothing but Idle stands on a line from half bit u on (profile).
+abbrev pub IsIdleFrom : ℕ → TapLine → Type 0
+IsIdleFrom u l = (v : ℕ) → u ≤ v → symbol_on l v ≡ Idle
+
+-- What stands on a line `back` half bits before the n half bits from t on is neither before its first symbol nor behind
+-- its last signal (profile).
+pub record IsWithinSignals (back t n : ℕ) (l : TapLine) : Type 0 where
+  pub begun : back + l.base ≤ t
+  pub ended : t + n ≤ back + l.base + signals_end l.symbols
 
 -- Nothing but Idle stands on these lines from half bit u on (profile).
 abbrev pub AreIdleFrom : ℕ → List TapLine → Type 0

@@ -5,6 +5,7 @@
 mod line;
 mod lines;
 mod pieces;
+mod runs;
 mod sources;
 
 pub use line::{Line, REACH};

@@ -1,15 +1,17 @@
 //! The line of a tap: the symbols of half bits one after another, the latest of which still reach other taps.
-ghost use Rattle.std.specs.Prelude.{◌≡◌, ◌<◌, ◌≤◌, ◌+◌, ◌-◌, ◌++◌, ◌^◌, ℕ, [], ◌∷◌, length, take, replicate, true, slice_index_or, IfOk, IfSome};
+ghost use Rattle.std.specs.Prelude.{◌≡◌, ◌≢◌, ◌<◌, ◌≤◌, ◌+◌, ◌-◌, ◌++◌, ◌^◌, ℕ, [], ◌∷◌, length, take, replicate, true, false, slice_index_or, IfOk, IfSome, IfNone};
 ghost use Rattle.manchester_line.specs.declared.Sym.{Sym};
 ghost use Rattle.manchester_line.specs.declared.Sym.TheVariants.{Idle};
 ghost use Rattle.manchester_line.specs.Line.{mix_of, is_signal as is_signal_of};
 ghost use Rattle.net_parts.specs.Machines.{span};
-ghost use Rattle.tap_lines.specs.TapLines.{line_cut, TapLine, symbol_on, half_bits_back, line_extended, slid};
+ghost use Rattle.tap_lines.specs.Signals.{signals_end};
+ghost use Rattle.tap_lines.specs.TapLines.{line_cut, IsIdleFrom, IsWithinSignals, TapLine, symbol_on, half_bits_back, line_extended, slid};
 ghost use Rattle.network.specs.Times.{earlier};
 
+use crate::runs::{end_of_signals, steady_from};
 use lists::OutOfMemory;
 use mac_parameters::{GREATEST_DELAY, GREATEST_PLACE};
-use manchester_line::{Sym, mix};
+use manchester_line::{Sym, is_signal, mix};
 use std::alloc::Global;
 use std::marker::Model;
 
@@ -18,7 +20,7 @@ pub const REACH: usize = GREATEST_PLACE as usize + GREATEST_DELAY as usize;
 
 /// A line, from half bit `base` on, of a tap at a place in half bits from its segment's end. What stands on it for a half
 /// bit is emitted `delay` half bits later, less the half bits of a window. The first `written` symbols of the buffer stand on
-/// it, of which the last `loud` are signals; the Idle behind them, `quiet` half bits, isn't written.
+/// it; the last of them, at least the last `loud`, are signals. The Idle behind them, `quiet` half bits, isn't written.
 #[derive(Drop)]
 pub struct Line {
     at: u32,
@@ -91,19 +93,20 @@ fn copy_from(piece: &mut [Sym], symbols: &[Sym], from: u64)
 
 /// Whether all symbols of a piece are Idle.
 fn is_idle(piece: &[Sym]) -> bool
-    ensures { result ≡ true → piece.now ≡ replicate (length piece.now) Idle }
+    ensures idle { result ≡ true → piece.now ≡ replicate (length piece.now) Idle }
+    ensures other { result ≡ false → piece.now ≢ replicate (length piece.now) Idle }
 {
+    let mut all = true;
     for j in 0..piece.len() {
-        if piece[j] != Sym::Idle {
-            return false;
-        }
+        all &= piece[j] == Sym::Idle;
     }
-    true
+    all
 }
 
 /// Whether all symbols of a piece are signals.
 fn are_signals(piece: &[Sym]) -> bool
-    ensures { result ≡ true → (j : ℕ) → j < length piece.now → is_signal_of (slice_index_or piece.now j Idle) ≡ true }
+    ensures signals { result ≡ true → (j : ℕ) → j < length piece.now → is_signal_of (slice_index_or piece.now j Idle) ≡ true }
+    ensures other { result ≡ false → ¬ ((j : ℕ) → j < length piece.now → is_signal_of (slice_index_or piece.now j Idle) ≡ true) }
 {
     let mut all = true;
     for j in 0..piece.len() {
@@ -148,7 +151,8 @@ impl Line {
 
     /// What is written on it: behind that only Idle stands on it.
     fn text(&self) -> &[Sym]
-        ensures { self.now.symbols ≡ result.now ++ replicate (length self.now.symbols - length result.now) Idle }
+        ensures text { self.now.symbols ≡ result.now ++ replicate (length self.now.symbols - length result.now) Idle }
+        ensures end { signals_end self.now.symbols ≡ length result.now }
     {
         &self.buffer[..self.written]
     }
@@ -227,25 +231,43 @@ impl Line {
         }
     }
 
-    /// For how many half bits from `t` on what stands on it so many half bits before is known to be a signal.
-    pub fn signals_back(&self, back: u64, t: u64) -> u64
-        ensures { (j : ℕ) → j < result → is_signal_of (earlier (symbol_on self.now) (t + j) back) ≡ true }
+    /// What `steady_back` answers, symbol by symbol.
+    fn steady_before(&self, back: u64, t: u64, most: usize, carrier: bool) -> usize
+        requires { t + most < 2 ^ 64 }
+        ensures within { result ≤ most }
+        ensures steady { (j : ℕ) → j < result → is_signal_of (earlier (symbol_on self.now) (t + j) back) ≡ carrier }
+        ensures longest { result < most → is_signal_of (earlier (symbol_on self.now) (t + result) back) ≢ carrier }
+    {
+        for j in 0..most {
+            if is_signal(self.back_from(back, t + j as u64)) != carrier {
+                return j;
+            }
+        }
+        most
+    }
+
+    /// For how many half bits from `t` on, at most `most`, what stands on it so many half bits before is a signal in all of
+    /// them, or Idle in all, as `carrier` says.
+    pub fn steady_back(&self, back: u64, t: u64, most: usize, carrier: bool) -> usize
+        requires { t + most < 2 ^ 64 }
+        ensures within { result ≤ most }
+        ensures steady { (j : ℕ) → j < result → is_signal_of (earlier (symbol_on self.now) (t + j) back) ≡ carrier }
+        ensures longest { result < most → is_signal_of (earlier (symbol_on self.now) (t + result) back) ≢ carrier }
     {
         if t < back || t - back < self.base {
-            return 0;
+            return self.steady_before(back, t, most, carrier);
         }
         let place = t - back - self.base;
-        let written = self.written as u64;
-        if place < written - self.loud as u64 {
-            return 0;
-        }
-        written.saturating_sub(place)
+        let text = &self.buffer[..self.written];
+        steady_from(text, self.loud, place, most, carrier)
     }
 
     /// What stands on it so many half bits before those from `t` on, as many as `count`; none where not all of it is written.
     pub fn written_back(&self, back: u64, t: u64, count: usize) -> Option<&[Sym]>
         ensures len { IfSome result (λ piece. length piece.now ≡ count) }
         ensures piece { IfSome result (λ piece. piece.now ≡ span (λ u. earlier (symbol_on self.now) u back) t count) }
+        ensures some { IfSome result (λ _. IsWithinSignals back t count self.now) }
+        ensures none { IfNone result (¬ IsWithinSignals back t count self.now) }
     {
         if t < back || t - back < self.base {
             return None;
@@ -262,13 +284,15 @@ impl Line {
 
     /// Whether nothing but Idle stands on it from half bit `u` on.
     pub fn is_quiet_from(&self, u: u64) -> bool
-        ensures { result ≡ true → (v : ℕ) → u ≤ v → symbol_on self.now v ≡ Idle }
+        ensures quiet { result ≡ true → IsIdleFrom u self.now }
+        ensures loud { result ≡ false → ¬ IsIdleFrom u self.now }
     {
-        self.base <= u && self.text().len() as u64 <= u - self.base
+        self.written == 0 || (self.base <= u && self.written as u64 <= u - self.base)
     }
 
-    /// Puts the next symbols on it, which are signals.
+    /// Puts the next symbols on it, which are signals, and at least one.
     fn put(&mut self, piece: &[Sym])
+        requires some { 0 < length piece.now }
         requires room { length piece.now ≤ self.old.room }
         requires signals { (j : ℕ) → j < length piece.now → is_signal_of (slice_index_or piece.now j Idle) ≡ true }
         ensures { self.new ≡ line_extended self.old piece.now }
@@ -322,6 +346,24 @@ impl Line {
         self.quiet += count;
     }
 
+    /// Takes from it all but the first `kept` symbols of what is written.
+    fn cut_text(&mut self, kept: usize)
+        requires { kept < signals_end self.old.symbols }
+        ensures { self.new ≡ line_cut (self.old.base + kept) self.old }
+    {
+        let lost = self.written - kept;
+        if lost < self.loud {
+            self.loud -= lost;
+            self.written = kept;
+            self.quiet = 0;
+        } else {
+            let end = end_of_signals(&self.buffer[..kept]);
+            self.loud = end.min(1);
+            self.written = end;
+            self.quiet = kept - end;
+        }
+    }
+
     /// Takes from it what stands on it for half bit `u` and later ones.
     pub fn cut(&mut self, u: u64)
         ensures { self.new ≡ line_cut u self.old }
@@ -329,9 +371,7 @@ impl Line {
         let written = self.written as u64;
         let kept = u.saturating_sub(self.base);
         if kept < written {
-            self.loud = (self.loud as u64).saturating_sub(written - kept) as usize;
-            self.written = kept as usize;
-            self.quiet = 0;
+            self.cut_text(kept as usize);
         } else {
             self.quiet = (self.quiet as u64).min(kept - written) as usize;
         }

@@ -1,14 +1,16 @@
 //! The one line that taps hear, where nothing but Idle stands on the others.
-ghost use Rattle.std.specs.Prelude.{◌≡◌, ◌≤◌, ◌<◌, ◌+◌, ◌-◌, ℕ, length, IfSome};
+ghost use Rattle.std.specs.Prelude.{◌≡◌, ◌≢◌, ◌≤◌, ◌<◌, ◌+◌, ◌-◌, ◌^◌, ℕ, length, Some, slice_index_or, IfSome, IfNone};
 ghost use Rattle.manchester_line.specs.Line.{is_signal as is_signal_of};
-ghost use Rattle.tap_lines.specs.TapLines.{heard_by_lines, heard_for, IsOnlySource, IsReachOf};
+ghost use Rattle.tap_lines.specs.TapLines.{AreIdleFrom, IsIdleFrom, IsWithinSignals, half_bits_back, heard_by_lines, heard_for, no_line, IsOnlySource, IsReachOf};
 
 use crate::line::Line;
 use manchester_line::Sym;
 
 /// The one tap on whose line something else than Idle stands from half bit `u` on, if there is just one.
 pub fn only_source(lines: &[Line], u: u64) -> Option<usize>
-    ensures { IfSome result (IsOnlySource u lines.now) }
+    ensures only { IfSome result (IsOnlySource u lines.now) }
+    ensures loud { IfSome result (λ q. ¬ IsIdleFrom u (slice_index_or lines.now q no_line)) }
+    ensures none { IfNone result ((q : ℕ) → IsOnlySource u lines.now q → AreIdleFrom u lines.now) }
 {
     let mut source = None;
     for r in 0..lines.len() {
@@ -23,11 +25,11 @@ pub fn only_source(lines: &[Line], u: u64) -> Option<usize>
     source
 }
 
-/// For how many half bits from `t` on, at most `most`, tap `p` is known to hear a signal in all of them, or Idle in all, as
-/// `carrier` says, by the only line that it may hear.
+/// For how many half bits from `t` on, at most `most`, tap `p` hears a signal in all of them, or Idle in all, as `carrier` says,
+/// by the line of `source`, the only one that it may hear.
 pub fn known_ahead(
     lines: &[Line],
-    source: Option<usize>,
+    source: usize,
     p: usize,
     lookahead: u32,
     far: u64,
@@ -37,23 +39,19 @@ pub fn known_ahead(
 ) -> usize
     requires tap { p < length lines.now }
     requires reach { IsReachOf far lookahead lines.now }
-    requires source { IfSome source (IsOnlySource (t - far) lines.now) }
+    requires source { IsOnlySource (t - far) lines.now source }
+    requires in_time { t + most < 2 ^ 64 }
     ensures within { result ≤ most }
     ensures known { (j : ℕ) → j < result → is_signal_of (heard_by_lines lookahead (t + j) lines.now p) ≡ carrier }
+    ensures longest { result < most → is_signal_of (heard_by_lines lookahead (t + result) lines.now p) ≢ carrier }
 {
     let _ = far;
-    let Some(q) = source else {
-        return 0;
-    };
-    if q == p {
+    if source == p {
         return if carrier { 0 } else { most };
     }
-    if !carrier {
-        return 0;
-    }
-    let line = &lines[q];
+    let line = &lines[source];
     let back = line.back(lines[p].place(), lookahead);
-    line.signals_back(back, t).min(most as u64) as usize
+    line.steady_back(back, t, most, carrier)
 }
 
 /// What tap `p` hears in the half bits from `t` on, as many as `count`, where it stands as a whole on the only line that the
@@ -72,6 +70,9 @@ pub fn piece_of(
     requires source { IfSome source (IsOnlySource (t - far) lines.now) }
     ensures len { IfSome result (λ piece. length piece.now ≡ count) }
     ensures piece { IfSome result (λ piece. piece.now ≡ heard_for lookahead t count lines.now p) }
+    ensures none { IfNone result ((q : ℕ) → source ≡ Some q → q ≢ p →
+        ¬ IsWithinSignals (half_bits_back lookahead (slice_index_or lines.now p no_line).at (slice_index_or lines.now q no_line)) t count
+        (slice_index_or lines.now q no_line)) }
 {
     let _ = far;
     let Some(q) = source else {

@@ -2,13 +2,12 @@
 ghost use Rattle.std.specs.Prelude.{◌≡◌, ◌<◌, ◌+◌, ◌≤◌, IfOk, Some, length};
 ghost use Rattle.worker_gate.specs.PartMakers.{MakesSegments, MakesRepeaters};
 
-use crate::dealing::{outlets_of, owner_of, owners};
 use crate::desk::{Desk, Segments};
-use crate::duties::{Duties, last_segment};
 use crate::kit::Kit;
 use lists::OutOfMemory;
 use load_plan::Plan;
 use net_parts::{Pace, Part};
+use part_dealing::{Duties, last_segment, outlets_of, owner_of, owners};
 use std::alloc::Global;
 use window_exchange::Planned;
 

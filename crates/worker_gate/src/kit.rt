@@ -5,13 +5,12 @@ ghost use Rattle.net_parts.specs.Parcels.{IsTrueParcel};
 ghost use Rattle.net_parts.specs.Windows.{windows};
 ghost use Rattle.exchange_core.specs.Shares.{has_place_for, nothing_held, part_of, take_held};
 ghost use Rattle.worker_gate.specs.PlannedShares.{has_plan, the_plan};
-ghost use Rattle.worker_gate.specs.declared.duties.Duty.{Duty};
+ghost use Rattle.part_dealing.specs.declared.duties.Duty.{Duty};
 
-use crate::dealing::Outlet;
 use crate::desk::Desk;
-use crate::duties::{Duties, Duty};
 use crate::port::Port;
 use net_parts::{Pace, Parcel, Part};
+use part_dealing::{Duties, Duty, Outlet};
 use std::alloc::Global;
 use std::sync::Wait;
 use window_exchange::{Mail, Named, Planned};

@@ -3,9 +3,7 @@
 #![tactic(auto)]
 
 mod crew;
-mod dealing;
 mod desk;
-mod duties;
 mod gated;
 mod gather;
 mod kit;
@@ -14,6 +12,5 @@ mod run;
 mod threads;
 mod worker;
 
-pub use dealing::owners;
 pub use gated::Gated;
 pub use run::run_planned;

@@ -4,13 +4,13 @@ ghost use denote.Param.Send.{IsSend};
 ghost use Rattle.worker_gate.specs.PartMakers.{MakesSegments, MakesRepeaters};
 
 use crate::crew::make_kits;
-use crate::dealing::count_edges;
 use crate::kit::{Kit, Ports};
 use crate::port::make_ports;
 use crate::worker::{live, work};
 use lists::OutOfMemory;
 use load_plan::Plan;
 use net_parts::{Pace, Part};
+use part_dealing::count_edges;
 use std::alloc::Global;
 use std::sync::Wait;
 use std::thread;

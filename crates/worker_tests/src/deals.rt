@@ -2,9 +2,9 @@
 use layout::Layout;
 use layout_file::read_layout;
 use lists::OutOfMemory;
+use part_dealing::owners;
 use std::alloc::Global;
 use std::test::Fail;
-use worker_gate::owners;
 
 /// Two segments with a station each, and the repeater between them.
 const TWO_SEGMENTS: &str = r#"format = 1

@@ -5,4 +5,4 @@ use Rattle.repeater_engine.proofs.leaps.all_of.Given as goal
 
 -- the symbols below j are of the class, if so said
 abbrev pub invariant-loop-j : goal.invariant-loop-j
-invariant-loop-j l = l.same ≡ true → (i : ℕ) → i < l.j → class_of (slice_index_or l.symbols i Idle) ≡ l.class
+invariant-loop-j l = l.all ≡ true → (i : ℕ) → i < l.j → class_of (slice_index_or l.symbols i Idle) ≡ class_of l.one

@@ -25,6 +25,7 @@ loop-r-preserved c =
     record {
       within = omega (arith, few, w);
       len = length-set ls r l' ∙ len;
+      piece_len = c.go_ahead.auto.piece ∙ inv.piece_len;
       done = λ q d e l. elim (cases_lt q r) [
         | inl before ↦
             subst (λ (x : TapLine). IsToldAhead (get_or c.args.senders.now q e) least count (get_or c.args.lines.now q d) x) (sym (get_or-set_other ls r q l' d (λ z. omega (arith, z, before))))

@@ -9,6 +9,7 @@ abbrev pub invariant-loop-r : goal.invariant-loop-r
 invariant-loop-r l = record {
   within : l.ahead ≤ l.count;
   len : length l.lines ≡ length l.fn.lines;
+  piece_len : length l.piece ≡ length l.fn.piece;
   done : (q : ℕ) (d : TapLine) (e : Sender) → q < l.r → IsToldAhead (slice_index_or l.senders q e) l.ahead l.count (slice_index_or l.fn.lines q d) (slice_index_or l.lines q d);
   left : (q : ℕ) (d : TapLine) → l.r ≤ q → slice_index_or l.lines q d ≡ slice_index_or l.fn.lines q d;
 }

@@ -20,7 +20,7 @@ use Rattle.tap_lines.specs.TapLines.{TapLine, no_line, heard_by_lines, IsReachOf
 use Rattle.segment_engine.specs.PartStates.{AreLinesAt, AreStationsAt, half_filled}
 use Rattle.segment_engine.specs.SteadyPieces.{IsToldAhead, with_piece_at}
 use Rattle.segment_engine.proofs.LinesHear.{same_reach}
-use Rattle.tap_lines.proofs.LinesAhead.{cut_fits, cut_size, cut_size_twice}
+use Rattle.tap_lines.proofs.LinesAhead.{cut_size}
 use Rattle.segment_engine.proofs.QuietRoom.{GoesOn, room_later_each}
 use Rattle.segment_engine.proofs.SteadyCalm.{fewer_calm}
 use Rattle.segment_engine.proofs.SteadyHalfBits.{GoesAhead, heard_as, heard_size}
@@ -36,15 +36,18 @@ steady_ahead-steady-requires-clause-reach c =
     let a = c.args.state.now in
     let g = c.args.of.now in
     let x = sender_at g.plan.value 0 a.t in
-    let is = c.deref-3.ensures.value ∙ with_items_is a.lines c.emit_ahead-ahead.new.lines (search rules) in
+    let is = c.deref-lines.ensures.value ∙ with_items_is a.lines c.emit_ahead-ahead.new.lines (search rules) in
     let before = subst (IsReachOf a.far g.lookahead) (sym c.deref_mut.ensures.value) (subst (λ y. IsReachOf a.far y a.lines.items) (sym g.window_length) c.requires.at.reach) in
     subst (IsReachOf a.far g.lookahead) (sym is)
     (reach_ahead a.far g.lookahead (length c.deref.result.now) c.emit_ahead-ahead.result c.args.count c.deref_mut.result.now c.emit_ahead-ahead.new.lines c.deref.result.now x c.emit_ahead-ahead.auto.lines
     (λ r h. c.emit_ahead-ahead.ensures.told r no_line x h) (λ r h. c.emit_ahead-ahead.ensures.others r no_line h) before)
 
-pub slice_bounds-take_all-end : goal.slice_bounds-take_all-end
-slice_bounds-take_all-end c =
-    cut_fits c.deref_mut-piece.result.now c.steady_ahead-steady.new.piece c.emit_ahead-ahead.result c.steady_ahead-steady.result c.steady_ahead-steady.auto.piece c.steady_ahead-steady.ensures.within
+pub slice_bounds-part-end-3 : goal.slice_bounds-part-end-3
+slice_bounds-part-end-3 c =
+    let items = c.emit_ahead-ahead.auto.piece ∙ ap length c.deref_mut-piece.ensures.value in
+    let few = c.requires.piece in
+    let ahead = c.emit_ahead-ahead.ensures.within in
+    sym (cut_size c.emit_ahead-ahead.new.piece c.steady_ahead-steady.new.piece c.emit_ahead-ahead.result c.steady_ahead-steady.result (omega (arith, items, few, ahead)) c.steady_ahead-steady.auto.piece c.steady_ahead-steady.ensures.within)
 
 pub take_all-requires-clause-receivers_len : goal.take_all-requires-clause-receivers_len
 take_all-requires-clause-receivers_len c =
@@ -52,17 +55,17 @@ take_all-requires-clause-receivers_len c =
     let plan = c.args.of.now.plan.value in
     let ks = (wiring plan.layout c.args.of.now.number).stations in
     let t = c.args.state.now.t in
-    ap length c.deref_mut-2.ensures.value
+    ap length c.deref_mut-receivers.ensures.value
     ∙ sym (length-AllHear (map (λ k. receiver_at plan k t) ks) c.args.state.now.receivers.items st.receivers)
     ∙ length-map ks (λ k. receiver_at plan k t)
-    ∙ sym (ap length c.deref-7.ensures.value ∙ ap length st.senders ∙ length-map ks (λ k. sender_at plan k t))
+    ∙ sym (ap length c.deref-senders.ensures.value ∙ ap length st.senders ∙ length-map ks (λ k. sender_at plan k t))
 
 pub take_all-requires-clause-reach : goal.take_all-requires-clause-reach
 take_all-requires-clause-reach c =
     let a = c.args.state.now in
     let g = c.args.of.now in
     let x = sender_at g.plan.value 0 a.t in
-    let is = c.deref-5.ensures.value ∙ with_items_is a.lines c.emit_ahead-ahead.new.lines (search rules) in
+    let is = c.deref-lines.ensures.value ∙ with_items_is a.lines c.emit_ahead-ahead.new.lines (search rules) in
     let before = subst (IsReachOf a.far g.lookahead) (sym c.deref_mut.ensures.value) (subst (λ y. IsReachOf a.far y a.lines.items) (sym g.window_length) c.requires.at.reach) in
     subst (IsReachOf a.far g.lookahead) (sym is)
     (reach_ahead a.far g.lookahead (length c.deref.result.now) c.emit_ahead-ahead.result c.args.count c.deref_mut.result.now c.emit_ahead-ahead.new.lines c.deref.result.now x c.emit_ahead-ahead.auto.lines
@@ -71,44 +74,33 @@ take_all-requires-clause-reach c =
 pub take_all-requires-clause-ready : goal.take_all-requires-clause-ready
 take_all-requires-clause-ready c = λ r d k h rests silent.
     let a = c.args.state.now in
-    let size = ap length c.deref-7.ensures.value in
+    let size = ap length c.deref-senders.ensures.value in
     let is = c.requires.calm r d k (omega (arith, h, size)) in
-    ap (λ (xs : List Kept). (get_or xs r k).halves) c.deref_mut-2.ensures.value
-    ∙ is.at_rest (ap (λ (xs : List Sender). is_sending (get_or xs r d).phase) (sym c.deref-7.ensures.value) ∙ rests) (ap (λ xs. is_signal (get_or xs r Idle)) (sym c.deref-6.ensures.value) ∙ silent)
+    ap (λ (xs : List Kept). (get_or xs r k).halves) c.deref_mut-receivers.ensures.value
+    ∙ is.at_rest (ap (λ (xs : List Sender). is_sending (get_or xs r d).phase) (sym c.deref-senders.ensures.value) ∙ rests) (ap (λ xs. is_signal (get_or xs r Idle)) (sym c.deref-heard.ensures.value) ∙ silent)
 
 pub take_all-requires-clause-steady : goal.take_all-requires-clause-steady
 take_all-requires-clause-steady c = λ r j h l.
     let a = c.args.state.now in
     let g = c.args.of.now in
     let ks = (wiring g.plan.value.layout g.number).stations in
-    let size = ap length c.deref-7.ensures.value ∙ ap length c.requires.at.stations.senders ∙ length-map ks (λ k. sender_at g.plan.value k a.t) in
+    let size = ap length c.deref-senders.ensures.value ∙ ap length c.requires.at.stations.senders ∙ length-map ks (λ k. sender_at g.plan.value k a.t) in
     let numbers = ap length g.station_numbers in
     let count = c.len-stations.ensures in
     let inside : r < c.len-stations.result = omega (arith, h, size, numbers, count) in
-    let items = ap length c.deref_mut-piece.ensures.value in
+    let items = c.emit_ahead-ahead.auto.piece ∙ ap length c.deref_mut-piece.ensures.value in
     let few = c.requires.piece in
     let ahead = c.emit_ahead-ahead.ensures.within in
-    let many = cut_size c.deref_mut-piece.result.now c.steady_ahead-steady.new.piece c.emit_ahead-ahead.result c.steady_ahead-steady.result (omega (arith, items, few, ahead)) c.steady_ahead-steady.auto.piece c.steady_ahead-steady.ensures.within in
+    let many = cut_size c.emit_ahead-ahead.new.piece c.steady_ahead-steady.new.piece c.emit_ahead-ahead.result c.steady_ahead-steady.result (omega (arith, items, few, ahead)) c.steady_ahead-steady.auto.piece c.steady_ahead-steady.ensures.within in
     let few : j < c.steady_ahead-steady.result = omega (arith, l, many) in
-    let lines = c.deref-5.ensures.value ∙ sym c.deref-3.ensures.value in
-    let heard = c.deref-6.ensures.value ∙ sym c.deref-4.ensures.value in
-    ap (λ (xs : List TapLine). is_signal (heard_by_lines g.lookahead (a.t + j) xs r)) lines
-    ∙ c.steady_ahead-steady.ensures.steady r j inside few
-    ∙ ap (λ xs. is_signal (get_or xs r Idle)) (sym heard)
-
-pub slice_bounds-put_all-end : goal.slice_bounds-put_all-end
-slice_bounds-put_all-end c =
-    let items = ap length c.deref_mut-piece.ensures.value in
-    let few = c.requires.piece in
-    let ahead = c.emit_ahead-ahead.ensures.within in
-    sym (cut_size_twice c.deref_mut-piece.result.now c.steady_ahead-steady.new.piece c.take_all.new.piece c.emit_ahead-ahead.result c.steady_ahead-steady.result (omega (arith, items, few, ahead)) c.steady_ahead-steady.auto.piece c.steady_ahead-steady.ensures.within c.take_all.auto.piece)
+    c.steady_ahead-steady.ensures.steady r j inside few
 
 pub put_all-requires-clause-reach : goal.put_all-requires-clause-reach
 put_all-requires-clause-reach c =
     let a = c.args.state.now in
     let g = c.args.of.now in
     let x = sender_at g.plan.value 0 a.t in
-    let is = c.deref-8.ensures.value ∙ with_items_is a.lines c.emit_ahead-ahead.new.lines (search rules) in
+    let is = c.deref-lines.ensures.value ∙ with_items_is a.lines c.emit_ahead-ahead.new.lines (search rules) in
     let before = subst (IsReachOf a.far g.lookahead) (sym c.deref_mut.ensures.value) (subst (λ y. IsReachOf a.far y a.lines.items) (sym g.window_length) c.requires.at.reach) in
     subst (IsReachOf a.far g.lookahead) (sym is)
     (reach_ahead a.far g.lookahead (length c.deref.result.now) c.emit_ahead-ahead.result c.args.count c.deref_mut.result.now c.emit_ahead-ahead.new.lines c.deref.result.now x c.emit_ahead-ahead.auto.lines
@@ -118,29 +110,29 @@ pub put_all-requires-clause-long : goal.put_all-requires-clause-long
 put_all-requires-clause-long c =
     let plan = c.args.of.now.plan.value in
     let es = (wiring plan.layout c.args.of.now.number).edges in
-    let items = ap length c.deref_mut-piece.ensures.value in
+    let items = c.emit_ahead-ahead.auto.piece ∙ ap length c.deref_mut-piece.ensures.value in
     let few = c.requires.piece in
     let ahead = c.emit_ahead-ahead.ensures.within in
-    let many = cut_size_twice c.deref_mut-piece.result.now c.steady_ahead-steady.new.piece c.take_all.new.piece c.emit_ahead-ahead.result c.steady_ahead-steady.result (omega (arith, items, few, ahead)) c.steady_ahead-steady.auto.piece c.steady_ahead-steady.ensures.within c.take_all.auto.piece in
+    let many = c.take_all.auto.piece ∙ cut_size c.emit_ahead-ahead.new.piece c.steady_ahead-steady.new.piece c.emit_ahead-ahead.result c.steady_ahead-steady.result (omega (arith, items, few, ahead)) c.steady_ahead-steady.auto.piece c.steady_ahead-steady.ensures.within in
     let within = c.requires.within in
     let enough = c.steady_ahead-steady.ensures.within in
-    let cut = length-take-le c.emit_ahead-ahead.result c.deref_mut-piece.result.now (omega (arith, items, few, ahead)) in
-    parcels_long_for plan c.args.of.now.lookahead c.args.window c.args.k (length (take c.steady_ahead-steady.result (c.take_all.new.piece ++ drop c.steady_ahead-steady.result (c.steady_ahead-steady.new.piece ++ drop c.emit_ahead-ahead.result c.deref_mut-piece.result.now)))) es c.args.parcels.now
-    (let fits : c.args.k + length (take c.steady_ahead-steady.result (c.take_all.new.piece ++ drop c.steady_ahead-steady.result (c.steady_ahead-steady.new.piece ++ drop c.emit_ahead-ahead.result c.deref_mut-piece.result.now))) ≤ c.args.of.now.lookahead = omega (arith, many, within, enough, ahead, cut) in fits) c.requires.parcels
+    let cut = length-take-le c.emit_ahead-ahead.result c.emit_ahead-ahead.new.piece (omega (arith, items, few, ahead)) in
+    parcels_long_for plan c.args.of.now.lookahead c.args.window c.args.k (length c.take_all.new.piece) es c.args.parcels.now
+    (let fits : c.args.k + length c.take_all.new.piece ≤ c.args.of.now.lookahead = omega (arith, many, within, enough, ahead, cut) in fits) c.requires.parcels
 
 pub leap_all-requires-clause-calm : goal.leap_all-requires-clause-calm
 leap_all-requires-clause-calm c = λ r d h.
     let a = c.args.state.now in
-    let size = ap length c.deref_mut-3.ensures.value in
+    let size = ap length c.deref_mut-2.ensures.value in
     let is = (c.requires.calm r d a_kept (omega (arith, h, size))).number in
     let few = c.steady_ahead-steady.ensures.within in
     let ahead = c.emit_ahead-ahead.ensures.within in
-    let items = ap length c.deref_mut-piece.ensures.value in
+    let items = c.emit_ahead-ahead.auto.piece ∙ ap length c.deref_mut-piece.ensures.value in
     let enough = c.requires.piece in
-    let cut = length-take-le c.emit_ahead-ahead.result c.deref_mut-piece.result.now (omega (arith, items, enough, ahead)) in
+    let cut = length-take-le c.emit_ahead-ahead.result c.emit_ahead-ahead.new.piece (omega (arith, items, enough, ahead)) in
     let fewer : c.steady_ahead-steady.result ≤ calm_of (get_or a.senders.items r d) (is_signal (get_or a.heard.items r Idle)) = omega (arith, is, few, ahead, cut) in
-    subst (λ (xs : List Sym). c.steady_ahead-steady.result ≤ calm_of (get_or c.deref_mut-3.result.now r d) (is_signal (get_or xs r Idle))) (sym c.deref-9.ensures.value)
-    (subst (λ (xs : List Sender). c.steady_ahead-steady.result ≤ calm_of (get_or xs r d) (is_signal (get_or a.heard.items r Idle))) (sym c.deref_mut-3.ensures.value) fewer)
+    subst (λ (xs : List Sym). c.steady_ahead-steady.result ≤ calm_of (get_or c.deref_mut-2.result.now r d) (is_signal (get_or xs r Idle))) (sym c.deref-heard.ensures.value)
+    (subst (λ (xs : List Sender). c.steady_ahead-steady.result ≤ calm_of (get_or xs r d) (is_signal (get_or a.heard.items r Idle))) (sym c.deref_mut-2.ensures.value) fewer)
 
 module _ (c : After-state-6-1) where
   abbrev plan : Plan
@@ -194,12 +186,12 @@ module _ (c : After-state-6-1) where
   senders_are : length ss ≡ length w.stations
   senders_are = ap length c.requires.at.stations.senders ∙ length-map w.stations (λ k. sender_at plan k t)
 
-  cut : length (take least c.deref_mut-piece.result.now) ≡ least
+  cut : length (take least c.emit_ahead-ahead.new.piece) ≡ least
   cut =
-      let items = ap length c.deref_mut-piece.ensures.value in
+      let items = c.emit_ahead-ahead.auto.piece ∙ ap length c.deref_mut-piece.ensures.value in
       let enough = c.requires.piece in
       let ahead = c.emit_ahead-ahead.ensures.within in
-      length-take-le least c.deref_mut-piece.result.now (omega (arith, items, enough, ahead))
+      length-take-le least c.emit_ahead-ahead.new.piece (omega (arith, items, enough, ahead))
 
   m_few : m ≤ least
   m_few = let few = c.steady_ahead-steady.ensures.within in let z = cut in omega (arith, few, z)
@@ -230,24 +222,18 @@ module _ (c : After-state-6-1) where
       let many = senders_are in
       c.emit_ahead-ahead.ensures.others r no_line (omega (arith, h, size, many)) ∙ ap (λ (xs : List TapLine). get_or xs r no_line) c.deref_mut.ensures.value
 
-  lines_2 : c.deref-3.result.now ≡ ls'
-  lines_2 = c.deref-3.ensures.value ∙ with_items_is c.args.state.now.lines ls' (search rules)
+  lines_told : c.deref-lines.result.now ≡ ls'
+  lines_told = c.deref-lines.ensures.value ∙ with_items_is c.args.state.now.lines ls' (search rules)
 
-  lines_4 : c.deref-5.result.now ≡ ls'
-  lines_4 = c.deref-5.ensures.value ∙ with_items_is c.args.state.now.lines ls' (search rules)
-
-  lines_7 : c.deref-8.result.now ≡ ls'
-  lines_7 = c.deref-8.ensures.value ∙ with_items_is c.args.state.now.lines ls' (search rules)
-
-  lines_8 : c.deref_mut-4.result.now ≡ ls'
-  lines_8 = c.deref_mut-4.ensures.value ∙ with_items_is c.args.state.now.lines ls' (search rules)
+  lines_left : c.deref_mut-3.result.now ≡ ls'
+  lines_left = c.deref_mut-3.ensures.value ∙ with_items_is c.args.state.now.lines ls' (search rules)
 
   steady : (r j : ℕ) → r < length w.stations → j < m → is_signal (heard_by_lines L (t + j) ls' r) ≡ carrier r
   steady r j h l =
       let count = stations_are in
-      ap₂ (λ x (xs : List TapLine). is_signal (heard_by_lines x (t + j) xs r)) (sym c.args.of.now.window_length) (sym lines_2)
+      ap₂ (λ x (xs : List TapLine). is_signal (heard_by_lines x (t + j) xs r)) (sym c.args.of.now.window_length) (sym lines_told)
       ∙ c.steady_ahead-steady.ensures.steady r j (omega (arith, h, count)) l
-      ∙ ap (λ xs. is_signal (get_or xs r Idle)) c.deref-4.ensures.value
+      ∙ ap (λ xs. is_signal (get_or xs r Idle)) c.deref-heard.ensures.value
 
   going : GoesAhead plan s t front m least most ls ls' ss ks carrier a_sender a_kept
   going =
@@ -269,83 +255,76 @@ module _ (c : After-state-6-1) where
 
   -- what the receivers and the ports heard
   abbrev now : List Sym
-  now = c.steady_ahead-steady.new.piece ++ drop c.emit_ahead-ahead.result c.deref_mut-piece.result.now
+  now = c.steady_ahead-steady.new.piece ++ drop c.emit_ahead-ahead.result c.emit_ahead-ahead.new.piece
 
-  abbrev after : List Sym
-  after = c.take_all.new.piece ++ drop m now
-
-  piece_4 : length (take m now) ≡ m
-  piece_4 =
-      let items = ap length c.deref_mut-piece.ensures.value in
+  piece_size : length (take m now) ≡ m
+  piece_size =
+      let items = c.emit_ahead-ahead.auto.piece ∙ ap length c.deref_mut-piece.ensures.value in
       let few = c.requires.piece in
       let ahead = c.emit_ahead-ahead.ensures.within in
-      cut_size c.deref_mut-piece.result.now c.steady_ahead-steady.new.piece c.emit_ahead-ahead.result c.steady_ahead-steady.result (omega (arith, items, few, ahead)) c.steady_ahead-steady.auto.piece c.steady_ahead-steady.ensures.within
+      cut_size c.emit_ahead-ahead.new.piece c.steady_ahead-steady.new.piece c.emit_ahead-ahead.result c.steady_ahead-steady.result (omega (arith, items, few, ahead)) c.steady_ahead-steady.auto.piece c.steady_ahead-steady.ensures.within
 
-  piece_5 : length (take m after) ≡ m
-  piece_5 =
-      let items = ap length c.deref_mut-piece.ensures.value in
-      let few = c.requires.piece in
-      let ahead = c.emit_ahead-ahead.ensures.within in
-      cut_size_twice c.deref_mut-piece.result.now c.steady_ahead-steady.new.piece c.take_all.new.piece c.emit_ahead-ahead.result c.steady_ahead-steady.result (omega (arith, items, few, ahead)) c.steady_ahead-steady.auto.piece c.steady_ahead-steady.ensures.within c.take_all.auto.piece
+  ports_size : length c.take_all.new.piece ≡ m
+  ports_size = c.take_all.auto.piece ∙ piece_size
 
-  heard_4 : (i : ℕ) → heard_for c.args.of.now.lookahead t (length (take m now)) c.deref-5.result.now i ≡ heard_for L t m ls' i
-  heard_4 i =
-      ap₂ (λ x y. heard_for x t y c.deref-5.result.now i) c.args.of.now.window_length piece_4
-      ∙ ap (λ (xs : List TapLine). heard_for L t m xs i) lines_4
+  hears_now : (i : ℕ) → heard_for c.args.of.now.lookahead t (length (take m now)) c.deref-lines.result.now i ≡ heard_for L t m ls' i
+  hears_now i =
+      ap₂ (λ x y. heard_for x t y c.deref-lines.result.now i) c.args.of.now.window_length piece_size
+      ∙ ap (λ (xs : List TapLine). heard_for L t m xs i) lines_told
 
-  heard_7 : (i : ℕ) → heard_for c.args.of.now.lookahead t (length (take m after)) c.deref-8.result.now i ≡ heard_for L t m ls' i
-  heard_7 i =
-      ap₂ (λ x y. heard_for x t y c.deref-8.result.now i) c.args.of.now.window_length piece_5
-      ∙ ap (λ (xs : List TapLine). heard_for L t m xs i) lines_7
+  ports_hear_now : (i : ℕ) → heard_for c.args.of.now.lookahead t (length c.take_all.new.piece) c.deref-lines.result.now i ≡ heard_for L t m ls' i
+  ports_hear_now i =
+      ap₂ (λ x y. heard_for x t y c.deref-lines.result.now i) c.args.of.now.window_length ports_size
+      ∙ ap (λ (xs : List TapLine). heard_for L t m xs i) lines_told
 
   abbrev sends : ℕ → Bool
   sends i = is_sending (get_or ss i a_sender).phase
 
-  sends_6 : (i : ℕ) → is_sending (get_or c.deref-7.result.now i a_sender).phase ≡ sends i
-  sends_6 i = ap (λ (xs : List Sender). is_sending (get_or xs i a_sender).phase) c.deref-7.ensures.value
+  sends_now : (i : ℕ) → is_sending (get_or c.deref-senders.result.now i a_sender).phase ≡ sends i
+  sends_now i = ap (λ (xs : List Sender). is_sending (get_or xs i a_sender).phase) c.deref-senders.ensures.value
 
   ks_len : length c.take_all.new.receivers ≡ length ks
-  ks_len = c.take_all.auto.receivers ∙ ap length c.deref_mut-2.ensures.value
+  ks_len = c.take_all.auto.receivers ∙ ap length c.deref_mut-receivers.ensures.value
 
   ss_len : length c.leap_all.new.senders ≡ length ss
-  ss_len = c.leap_all.auto.senders ∙ ap length c.deref_mut-3.ensures.value
+  ss_len = c.leap_all.auto.senders ∙ ap length c.deref_mut-2.ensures.value
 
   hear : (i : ℕ) (d : Kept) (r : Receiving) → i < length c.take_all.new.receivers → Hears r (get_or ks i d) → Hears (receiver_after r (heard_for L t m ls' i) (sends i)) (get_or c.take_all.new.receivers i d)
   hear i d r h kept =
-      let one = c.take_all.ensures.states i d a_sender r h (subst (λ (xs : List Kept). Hears r (get_or xs i d)) (sym c.deref_mut-2.ensures.value) kept) in
-      subst (λ b. Hears (receiver_after r (heard_for L t m ls' i) b) (get_or c.take_all.new.receivers i d)) (sends_6 i)
-      (subst (λ xs. Hears (receiver_after r xs (is_sending (get_or c.deref-7.result.now i a_sender).phase)) (get_or c.take_all.new.receivers i d)) (heard_4 i) one)
+      let one = c.take_all.ensures.states i d a_sender r h (subst (λ (xs : List Kept). Hears r (get_or xs i d)) (sym c.deref_mut-receivers.ensures.value) kept) in
+      subst (λ b. Hears (receiver_after r (heard_for L t m ls' i) b) (get_or c.take_all.new.receivers i d)) (sends_now i)
+      (subst (λ xs. Hears (receiver_after r xs (is_sending (get_or c.deref-senders.result.now i a_sender).phase)) (get_or c.take_all.new.receivers i d)) (hears_now i) one)
 
   bodies : (i : ℕ) (r : Receiving) → i < length w.stations → Hears r (get_or ks i a_kept) → receiver_bodies r (heard_for L t m ls' i) (sends i) ≡ []
   bodies i r h kept =
       let many = rs_many plan s t front m least most ls ls' ss ks carrier a_sender a_kept going c.args.state.now.room.rows c.args.state.now.room.captures c.requires.at.stations in
       let len = ks_len in
-      let one = c.take_all.ensures.bodies i a_kept a_sender r (omega (arith, h, many, len)) (subst (λ (xs : List Kept). Hears r (get_or xs i a_kept)) (sym c.deref_mut-2.ensures.value) kept) in
-      sym (ap₂ (receiver_bodies r) (heard_4 i) (sends_6 i)) ∙ one
+      let one = c.take_all.ensures.bodies i a_kept a_sender r (omega (arith, h, many, len)) (subst (λ (xs : List Kept). Hears r (get_or xs i a_kept)) (sym c.deref_mut-receivers.ensures.value) kept) in
+      sym (ap₂ (receiver_bodies r) (hears_now i) (sends_now i)) ∙ one
 
   states : (i : ℕ) (d : Sender) (hs : List Sym) → i < length c.leap_all.new.senders → AllHeardAs (carrier i) hs → length hs ≡ m → get_or c.leap_all.new.senders i d ≡ after_all (get_or ss i d) hs
   states i d hs h so size =
-      let at : AllHeardAs (is_signal (get_or c.deref-9.result.now i Idle)) hs = subst (λ (xs : List Sym). AllHeardAs (is_signal (get_or xs i Idle)) hs) (sym c.deref-9.ensures.value) so in
-      c.leap_all.ensures.states i d hs h at size ∙ ap (λ (xs : List Sender). after_all (get_or xs i d) hs) c.deref_mut-3.ensures.value
+      let at : AllHeardAs (is_signal (get_or c.deref-heard.result.now i Idle)) hs = subst (λ (xs : List Sym). AllHeardAs (is_signal (get_or xs i Idle)) hs) (sym c.deref-heard.ensures.value) so in
+      c.leap_all.ensures.states i d hs h at size ∙ ap (λ (xs : List Sender). after_all (get_or xs i d) hs) c.deref_mut-2.ensures.value
 
   stations_after : AreStationsAt plan w.stations (t + m) c.leap_all.new.senders c.take_all.new.receivers c.args.state.now.room.rows c.args.state.now.room.captures
   stations_after =
-      let steps : All (λ (x : Kept). x.steps ≡ t + m) c.take_all.new.receivers = λ i d l. c.take_all.ensures.steps i d l ∙ ap (λ x. t + x) piece_4 in
+      let steps : All (λ (x : Kept). x.steps ≡ t + m) c.take_all.new.receivers = λ i d l. c.take_all.ensures.steps i d l ∙ ap (λ x. t + x) piece_size in
       steady_stations plan s t front m least most ls ls' ss ks carrier a_sender a_kept going c.args.state.now.room.rows c.args.state.now.room.captures c.requires.at.stations bodies
       c.leap_all.new.senders c.take_all.new.receivers ss_len ks_len states hear c.leap_all.ensures.times steps
 
   cut_len : length c.cut_all.new.lines ≡ length ls'
-  cut_len = c.cut_all.auto.lines ∙ ap length lines_8
+  cut_len = c.cut_all.auto.lines ∙ ap length lines_left
 
   is_cut : (r : ℕ) → r < length w.stations → get_or c.cut_all.new.lines r no_line ≡ line_cut (t + m) (get_or ls' r no_line)
   is_cut r h =
       let count = stations_are in
-      c.cut_all.ensures.cut r no_line (omega (arith, h, count)) ∙ ap (λ (xs : List TapLine). line_cut (t + m) (get_or xs r no_line)) lines_8
+      c.cut_all.ensures.cut r no_line (omega (arith, h, count)) ∙ ap (λ (xs : List TapLine). line_cut (t + m) (get_or xs r no_line)) lines_left
 
   uncut : (r : ℕ) → length w.stations ≤ r → get_or c.cut_all.new.lines r no_line ≡ get_or ls' r no_line
   uncut r h =
       let count = stations_are in
-      c.cut_all.ensures.others r no_line (omega (arith, h, count)) ∙ ap (λ (xs : List TapLine). get_or xs r no_line) lines_8
+      c.cut_all.ensures.others r no_line (omega (arith, h, count)) ∙ ap (λ (xs : List TapLine). get_or xs r no_line) lines_left
 
   lines_after : AreLinesAt plan w L (t + m) front c.cut_all.new.lines
   lines_after =
@@ -391,7 +370,7 @@ returns-clause-parcels c =
     let fits : c.args.k + m c ≤ L c = omega (arith, within, few, ahead, window) in
     let were : c.args.parcels.now ≡ map (half_filled (plan c) (L c) c.args.window c.args.k) (w c).edges = c.requires.parcels ∙ ap (λ x. map (half_filled (plan c) x c.args.window c.args.k) (w c).edges) window in
     let filled : (p : ℕ) (d : Parcel) → p < length c.put_all.new.parcels → get_or c.put_all.new.parcels p d ≡ with_piece_at c.args.k (heard_for (L c) (t c) (m c) (ls' c) (length (w c).stations + p)) (get_or c.args.parcels.now p d) =
-    λ p d l. c.put_all.ensures p d l ∙ ap (λ xs. with_piece_at c.args.k xs (get_or c.args.parcels.now p d)) (heard_7 c (c.len-stations.result + p) ∙ ap (λ i. heard_for (L c) (t c) (m c) (ls' c) (i + p)) (stations_are c)) in
+    λ p d l. c.put_all.ensures p d l ∙ ap (λ xs. with_piece_at c.args.k xs (get_or c.args.parcels.now p d)) (ports_hear_now c (c.len-stations.result + p) ∙ ap (λ i. heard_for (L c) (t c) (m c) (ls' c) (i + p)) (stations_are c)) in
     steady_parcels (plan c) (s c) (t c) (front c) (m c) (least c) (most c) (ls c) (ls' c) (ss c) (ks c) (carrier c) (a_sender c) a_kept (going c) c.args.state.now.room.rows c.args.state.now.room.captures c.requires.at.stations
     c.args.window c.args.k c.args.parcels.now c.put_all.new.parcels begins fits were c.put_all.auto.parcels filled
     ∙ ap (λ x. map (half_filled (plan c) x c.args.window (c.args.k + m c)) (w c).edges) (sym window)

@@ -20,7 +20,7 @@ take-requires-in_default-clause-signal c =
     let f = λ (u : ℕ). heard_by_lines c.args.lookahead u c.args.lines.now c.args.p in
     let n = length c.args.piece.now in
     let carrier : c.args.carrier ≡ true = search rules in
-    subst (All (λ s. s ≢ Idle)) (sym c.hear_piece.ensures) (signal_piece f c.args.t n (λ j l. c.requires.steady j l ∙ carrier))
+    subst (All (λ s. s ≢ Idle)) (sym c.hear_tap.ensures) (signal_piece f c.args.t n (λ j l. c.requires.steady j l ∙ carrier))
 
 pub returns-then-sending-clause-state : goal.returns-then-sending-clause-state
 returns-then-sending-clause-state c = λ r h.

@@ -1,8 +1,11 @@
-use Rattle.std.proofs.Common.{◌≡◌, ℕ, ◌<◌, true, slice_index_or}
+use Rattle.std.proofs.Common.{◌≡◌, ℕ, ◌<◌, true, false, slice_index_or}
 use Rattle.manchester_line.specs.declared.Sym.TheVariants.{Idle}
 use Rattle.manchester_line.specs.Line.{is_signal}
 use Rattle.tap_lines.proofs.line.are_signals.Given as goal
 
--- those below j are signals
+-- whether those below j are signals
 abbrev pub invariant-loop-j : goal.invariant-loop-j
-invariant-loop-j l = l.all ≡ true → (i : ℕ) → i < l.j → is_signal (slice_index_or l.piece i Idle) ≡ true
+invariant-loop-j l = record {
+  signals : l.all ≡ true → (i : ℕ) → i < l.j → is_signal (slice_index_or l.piece i Idle) ≡ true;
+  other : l.all ≡ false → ¬ ((i : ℕ) → i < l.j → is_signal (slice_index_or l.piece i Idle) ≡ true);
+}

@@ -18,7 +18,7 @@ loop-q-preserved-then-is_quiet_from c =
       heard = λ p h.
           let s = get_or c.loop-q.heard p Idle in
           let none = silent_line c.args.lookahead c.args.t c.args.far p q ls c.requires.reach h in_it
-          (λ v late. ap (λ l. symbol_on l v) (sym is) ∙ c.is_quiet_from.ensures c.if-is_quiet_from.true v (omega (arith, late, from))) in
+          (λ v late. ap (λ l. symbol_on l v) (sym is) ∙ c.is_quiet_from.ensures.quiet c.if-is_quiet_from.true v (omega (arith, late, from))) in
           heard_next c.args.lookahead c.args.t p q ls s s _ in_it (sym (ap (mix_of s) none ∙ mix_idle s)) (c.loop-q.invariant.heard p h);
     }
 

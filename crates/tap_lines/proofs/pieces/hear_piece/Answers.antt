@@ -22,7 +22,7 @@ loop-q-preserved-then-is_quiet_from c =
       heard = λ j h.
           let s = get_or c.loop-q.piece j Idle in
           let none = silent_line c.args.lookahead (c.args.t + j) c.args.far p q ls c.requires.reach c.requires.tap in_it
-          (λ v late. ap (λ l. symbol_on l v) (sym is) ∙ c.is_quiet_from.ensures c.if-is_quiet_from.true v (omega (arith, late, from))) in
+          (λ v late. ap (λ l. symbol_on l v) (sym is) ∙ c.is_quiet_from.ensures.quiet c.if-is_quiet_from.true v (omega (arith, late, from))) in
           heard_next c.args.lookahead (c.args.t + j) p q ls s s _ in_it (sym (ap (mix_of s) none ∙ mix_idle s)) (c.loop-q.invariant.heard j h);
     }
 

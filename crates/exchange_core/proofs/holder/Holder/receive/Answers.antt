@@ -10,12 +10,12 @@ pub put-requires-clause-edge : goal.put-requires-clause-edge
 put-requires-clause-edge g c κs within =
     let s = c.self.inside in
     let h = held_as (g.P.Part.plan s.part) (g.P.Part.number s.part) (g.P.Part.at s.part) s.window s.lost s.refused s.reserved s.parcels.items s.away.items in
-    has_where h c.args.self.now c.args.parcel.edge c.place_of-place.result c.self.view_is c.place_of-place.ensures.place (let n = c.if-place-len.true in let l = c.len.ensures in omega (arith, n, l))
+    has_where h c.args.self.now c.args.parcel.now.edge c.place_of-place.result c.self.view_is c.place_of-place.ensures.place (let n = c.if-place-len.true in let l = c.len.ensures in omega (arith, n, l))
 
-pub returns-then-place-len : goal.returns-then-place-len
-returns-then-place-len g c =
+pub returns-then-place-len-clause-new : goal.returns-then-place-len-clause-new
+returns-then-place-len-clause-new g c =
     let s = c.self.inside in
     let h = held_as (g.P.Part.plan s.part) (g.P.Part.number s.part) (g.P.Part.at s.part) s.window s.lost s.refused s.reserved s.parcels.items s.away.items in
-    let has : has_edge (edges_of_parcels c.args.self.now.parcels) c.args.parcel.edge ≡ true =
-    has_where h c.args.self.now c.args.parcel.edge c.place_of-place.result c.self.view_is c.place_of-place.ensures.place (let n = c.if-place-len.true in let l = c.len.ensures in omega (arith, n, l)) in
-    c.put.ensures ∙ sym (ap (λ b. if b then take_holding c.args.parcel c.args.self.now else c.args.self.now) has)
+    let has : has_edge (edges_of_parcels c.args.self.now.parcels) c.args.parcel.now.edge ≡ true =
+    has_where h c.args.self.now c.args.parcel.now.edge c.place_of-place.result c.self.view_is c.place_of-place.ensures.place (let n = c.if-place-len.true in let l = c.len.ensures in omega (arith, n, l)) in
+    c.put.ensures.new ∙ sym (ap (λ b. if b then take_holding c.args.parcel.now c.args.self.now else c.args.self.now) has)

@@ -2,39 +2,29 @@ use Rattle.std.proofs.Common.{◌≡◌, get_or, ap, ◌∙◌}
 use Rattle.std.specs.Prelude.{if◌then◌else◌}
 use Rattle.exchange_core.specs.Shares.{Held, first_with_edge, may_post, carry_held}
 use Rattle.exchange_core.proofs.TakenParcels.{IsEdgeOf}
-use Rattle.exchange_core.proofs.CarriedParcels.{repeater_may, to_repeater, segment_leaves, not_from_segment, segment_stays}
+use Rattle.exchange_core.proofs.CarriedParcels.{brought_to_repeater, repeater_fits, goes_segment}
 use Rattle.exchange_core.proofs.share.Share.leave_segment.Given.{Over}
-use Rattle.exchange_core.proofs.share.Share.leave_segment.Goals.{After-leave}
+use Rattle.exchange_core.proofs.share.Share.leave_segment.Goals.{After-spot-repeater}
 use Rattle.exchange_core.proofs.share.Share.leave_segment.Goals as goal
 
-edge : (g : Over) (c : After-leave g) → IsEdgeOf c.self.inside.segment_of.items c.self.inside.repeater_of.items c.self.inside.segments c.self.inside.repeaters c.args.edge c.owner-segment.result c.owner-repeater.result
+edge : (g : Over) (c : After-spot-repeater g) → IsEdgeOf c.self.inside.segment_of.items c.self.inside.repeater_of.items c.self.inside.segments c.self.inside.repeaters c.args.edge c.spot-segment.result.part c.spot-repeater.result.part
 edge g c = record {
   whole = c.self.invariant;
-  segment = c.owner-segment.ensures ∙ ap (λ xs. get_or xs c.args.edge 0) c.as_slice.ensures.value;
-  repeater = c.owner-repeater.ensures ∙ ap (λ xs. get_or xs c.args.edge 0) c.as_slice-2.ensures.value;
+  segment = c.spot-segment.ensures ∙ ap (λ xs. get_or xs c.args.edge 0) c.as_slice.ensures.value;
+  repeater = c.spot-repeater.ensures ∙ ap (λ xs. get_or xs c.args.edge 0) c.as_slice-3.ensures.value;
 }
 
-pub receive-requires-after_bounds : goal.receive-requires-after_bounds
-receive-requires-after_bounds g c κs within = repeater_may _ _ _ _ _ _ _ (edge g (goal.at.receive-requires-after_bounds g c).After-leave) c.leave.result c.leave.new.self c.leave.ensures.value c.leave.ensures.new c.in-Some.parcel c.in-Some.is
+pub bring-requires-after_bounds : goal.bring-requires-after_bounds
+bring-requires-after_bounds g c κs within = repeater_fits _ _ _ _ _ _ _ (edge g (goal.at.bring-requires-after_bounds g c).After-spot-repeater)
 
 pub invariant_of-self : goal.invariant_of-self
-invariant_of-self g c = (to_repeater _ _ _ _ _ _ _ (edge g (goal.at.invariant_of-self g c).After-leave) c.leave.result c.leave.new.self c.leave.ensures.value c.leave.ensures.new c.in-Some.parcel c.in-Some.is c.receive.new.self c.receive.ensures).whole
+invariant_of-self g c = (brought_to_repeater _ _ _ _ _ _ _ (edge g (goal.at.invariant_of-self g c).After-spot-repeater) c.bring.new.self c.bring.new.to c.bring.ensures.left c.bring.ensures.come).whole
 
-pub returns-in-Some-clause-when : goal.returns-in-Some-clause-when
-returns-in-Some-clause-when g c = segment_leaves _ _ _ _ _ _ _ (edge g (goal.at.returns-in-Some-clause-when g c).After-leave) c.leave.result c.leave.new.self c.leave.ensures.value c.leave.ensures.new c.in-Some.parcel c.in-Some.is ∙ ap (λ (v : Held). may_post c.args.edge (first_with_edge c.args.edge v.segments.places)) c.self.view_is
+pub returns-clause-when : goal.returns-clause-when
+returns-clause-when g c =
+    c.bring.ensures.value ∙ goes_segment _ _ _ _ _ _ _ (edge g (goal.at.returns-clause-when g c).After-spot-repeater) ∙ ap (λ (v : Held). may_post c.args.edge (first_with_edge c.args.edge v.segments.places)) c.self.view_is
 
-pub returns-in-Some-clause-new : goal.returns-in-Some-clause-new
-returns-in-Some-clause-new g c =
-    (to_repeater _ _ _ _ _ _ _ (edge g (goal.at.returns-in-Some-clause-new g c).After-leave) c.leave.result c.leave.new.self c.leave.ensures.value c.leave.ensures.new c.in-Some.parcel c.in-Some.is c.receive.new.self c.receive.ensures).new
-    ∙ ap (λ (v : Held). if may_post c.args.edge (first_with_edge c.args.edge v.segments.places) then carry_held c.args.edge v else v) c.self.view_is
-
-pub invariant_of-self-in-None : goal.invariant_of-self-in-None
-invariant_of-self-in-None g c = (not_from_segment _ _ _ _ _ _ _ (edge g (goal.at.invariant_of-self-in-None g c).After-leave) c.leave.result c.leave.new.self c.leave.ensures.value c.leave.ensures.new c.in-None.is).whole
-
-pub returns-in-None-clause-when : goal.returns-in-None-clause-when
-returns-in-None-clause-when g c = segment_stays _ _ _ _ _ _ _ (edge g (goal.at.returns-in-None-clause-when g c).After-leave) c.leave.result c.leave.new.self c.leave.ensures.value c.leave.ensures.new c.in-None.is ∙ ap (λ (v : Held). may_post c.args.edge (first_with_edge c.args.edge v.segments.places)) c.self.view_is
-
-pub returns-in-None-clause-new : goal.returns-in-None-clause-new
-returns-in-None-clause-new g c =
-    (not_from_segment _ _ _ _ _ _ _ (edge g (goal.at.returns-in-None-clause-new g c).After-leave) c.leave.result c.leave.new.self c.leave.ensures.value c.leave.ensures.new c.in-None.is).new
+pub returns-clause-new : goal.returns-clause-new
+returns-clause-new g c =
+    (brought_to_repeater _ _ _ _ _ _ _ (edge g (goal.at.returns-clause-new g c).After-spot-repeater) c.bring.new.self c.bring.new.to c.bring.ensures.left c.bring.ensures.come).new
     ∙ ap (λ (v : Held). if may_post c.args.edge (first_with_edge c.args.edge v.segments.places) then carry_held c.args.edge v else v) c.self.view_is

@@ -18,7 +18,7 @@ returns-then-fresh c = λ j d h.
     let base : c.self.inside.base ≡ l.base = search rules in
     c.copy_from.ensures j d h
     ∙ ap (λ b. get_or xs (t - back - b + j) Idle) base
-    ∙ back_is l xs (length l.symbols - length xs) t back j c.text.ensures low high
+    ∙ back_is l xs (length l.symbols - length xs) t back j c.text.ensures.text low high
     ∙ ap (λ b. earlier (symbol_on l) (t + j) b) c.back-back.ensures
     ∙ sym (ap (λ s. mix_of s (earlier (symbol_on l) (t + j) (half_bits_back c.args.lookahead c.args.at l))) (c.requires.fresh c.if-fresh.true j d all))
 
@@ -34,5 +34,5 @@ returns-else-fresh c = λ j d h.
     c.mix_from.ensures j d h
     ∙ ap (mix_of (get_or c.args.piece.now j d))
     (ap (λ b. get_or xs (t - back - b + j) Idle) base
-    ∙ back_is l xs (length l.symbols - length xs) t back j c.text-else-fresh.ensures low high
+    ∙ back_is l xs (length l.symbols - length xs) t back j c.text-else-fresh.ensures.text low high
     ∙ ap (λ b. earlier (symbol_on l) (t + j) b) c.back-back.ensures)

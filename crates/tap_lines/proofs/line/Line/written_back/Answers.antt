@@ -1,4 +1,4 @@
-use Rattle.std.proofs.Common.{◌≡◌, ◌+◌, ◌-◌, ◌<◌, ◌≤◌, length, take, drop, ap, ◌∙◌, arith, rules}
+use Rattle.std.proofs.Common.{◌≡◌, ◌+◌, ◌-◌, ◌≤◌, length, take, drop, ap, ◌∙◌, arith, rules}
 use Rattle.tap_lines.proofs.LinesAhead.{back_piece}
 use Rattle.tap_lines.proofs.line.Line.written_back.Goals as goal
 
@@ -16,4 +16,4 @@ returns-clause-piece c =
     let n : first + count - first ≡ count = omega arith in
     let base : c.self.inside.base ≡ l.base = search rules in
     ap (λ b. take (t - back - b + count - (t - back - b)) (drop (t - back - b) xs)) base
-    ∙ back_piece l xs (length l.symbols - length xs) t back count (first + count - first) c.text-text.ensures low high room n
+    ∙ back_piece l xs (length l.symbols - length xs) t back count (first + count - first) c.text-text.ensures.text low high room n

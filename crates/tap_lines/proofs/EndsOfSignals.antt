@@ -1,0 +1,147 @@
+-- Where the last signal of symbols stands.
+use Rattle.std.proofs.Common.{◌≡◌, ◌≢◌, ℕ, zero, suc, min, ◌+◌, ◌-◌, ◌<◌, ◌≤◌, true, false, ltb, cond, inl, inr, List, [], ◌∷◌, ◌++◌, replicate, take, length, length-take-le, get_or, refl, Option, None, Some, IfSome, length-append, sym, ap, ap₂, ◌∙◌, arith, rules}
+use Rattle.std.proofs.lemmas.List.{append-nil, length-replicate, get_or-take, get_or_past}
+use Rattle.std.proofs.lemmas.Bool.{cases_lt}
+use Rattle.std.proofs.lemmas.Bool.Decides.{nat_tests}
+use Rattle.manchester_line.specs.declared.Sym.{Sym}
+use Rattle.manchester_line.specs.declared.Sym.TheVariants.{Idle}
+use Rattle.manchester_line.specs.Line.{is_signal}
+use Rattle.net_parts.proofs.LateRows.{if_true, if_false}
+use Rattle.tap_lines.specs.Signals.{signals_end, EndsInSignals}
+use Rattle.tap_lines.specs.TapLines.{TapLine, no_line, symbol_on, line_cut, AreIdleFrom, IsIdleFrom, IsOnlySource}
+use Rattle.tap_lines.proofs.LinesAhead.{idle_tail, cut_written}
+
+-- the place behind the last signal
+pub end_is : (xs : List Sym) (k : ℕ) → k ≤ length xs → ((i : ℕ) → k ≤ i → i < length xs → get_or xs i Idle ≡ Idle) →
+    (0 < k → is_signal (get_or xs (k - 1) Idle) ≡ true) → signals_end xs ≡ k
+end_is [] zero h idle last = refl
+end_is [] (suc k) h idle last = absurd (omega (arith, h))
+end_is (x ∷ xs) zero h idle last =
+    let rest : signals_end xs ≡ 0 = end_is xs 0 (omega arith) (λ i l m. idle (suc i) (omega arith) (omega (arith, m))) (λ z. absurd (omega (arith, z))) in
+    ap (λ n. cond (ltb 0 n) (suc n) (cond (is_signal x) 1 0)) rest ∙ ap (λ s. cond (is_signal s) 1 0) (idle 0 (omega arith) (omega arith))
+end_is (x ∷ xs) (suc zero) h idle last =
+    let rest : signals_end xs ≡ 0 = end_is xs 0 (omega arith) (λ i l m. idle (suc i) (omega arith) (omega (arith, m))) (λ z. absurd (omega (arith, z))) in
+    ap (λ n. cond (ltb 0 n) (suc n) (cond (is_signal x) 1 0)) rest ∙ ap (λ b. cond b 1 0) (last (omega arith))
+end_is (x ∷ xs) (suc (suc k)) h idle last =
+    let before : suc (suc k - 1) ≡ suc (suc k) - 1 = omega arith in
+    let rest : signals_end xs ≡ suc k = end_is xs (suc k) (omega (arith, h)) (λ i l m. idle (suc i) (omega (arith, l)) (omega (arith, m))) (λ z. ap (λ i. is_signal (get_or (x ∷ xs) i Idle)) before ∙ last (omega arith)) in
+    let yes : ltb 0 (suc k) ≡ true = grind (arith, nat_tests) in
+    ap (λ n. cond (ltb 0 n) (suc n) (cond (is_signal x) 1 0)) rest ∙ ap (λ b. cond b (suc (suc k)) (cond (is_signal x) 1 0)) yes
+
+-- symbols that end in signals, with Idle behind them
+pub end_of_text : (xs : List Sym) (q n : ℕ) → EndsInSignals n xs → length xs ≤ length (xs ++ replicate q Idle) → signals_end (xs ++ replicate q Idle) ≡ length xs
+end_of_text xs q n ends fits =
+    end_is (xs ++ replicate q Idle) (length xs) fits
+    (λ i l m. idle_tail xs q i ∙ get_or_past xs i Idle l)
+    (λ more.
+    let one = ends.some more in
+    ap is_signal (idle_tail xs q (length xs - 1)) ∙ ends.signals (length xs - 1) (omega (arith, one)) (omega (arith, more)))
+
+-- what stands on a line from its first symbol on
+pub symbol_at : (l : TapLine) (xs : List Sym) (q v : ℕ) → l.symbols ≡ xs ++ replicate q Idle → l.base ≤ v → symbol_on l v ≡ get_or xs (v - l.base) Idle
+symbol_at l xs q v is low =
+    if_true {m = l.base} {n = v} _ _ low ∙ ap (λ ys. get_or ys (v - l.base) Idle) is ∙ idle_tail xs q (v - l.base)
+
+-- a line on which all signals are before a half bit
+pub quiet_from : (l : TapLine) (xs : List Sym) (q u : ℕ) → l.symbols ≡ xs ++ replicate q Idle → (0 < length xs → l.base + length xs ≤ u) → IsIdleFrom u l
+quiet_from l xs q u is early v late = elim (cases_lt v l.base) [
+  | inl before ↦ if_false {m = l.base} {n = v} _ _ before
+  | inr low ↦ symbol_at l xs q v is low ∙ get_or_past xs (v - l.base) Idle (elim (cases_lt 0 (length xs)) [
+    | inl some ↦ let e = early some in omega (arith, e, late, low)
+    | inr none ↦ omega (arith, none)
+  ])
+]
+
+pub no_signal : true ≡ false → {A : Type 0} → A
+no_signal e = absurd (search rules)
+
+-- a line on which a signal is later
+pub loud_from : (l : TapLine) (xs : List Sym) (q u n : ℕ) → l.symbols ≡ xs ++ replicate q Idle → EndsInSignals n xs → 0 < length xs → u < l.base + length xs → ¬ IsIdleFrom u l
+loud_from l xs q u n is ends more late idle =
+    let one = ends.some more in
+    let v = l.base + length xs - 1 in
+    let place : v - l.base ≡ length xs - 1 = omega (arith, more) in
+    let quiet = idle v (omega (arith, late, more)) in
+    let signal = ends.signals (length xs - 1) (omega (arith, one)) (omega (arith, more)) in
+    no_signal (sym signal ∙ ap (λ i. is_signal (get_or xs i Idle)) (sym place) ∙ ap is_signal (sym (symbol_at l xs q v is (omega (arith, more))) ∙ quiet))
+
+-- symbols behind which all is Idle
+pub idle_rest : (xs : List Sym) (k m : ℕ) → k + m ≡ length xs → ((i : ℕ) → k ≤ i → i < length xs → get_or xs i Idle ≡ Idle) →
+    take k xs ++ replicate m Idle ≡ xs
+idle_rest [] zero zero h idle = refl
+idle_rest [] zero (suc m) h idle = absurd (omega (arith, h))
+idle_rest [] (suc k) m h idle = absurd (omega (arith, h))
+idle_rest (x ∷ xs) zero zero h idle = absurd (omega (arith, h))
+idle_rest (x ∷ xs) zero (suc m) h idle =
+    let first : Idle ≡ x = sym (idle 0 (omega arith) (omega arith)) in
+    ap₂ ◌∷◌ first (idle_rest xs 0 m (omega (arith, h)) (λ i l n. idle (suc i) (omega arith) (omega (arith, n))))
+idle_rest (x ∷ xs) (suc k) m h idle =
+    ap (λ ys. x ∷ ys) (idle_rest xs k m (omega (arith, h)) (λ i l n. idle (suc i) (omega (arith, l)) (omega (arith, n))))
+
+-- symbols that are cut among their last signals
+pub ends_cut : (xs : List Sym) (w k n : ℕ) → w ≤ length xs → k ≤ w → w - k < n → EndsInSignals n (take w xs) → EndsInSignals (n - (w - k)) (take k xs)
+ends_cut xs w k n within less loud ends =
+    let long = length-take-le w xs within in
+    let short = length-take-le k xs (omega (arith, within, less)) in
+    let few = ends.few in
+    record {
+      few = omega (arith, few, long, short, less);
+      some = λ z. omega (arith, loud);
+      signals = λ i l m.
+          let before : i < k = omega (arith, m, short) in
+          ap is_signal (get_or-take k xs i Idle before ∙ sym (get_or-take w xs i Idle (omega (arith, before, less))))
+          ∙ ends.signals i (omega (arith, l, long, short, less, loud)) (omega (arith, before, less, long));
+    }
+
+-- symbols whose last is a signal
+pub ends_in_one : (xs : List Sym) (k : ℕ) → k ≤ length xs → (0 < k → is_signal (get_or xs (k - 1) Idle) ≡ true) → EndsInSignals (min k 1) (take k xs)
+ends_in_one xs k within last =
+    let size = length-take-le k xs within in
+    record {
+      few = omega (arith, size);
+      some = λ z. omega (arith, size, z);
+      signals = λ i l m.
+          let before : i < k = omega (arith, m, size) in
+          let e : i ≡ k - 1 = omega (arith, l, m, size) in
+          ap is_signal (get_or-take k xs i Idle before ∙ ap (λ j. get_or xs j Idle) e) ∙ last (omega (arith, before));
+    }
+
+-- how much is written of a line whose Idle at its end isn't
+pub written_is : (items symbols : List Sym) (w q n : ℕ) → w + q ≤ length items → EndsInSignals n (take w items) → take w items ++ replicate q Idle ≡ symbols → signals_end symbols ≡ w
+written_is items symbols w q n within ends is =
+    let size = length-take-le w items (omega (arith, within)) in
+    let sum = length-append (take w items) (replicate q Idle) in
+    ap signals_end (sym is) ∙ end_of_text (take w items) q n ends (omega (arith, sum)) ∙ size
+
+pub take_take : (items : List Sym) (w k : ℕ) → k ≤ w → take k (take w items) ≡ take k items
+take_take items w zero h = refl
+take_take items zero (suc k) h = absurd (omega (arith, h))
+take_take [] (suc w) (suc k) h = refl
+take_take (x ∷ xs) (suc w) (suc k) h = ap (λ ys. x ∷ ys) (take_take xs w k (omega (arith, h)))
+
+-- a line of which part of what is written is cut, and its last Idle isn't written any more
+pub text_cut : (at delay base : ℕ) (items : List Sym) (w q k e m : ℕ) → w + q ≤ length items → k < w → e + m ≡ k → take e items ++ replicate m Idle ≡ take k items →
+    ◌≡◌ {A = TapLine} (record { at = at; delay = delay; base = base; symbols = take e items ++ replicate m Idle; room = length items - (e + m) })
+    (line_cut (base + k) (record { at = at; delay = delay; base = base; symbols = take w items ++ replicate q Idle; room = length items - (w + q) }))
+text_cut at delay base items w q k e m within less sum rest =
+    let text = take w items in
+    let size : length text ≡ w = length-take-le w items (omega (arith, within)) in
+    let n : base + k - base ≡ k = omega arith in
+    let all : length (text ++ replicate q Idle) ≡ w + q = length-append text (replicate q Idle) ∙ ap₂ ◌+◌ size (length-replicate q Idle) in
+    let symbols : take e items ++ replicate m Idle ≡ take (base + k - base) (text ++ replicate q Idle) =
+    rest
+    ∙ sym (take_take items w k (omega (arith, less)))
+    ∙ sym (append-nil (take k text))
+    ∙ sym (cut_written k q text (omega (arith, less, size)))
+    ∙ ap (λ i. take i (text ++ replicate q Idle)) (sym n) in
+    let room : length items - (e + m) ≡ length items - (w + q) + (length (text ++ replicate q Idle) - (base + k - base)) = omega (arith, all, n, within, less, sum) in
+    λ i. record { at = at; delay = delay; base = base; symbols = symbols i; room = room i }
+
+-- where two lines have signals late, none is the only one
+pub none_only : (u r : ℕ) (ls : List TapLine) (source : Option ℕ) → source ≢ None → IfSome source (λ q. q < r) → IfSome source (λ q. ¬ IsIdleFrom u (get_or ls q no_line)) →
+    r < length ls → ¬ IsIdleFrom u (get_or ls r no_line) → (q : ℕ) → IsOnlySource u ls q → AreIdleFrom u ls
+none_only u r ls None some within loud in_it late q only = absurd (some refl)
+none_only u r ls (Some s) some within loud in_it late q only = absurd (elim (cases_lt q r) [
+  | inl before ↦ late (λ v after. only.others r v in_it (λ e. omega (arith, e, before)) after)
+  | inr behind ↦ loud (λ v after. only.others s v (omega (arith, within, in_it)) (λ e. omega (arith, e, behind, within)) after)
+])

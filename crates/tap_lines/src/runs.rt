@@ -1,0 +1,57 @@
+//! Runs of symbols that are all signals, or all Idle.
+ghost use Rattle.std.specs.Prelude.{◌≡◌, ◌≢◌, ◌<◌, ◌≤◌, ◌+◌, ◌-◌, ℕ, true, length, slice_index_or};
+ghost use Rattle.manchester_line.specs.declared.Sym.TheVariants.{Idle};
+ghost use Rattle.manchester_line.specs.Line.{is_signal as is_signal_of};
+ghost use Rattle.tap_lines.specs.Signals.{EndsInSignals};
+
+use manchester_line::{Sym, is_signal};
+
+/// The place behind the last signal of a piece, from 0.
+pub fn end_of_signals(piece: &[Sym]) -> usize
+    ensures within { result ≤ length piece.now }
+    ensures signal { 0 < result → is_signal_of (slice_index_or piece.now (result - 1) Idle) ≡ true }
+    ensures idle { (j : ℕ) → result ≤ j → j < length piece.now → slice_index_or piece.now j Idle ≡ Idle }
+{
+    let len = piece.len();
+    for gone in 0..len {
+        let end = len - gone;
+        if piece[end - 1] != Sym::Idle {
+            return end;
+        }
+    }
+    0
+}
+
+/// How many of the first symbols of a piece are all a signal, or are all Idle, as `carrier` says.
+pub fn steady_first(piece: &[Sym], carrier: bool) -> usize
+    ensures within { result ≤ length piece.now }
+    ensures steady { (j : ℕ) → j < result → is_signal_of (slice_index_or piece.now j Idle) ≡ carrier }
+    ensures longest { result < length piece.now → is_signal_of (slice_index_or piece.now result Idle) ≢ carrier }
+{
+    for j in 0..piece.len() {
+        if is_signal(piece[j]) != carrier {
+            return j;
+        }
+    }
+    piece.len()
+}
+
+/// How many symbols from place `place` on, from 0, at most `most`, are all a signal, or are all Idle, as `carrier` says, where
+/// behind the text only Idle stands. At least the last `loud` symbols of the text are signals.
+pub fn steady_from(text: &[Sym], loud: usize, place: u64, most: usize, carrier: bool) -> usize
+    requires { EndsInSignals loud text.now }
+    ensures within { result ≤ most }
+    ensures steady { (j : ℕ) → j < result → is_signal_of (slice_index_or text.now (place + j) Idle) ≡ carrier }
+    ensures longest { result < most → is_signal_of (slice_index_or text.now (place + result) Idle) ≢ carrier }
+{
+    let first = place.min(text.len() as u64) as usize;
+    let count = most.min(text.len() - first);
+    if carrier && text.len() - loud <= first {
+        return count;
+    }
+    let steady = steady_first(&text[first..first + count], carrier);
+    if carrier {
+        return steady;
+    }
+    if steady < count { steady } else { most }
+}
