@@ -120,10 +120,10 @@ take_take [] (suc w) (suc k) h = refl
 take_take (x ∷ xs) (suc w) (suc k) h = ap (λ ys. x ∷ ys) (take_take xs w k (omega (arith, h)))
 
 -- a line of which part of what is written is cut, and its last Idle isn't written any more
-pub text_cut : (at delay base : ℕ) (items : List Sym) (w q k e m : ℕ) → w + q ≤ length items → k < w → e + m ≡ k → take e items ++ replicate m Idle ≡ take k items →
-    ◌≡◌ {A = TapLine} (record { at = at; delay = delay; base = base; symbols = take e items ++ replicate m Idle; room = length items - (e + m) })
-    (line_cut (base + k) (record { at = at; delay = delay; base = base; symbols = take w items ++ replicate q Idle; room = length items - (w + q) }))
-text_cut at delay base items w q k e m within less sum rest =
+pub text_cut : (at delay backlog base : ℕ) (items : List Sym) (w q k e m : ℕ) → w + q ≤ length items → k < w → e + m ≡ k → take e items ++ replicate m Idle ≡ take k items →
+    ◌≡◌ {A = TapLine} (record { at = at; delay = delay; backlog = backlog; base = base; symbols = take e items ++ replicate m Idle; room = length items - (e + m) })
+    (line_cut (base + k) (record { at = at; delay = delay; backlog = backlog; base = base; symbols = take w items ++ replicate q Idle; room = length items - (w + q) }))
+text_cut at delay backlog base items w q k e m within less sum rest =
     let text = take w items in
     let size : length text ≡ w = length-take-le w items (omega (arith, within)) in
     let n : base + k - base ≡ k = omega arith in
@@ -135,7 +135,7 @@ text_cut at delay base items w q k e m within less sum rest =
     ∙ sym (cut_written k q text (omega (arith, less, size)))
     ∙ ap (λ i. take i (text ++ replicate q Idle)) (sym n) in
     let room : length items - (e + m) ≡ length items - (w + q) + (length (text ++ replicate q Idle) - (base + k - base)) = omega (arith, all, n, within, less, sum) in
-    λ i. record { at = at; delay = delay; base = base; symbols = symbols i; room = room i }
+    λ i. record { at = at; delay = delay; backlog = backlog; base = base; symbols = symbols i; room = room i }
 
 -- where two lines have signals late, none is the only one
 pub none_only : (u r : ℕ) (ls : List TapLine) (source : Option ℕ) → source ≢ None → IfSome source (λ q. q < r) → IfSome source (λ q. ¬ IsIdleFrom u (get_or ls q no_line)) →

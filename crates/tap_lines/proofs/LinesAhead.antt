@@ -78,7 +78,7 @@ cut_ahead f l m e u is few room =
     take_both k l.symbols (span f 0 e) ∙ ap₂ (λ xs n. xs ++ take n (span f 0 e)) (take_more k l.symbols all) rest
     ∙ ap (λ xs. l.symbols ++ xs) (take-span f 0 e m few) in
     let same : l.room - length (span f 0 e) + (length (l.symbols ++ span f 0 e) - k) ≡ l.room - length (span f 0 m) = omega (arith, size, small, sum, is, few, room) in
-    λ i. record { at = l.at; delay = l.delay; base = l.base; symbols = symbols i; room = same i }
+    λ i. record { at = l.at; delay = l.delay; backlog = l.backlog; base = l.base; symbols = symbols i; room = same i }
 
 -- lines of the same places
 pub places_same : (ls ls' : List TapLine) → length ls' ≡ length ls → ((r : ℕ) → r < length ls → (get_or ls' r no_line).at ≡ (get_or ls r no_line).at) →

@@ -2,7 +2,6 @@
 -- those of its stations in their order, then those of its ports in the order of edges. Half bits count from 0.
 use Rattle.std.specs.Prelude.{ℕ, ◌≡◌, ◌≢◌, ◌+◌, ◌-◌, ◌==◌, ◌<◌, ◌≤◌, nat_le, nat_lt, if◌then◌else◌, List, [], ◌∷◌, ◌++◌, length, take, drop, slice_index_or}
 use Rattle.mac_parameters.specs.Distances.{distance}
-use Rattle.mac_parameters.specs.Parameters.{greatest_place, greatest_delay}
 use Rattle.manchester_line.specs.declared.Sym.{Sym}
 use Rattle.manchester_line.specs.declared.Sym.TheVariants.{Idle}
 use Rattle.manchester_line.specs.Line.{mix_of}
@@ -17,6 +16,8 @@ use Rattle.tap_lines.specs.Signals.{signals_end}
 pub record TapLine : Type 0 where
   pub at : ℕ
   pub delay : ℕ
+  -- how many half bits back it keeps what stands on it: what is further back reaches no other tap
+  pub backlog : ℕ
   pub base : ℕ
   pub symbols : List Sym
   -- how many more symbols it takes without memory
@@ -24,11 +25,7 @@ pub record TapLine : Type 0 where
 
 -- A line without symbols, for what is no tap (profile).
 abbrev pub no_line : TapLine
-no_line = record { at = 0; delay = 0; base = 0; symbols = []; room = 0 }
-
--- What is further back on a line, in half bits, reaches no other tap (profile).
-abbrev pub reach : ℕ
-reach = greatest_place + greatest_delay
+no_line = record { at = 0; delay = 0; backlog = 0; base = 0; symbols = []; room = 0 }
 
 -- What stands on a line for half bit u: Idle before its first symbol and behind its last (profile).
 abbrev pub symbol_on : TapLine → ℕ → Sym
@@ -71,9 +68,9 @@ line_extended l ss = record l { symbols = l.symbols ++ ss; room = l.room - lengt
 abbrev pub dropped_from : ℕ → TapLine → TapLine
 dropped_from k l = record l { base = l.base + k; symbols = drop k l.symbols; room = l.room + k }
 
--- A line that has dropped what reaches no other tap, where it had room for fewer than n symbols (profile).
+-- A line that has dropped all but the symbols that it keeps, where it had room for fewer than n more (profile).
 abbrev pub slid : ℕ → TapLine → TapLine
-slid n l = if nat_lt l.room n then dropped_from (length l.symbols - reach) l else l
+slid n l = if nat_lt l.room n then dropped_from (length l.symbols - l.backlog) l else l
 
 -- What tap p hears by these lines in the n half bits from t on, where a window has L half bits (clause 8, profile).
 abbrev pub heard_for : ℕ → ℕ → ℕ → List TapLine → ℕ → List Sym

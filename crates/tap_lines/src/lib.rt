@@ -8,7 +8,7 @@ mod pieces;
 mod runs;
 mod sources;
 
-pub use line::{Line, REACH};
+pub use line::Line;
 pub use lines::{are_idle_from, cut_all, farthest, hear_all, rest_all, slide_all, take_in, tell};
 pub use pieces::{hear_piece, steady_ahead};
 pub use sources::{only_source, piece_of};

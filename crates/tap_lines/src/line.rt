@@ -10,21 +10,19 @@ ghost use Rattle.network.specs.Times.{earlier};
 
 use crate::runs::{end_of_signals, steady_from};
 use lists::OutOfMemory;
-use mac_parameters::{GREATEST_DELAY, GREATEST_PLACE};
 use manchester_line::{Sym, is_signal, mix};
 use std::alloc::Global;
 use std::marker::Model;
 
-/// Nothing that is further back on a line reaches another tap.
-pub const REACH: usize = GREATEST_PLACE as usize + GREATEST_DELAY as usize;
-
 /// A line, from half bit `base` on, of a tap at a place in half bits from its segment's end. What stands on it for a half
 /// bit is emitted `delay` half bits later, less the half bits of a window. The first `written` symbols of the buffer stand on
-/// it; the last of them, at least the last `loud`, are signals. The Idle behind them, `quiet` half bits, isn't written.
+/// it; the last of them, at least the last `loud`, are signals. The Idle behind them, `quiet` half bits, isn't written. What is
+/// further back than `backlog` half bits reaches no other tap, and is dropped where there is want of room.
 #[derive(Drop)]
 pub struct Line {
     at: u32,
     delay: u32,
+    backlog: usize,
     base: u64,
     buffer: Vec<Sym>,
     written: usize,
@@ -43,6 +41,7 @@ impl Model for Line {
     ghost view = { λ s. record {
       at = s.at;
       delay = s.delay;
+      backlog = s.backlog;
       base = s.base;
       symbols = take s.written s.buffer.items ++ replicate s.quiet Idle;
       room = length s.buffer.items - (s.written + s.quiet);
@@ -116,10 +115,17 @@ fn are_signals(piece: &[Sym]) -> bool
 }
 
 impl Line {
-    /// The empty line of a tap from half bit 0 on, with room for so many symbols.
-    pub fn new(alloc: Global, at: u32, delay: u32, room: usize) -> Result<Line, OutOfMemory>
+    /// The empty line of a tap from half bit 0 on, which keeps so many half bits, with room for so many symbols.
+    pub fn new(
+        alloc: Global,
+        at: u32,
+        delay: u32,
+        backlog: usize,
+        room: usize,
+    ) -> Result<Line, OutOfMemory>
         ensures place { IfOk result (λ line. line.at ≡ at) }
         ensures delay { IfOk result (λ line. line.delay ≡ delay) }
+        ensures backlog { IfOk result (λ line. line.backlog ≡ backlog) }
         ensures base { IfOk result (λ line. line.base ≡ 0) }
         ensures symbols { IfOk result (λ line. line.symbols ≡ []) }
         ensures room { IfOk result (λ line. room ≤ line.room) }
@@ -127,6 +133,7 @@ impl Line {
         Ok(Line {
             at,
             delay,
+            backlog,
             base: 0,
             buffer: vec![in alloc; Sym::Idle; room]?,
             written: 0,
@@ -377,14 +384,14 @@ impl Line {
         }
     }
 
-    /// Makes room for so many symbols: where there is less, it drops those that reach no other tap any more.
+    /// Makes room for so many symbols: where there is less, it drops all but those that it keeps.
     pub fn slide(&mut self, room: usize)
         requires { self.old.base + length self.old.symbols < 2 ^ 64 }
         ensures { self.new ≡ slid room self.old }
     {
         let len = self.written + self.quiet;
         if self.buffer.len() - len < room {
-            let gone = len.saturating_sub(REACH);
+            let gone = len.saturating_sub(self.backlog);
             let first = gone.min(self.written);
             self.buffer.copy_within(first..self.written, 0);
             self.written -= first;

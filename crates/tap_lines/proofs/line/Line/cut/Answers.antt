@@ -22,7 +22,7 @@ returns-else-kept-written c =
     let size : length (text ++ replicate x.quiet Idle) ≡ length text + x.quiet = length-append text (replicate x.quiet Idle) ∙ ap (λ n. length text + n) (length-replicate x.quiet Idle) in
     let symbols : text ++ replicate q Idle ≡ take k (text ++ replicate x.quiet Idle) = ap (λ n. text ++ replicate n Idle) few ∙ sym (cut_unwritten k x.quiet text (omega (arith, long, len))) in
     let room : all - (x.written + q) ≡ all - (x.written + x.quiet) + (length (text ++ replicate x.quiet Idle) - k) = omega (arith, size, len, left, within, long) in
-    (λ i. record { at = x.at; delay = x.delay; base = x.base; symbols = symbols i; room = room i })
+    (λ i. record { at = x.at; delay = x.delay; backlog = x.backlog; base = x.base; symbols = symbols i; room = room i })
     ∙ ap (line_cut c.args.u) c.self.view_is
 
 pub cut_text-requires : goal.cut_text-requires

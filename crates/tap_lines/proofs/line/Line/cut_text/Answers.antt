@@ -63,7 +63,7 @@ returns-then-lost-self c =
     let ends : EndsInSignals x.loud (take x.written x.buffer.items) = search rules in
     let written = written_is x.buffer.items c.args.self.now.symbols x.written x.quiet x.loud within ends (ap (λ (l : TapLine). l.symbols) c.self.view_is) in
     let less : k < x.written = let few = c.requires in omega (arith, few, written) in
-    text_cut x.at x.delay x.base x.buffer.items x.written x.quiet k k 0 within less (omega arith) (append-nil (take k x.buffer.items))
+    text_cut x.at x.delay x.backlog x.base x.buffer.items x.written x.quiet k k 0 within less (omega arith) (append-nil (take k x.buffer.items))
     ∙ ap (λ (l : TapLine). line_cut (l.base + k) l) c.self.view_is
 
 pub returns-else-lost-self : goal.returns-else-lost-self
@@ -82,5 +82,5 @@ returns-else-lost-self c =
     let idle = subst (λ ys. (i : ℕ) → e ≤ i → i < length (take k ys) → get_or (take k ys) i Idle ≡ Idle) value c.end_of_signals-end.ensures.idle in
     let rest : take e items ++ replicate (k - e) Idle ≡ take k items =
     ap (λ ys. ys ++ replicate (k - e) Idle) (sym (take_take items k e few)) ∙ idle_rest (take k items) e (k - e) (omega (arith, few, size)) idle in
-    text_cut x.at x.delay x.base items x.written x.quiet k e (k - e) within less (omega (arith, few)) rest
+    text_cut x.at x.delay x.backlog x.base items x.written x.quiet k e (k - e) within less (omega (arith, few)) rest
     ∙ ap (λ (l : TapLine). line_cut (l.base + k) l) c.self.view_is

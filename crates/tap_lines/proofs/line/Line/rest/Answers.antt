@@ -14,5 +14,5 @@ returns c =
     ap (λ ys. text ++ ys) (sym (replicate-append-replicate x.quiet n Idle)) ∙ sym (append_assoc text (replicate x.quiet Idle) (replicate n Idle)) in
     let size = length-replicate n Idle in
     let room : all - (x.written + (x.quiet + n)) ≡ all - (x.written + x.quiet) - length (replicate n Idle) = omega (arith, size) in
-    (λ i. record { at = x.at; delay = x.delay; base = x.base; symbols = symbols i; room = room i })
+    (λ i. record { at = x.at; delay = x.delay; backlog = x.backlog; base = x.base; symbols = symbols i; room = room i })
     ∙ ap (λ l. line_extended l (replicate n Idle)) c.self.view_is
