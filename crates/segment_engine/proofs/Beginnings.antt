@@ -27,7 +27,8 @@ use Rattle.net_parts.proofs.NetworkFacts.{station_facts}
 use Rattle.net_parts.proofs.LookaheadLeads.{leads}
 use Rattle.net_parts.proofs.SegmentSteps.{below}
 use Rattle.net_parts.proofs.StationNumbers.{numbered, length-both}
-use Rattle.tap_lines.specs.TapLines.{TapLine, no_line, reach}
+use Rattle.tap_lines.specs.TapLines.{TapLine, no_line}
+use Rattle.mac_parameters.specs.Distances.{distance}
 use Rattle.segment_engine.specs.NewLines.{IsNewLine, AreNewLines, new_delay}
 use Rattle.segment_engine.specs.PartStates.{IsLineOf, AreLinesAt, AreStationsAt}
 
@@ -59,8 +60,8 @@ no_captures : (plan : Plan) (ks : List ℕ) → replicate (length ks) [] ≡ map
 no_captures plan [] = refl
 no_captures plan (k ∷ ks) = ap₂ ◌∷◌ (sym (nothing_at plan.layout.stations k)) (no_captures plan ks)
 
-empty_line : (f : ℕ → Sym) (place wait least : ℕ) (l : TapLine) → IsNewLine place wait least l → IsLineOf f 0 0 l
-empty_line f place wait least l is =
+empty_line : (f : ℕ → Sym) (place wait away L : ℕ) (l : TapLine) → IsNewLine place wait away L l → IsLineOf f 0 0 l
+empty_line f place wait away L l is =
     let first = is.from_first in
     let none : 0 - l.base ≡ 0 = omega arith in
     record {
@@ -114,7 +115,7 @@ module _ (plan : Plan) (s : ℕ) where
       let count : length ls ≡ length w.positions = are.count ∙ ap length places_is in
       let many : length ls ≡ length w.stations + length w.edges = count ∙ taps_many in
       let at_size = length-map ls (λ (l : TapLine). l.at) in
-      let line : (r : ℕ) → r < length ls → IsNewLine (get_or places r 0) (new_delay n L es ds r) (2 * reach + L) (get_or ls r no_line) = λ r h. are.each r no_line h in
+      let line : (r : ℕ) → r < length ls → IsNewLine (get_or places r 0) (new_delay n L es ds r) are.away L (get_or ls r no_line) = λ r h. are.each r no_line h in
       record {
         many = many;
         places = same_number_lists (map (λ (l : TapLine). l.at) ls) w.positions (at_size ∙ count) (λ k h.
@@ -130,9 +131,16 @@ module _ (plan : Plan) (s : ℕ) where
             ∙ ap₂ (λ xs ys. get_or xs (get_or ys (length w.stations + p - n) 0) 0) ds_is es_is
             ∙ ap (λ i. get_or (port_delays plan.layout) (get_or w.edges i 0) 0) place
             ∙ sym (get_or-map (λ j. get_or (port_delays plan.layout) j 0) w.edges p 0 0 h);
-        emissions = λ r h. empty_line (emitted plan (get_or w.stations r 0)) _ _ _ (get_or ls r no_line) (line r (omega (arith, h, many)));
-        arrivals = λ p h. empty_line (arrives plan L (get_or w.edges p 0)) _ _ _ (get_or ls (length w.stations + p) no_line) (line (length w.stations + p) (omega (arith, h, many)));
+        emissions = λ r h. empty_line (emitted plan (get_or w.stations r 0)) _ _ _ _ (get_or ls r no_line) (line r (omega (arith, h, many)));
+        arrivals = λ p h. empty_line (arrives plan L (get_or w.edges p 0)) _ _ _ _ (get_or ls (length w.stations + p) no_line) (line (length w.stations + p) (omega (arith, h, many)));
         size = λ r h. let room = (line r h).roomy in omega (arith, room);
+        near = λ p r hp hr.
+            let keeps = (line r hr).keeps in
+            let wait = (line r hr).with_delay in
+            let few = are.within p r (subst (λ (xs : List ℕ). p < length xs) (sym places_is) hp) (omega (arith, hr, are.count)) in
+            let few_so : distance (get_or w.positions p 0) (get_or w.positions r 0) ≤ are.away =
+            subst (λ (xs : List ℕ). distance (get_or xs p 0) (get_or xs r 0) ≤ are.away) places_is few in
+            omega (arith, keeps, wait, few_so);
       }
     where
       is_station : (r m : ℕ) (x : ℕ) → r < m → cond (ltb r m) L x ≡ L

@@ -26,7 +26,7 @@ use Rattle.net_parts.proofs.LookaheadLeads.{leads}
 use Rattle.net_parts.proofs.SegmentHearing.{stations_hear}
 use Rattle.net_parts.proofs.SegmentSteps.{segments_go_on}
 use Rattle.net_parts.proofs.RepeaterSteps.{length-span}
-use Rattle.tap_lines.specs.TapLines.{TapLine, no_line, reach, line_extended}
+use Rattle.tap_lines.specs.TapLines.{TapLine, no_line, line_extended}
 use Rattle.segment_engine.specs.StationPasses.{receptions_by, rows_heard, captures_heard}
 use Rattle.segment_engine.specs.PartStates.{IsLineOf, AreLinesAt, AreStationsAt, half_filled, with_symbol_at}
 use Rattle.tap_lines.proofs.Spans.{span_more}
@@ -142,7 +142,7 @@ module _ (plan : Plan) (w : Wiring) (L t c front : ℕ) (ls ls' : List TapLine) 
       let r = length w.stations + p in
       subst (IsLineOf f front (t + c)) (sym (others r (omega arith))) (line_later f front t (get_or ls r no_line) (are.arrivals p h) (t + c) (omega arith))
 
-  same_size : (r : ℕ) → r < length ls' → reach + L ≤ length (get_or ls' r no_line).symbols + (get_or ls' r no_line).room
+  same_size : (r : ℕ) → r < length ls' → (get_or ls' r no_line).backlog + L ≤ length (get_or ls' r no_line).symbols + (get_or ls' r no_line).room
   same_size r h = elim (cases_lt r (length w.stations)) [
     | inl station ↦
         let l = get_or ls r no_line in
@@ -150,9 +150,9 @@ module _ (plan : Plan) (w : Wiring) (L t c front : ℕ) (ls ls' : List TapLine) 
         let some = room r station in
         let size = piece_size r station in
         let sum = length-append l.symbols (piece r) in
-        let enough : reach + L ≤ length (l.symbols ++ piece r) + (l.room - length (piece r)) = omega (arith, big, some, sum, size) in
-        subst (λ (x : TapLine). reach + L ≤ length x.symbols + x.room) (sym (told r station)) enough
-    | inr port ↦ subst (λ (x : TapLine). reach + L ≤ length x.symbols + x.room) (sym (others r port)) (are.size r (omega (arith, h, len)))
+        let enough : l.backlog + L ≤ length (l.symbols ++ piece r) + (l.room - length (piece r)) = omega (arith, big, some, sum, size) in
+        subst (λ (x : TapLine). x.backlog + L ≤ length x.symbols + x.room) (sym (told r station)) enough
+    | inr port ↦ subst (λ (x : TapLine). x.backlog + L ≤ length x.symbols + x.room) (sym (others r port)) (are.size r (omega (arith, h, len)))
   ]
 
   pub lines_later : AreLinesAt plan w L (t + c) front ls'
@@ -164,6 +164,11 @@ module _ (plan : Plan) (w : Wiring) (L t c front : ℕ) (ls ls' : List TapLine) 
     emissions = of_station;
     arrivals = still_there;
     size = same_size;
+    near = λ p r hp hr.
+        let same = are.near p r hp (omega (arith, hr, len)) in
+        let delay = stays (λ (l : TapLine). l.delay) (λ l xs. refl) r in
+        let backlog = stays (λ (l : TapLine). l.backlog) (λ l xs. refl) r in
+        omega (arith, same, delay, backlog);
   }
 
   -- the room of a station's line

@@ -7,7 +7,7 @@ use Rattle.manchester_line.specs.declared.Sym.TheVariants.{Idle}
 use Rattle.net_parts.specs.Machines.{span}
 use Rattle.net_parts.proofs.LateRows.{if_true}
 use Rattle.net_parts.proofs.RepeaterSteps.{length-span, get_or-span}
-use Rattle.tap_lines.specs.TapLines.{TapLine, reach, symbol_on, line_extended, dropped_from, slid}
+use Rattle.tap_lines.specs.TapLines.{TapLine, symbol_on, line_extended, dropped_from, slid}
 use Rattle.segment_engine.specs.PartStates.{IsLineOf}
 use Rattle.tap_lines.proofs.Spans.{span_two, drop-span}
 
@@ -45,7 +45,7 @@ module _ (f : ℕ → Sym) (front t : ℕ) (l : TapLine) (is : IsLineOf f front 
   line_later t' h = let begins = is.begins in record { begins = omega (arith, begins); ahead = is.ahead; holds = is.holds }
 
   -- after its first symbols were dropped
-  dropped_line : (k : ℕ) → k ≤ front - l.base → l.base + k ≤ t - reach → IsLineOf f front t (dropped_from k l)
+  dropped_line : (k : ℕ) → k ≤ front - l.base → l.base + k ≤ t - l.backlog → IsLineOf f front t (dropped_from k l)
   dropped_line k few begins =
       let ahead = is.ahead in
       let rest : front - l.base - k ≡ front - (l.base + k) = omega arith in
@@ -61,7 +61,7 @@ module _ (f : ℕ → Sym) (front t : ℕ) (l : TapLine) (is : IsLineOf f front 
         let begins = is.begins in
         let ahead = is.ahead in
         let size = line_size in
-        let k = length l.symbols - reach in
+        let k = length l.symbols - l.backlog in
         let test : ltb l.room n ≡ true = grind (arith, nat_tests) in
         rw test (dropped_line k (omega (arith, size)) (omega (arith, size, begins, ahead, e)))
     | inr enough ↦ let test : ltb l.room n ≡ false = grind (arith, nat_tests) in rw test is

@@ -3,7 +3,6 @@ pub mod LinesHear
 pub mod StationRoom
 pub mod StationsStep
 pub mod HalfBits
-pub mod TapsNear
 pub mod WindowLines
 pub mod WindowParcels
 pub mod SegmentWindows

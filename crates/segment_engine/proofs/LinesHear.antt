@@ -7,7 +7,6 @@ use Rattle.manchester_line.specs.declared.Sym.{Sym}
 use Rattle.manchester_line.specs.declared.Sym.TheVariants.{Idle}
 use Rattle.manchester_line.specs.Line.{mix_of}
 use Rattle.mac_parameters.specs.Distances.{distance}
-use Rattle.mac_parameters.specs.Parameters.{greatest_place, greatest_delay}
 use Rattle.cable_segment.specs.Bus.{heard_among, heard_at}
 use Rattle.load_plan.specs.declared.plan.Plan.{Plan}
 use Rattle.network.specs.Times.{heard, emitted, earlier}
@@ -19,7 +18,7 @@ use Rattle.net_parts.specs.PartLaws.{IsLead}
 use Rattle.net_parts.proofs.NetworkFacts.{StationFacts}
 use Rattle.net_parts.proofs.LateRows.{if_true, if_false, span_of}
 use Rattle.net_parts.proofs.SegmentHearing.{station_hears, port_hears_so}
-use Rattle.tap_lines.specs.TapLines.{TapLine, no_line, reach, symbol_on, half_bits_back, heard_of_lines, heard_by_lines, IsReachOf}
+use Rattle.tap_lines.specs.TapLines.{TapLine, no_line, symbol_on, half_bits_back, heard_of_lines, heard_by_lines, IsReachOf}
 use Rattle.segment_engine.specs.PartStates.{AreLinesAt}
 use Rattle.tap_lines.proofs.Spans.{take-span, drop-span}
 use Rattle.segment_engine.proofs.HeldLines.{line_at}
@@ -55,19 +54,21 @@ pub record KnowLines (plan : Plan) (w : Wiring) (L t front : ℕ) (ls : List Tap
   pub places : map (λ l. l.at) ls ≡ w.positions
   pub no_delays : (r : ℕ) → r < length w.stations → (get_or ls r no_line).delay ≡ L
   pub delays : (p : ℕ) → p < length w.edges → (get_or ls (length w.stations + p) no_line).delay ≡ get_or w.delays p 0
-  pub begins : (r : ℕ) → r < length ls → (get_or ls r no_line).base ≤ t - reach
+  pub begins : (r : ℕ) → r < length ls → (get_or ls r no_line).base ≤ t - (get_or ls r no_line).backlog
+  pub near : (p r : ℕ) → p < length w.positions → r < length ls →
+      distance (get_or w.positions p 0) (get_or w.positions r 0) + (get_or ls r no_line).delay - L ≤ (get_or ls r no_line).backlog
   pub emissions : (r u : ℕ) → r < length w.stations → (get_or ls r no_line).base ≤ u → u < t → symbol_on (get_or ls r no_line) u ≡ emitted plan (get_or w.stations r 0) u
   pub arrivals : (p u : ℕ) → p < length w.edges → (get_or ls (length w.stations + p) no_line).base ≤ u → u < front →
       symbol_on (get_or ls (length w.stations + p) no_line) u ≡ arrives plan L (get_or w.edges p 0) u
 
-pub begins_all : (plan : Plan) (w : Wiring) (L t front : ℕ) (ls : List TapLine) → AreLinesAt plan w L t front ls → (r : ℕ) → r < length ls → (get_or ls r no_line).base ≤ t - reach
+pub begins_all : (plan : Plan) (w : Wiring) (L t front : ℕ) (ls : List TapLine) → AreLinesAt plan w L t front ls → (r : ℕ) → r < length ls → (get_or ls r no_line).base ≤ t - (get_or ls r no_line).backlog
 begins_all plan w L t front ls are r h = elim (cases_lt r (length w.stations)) [
   | inl station ↦ (are.emissions r station).begins
   | inr port ↦
       let p = r - length w.stations in
       let same : length w.stations + p ≡ r = omega arith in
       let many = are.many in
-      subst (λ i. (get_or ls i no_line).base ≤ t - reach) same (are.arrivals p (omega (arith, h, many))).begins
+      subst (λ i. (get_or ls i no_line).base ≤ t - (get_or ls i no_line).backlog) same (are.arrivals p (omega (arith, h, many))).begins
 ]
 
 pub known : (plan : Plan) (w : Wiring) (L t front : ℕ) (ls : List TapLine) → AreLinesAt plan w L t front ls → KnowLines plan w L t front ls
@@ -77,6 +78,7 @@ known plan w L t front ls are = record {
   no_delays = are.no_delays;
   delays = are.delays;
   begins = begins_all plan w L t front ls are;
+  near = are.near;
   emissions = λ r u h low high. line_at (emitted plan (get_or w.stations r 0)) t t (get_or ls r no_line) (are.emissions r h) u low high;
   arrivals = λ p u h low high. line_at (arrives plan L (get_or w.edges p 0)) front t (get_or ls (length w.stations + p) no_line) (are.arrivals p h) u low high;
 }
@@ -108,16 +110,14 @@ same_reach plan w L t front t' front' far ls ls' are are' within = λ p r hp hr.
     subst (λ x. x ≤ far) (sym (ap₂ (λ x y. x + y - L) (ap₂ distance a b) d)) (within p r lp lr)
 
 -- what a line says of so many half bits before
-said_before : (f : ℕ → Sym) (l : TapLine) (t back end : ℕ) → l.base ≤ t - reach → ((u : ℕ) → l.base ≤ u → u < end → symbol_on l u ≡ f u) → back ≤ reach → (back ≤ t → t - back < end) → earlier (symbol_on l) t back ≡ earlier f t back
+said_before : (f : ℕ → Sym) (l : TapLine) (t back end : ℕ) → l.base ≤ t - l.backlog → ((u : ℕ) → l.base ≤ u → u < end → symbol_on l u ≡ f u) → back ≤ l.backlog → (back ≤ t → t - back < end) → earlier (symbol_on l) t back ≡ earlier f t back
 said_before f l t back end begins says near below = elim (cases_lt t back) [
   | inl early ↦ if_false {m = back} {n = t} _ _ early ∙ sym (if_false {m = back} {n = t} _ _ early)
   | inr there ↦ if_true {m = back} {n = t} _ _ there ∙ says (t - back) (omega (arith, begins, near)) (below there) ∙ sym (if_true {m = back} {n = t} _ _ there)
 ]
 
 module _ (plan : Plan) (facts : StationFacts plan) (L s t front : ℕ) (lead : IsLead plan.layout L) (ls : List TapLine)
-    (are : KnowLines plan (wiring plan.layout s) L t front ls) (front_ahead : t < front)
-    (near : (r : ℕ) → r < length (wiring plan.layout s).positions → get_or (wiring plan.layout s).positions r 0 ≤ greatest_place)
-    (short : (p : ℕ) → p < length (wiring plan.layout s).edges → get_or (wiring plan.layout s).delays p 0 ≤ greatest_delay) where
+    (are : KnowLines plan (wiring plan.layout s) L t front ls) (front_ahead : t < front) where
   abbrev w : Wiring
   w = wiring plan.layout s
 
@@ -132,35 +132,36 @@ module _ (plan : Plan) (facts : StationFacts plan) (L s t front : ℕ) (lead : I
 
   -- what the lines say where a tap is near enough, and else what is so
   told : ℕ → ℕ → Sym
-  told back r = cond (leb back greatest_place) (earlier (symbol_on (line_of r)) t (back + (line_of r).delay - L)) (told_by_lines plan w L truth t back r)
+  told back r = cond (leb (back + (line_of r).delay - L) (line_of r).backlog) (earlier (symbol_on (line_of r)) t (back + (line_of r).delay - L)) (told_by_lines plan w L truth t back r)
 
   stations_told : (r back : ℕ) → r < n → 1 ≤ back → told back r ≡ earlier (emitted plan (get_or w.stations r 0)) t back
   unfolding told line_of truth
-  stations_told r back h some = elim (cases_lt greatest_place back) [
-    | inl far ↦ if_false {m = back} {n = greatest_place} _ _ far ∙ test_true r n _ _ h
+  stations_told r back h some = elim (cases_lt (get_or ls r no_line).backlog (back + (get_or ls r no_line).delay - L)) [
+    | inl far ↦ if_false {m = back + (get_or ls r no_line).delay - L} {n = (get_or ls r no_line).backlog} _ _ far ∙ test_true r n _ _ h
     | inr close ↦
         let e : back + L - L ≡ back = omega arith in
-        if_true {m = back} {n = greatest_place} _ _ close
+        let wait = are.no_delays r h in
+        if_true {m = back + (get_or ls r no_line).delay - L} {n = (get_or ls r no_line).backlog} _ _ close
         ∙ ap (λ d. earlier (symbol_on (get_or ls r no_line)) t (back + d - L)) (are.no_delays r h)
         ∙ ap (earlier (symbol_on (get_or ls r no_line)) t) e
-        ∙ said_before (emitted plan (get_or w.stations r 0)) (get_or ls r no_line) t back t (are.begins r (let m = are.many in omega (arith, h, m))) (λ u low high. are.emissions r u h low high) (omega (arith, close)) (λ there. omega (arith, some, there))
+        ∙ said_before (emitted plan (get_or w.stations r 0)) (get_or ls r no_line) t back t (are.begins r (let m = are.many in omega (arith, h, m))) (λ u low high. are.emissions r u h low high) (omega (arith, close, wait)) (λ there. omega (arith, some, there))
   ]
 
   ports_told : (p back : ℕ) → p < length w.edges → L ≤ back + get_or w.delays p 0 →
       told back (n + p) ≡ earlier (arrives plan L (get_or w.edges p 0)) (suc t) (back + get_or w.delays p 0 + 1 - L)
   unfolding told line_of truth
-  ports_told p back h far = elim (cases_lt greatest_place back) [
+  ports_told p back h far = elim (cases_lt (get_or ls (n + p) no_line).backlog (back + (get_or ls (n + p) no_line).delay - L)) [
     | inl away ↦
         let at : n + p - n ≡ p = omega arith in
-        if_false {m = back} {n = greatest_place} _ _ away
+        if_false {m = back + (get_or ls (n + p) no_line).delay - L} {n = (get_or ls (n + p) no_line).backlog} _ _ away
         ∙ test_false (n + p) n _ _ (omega arith)
         ∙ ap (λ j. earlier (arrives plan L (get_or w.edges j 0)) (suc t) (back + get_or w.delays j 0 + 1 - L)) at
     | inr close ↦
         let d = get_or w.delays p 0 in
-        let small : d ≤ greatest_delay = short p h in
+        let wait = are.delays p h in
         let e : back + d - L + 1 ≡ back + d + 1 - L = omega (arith, far) in
-        let in_reach : back + d - L ≤ reach = omega (arith, close, small) in
-        if_true {m = back} {n = greatest_place} _ _ close
+        let in_reach : back + d - L ≤ (get_or ls (n + p) no_line).backlog = omega (arith, close, wait) in
+        if_true {m = back + (get_or ls (n + p) no_line).delay - L} {n = (get_or ls (n + p) no_line).backlog} _ _ close
         ∙ ap (λ x. earlier (symbol_on (get_or ls (n + p) no_line)) t (back + x - L)) (are.delays p h)
         ∙ said_before (arrives plan L (get_or w.edges p 0)) (get_or ls (n + p) no_line) t (back + d - L) front (are.begins (n + p) (let m = are.many in omega (arith, h, m))) (λ u low high. are.arrivals p u h low high) in_reach (λ there. omega (arith, front_ahead))
         ∙ earlier_more (arrives plan L (get_or w.edges p 0)) t (back + d - L)
@@ -180,10 +181,11 @@ module _ (plan : Plan) (facts : StationFacts plan) (L s t front : ℕ) (lead : I
       let at = (get_or ls p no_line).at in
       mixed_alike L t p at 0 told ls (λ i r l e.
       let d = distance at (get_or ls i no_line).at in
-      let a : at ≤ greatest_place = let z = place_at p h in let m = near p (omega (arith, h, places_size)) in omega (arith, z, m) in
-      let b : (get_or ls i no_line).at ≤ greatest_place = let z = place_at i l in let m = near i (omega (arith, l, places_size)) in omega (arith, z, m) in
+      let x = get_or ls i no_line in
+      let way : d ≡ distance (get_or w.positions p 0) (get_or w.positions i 0) = ap₂ distance (place_at p h) (place_at i l) in
+      let close = are.near p i (omega (arith, h, places_size)) l in
       let same : r ≡ i = omega (arith, e) in
-      sym (ap (told d) same ∙ if_true {m = d} {n = greatest_place} _ _ (omega (arith, a, b))))
+      sym (ap (told d) same ∙ if_true {m = d + x.delay - L} {n = x.backlog} _ _ (subst (λ k. k + x.delay - L ≤ x.backlog) (sym way) close)))
       ∙ ap (λ xs. heard_among told p at 0 xs) are.places
       ∙ ap (λ x. heard_among told p x 0 w.positions) (place_at p h)
 

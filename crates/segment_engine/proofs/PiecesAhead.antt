@@ -20,7 +20,6 @@ use Rattle.net_parts.proofs.RepeaterSteps.{length-span, get_or-span}
 use Rattle.tap_lines.specs.TapLines.{TapLine, no_line, symbol_on, heard_by_lines}
 use Rattle.segment_engine.proofs.LinesHear.{KnowLines, station_by_lines, port_by_lines}
 use Rattle.segment_engine.proofs.StationsLater.{sender_runs, station}
-use Rattle.segment_engine.proofs.TapsNear.{near, short}
 
 module _ (plan : Plan) (s t front m : ℕ) (ls : List TapLine) (carrier : ℕ → Bool) (know : KnowLines plan (wiring plan.layout s) (lookahead plan.layout) t front ls) (ahead : t + m ≤ front)
     (goes_on : (r j : ℕ) → r < length (wiring plan.layout s).stations → j < m →
@@ -50,6 +49,7 @@ module _ (plan : Plan) (s t front m : ℕ) (ls : List TapLine) (carrier : ℕ �
     no_delays = know.no_delays;
     delays = know.delays;
     begins = λ r h. let b = know.begins r h in omega (arith, b);
+    near = know.near;
     emissions = λ r u h low high. elim (cases_lt u t) [
       | inl before ↦ know.emissions r u h low before
       | inr after ↦ let e : t + (u - t) ≡ u = omega arith in subst (λ v. symbol_on (get_or ls r no_line) v ≡ emitted plan (number r) v) e (right r (u - t) h (omega arith))
@@ -58,7 +58,7 @@ module _ (plan : Plan) (s t front m : ℕ) (ls : List TapLine) (carrier : ℕ �
   }
 
   hears_to : (j : ℕ) → j < m → AreRight j → (r : ℕ) → r < n → heard plan (number r) (t + j) ≡ heard_by_lines L (t + j) ls r
-  hears_to j h right r l = station_by_lines plan (station_facts plan) L s (t + j) front (leads plan.layout) ls (know_to j right) (omega (arith, h, ahead)) (near plan s) (short plan s) r l
+  hears_to j h right r l = station_by_lines plan (station_facts plan) L s (t + j) front (leads plan.layout) ls (know_to j right) (omega (arith, h, ahead)) r l
 
   right_now : (j : ℕ) → j < m → AreRight j → (r : ℕ) → r < n → symbol_on (get_or ls r no_line) (t + j) ≡ emitted plan (number r) (t + j)
   right_now j h right r l =
@@ -92,4 +92,4 @@ module _ (plan : Plan) (s t front m : ℕ) (ls : List TapLine) (carrier : ℕ �
   ahead_heard r j h l = hears_to j l (right_to j (omega arith)) r h
 
   pub ahead_ports : (p j : ℕ) → p < length w.edges → j < m → port_hears plan (get_or w.edges p 0) (t + j) ≡ heard_by_lines L (t + j) ls (n + p)
-  ahead_ports p j h l = port_by_lines plan (station_facts plan) L s (t + j) front (leads plan.layout) ls (know_to j (right_to j (omega arith))) (omega (arith, l, ahead)) (near plan s) (short plan s) p h
+  ahead_ports p j h l = port_by_lines plan (station_facts plan) L s (t + j) front (leads plan.layout) ls (know_to j (right_to j (omega arith))) (omega (arith, l, ahead)) p h

@@ -80,7 +80,16 @@ module _ (plan : Plan) (s t front m least most : ℕ) (ls ls' : List TapLine) (s
         places = places_same ls ls' g.len (λ r h. stays (λ (l : TapLine). l.at) (λ l xs. refl) r) ∙ g.are.places;
         no_delays = λ r h. stays (λ (l : TapLine). l.delay) (λ l xs. refl) r ∙ g.are.no_delays r h;
         delays = λ p h. stays (λ (l : TapLine). l.delay) (λ l xs. refl) (n + p) ∙ g.are.delays p h;
-        begins = λ r h. let b = stays (λ (l : TapLine). l.base) (λ l xs. refl) r in let a = before.begins r (omega (arith, h, g.len)) in omega (arith, a, b);
+        begins = λ r h.
+            let b = stays (λ (l : TapLine). l.base) (λ l xs. refl) r in
+            let k = stays (λ (l : TapLine). l.backlog) (λ l xs. refl) r in
+            let a = before.begins r (omega (arith, h, g.len)) in
+            omega (arith, a, b, k);
+        near = λ p r hp hr.
+            let a = before.near p r hp (omega (arith, hr, g.len)) in
+            let d = stays (λ (l : TapLine). l.delay) (λ l xs. refl) r in
+            let k = stays (λ (l : TapLine). l.backlog) (λ l xs. refl) r in
+            omega (arith, a, d, k);
         emissions = λ r u h low high.
             let l = get_or ls r no_line in
             let b = stays (λ (l : TapLine). l.base) (λ l xs. refl) r in

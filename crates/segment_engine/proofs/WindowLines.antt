@@ -11,7 +11,7 @@ use Rattle.net_parts.specs.Machines.{span}
 use Rattle.net_parts.specs.SegmentParts.{Wiring}
 use Rattle.net_parts.specs.Standing.{arrives}
 use Rattle.net_parts.proofs.RepeaterSteps.{length-span}
-use Rattle.tap_lines.specs.TapLines.{TapLine, no_line, reach, line_extended, dropped_from, slid}
+use Rattle.tap_lines.specs.TapLines.{TapLine, no_line, line_extended, dropped_from, slid}
 use Rattle.segment_engine.specs.PartStates.{IsLineOf, AreLinesAt, half_filled}
 use Rattle.segment_engine.proofs.HeldLines.{line_more, line_slid, line_size}
 use Rattle.tap_lines.proofs.ExtendedLines.{slid_room}
@@ -21,11 +21,11 @@ either_way f true x y z a c = a
 either_way f false x y z a c = c
 
 slid_same : (f : TapLine → ℕ) → ((k : ℕ) (l : TapLine) → f (dropped_from k l) ≡ f l) → (n : ℕ) (l : TapLine) → f (slid n l) ≡ f l
-slid_same f same n l = either_way f (ltb l.room n) (dropped_from (length l.symbols - reach) l) l (f l) (same (length l.symbols - reach) l) refl
+slid_same f same n l = either_way f (ltb l.room n) (dropped_from (length l.symbols - l.backlog) l) l (f l) (same (length l.symbols - l.backlog) l) refl
 
 slid_size : (n : ℕ) (l : TapLine) → length (slid n l).symbols + (slid n l).room ≡ length l.symbols + l.room
 slid_size n l =
-    let k = length l.symbols - reach in
+    let k = length l.symbols - l.backlog in
     let rest = length-drop k l.symbols in
     let sum : length (drop k l.symbols) + (l.room + k) ≡ length l.symbols + l.room = omega (arith, rest) in
     either_way (λ (x : TapLine). length x.symbols + x.room) (ltb l.room n) (dropped_from k l) l (length l.symbols + l.room) sum refl
@@ -67,11 +67,12 @@ module _ (plan : Plan) (w : Wiring) (L t : ℕ) (ls : List TapLine) (are : AreLi
     pub mid_room : (r : ℕ) → r < length ls → L ≤ (get_or mid r no_line).room
     mid_room r h = subst (λ (x : TapLine). L ≤ x.room) (sym (mid_at r h)) (slid_room L (get_or ls r no_line) (are.size r h))
 
-    mid_size : (r : ℕ) → r < length ls → reach + L ≤ length (get_or mid r no_line).symbols + (get_or mid r no_line).room
+    mid_size : (r : ℕ) → r < length ls → (get_or mid r no_line).backlog + L ≤ length (get_or mid r no_line).symbols + (get_or mid r no_line).room
     mid_size r h =
         let same = slid_size L (get_or ls r no_line) in
+        let keeps = slid_same (λ (l : TapLine). l.backlog) (λ i l. refl) L (get_or ls r no_line) in
         let big = are.size r h in
-        subst (λ (x : TapLine). reach + L ≤ length x.symbols + x.room) (sym (mid_at r h)) (omega (arith, same, big))
+        subst (λ (x : TapLine). x.backlog + L ≤ length x.symbols + x.room) (sym (mid_at r h)) (omega (arith, same, big, keeps))
 
     module _ (wd : ℕ) (at : t ≡ wd * L) (ps : List Parcel) (were : ps ≡ map (half_filled plan L wd 0) w.edges)
         (ls' : List TapLine) (len : length ls' ≡ length mid)
@@ -119,7 +120,7 @@ module _ (plan : Plan) (w : Wiring) (L t : ℕ) (ls : List TapLine) (are : AreLi
           ∙ stays (λ (l : TapLine). l.at) (λ i l. refl) (λ l xs. refl) k (omega (arith, h, b, len, mid_len))
           ∙ sym (get_or-map (λ (l : TapLine). l.at) ls k no_line 0 (omega (arith, h, b, len, mid_len))))
 
-      port_size : (p : ℕ) → p < length w.edges → reach + L ≤ length (get_or ls' (n + p) no_line).symbols + (get_or ls' (n + p) no_line).room
+      port_size : (p : ℕ) → p < length w.edges → (get_or ls' (n + p) no_line).backlog + L ≤ length (get_or ls' (n + p) no_line).symbols + (get_or ls' (n + p) no_line).room
       port_size p h =
           let many = are.many in
           let l = slid L (get_or ls (n + p) no_line) in
@@ -127,20 +128,21 @@ module _ (plan : Plan) (w : Wiring) (L t : ℕ) (ls : List TapLine) (are : AreLi
           let in_it : n + p < length ls = omega (arith, h, many) in
           let big = are.size (n + p) in_it in
           let same = slid_size L (get_or ls (n + p) no_line) in
+          let keeps = slid_same (λ (l : TapLine). l.backlog) (λ i l. refl) L (get_or ls (n + p) no_line) in
           let room : L ≤ l.room = slid_room L (get_or ls (n + p) no_line) big in
           let long : length xs ≡ L = ap length (piece p h) ∙ length-span (arrives plan L (get_or w.edges p 0)) t L in
           let sum = length-append l.symbols xs in
-          let enough : reach + L ≤ length (l.symbols ++ xs) + (l.room - length xs) = omega (arith, big, same, room, long, sum) in
-          subst (λ (x : TapLine). reach + L ≤ length x.symbols + x.room) (sym (of_port p h)) enough
+          let enough : l.backlog + L ≤ length (l.symbols ++ xs) + (l.room - length xs) = omega (arith, big, same, room, long, sum, keeps) in
+          subst (λ (x : TapLine). x.backlog + L ≤ length x.symbols + x.room) (sym (of_port p h)) enough
 
-      all_size : (r : ℕ) → r < length ls' → reach + L ≤ length (get_or ls' r no_line).symbols + (get_or ls' r no_line).room
+      all_size : (r : ℕ) → r < length ls' → (get_or ls' r no_line).backlog + L ≤ length (get_or ls' r no_line).symbols + (get_or ls' r no_line).room
       all_size r h = elim (cases_lt r n) [
-        | inl station ↦ subst (λ (x : TapLine). reach + L ≤ length x.symbols + x.room) (sym (others r no_line station)) (mid_size r (omega (arith, h, len, mid_len)))
+        | inl station ↦ subst (λ (x : TapLine). x.backlog + L ≤ length x.symbols + x.room) (sym (others r no_line station)) (mid_size r (omega (arith, h, len, mid_len)))
         | inr port ↦
             let p = r - n in
             let same : n + p ≡ r = omega arith in
             let many = are.many in
-            subst (λ i. reach + L ≤ length (get_or ls' i no_line).symbols + (get_or ls' i no_line).room) same (port_size p (omega (arith, h, len, mid_len, many)))
+            subst (λ i. (get_or ls' i no_line).backlog + L ≤ length (get_or ls' i no_line).symbols + (get_or ls' i no_line).room) same (port_size p (omega (arith, h, len, mid_len, many)))
       ]
 
       pub lines_begin : (front : ℕ) → front ≡ t + L → AreLinesAt plan w L t front ls'
@@ -158,6 +160,12 @@ module _ (plan : Plan) (w : Wiring) (L t : ℕ) (ls : List TapLine) (are : AreLi
             let more : IsLineOf f (t + L) t (line_extended (slid L l) xs) = line_more f t t (slid L l) slides_so xs L (piece p h) in
             subst (IsLineOf f front t) (sym (of_port p h)) (subst (λ u. IsLineOf f u t (line_extended (slid L l) xs)) (sym is) more);
         size = all_size;
+        near = λ p r hp hr.
+            let in_it : r < length ls = omega (arith, hr, len, mid_len) in
+            let same = are.near p r hp in_it in
+            let delay = stays (λ (l : TapLine). l.delay) (λ i l. refl) (λ l xs. refl) r in_it in
+            let backlog = stays (λ (l : TapLine). l.backlog) (λ i l. refl) (λ l xs. refl) r in_it in
+            omega (arith, same, delay, backlog);
       }
 
       pub room_begin : (r : ℕ) → r < n → L ≤ (get_or ls' r no_line).room

@@ -1,22 +1,33 @@
 -- The lines of a segment's taps before half bit 0 (profile). Taps and edges count from 0.
-use Rattle.std.specs.Prelude.{ℕ, ◌≡◌, ◌+◌, ◌-◌, ◌*◌, ◌<◌, ◌≤◌, nat_lt, if◌then◌else◌, List, [], length, slice_index, slice_index_or}
-use Rattle.tap_lines.specs.TapLines.{TapLine, reach}
+use Rattle.std.specs.Prelude.{ℕ, ◌≡◌, ◌+◌, ◌-◌, ◌<◌, ◌≤◌, nat_lt, if◌then◌else◌, List, [], length, slice_index, slice_index_or}
+use Rattle.mac_parameters.specs.Distances.{distance}
+use Rattle.tap_lines.specs.TapLines.{TapLine}
 
 -- The delay of tap r's line, where the first n taps are stations', a window has L half bits, and these are the delays
 -- of all ports (profile).
 abbrev pub new_delay : ℕ → ℕ → List ℕ → List ℕ → ℕ → ℕ
 new_delay n L edges delays r = if nat_lt r n then L else slice_index delays (slice_index edges (r - n))
 
--- A line without symbols, of a tap at a place and with a delay, that takes so many symbols without memory (profile).
-pub record IsNewLine (place wait least : ℕ) (l : TapLine) : Type 0 where
+-- A line without symbols, of a tap at a place and with a delay, that takes what it keeps and a window's symbols without
+-- memory, where a window has L half bits. It keeps what reaches a tap that is so many half bits away (profile).
+pub record IsNewLine (place wait away L : ℕ) (l : TapLine) : Type 0 where
   pub at_place : l.at ≡ place
   pub with_delay : l.delay ≡ wait
+  pub keeps : l.backlog ≡ away + wait - L
   pub from_first : l.base ≡ 0
   pub empty : l.symbols ≡ []
-  pub roomy : least ≤ l.room
+  pub roomy : l.backlog + L ≤ l.room
+
+-- No two of these places are further from each other than so many half bits (profile).
+abbrev pub AreWithin : ℕ → List ℕ → Type 0
+AreWithin away places =
+    (p r : ℕ) → p < length places → r < length places →
+    distance (slice_index places p) (slice_index places r) ≤ away
 
 -- The lines of taps at these places before half bit 0 (profile).
 pub record AreNewLines (places : List ℕ) (n L : ℕ) (edges delays : List ℕ) (ls : List TapLine) : Type 0 where
+  pub away : ℕ
+  pub within : AreWithin away places
   pub count : length ls ≡ length places
   pub each : (r : ℕ) (d : TapLine) → r < length ls →
-      IsNewLine (slice_index places r) (new_delay n L edges delays r) (2 * reach + L) (slice_index_or ls r d)
+      IsNewLine (slice_index places r) (new_delay n L edges delays r) away L (slice_index_or ls r d)

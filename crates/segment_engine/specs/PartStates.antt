@@ -14,17 +14,18 @@ use Rattle.net_parts.specs.declared.parcel.Parcel.{Parcel}
 use Rattle.net_parts.specs.Machines.{span}
 use Rattle.net_parts.specs.SegmentParts.{Wiring}
 use Rattle.net_parts.specs.Standing.{arrives, port_hears, receiver_at, captures_at, rows_of_devices}
-use Rattle.tap_lines.specs.TapLines.{TapLine, no_line, reach}
+use Rattle.mac_parameters.specs.Distances.{distance}
+use Rattle.tap_lines.specs.TapLines.{TapLine, no_line}
 
 -- The symbols of a line for the half bits below `front` are what f says of them, and what it has dropped was further
--- back of half bit t than anything that reaches another tap (profile).
+-- back of half bit t than what it keeps (profile).
 pub record IsLineOf (f : ℕ → Sym) (front t : ℕ) (l : TapLine) : Type 0 where
-  pub begins : l.base ≤ t - reach
+  pub begins : l.base ≤ t - l.backlog
   pub ahead : l.base ≤ front
   pub holds : l.symbols ≡ span f l.base (front - l.base)
 
 -- The lines of a segment before half bit t, where a window has L half bits: each station's has what it emitted below t,
--- and each port's what comes in for it below `front` (profile).
+-- and each port's what comes in for it below `front`. Each keeps as much as reaches any tap (profile).
 pub record AreLinesAt (plan : Plan) (w : Wiring) (L t front : ℕ) (ls : List TapLine) : Type 0 where
   pub many : length ls ≡ length w.stations + length w.edges
   pub places : map (λ l. l.at) ls ≡ w.positions
@@ -36,7 +37,11 @@ pub record AreLinesAt (plan : Plan) (w : Wiring) (L t front : ℕ) (ls : List Ta
   pub arrivals : (p : ℕ) → p < length w.edges →
       IsLineOf (arrives plan L (slice_index w.edges p)) front t (slice_index_or ls (length w.stations + p) no_line)
   pub size : (r : ℕ) → r < length ls →
-      reach + L ≤ length (slice_index_or ls r no_line).symbols + (slice_index_or ls r no_line).room
+      (slice_index_or ls r no_line).backlog + L
+      ≤ length (slice_index_or ls r no_line).symbols + (slice_index_or ls r no_line).room
+  pub near : (p r : ℕ) → p < length w.positions → r < length ls →
+      distance (slice_index w.positions p) (slice_index w.positions r) + (slice_index_or ls r no_line).delay - L
+      ≤ (slice_index_or ls r no_line).backlog
 
 -- The stations of these numbers before half bit t: their senders and receivers, and what they logged and captured
 -- (profile).

@@ -3,7 +3,7 @@ ghost use Rattle.std.specs.Prelude.{◌≡◌, ◌<◌, ◌≤◌, ◌+◌, ◌*
 ghost use Rattle.network.specs.Attempts.{sender_at};
 ghost use Rattle.net_parts.specs.Standing.{receiver_at};
 ghost use Rattle.net_step.specs.KeptNet.{AllHear};
-ghost use Rattle.segment_engine.specs.NewLines.{AreNewLines, IsNewLine, new_delay};
+ghost use Rattle.segment_engine.specs.NewLines.{AreNewLines, AreWithin, IsNewLine, new_delay};
 ghost use Rattle.segment_engine.specs.RunningStates.{IsRunningAt};
 
 use crate::running::Running;
@@ -18,8 +18,11 @@ use mac_transmit::Transmitter;
 use manchester_line::Sym;
 use net_step::taps_of;
 use std::alloc::Global;
-use tap_lines::{Line, REACH, farthest};
+use tap_lines::{Line, farthest};
 use window_room::RowRoom;
+
+/// How many more symbols a line has room for than it must, so that it slides seldom.
+const SPARE_ROOM: usize = 256;
 
 /// The senders of these stations.
 fn senders_of(alloc: Global, plan: &Plan, stations: &[u32]) -> Result<Vec<Transmitter>, OutOfMemory>
@@ -64,6 +67,19 @@ fn delay_of(r: usize, stations: usize, lookahead: u32, edges: &[u32], delays: &[
     }
 }
 
+/// How far two of these places are from each other at most.
+fn width_of(places: &[u32]) -> u32
+    ensures { AreWithin result places.now }
+{
+    let mut low = u32::MAX;
+    let mut high = 0;
+    for r in 0..places.len() {
+        low = low.min(places[r]);
+        high = high.max(places[r]);
+    }
+    high.saturating_sub(low)
+}
+
 /// The lines of taps at these places, of which the first so many are those of stations.
 fn lines_of(
     alloc: Global,
@@ -77,11 +93,13 @@ fn lines_of(
     requires within { All (λ e. e < length delays.now) edges.now }
     ensures { IfOk result (λ lines. AreNewLines places.now stations lookahead edges.now delays.now lines.items) }
 {
-    let room = 2 * REACH + lookahead as usize;
+    let width = u64::from(width_of(places));
     let mut lines = Vec::new(alloc);
     for r in 0..places.len() {
         let delay = delay_of(r, stations, lookahead, edges, delays);
-        lines.push(Line::new(alloc, places[r], delay, room)?)?;
+        let backlog = (width + u64::from(delay)).saturating_sub(u64::from(lookahead)) as usize;
+        let room = 2 * backlog + lookahead as usize + SPARE_ROOM;
+        lines.push(Line::new(alloc, places[r], delay, backlog, room)?)?;
     }
     Ok(lines)
 }

@@ -21,7 +21,6 @@ use Rattle.segment_engine.specs.StationPasses.{rows_heard}
 use Rattle.segment_engine.specs.PartStates.{AreLinesAt, AreStationsAt}
 use Rattle.segment_engine.proofs.LinesHear.{known, same_reach, stations_by_lines, ports_by_lines}
 use Rattle.segment_engine.proofs.HalfBits.{emissions_next, stations_next, lines_next, lines_room_next, parcels_next, parcels_long}
-use Rattle.segment_engine.proofs.TapsNear.{near, short}
 use Rattle.segment_engine.proofs.running.half_bit.Goals as goal
 
 pub step_stations-requires-clause-receivers_len : goal.step_stations-requires-clause-receivers_len
@@ -94,13 +93,13 @@ module _ (c : After-state-6-1) where
   stations_hear =
       c.split_at.ensures.front
       ∙ ap₂ take many all_hear
-      ∙ stations_by_lines plan (station_facts plan) L s t front (leads plan.layout) ls (known plan w L t front ls c.requires.at.lines) ahead (near plan s) (short plan s)
+      ∙ stations_by_lines plan (station_facts plan) L s t front (leads plan.layout) ls (known plan w L t front ls c.requires.at.lines) ahead
 
   ports_hear : c.split_at.result.1.now ≡ map (λ e. port_hears plan e t) w.edges
   ports_hear =
       c.split_at.ensures.back
       ∙ ap₂ drop many all_hear
-      ∙ ports_by_lines plan (station_facts plan) L s t front (leads plan.layout) ls (known plan w L t front ls c.requires.at.lines) ahead (near plan s) (short plan s)
+      ∙ ports_by_lines plan (station_facts plan) L s t front (leads plan.layout) ls (known plan w L t front ls c.requires.at.lines) ahead
 
   -- what the stations emit
   senders_stand : c.deref_mut-2.result.now ≡ map (λ k. sender_at plan k t) w.stations
