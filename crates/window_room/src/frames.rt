@@ -1,5 +1,5 @@
 //! Captured frames, of which those of a window lie in room that was taken before it.
-ghost use Rattle.std.specs.Prelude.{◌≡◌, ◌+◌, ◌<◌, ◌≤◌, [], ◌∷◌, ◌++◌, length, drop, map, replicate, OnOk, OnErr, IfOk, All};
+ghost use Rattle.std.specs.Prelude.{◌≡◌, ◌+◌, ◌<◌, ◌≤◌, true, false, [], ◌∷◌, ◌++◌, length, drop, map, replicate, OnOk, OnErr, IfOk, All};
 ghost use Rattle.window_room.specs.FreshFrames.{KeptFrames, IsMark, captures_marked};
 ghost use Rattle.window_room.specs.Rooms.{captures_with};
 
@@ -157,6 +157,16 @@ impl WindowFrames {
         self.octets.clear();
         self.done = 0;
         Ok(())
+    }
+
+    /// Whether there is room for so many more frames and octets of frames.
+    pub fn has_room(&self, frames: usize, octets: usize) -> bool
+        ensures frames { result ≡ true → frames ≤ self.now.frame_room }
+        ensures octets { result ≡ true → octets ≤ self.now.octet_room }
+        ensures less { result ≡ false → frames ≤ self.now.frame_room → self.now.octet_room < octets }
+    {
+        frames <= self.marks.capacity() - self.marks.len()
+            && octets <= self.octets.capacity() - self.octets.len()
     }
 
     /// Makes room for so many more frames and octets of frames.

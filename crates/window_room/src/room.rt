@@ -11,7 +11,7 @@ use std::alloc::Global;
 use std::marker::Model;
 
 /// The rows of a part and the captures of its stations, and room for those of a window. Stations count from 0 among the
-/// stations of the part. What comes in a window lies in the room until the next `settle` or `reserve` moves it into lists.
+/// stations of the part. What comes in a window lies in the room until `settle`, or a `reserve` for which the room is too small, moves it into lists.
 #[derive(Drop)]
 pub struct RowRoom {
     rows: WindowRows,
@@ -58,12 +58,16 @@ impl RowRoom {
         self.frames.settle()
     }
 
-    /// Makes room for so many more rows, frames, and octets of frames. Nothing is lost, whether there is memory or not.
+    /// Makes room for so many more rows, frames, and octets of frames. Nothing is lost, whether there is memory or not. Where
+    /// there is room already, nothing is moved.
     pub fn reserve(&mut self, rows: usize, frames: usize, octets: usize) -> Result<(), OutOfMemory>
         ensures same { SameLists self.old self.new }
         ensures kept { KeepsRoom 0 0 0 self.old self.new }
         ensures room { OnOk result (RoomFor rows frames octets self.new) }
     {
+        if self.rows.has_room(rows) && self.frames.has_room(frames, octets) {
+            return Ok(());
+        }
         self.settle()?;
         self.rows.reserve(rows)?;
         self.frames.reserve(frames, octets)

@@ -1,5 +1,5 @@
 //! Rows, of which those of a window lie in room that was taken before it.
-ghost use Rattle.std.specs.Prelude.{◌≡◌, ◌+◌, ◌<◌, ◌≤◌, [], ◌∷◌, ◌++◌, length, drop, OnOk};
+ghost use Rattle.std.specs.Prelude.{◌≡◌, ◌+◌, ◌<◌, ◌≤◌, true, false, [], ◌∷◌, ◌++◌, length, drop, OnOk};
 ghost use Rattle.window_room.specs.FreshRows.{KeptRows};
 
 use collision_log::{Row, Rows};
@@ -67,6 +67,14 @@ impl WindowRows {
         self.fresh.clear();
         self.done = 0;
         Ok(())
+    }
+
+    /// Whether there is room for so many more rows.
+    pub fn has_room(&self, rows: usize) -> bool
+        ensures enough { result ≡ true → rows ≤ self.now.room }
+        ensures less { result ≡ false → self.now.room < rows }
+    {
+        rows <= self.fresh.capacity() - self.fresh.len()
     }
 
     /// Makes room for so many more rows.
