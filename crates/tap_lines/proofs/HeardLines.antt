@@ -81,7 +81,7 @@ heard_piece L t n p q ls piece len end all =
     ∙ sym (get_or-span f t n j d in_it))
 
 -- lines of which a tap hears nothing
-none_heard : (L t p at k : ℕ) (ls : List TapLine) →
+pub none_heard : (L t p at k : ℕ) (ls : List TapLine) →
     ((i : ℕ) → i < length ls → cond (eqb (k + i) p) Idle (earlier (symbol_on (get_or ls i no_line)) t (half_bits_back L at (get_or ls i no_line))) ≡ Idle) →
     heard_of_lines L t p at k ls ≡ Idle
 none_heard L t p at k [] h = refl
@@ -93,7 +93,7 @@ none_heard L t p at k (l ∷ ls) h =
     let next : k + 1 + i ≡ k + suc i = omega arith in
     ap (λ n. cond (eqb n p) Idle (earlier (symbol_on (get_or ls i no_line)) t (half_bits_back L at (get_or ls i no_line)))) next ∙ h (suc i) (omega (arith, m))))
 
-idle_mix : (s : Sym) → mix_of Idle s ≡ s
+pub idle_mix : (s : Sym) → mix_of Idle s ≡ s
 idle_mix Idle = refl
 idle_mix Hi = refl
 idle_mix Lo = refl

@@ -3,3 +3,6 @@ pub mod ExtendedLines
 pub mod LinesAhead
 pub mod HeardLines
 pub mod EndsOfSignals
+pub mod LoudLists
+pub mod HeardLists
+pub mod HeardClasses

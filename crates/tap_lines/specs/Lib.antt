@@ -1,2 +1,3 @@
 pub mod TapLines
 pub mod Signals
+pub mod TapLists

@@ -1,0 +1,101 @@
+//! The taps on whose lines anything stands that may still be heard.
+ghost use Rattle.std.specs.Prelude.{◌≡◌, ◌≢◌, ◌<◌, ◌≤◌, ◌∷◌, [], ℕ, List, length, take, slice_index_or, IfOk, IfSome, IfNone};
+ghost use Rattle.tap_lines.specs.TapLines.{AreIdleFrom, IsIdleFrom, IsOnlySource, TapLine, no_line};
+ghost use Rattle.tap_lines.specs.TapLists.{AreIdleButFor, AreLoudTaps, TapList};
+
+use crate::line::Line;
+use lists::OutOfMemory;
+use std::alloc::Global;
+use std::marker::Model;
+
+/// A list of taps by their numbers, the first `count` of these. It takes memory only when it is made.
+#[derive(Drop)]
+pub struct LoudTaps {
+    numbers: Vec<usize>,
+    count: usize,
+}
+
+impl Model for LoudTaps {
+    ghost use Rattle.std.specs.Prelude.{◌≤◌, length, take};
+    ghost use Rattle.tap_lines.specs.TapLists.{TapList};
+
+    ghost Value = { TapList };
+
+    ghost view = { λ s. record {
+      taps = take s.count s.numbers.items;
+      room = length s.numbers.items;
+    } };
+
+    ghost invariant = { λ s. s.count ≤ length s.numbers.items };
+}
+
+/// Writes the numbers of the taps on whose lines something else than Idle stands from half bit `u` on, and says how many.
+fn write_loud(lines: &[Line], u: u64, numbers: &mut [usize]) -> usize
+    requires { length lines.now ≤ length numbers.old }
+    ensures within { result ≤ length numbers.new }
+    ensures loud { AreLoudTaps u lines.now (take result numbers.new) }
+{
+    let mut count = 0;
+    for r in 0..lines.len() {
+        if lines[r].is_quiet_from(u) {
+            continue;
+        }
+        numbers[count] = r;
+        count += 1;
+    }
+    count
+}
+
+impl LoudTaps {
+    /// The empty list for so many taps.
+    pub fn new(alloc: Global, taps: usize) -> Result<LoudTaps, OutOfMemory>
+        ensures taps { IfOk result (λ list. list.taps ≡ []) }
+        ensures room { IfOk result (λ list. list.room ≡ taps) }
+    {
+        Ok(LoudTaps {
+            numbers: vec![in alloc; 0; taps]?,
+            count: 0,
+        })
+    }
+
+    /// Lists the taps on whose lines something else than Idle stands from half bit `u` on.
+    pub fn find(&mut self, lines: &[Line], u: u64)
+        requires { length lines.now ≤ self.old.room }
+        ensures loud { AreLoudTaps u lines.now self.new.taps }
+        ensures room { self.new.room ≡ self.old.room }
+    {
+        self.count = write_loud(lines, u, &mut self.numbers);
+    }
+
+    /// How many taps it lists.
+    pub fn len(&self) -> usize
+        ensures { result ≡ length self.now.taps }
+    {
+        self.count
+    }
+
+    /// The tap at place `i`, from 0.
+    pub fn tap(&self, i: usize) -> usize
+        requires { i < length self.now.taps }
+        ensures { result ≡ slice_index_or self.now.taps i 0 }
+    {
+        self.numbers[i]
+    }
+
+    /// The tap that it lists, if it is just one.
+    pub fn only(&self) -> Option<usize>
+        ensures some { IfSome result (λ q. self.now.taps ≡ q ∷ []) }
+        ensures none { IfNone result ((q : ℕ) → self.now.taps ≢ q ∷ []) }
+        ensures only { (u : ℕ) (ls : List TapLine) → AreIdleButFor u ls self.now.taps → IfSome result (IsOnlySource u ls) }
+        ensures loud { (u : ℕ) (ls : List TapLine) → AreLoudTaps u ls self.now.taps →
+            IfSome result (λ q. ¬ IsIdleFrom u (slice_index_or ls q no_line)) }
+        ensures no_source { (u : ℕ) (ls : List TapLine) → AreLoudTaps u ls self.now.taps →
+            IfNone result ((q : ℕ) → IsOnlySource u ls q → AreIdleFrom u ls) }
+    {
+        if self.count == 1 {
+            Some(self.numbers[0])
+        } else {
+            None
+        }
+    }
+}
