@@ -44,6 +44,7 @@ standing_room plan s front a r rows captures is = record {
   lines = is.lines;
   reach = is.reach;
   hearing = is.hearing;
+  listing = is.listing;
   emitting = is.emitting;
 }
 

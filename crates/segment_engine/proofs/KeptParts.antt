@@ -70,6 +70,7 @@ running_of plan s front a is = record {
   lines = is.lines;
   reach = is.reach;
   hearing = is.hearing;
+  listing = is.listing;
   emitting = is.emitting;
 }
 
@@ -92,6 +93,7 @@ standing_of plan s front a is =
       lines = is.lines;
       reach = is.reach;
       hearing = is.hearing;
+      listing = is.listing;
       emitting = is.emitting;
     }
 

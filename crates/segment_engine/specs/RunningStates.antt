@@ -16,6 +16,7 @@ pub record IsRunningAt (plan : Plan) (s front : ℕ) (a : Running) : Type 0 wher
   pub lines : AreLinesAt plan (wiring plan.layout s) (lookahead plan.layout) a.t front a.lines.items
   pub reach : IsReachOf a.far (lookahead plan.layout) a.lines.items
   pub hearing : length a.heard.items ≡ length a.lines.items
+  pub listing : a.loud.room ≡ length a.lines.items
   pub emitting : length a.emitted.items ≡ length (wiring plan.layout s).stations
 
 -- The lines of the segment's stations take n more symbols without memory (profile).

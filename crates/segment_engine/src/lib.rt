@@ -4,7 +4,6 @@
 #![tactic(auto)]
 
 mod ahead;
-mod hearing;
 mod parcels;
 mod part;
 mod quiet;

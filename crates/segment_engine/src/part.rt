@@ -108,6 +108,7 @@ impl SegmentPart {
             receivers: _,
             lines: _,
             far: _,
+            loud: _,
             heard: _,
             emitted: _,
             piece: _,

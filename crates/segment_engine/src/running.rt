@@ -12,11 +12,12 @@ use mac_receive::Receiver;
 use mac_transmit::Transmitter;
 use manchester_line::Sym;
 use net_parts::Parcel;
-use tap_lines::{Line, hear_all, tell};
+use tap_lines::{Line, LoudTaps, hear_all, tell};
 use window_room::RowRoom;
 
 /// A segment before half bit `t`: its stations, the lines of its taps, and what was logged and captured. `heard` has a symbol
-/// for each tap, `emitted` one for each station, and `piece` those of a tap over several half bits. What is further back on a line than `far` half bits reaches no other tap.
+/// for each tap, `emitted` one for each station, and `piece` those of a tap over several half bits. What is further back on a
+/// line than `far` half bits reaches no other tap, and `loud` has room for all taps.
 #[derive(Drop)]
 pub struct Running {
     pub t: u64,
@@ -24,6 +25,7 @@ pub struct Running {
     pub receivers: Vec<Receiver>,
     pub lines: Vec<Line>,
     pub far: u64,
+    pub loud: LoudTaps,
     pub heard: Vec<Sym>,
     pub emitted: Vec<Sym>,
     pub piece: Vec<Sym>,

@@ -18,7 +18,7 @@ use mac_transmit::Transmitter;
 use manchester_line::Sym;
 use net_step::taps_of;
 use std::alloc::Global;
-use tap_lines::{Line, farthest};
+use tap_lines::{Line, LoudTaps, farthest};
 use window_room::RowRoom;
 
 /// How many more symbols a line has room for than it must, so that it slides seldom.
@@ -125,6 +125,7 @@ pub fn start(alloc: Global, of: &Segment, plan: &Plan) -> Result<Running, OutOfM
         receivers,
         lines,
         far,
+        loud: LoudTaps::new(alloc, places.len())?,
         heard: vec![in alloc; Sym::Idle; places.len()]?,
         emitted: vec![in alloc; Sym::Idle; stations]?,
         piece: vec![in alloc; Sym::Idle; of.lookahead as usize]?,

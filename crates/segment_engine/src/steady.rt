@@ -1,6 +1,6 @@
 //! Several half bits at once in which each station hears a signal all the time, or Idle all the time, and goes on with what it
 //! does.
-ghost use Rattle.std.specs.Prelude.{◌≡◌, ◌≤◌, ◌<◌, ◌+◌, ◌-◌, ◌*◌, ◌^◌, ℕ, List, [], true, false, All, map, length, slice_index_or, IfSome};
+ghost use Rattle.std.specs.Prelude.{◌≡◌, ◌≤◌, ◌<◌, ◌+◌, ◌-◌, ◌*◌, ◌^◌, ℕ, List, [], true, false, All, map, length, slice_index_or};
 ghost use Rattle.manchester_line.specs.declared.Sym.{Sym};
 ghost use Rattle.manchester_line.specs.declared.Sym.TheVariants.{Idle};
 ghost use Rattle.manchester_line.specs.Line.{is_signal as is_signal_of};
@@ -13,11 +13,11 @@ ghost use Rattle.net_parts.specs.SegmentParts.{wiring};
 ghost use Rattle.segment_engine.specs.PartStates.{half_filled};
 ghost use Rattle.segment_engine.specs.RunningStates.{IsRunningAt, HaveLinesRoom};
 ghost use Rattle.segment_engine.specs.SteadyPieces.{IsCalmAs, with_piece_at};
-ghost use Rattle.tap_lines.specs.TapLines.{heard_for, IsOnlySource, IsReachOf, heard_by_lines};
+ghost use Rattle.tap_lines.specs.TapLines.{heard_for, IsReachOf, heard_by_lines};
+ghost use Rattle.tap_lines.specs.TapLists.{AreIdleButFor};
 ghost use Rattle.window_room.specs.NeededRoom.{Covers, stations_demand};
 
 use crate::ahead::emit_ahead;
-use crate::hearing::hear_tap;
 use crate::quiet::is_sending;
 use crate::running::Running;
 use crate::segment::Segment;
@@ -25,7 +25,7 @@ use mac_receive::Receiver;
 use mac_transmit::Transmitter;
 use manchester_line::{Sym, is_signal};
 use net_parts::Parcel;
-use tap_lines::{Line, cut_all, only_source, piece_of, steady_ahead};
+use tap_lines::{Line, LoudTaps, classes_ahead, cut_all, hear_listed, piece_of};
 
 /// Whether no reception ends at a station that hears a signal, or Idle, as `carrier` says.
 fn is_ready(sender: &Transmitter, receiver: &Receiver, carrier: bool) -> bool
@@ -64,11 +64,11 @@ pub fn calm_ahead(
 }
 
 /// The half bits from `t` on of a receiver, tap `p`, as many as the piece has: its station sends in all of them or in none, and
-/// hears a signal in all of them or Idle in all. `source` is the only tap that may be heard, where that is known.
+/// hears a signal in all of them or Idle in all. Only the listed taps may be heard.
 fn take_one(
     t: u64,
     lines: &[Line],
-    source: Option<usize>,
+    loud: &LoudTaps,
     p: usize,
     lookahead: u32,
     far: u64,
@@ -79,7 +79,7 @@ fn take_one(
 )
     requires tap { p < length lines.now }
     requires reach { IsReachOf far lookahead lines.now }
-    requires source { IfSome source (IsOnlySource (t - far) lines.now) }
+    requires loud { AreIdleButFor (t - far) lines.now loud.now.taps }
     requires steps { receiver.old.steps ≡ t }
     requires in_time { t + length piece.old ≤ 2000000000 }
     requires ready { sending ≡ false → carrier ≡ false → receiver.old.halves ≡ 0 }
@@ -97,10 +97,10 @@ fn take_one(
         receiver.leap_quiet(count);
     } else if receiver.is_deaf() {
         receiver.leap_deaf(count);
-    } else if let Some(heard) = piece_of(lines, source, p, lookahead, far, t, piece.len()) {
+    } else if let Some(heard) = piece_of(lines, loud.only(), p, lookahead, far, t, piece.len()) {
         receiver.take(heard);
     } else {
-        hear_tap(lines, source, p, lookahead, far, t, piece);
+        hear_listed(lines, loud, p, lookahead, far, t, piece);
         receiver.take(piece);
     }
 }
@@ -109,7 +109,7 @@ fn take_one(
 fn take_all(
     t: u64,
     lines: &[Line],
-    source: Option<usize>,
+    loud: &LoudTaps,
     lookahead: u32,
     far: u64,
     heard: &[Sym],
@@ -121,7 +121,7 @@ fn take_all(
     requires many { length senders.now ≤ length heard.now }
     requires receivers_len { length receivers.old ≡ length senders.now }
     requires reach { IsReachOf far lookahead lines.now }
-    requires source { IfSome source (IsOnlySource (t - far) lines.now) }
+    requires loud { AreIdleButFor (t - far) lines.now loud.now.taps }
     requires steps { All (λ r. r.steps ≡ t) receivers.old }
     requires in_time { t + length piece.old ≤ 2000000000 }
     requires ready { (r : ℕ) (d : Sender) (k : Kept) → r < length senders.now → is_sending_in (slice_index_or senders.now r d).phase ≡ false →
@@ -140,7 +140,7 @@ fn take_all(
         let carrier = is_signal(heard[k]);
         let receiver = &mut receivers[k];
         take_one(
-            t, lines, source, k, lookahead, far, sending, carrier, receiver, piece,
+            t, lines, loud, k, lookahead, far, sending, carrier, receiver, piece,
         );
     }
 }
@@ -151,7 +151,7 @@ fn put_all(
     t: u64,
     k: usize,
     lines: &[Line],
-    source: Option<usize>,
+    loud: &LoudTaps,
     from: usize,
     lookahead: u32,
     far: u64,
@@ -160,18 +160,19 @@ fn put_all(
 )
     requires many { from + length parcels.old ≤ length lines.now }
     requires reach { IsReachOf far lookahead lines.now }
-    requires source { IfSome source (IsOnlySource (t - far) lines.now) }
+    requires loud { AreIdleButFor (t - far) lines.now loud.now.taps }
     requires in_time { t + length piece.old < 2 ^ 64 }
     requires long { All (λ p. k + length piece.old ≤ length p.symbols) parcels.old }
     ensures { (p : ℕ) (d : Parcel) → p < length parcels.new → slice_index_or parcels.new p d
         ≡ with_piece_at k (heard_for lookahead t (length piece.old) lines.now (from + p)) (slice_index_or parcels.old p d) }
 {
+    let source = loud.only();
     for p in 0..parcels.len() {
         let parcel = &mut parcels[p];
         if let Some(heard) = piece_of(lines, source, from + p, lookahead, far, t, piece.len()) {
             parcel.symbols.put(k, heard);
         } else {
-            hear_tap(lines, source, from + p, lookahead, far, t, piece);
+            hear_listed(lines, loud, from + p, lookahead, far, t, piece);
             parcel.symbols.put(k, piece);
         }
     }
@@ -236,17 +237,18 @@ pub fn leap_steady(
     let ahead = emit_ahead(t, count, &state.senders, &mut state.lines, piece);
     let lines: &[Line] = &state.lines;
     let heard: &[Sym] = &state.heard;
-    let source = only_source(lines, t.saturating_sub(far));
-    let part = &mut piece[..ahead as usize];
-    let steady = steady_ahead(lines, stations, source, lookahead, far, t, heard, part);
+    state.loud.find(lines, t.saturating_sub(far));
+    let loud = &state.loud;
+    let most = ahead as usize;
+    let steady = classes_ahead(lines, stations, loud, lookahead, far, t, heard, most);
     let senders: &[Transmitter] = &state.senders;
     let receivers: &mut [Receiver] = &mut state.receivers;
     let part = &mut piece[..steady];
     take_all(
-        t, lines, source, lookahead, far, heard, senders, receivers, part,
+        t, lines, loud, lookahead, far, heard, senders, receivers, part,
     );
     put_all(
-        t, k as usize, lines, source, stations, lookahead, far, parcels, part,
+        t, k as usize, lines, loud, stations, lookahead, far, parcels, part,
     );
     leap_all(t, steady as u32, heard, &mut state.senders);
     cut_all(&mut state.lines, stations, t + steady as u64);

@@ -124,6 +124,7 @@ returns-clause-at c =
       lines = subst (λ u. AreLinesAt (plan c) (w c) (L c) u (front c) new_lines) now (subst (AreLinesAt (plan c) (w c) (L c) (t c + m c) (front c)) (sym lines) (lines_after c));
       reach = subst (IsReachOf a.far (L c)) (sym lines) (same_reach (plan c) (w c) (L c) (t c) (front c) (t c + m c) (front c) a.far (ls c) c.rest_all.new.lines c.requires.at.lines (lines_after c) c.requires.at.reach);
       hearing = c.requires.at.hearing ∙ sym (ap length lines ∙ ls_len c);
+      listing = c.requires.at.listing ∙ sym (ap length lines ∙ ls_len c);
       emitting = c.requires.at.emitting;
     }
 

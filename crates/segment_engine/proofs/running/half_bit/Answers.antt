@@ -157,6 +157,7 @@ returns-clause-at c =
       reach = subst (IsReachOf a.far (L c)) (sym lines)
           (same_reach (plan c) (w c) (L c) (t c) (front c) (t c + 1) (front c) a.far (ls c) c.tell.new.lines c.requires.at.lines (lines_after c) c.requires.at.reach);
       hearing = ap length heard ∙ c.hear_all.auto.heard ∙ ap length c.deref_mut.ensures.value ∙ c.requires.at.hearing ∙ sym (ap length lines ∙ c.tell.auto.lines ∙ ap length c.deref_mut-5.ensures.value);
+      listing = c.requires.at.listing ∙ sym (ap length lines ∙ c.tell.auto.lines ∙ ap length c.deref_mut-5.ensures.value);
       emitting = ap length emitted ∙ ap length (emissions_are c) ∙ length-map (w c).stations (λ k. emitted_at (plan c) k (t c));
     }
 

@@ -67,10 +67,11 @@ returns-clause-at c =
     subst (λ n. AreNewLines c.deref-4.result.now c.len-stations.result n c.as_slice-edges.result.now c.deref-5.result.now c.in_ok-lines.lines.items) long made in
     let heard_len : length c.in_ok-vec.field-0.items ≡ length c.in_ok-places.places.items = search rules in
     let emitted_len : length c.in_ok-vec-2.field-0.items ≡ c.len-stations.result = search rules in
-    let room = c.in_ok-new.ensures in
-    let P : List Row → Type 0 = λ rows. AreStationsAt plan w.stations 0 c.in_ok-senders.senders.items c.in_ok-receivers.receivers.items rows c.in_ok-new.field-0.captures in
+    let listed : c.in_ok-new.field-0.room ≡ length c.in_ok-places.places.items = search rules in
+    let room = c.in_ok-new-2.ensures in
+    let P : List Row → Type 0 = λ rows. AreStationsAt plan w.stations 0 c.in_ok-senders.senders.items c.in_ok-receivers.receivers.items rows c.in_ok-new-2.field-0.captures in
     record {
-      stations = subst P (sym room.rows) (stations_begin plan s c.in_ok-senders.senders.items c.in_ok-receivers.receivers.items c.in_ok-new.field-0.captures
+      stations = subst P (sym room.rows) (stations_begin plan s c.in_ok-senders.senders.items c.in_ok-receivers.receivers.items c.in_ok-new-2.field-0.captures
           (c.in_ok-senders.ensures ∙ ap (map (λ k. sender_at plan k 0)) stations_a)
           (subst (λ ks. AllHear (map (λ k. receiver_at plan k 0) ks) c.in_ok-receivers.receivers.items) stations_b c.in_ok-receivers.ensures.receivers)
           c.in_ok-receivers.ensures.steps
@@ -78,5 +79,6 @@ returns-clause-at c =
       lines = lines_new plan s c.in_ok-lines.lines.items c.len-stations.result c.as_slice-edges.result.now c.deref-5.result.now c.deref-4.result.now count edges delays places new;
       reach = subst (λ (xs : List TapLine). IsReachOf c.farthest-far.result (lookahead plan.layout) xs) c.deref-6.ensures.value (subst (λ n. IsReachOf c.farthest-far.result n c.deref-6.result.now) long c.farthest-far.ensures);
       hearing = heard_len ∙ sym (new.count ∙ ap length c.deref-4.ensures.value);
+      listing = listed ∙ sym (new.count ∙ ap length c.deref-4.ensures.value);
       emitting = emitted_len ∙ count;
     }

@@ -1,4 +1,4 @@
-use Rattle.std.proofs.Common.{◌≡◌, ℕ, ◌+◌, ◌*◌, ◌<◌, ◌≤◌, ◌++◌, All, Bool, [], false, List, map, take, drop, length, length-take-le, get_or, sym, subst, ap, ap₂, ◌∙◌, arith, rules}
+use Rattle.std.proofs.Common.{◌≡◌, ℕ, ◌+◌, ◌*◌, ◌<◌, ◌≤◌, All, Bool, [], false, List, map, take, length, length-take-le, get_or, sym, subst, ap, ap₂, ◌∙◌, arith, rules}
 use Rattle.std.specs.Vec.{with_items}
 use Rattle.std.proofs.lemmas.List.{with_items_is, length-map}
 use Rattle.manchester_line.specs.declared.Sym.{Sym}
@@ -17,10 +17,10 @@ use Rattle.net_parts.specs.SegmentParts.{Wiring, wiring}
 use Rattle.net_parts.specs.Standing.{receiver_at}
 use Rattle.net_parts.specs.declared.parcel.Parcel.{Parcel}
 use Rattle.tap_lines.specs.TapLines.{TapLine, no_line, heard_by_lines, IsReachOf, heard_for, line_cut}
+use Rattle.tap_lines.specs.TapLists.{AreIdleButFor}
 use Rattle.segment_engine.specs.PartStates.{AreLinesAt, AreStationsAt, half_filled}
 use Rattle.segment_engine.specs.SteadyPieces.{IsToldAhead, with_piece_at}
 use Rattle.segment_engine.proofs.LinesHear.{same_reach}
-use Rattle.tap_lines.proofs.LinesAhead.{cut_size}
 use Rattle.segment_engine.proofs.QuietRoom.{GoesOn, room_later_each}
 use Rattle.segment_engine.proofs.SteadyCalm.{fewer_calm}
 use Rattle.segment_engine.proofs.SteadyHalfBits.{GoesAhead, heard_as, heard_size}
@@ -31,8 +31,8 @@ use Rattle.segment_engine.proofs.steady.leap_steady.Goals.{After-state-6-1}
 a_kept : Kept
 a_kept = record { lose = 0; most = 0; deaf = false; halves = 0; decoder = new_decoding; steps = 0 }
 
-pub steady_ahead-steady-requires-clause-reach : goal.steady_ahead-steady-requires-clause-reach
-steady_ahead-steady-requires-clause-reach c =
+pub classes_ahead-steady-requires-clause-reach : goal.classes_ahead-steady-requires-clause-reach
+classes_ahead-steady-requires-clause-reach c =
     let a = c.args.state.now in
     let g = c.args.of.now in
     let x = sender_at g.plan.value 0 a.t in
@@ -42,12 +42,21 @@ steady_ahead-steady-requires-clause-reach c =
     (reach_ahead a.far g.lookahead (length c.deref.result.now) c.emit_ahead-ahead.result c.args.count c.deref_mut.result.now c.emit_ahead-ahead.new.lines c.deref.result.now x c.emit_ahead-ahead.auto.lines
     (λ r h. c.emit_ahead-ahead.ensures.told r no_line x h) (λ r h. c.emit_ahead-ahead.ensures.others r no_line h) before)
 
-pub slice_bounds-part-end-3 : goal.slice_bounds-part-end-3
-slice_bounds-part-end-3 c =
+pub find-requires : goal.find-requires
+find-requires c =
+    let a = c.args.state.now in
+    let len = ap length (c.deref-lines.ensures.value ∙ with_items_is a.lines c.emit_ahead-ahead.new.lines (search rules)) in
+    let told = c.emit_ahead-ahead.auto.lines ∙ ap length c.deref_mut.ensures.value in
+    let room = c.requires.at.listing in
+    omega (arith, len, told, room)
+
+pub slice_bounds-part-end : goal.slice_bounds-part-end
+slice_bounds-part-end c =
     let items = c.emit_ahead-ahead.auto.piece ∙ ap length c.deref_mut-piece.ensures.value in
     let few = c.requires.piece in
     let ahead = c.emit_ahead-ahead.ensures.within in
-    sym (cut_size c.emit_ahead-ahead.new.piece c.steady_ahead-steady.new.piece c.emit_ahead-ahead.result c.steady_ahead-steady.result (omega (arith, items, few, ahead)) c.steady_ahead-steady.auto.piece c.steady_ahead-steady.ensures.within)
+    let steady = c.classes_ahead-steady.ensures.within in
+    sym (length-take-le c.classes_ahead-steady.result c.emit_ahead-ahead.new.piece (omega (arith, items, few, ahead, steady)))
 
 pub take_all-requires-clause-receivers_len : goal.take_all-requires-clause-receivers_len
 take_all-requires-clause-receivers_len c =
@@ -91,9 +100,10 @@ take_all-requires-clause-steady c = λ r j h l.
     let items = c.emit_ahead-ahead.auto.piece ∙ ap length c.deref_mut-piece.ensures.value in
     let few = c.requires.piece in
     let ahead = c.emit_ahead-ahead.ensures.within in
-    let many = cut_size c.emit_ahead-ahead.new.piece c.steady_ahead-steady.new.piece c.emit_ahead-ahead.result c.steady_ahead-steady.result (omega (arith, items, few, ahead)) c.steady_ahead-steady.auto.piece c.steady_ahead-steady.ensures.within in
-    let few : j < c.steady_ahead-steady.result = omega (arith, l, many) in
-    c.steady_ahead-steady.ensures.steady r j inside few
+    let steady = c.classes_ahead-steady.ensures.within in
+    let many = length-take-le c.classes_ahead-steady.result c.emit_ahead-ahead.new.piece (omega (arith, items, few, ahead, steady)) in
+    let few : j < c.classes_ahead-steady.result = omega (arith, l, many) in
+    c.classes_ahead-steady.ensures.steady r j inside few
 
 pub put_all-requires-clause-reach : goal.put_all-requires-clause-reach
 put_all-requires-clause-reach c =
@@ -113,26 +123,35 @@ put_all-requires-clause-long c =
     let items = c.emit_ahead-ahead.auto.piece ∙ ap length c.deref_mut-piece.ensures.value in
     let few = c.requires.piece in
     let ahead = c.emit_ahead-ahead.ensures.within in
-    let many = c.take_all.auto.piece ∙ cut_size c.emit_ahead-ahead.new.piece c.steady_ahead-steady.new.piece c.emit_ahead-ahead.result c.steady_ahead-steady.result (omega (arith, items, few, ahead)) c.steady_ahead-steady.auto.piece c.steady_ahead-steady.ensures.within in
+    let steady = c.classes_ahead-steady.ensures.within in
+    let many = c.take_all.auto.piece ∙ length-take-le c.classes_ahead-steady.result c.emit_ahead-ahead.new.piece (omega (arith, items, few, ahead, steady)) in
     let within = c.requires.within in
-    let enough = c.steady_ahead-steady.ensures.within in
-    let cut = length-take-le c.emit_ahead-ahead.result c.emit_ahead-ahead.new.piece (omega (arith, items, few, ahead)) in
+    let enough = c.classes_ahead-steady.ensures.within in
     parcels_long_for plan c.args.of.now.lookahead c.args.window c.args.k (length c.take_all.new.piece) es c.args.parcels.now
-    (let fits : c.args.k + length c.take_all.new.piece ≤ c.args.of.now.lookahead = omega (arith, many, within, enough, ahead, cut) in fits) c.requires.parcels
+    (let fits : c.args.k + length c.take_all.new.piece ≤ c.args.of.now.lookahead = omega (arith, many, within, enough, ahead) in fits) c.requires.parcels
+
+pub classes_ahead-steady-requires-clause-loud : goal.classes_ahead-steady-requires-clause-loud
+classes_ahead-steady-requires-clause-loud c =
+    subst (λ u. AreIdleButFor u c.deref-lines.result.now c.find.new.self.taps) c.saturating_sub.ensures c.find.ensures.loud.idle
+
+pub take_all-requires-clause-loud : goal.take_all-requires-clause-loud
+take_all-requires-clause-loud c =
+    subst (λ u. AreIdleButFor u c.deref-lines.result.now c.find.new.self.taps) c.saturating_sub.ensures c.find.ensures.loud.idle
+
+pub put_all-requires-clause-loud : goal.put_all-requires-clause-loud
+put_all-requires-clause-loud c =
+    subst (λ u. AreIdleButFor u c.deref-lines.result.now c.find.new.self.taps) c.saturating_sub.ensures c.find.ensures.loud.idle
 
 pub leap_all-requires-clause-calm : goal.leap_all-requires-clause-calm
 leap_all-requires-clause-calm c = λ r d h.
     let a = c.args.state.now in
     let size = ap length c.deref_mut-2.ensures.value in
     let is = (c.requires.calm r d a_kept (omega (arith, h, size))).number in
-    let few = c.steady_ahead-steady.ensures.within in
+    let few = c.classes_ahead-steady.ensures.within in
     let ahead = c.emit_ahead-ahead.ensures.within in
-    let items = c.emit_ahead-ahead.auto.piece ∙ ap length c.deref_mut-piece.ensures.value in
-    let enough = c.requires.piece in
-    let cut = length-take-le c.emit_ahead-ahead.result c.emit_ahead-ahead.new.piece (omega (arith, items, enough, ahead)) in
-    let fewer : c.steady_ahead-steady.result ≤ calm_of (get_or a.senders.items r d) (is_signal (get_or a.heard.items r Idle)) = omega (arith, is, few, ahead, cut) in
-    subst (λ (xs : List Sym). c.steady_ahead-steady.result ≤ calm_of (get_or c.deref_mut-2.result.now r d) (is_signal (get_or xs r Idle))) (sym c.deref-heard.ensures.value)
-    (subst (λ (xs : List Sender). c.steady_ahead-steady.result ≤ calm_of (get_or xs r d) (is_signal (get_or a.heard.items r Idle))) (sym c.deref_mut-2.ensures.value) fewer)
+    let fewer : c.classes_ahead-steady.result ≤ calm_of (get_or a.senders.items r d) (is_signal (get_or a.heard.items r Idle)) = omega (arith, is, few, ahead) in
+    subst (λ (xs : List Sym). c.classes_ahead-steady.result ≤ calm_of (get_or c.deref_mut-2.result.now r d) (is_signal (get_or xs r Idle))) (sym c.deref-heard.ensures.value)
+    (subst (λ (xs : List Sender). c.classes_ahead-steady.result ≤ calm_of (get_or xs r d) (is_signal (get_or a.heard.items r Idle))) (sym c.deref_mut-2.ensures.value) fewer)
 
 module _ (c : After-state-6-1) where
   abbrev plan : Plan
@@ -151,7 +170,7 @@ module _ (c : After-state-6-1) where
   t = c.args.state.now.t
 
   abbrev m : ℕ
-  m = c.steady_ahead-steady.result
+  m = c.classes_ahead-steady.result
 
   abbrev least : ℕ
   least = c.emit_ahead-ahead.result
@@ -186,15 +205,8 @@ module _ (c : After-state-6-1) where
   senders_are : length ss ≡ length w.stations
   senders_are = ap length c.requires.at.stations.senders ∙ length-map w.stations (λ k. sender_at plan k t)
 
-  cut : length (take least c.emit_ahead-ahead.new.piece) ≡ least
-  cut =
-      let items = c.emit_ahead-ahead.auto.piece ∙ ap length c.deref_mut-piece.ensures.value in
-      let enough = c.requires.piece in
-      let ahead = c.emit_ahead-ahead.ensures.within in
-      length-take-le least c.emit_ahead-ahead.new.piece (omega (arith, items, enough, ahead))
-
   m_few : m ≤ least
-  m_few = let few = c.steady_ahead-steady.ensures.within in let z = cut in omega (arith, few, z)
+  m_few = let few = c.classes_ahead-steady.ensures.within in omega (arith, few)
 
   ahead_of : t + m ≤ front
   ahead_of =
@@ -232,7 +244,7 @@ module _ (c : After-state-6-1) where
   steady r j h l =
       let count = stations_are in
       ap₂ (λ x (xs : List TapLine). is_signal (heard_by_lines x (t + j) xs r)) (sym c.args.of.now.window_length) (sym lines_told)
-      ∙ c.steady_ahead-steady.ensures.steady r j (omega (arith, h, count)) l
+      ∙ c.classes_ahead-steady.ensures.steady r j (omega (arith, h, count)) l
       ∙ ap (λ xs. is_signal (get_or xs r Idle)) c.deref-heard.ensures.value
 
   going : GoesAhead plan s t front m least most ls ls' ss ks carrier a_sender a_kept
@@ -255,14 +267,15 @@ module _ (c : After-state-6-1) where
 
   -- what the receivers and the ports heard
   abbrev now : List Sym
-  now = c.steady_ahead-steady.new.piece ++ drop c.emit_ahead-ahead.result c.emit_ahead-ahead.new.piece
+  now = c.emit_ahead-ahead.new.piece
 
   piece_size : length (take m now) ≡ m
   piece_size =
       let items = c.emit_ahead-ahead.auto.piece ∙ ap length c.deref_mut-piece.ensures.value in
       let few = c.requires.piece in
       let ahead = c.emit_ahead-ahead.ensures.within in
-      cut_size c.emit_ahead-ahead.new.piece c.steady_ahead-steady.new.piece c.emit_ahead-ahead.result c.steady_ahead-steady.result (omega (arith, items, few, ahead)) c.steady_ahead-steady.auto.piece c.steady_ahead-steady.ensures.within
+      let steady = c.classes_ahead-steady.ensures.within in
+      length-take-le c.classes_ahead-steady.result c.emit_ahead-ahead.new.piece (omega (arith, items, few, ahead, steady))
 
   ports_size : length c.take_all.new.piece ≡ m
   ports_size = c.take_all.auto.piece ∙ piece_size
@@ -356,6 +369,7 @@ returns-clause-at c =
       lines = subst (AreLinesAt (plan c) (w c) (L c) (t c + m c) (front c)) (sym lines) (lines_after c);
       reach = subst (IsReachOf a.far (L c)) (sym lines) (same_reach (plan c) (w c) (L c) (t c) (front c) (t c + m c) (front c) a.far (ls c) c.cut_all.new.lines c.requires.at.lines (lines_after c) c.requires.at.reach);
       hearing = c.requires.at.hearing ∙ sym (ap length lines ∙ cut_len c ∙ lines_len c);
+      listing = c.find.ensures.room ∙ c.requires.at.listing ∙ sym (ap length lines ∙ cut_len c ∙ lines_len c);
       emitting = c.requires.at.emitting;
     }
 

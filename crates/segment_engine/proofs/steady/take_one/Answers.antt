@@ -1,4 +1,4 @@
-use Rattle.std.proofs.Common.{◌≡◌, ◌≢◌, ℕ, All, true, false, length, replicate, sym, subst, ap, ◌∙◌, rules}
+use Rattle.std.proofs.Common.{◌≡◌, ◌≢◌, ◌-◌, ℕ, All, true, false, length, replicate, sym, subst, ap, ◌∙◌, rules}
 use Rattle.manchester_line.specs.declared.Sym.TheVariants.{Idle}
 use Rattle.mac_receive.specs.KeptReceiver.{Hears}
 use Rattle.mac_receive.specs.Receiver.{receiver_after, receiver_bodies}
@@ -6,6 +6,9 @@ use Rattle.net_parts.proofs.RepeaterSteps.{length-span}
 use Rattle.tap_lines.specs.TapLines.{heard_by_lines, heard_for}
 use Rattle.segment_engine.proofs.SteadyReceivers.{idle_piece, signal_piece}
 use Rattle.segment_engine.proofs.steady.take_one.Goals as goal
+
+pub piece_of-requires-clause-source : goal.piece_of-requires-clause-source
+piece_of-requires-clause-source c = c.only.ensures.only (c.args.t - c.args.far) c.args.lines.now c.requires.loud
 
 pub take-requires-clause-signal : goal.take-requires-clause-signal
 take-requires-clause-signal c =
@@ -20,7 +23,7 @@ take-requires-in_default-clause-signal c =
     let f = λ (u : ℕ). heard_by_lines c.args.lookahead u c.args.lines.now c.args.p in
     let n = length c.args.piece.now in
     let carrier : c.args.carrier ≡ true = search rules in
-    subst (All (λ s. s ≢ Idle)) (sym c.hear_tap.ensures) (signal_piece f c.args.t n (λ j l. c.requires.steady j l ∙ carrier))
+    subst (All (λ s. s ≢ Idle)) (sym c.hear_listed.ensures) (signal_piece f c.args.t n (λ j l. c.requires.steady j l ∙ carrier))
 
 pub returns-then-sending-clause-state : goal.returns-then-sending-clause-state
 returns-then-sending-clause-state c = λ r h.

@@ -115,6 +115,7 @@ returns-clause-at c = record {
       subst (IsReachOf a.far (lookahead (plan c).layout)) (sym (new_is c)) (subst (λ n. IsReachOf a.far n c.take_in.new.lines) long
       (same_reach (plan c) (w c) (L c) (t c) (t c) (t c) front a.far (ls c) c.take_in.new.lines (are c) (lines_after c) (subst (λ n. IsReachOf a.far n (ls c)) (sym long) c.requires.at.reach)));
   hearing = c.requires.at.hearing ∙ sym (ap length (new_is c) ∙ new_len c ∙ mid_len c);
+  listing = c.requires.at.listing ∙ sym (ap length (new_is c) ∙ new_len c ∙ mid_len c);
   emitting = c.requires.at.emitting;
 }
 
