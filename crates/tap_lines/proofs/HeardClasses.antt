@@ -6,10 +6,11 @@ use Rattle.manchester_line.specs.declared.Sym.{Sym}
 use Rattle.manchester_line.specs.declared.Sym.TheVariants.{Idle, Hi, Lo, Clash}
 use Rattle.manchester_line.specs.Line.{mix_of, is_signal}
 use Rattle.network.specs.Times.{earlier}
-use Rattle.tap_lines.specs.TapLines.{TapLine, no_line, symbol_on, half_bits_back, heard_of_line, heard_of_lines, heard_by_lines, IsReachOf}
+use Rattle.tap_lines.specs.TapLines.{TapLine, no_line, symbol_on, half_bits_back, heard_of_line, heard_of_lines, heard_by_lines, IsOnlySource, IsReachOf, IsSignalOver}
 use Rattle.tap_lines.specs.TapLists.{AreIdleButFor}
 use Rattle.tap_lines.proofs.EndsOfSignals.{no_signal}
-use Rattle.tap_lines.proofs.HeardLines.{none_heard, silent_line}
+use Rattle.net_parts.proofs.LateRows.{if_true}
+use Rattle.tap_lines.proofs.HeardLines.{none_heard, other_heard, own_heard, silent_line}
 
 -- a mix of which one part is a signal
 mix_first : (a b : Sym) → is_signal a ≡ true → is_signal (mix_of a b) ≡ true
@@ -107,3 +108,26 @@ other_line L u p q at back ls tap line differs tap_is line_is at_is back_is =
     let way : back ≡ half_bits_back L (get_or ls p no_line).at (get_or ls q no_line) = back_is ∙ ap₂ (λ x l. half_bits_back L x l) there line_is in
     ap (λ b. cond b Idle (earlier (symbol_on (get_or ls q no_line)) u (half_bits_back L (get_or ls p no_line).at (get_or ls q no_line)))) (ne_eqb q p differs)
     ∙ sym (ap₂ (λ l b. earlier (symbol_on l) u b) line_is way)
+
+-- what a tap hears where on the only line nothing but signals stand
+alone_other : (L t far n u p q : ℕ) (ls : List TapLine) → IsReachOf far L ls → p < length ls → IsOnlySource (t - far) ls q → far ≤ t →
+    IsSignalOver (t - far) (far + n) (get_or ls q no_line) → t ≤ u → u < t + n → p ≢ q → is_signal (heard_by_lines L u ls p) ≡ true
+alone_other L t far n u p q ls within hp only late signals first last differs =
+    let back = half_bits_back L (get_or ls p no_line).at (get_or ls q no_line) in
+    let near = within p q hp only.within in
+    ap is_signal (other_heard L t far u p q ls within hp only first (λ e. differs (sym e))
+    ∙ if_true {m = back} {n = u} _ _ (omega (arith, near, late, first)))
+    ∙ signals (u - back) (omega (arith, near, first)) (omega (arith, last, late, near))
+
+alone_own : (L t far u p q : ℕ) (ls : List TapLine) → IsReachOf far L ls → p < length ls → IsOnlySource (t - far) ls q → t ≤ u → p ≡ q →
+    is_signal (heard_by_lines L u ls p) ≡ false
+alone_own L t far u p q ls within hp only first own = ap is_signal (own_heard L t far u p q ls within hp only first (sym own))
+
+pub alone_class : (L t far n u p q : ℕ) (ls : List TapLine) → IsReachOf far L ls → p < length ls → IsOnlySource (t - far) ls q → far ≤ t →
+    IsSignalOver (t - far) (far + n) (get_or ls q no_line) → t ≤ u → u < t + n → is_signal (heard_by_lines L u ls p) ≡ cond (eqb p q) false true
+alone_class L t far n u p q ls within hp only late signals first last = elim (cases_eq p q) [
+  | inl own ↦
+      let same : eqb p q ≡ true = grind (arith, nat_tests, own) in
+      alone_own L t far u p q ls within hp only first own ∙ sym (ap (λ b. cond b false true) same)
+  | inr differs ↦ alone_other L t far n u p q ls within hp only late signals first last differs ∙ sym (ap (λ b. cond b false true) (ne_eqb p q differs))
+]

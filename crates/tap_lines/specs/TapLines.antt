@@ -1,10 +1,10 @@
 -- The lines of a segment's taps, and what the taps hear by them (profile). The taps of a segment are numbered from 0:
 -- those of its stations in their order, then those of its ports in the order of edges. Half bits count from 0.
-use Rattle.std.specs.Prelude.{ℕ, ◌≡◌, ◌≢◌, ◌+◌, ◌-◌, ◌==◌, ◌<◌, ◌≤◌, nat_le, nat_lt, if◌then◌else◌, List, [], ◌∷◌, ◌++◌, length, take, drop, slice_index_or}
+use Rattle.std.specs.Prelude.{ℕ, ◌≡◌, ◌≢◌, ◌+◌, ◌-◌, ◌==◌, ◌<◌, ◌≤◌, true, nat_le, nat_lt, if◌then◌else◌, List, [], ◌∷◌, ◌++◌, length, take, drop, slice_index_or}
 use Rattle.mac_parameters.specs.Distances.{distance}
 use Rattle.manchester_line.specs.declared.Sym.{Sym}
 use Rattle.manchester_line.specs.declared.Sym.TheVariants.{Idle}
-use Rattle.manchester_line.specs.Line.{mix_of}
+use Rattle.manchester_line.specs.Line.{mix_of, is_signal}
 use Rattle.network.specs.Times.{earlier}
 use Rattle.net_parts.specs.Machines.{span}
 use Rattle.tap_lines.specs.Signals.{signals_end}
@@ -86,6 +86,10 @@ line_cut u l = record l {
 -- Nothing but Idle stands on a line from half bit u on (profile).
 abbrev pub IsIdleFrom : ℕ → TapLine → Type 0
 IsIdleFrom u l = (v : ℕ) → u ≤ v → symbol_on l v ≡ Idle
+
+-- A signal stands on a line in each of the n half bits from u on (profile).
+abbrev pub IsSignalOver : ℕ → ℕ → TapLine → Type 0
+IsSignalOver u n l = (v : ℕ) → u ≤ v → v < u + n → is_signal (symbol_on l v) ≡ true
 
 -- What stands on a line `back` half bits before the n half bits from t on is neither before its first symbol nor behind
 -- its last signal (profile).

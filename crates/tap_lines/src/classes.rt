@@ -1,6 +1,6 @@
 //! For how long taps go on to hear a signal, or Idle, where the taps are listed on whose lines anything stands that may still be
 //! heard: a tap hears Idle where all that reaches it is Idle.
-ghost use Rattle.std.specs.Prelude.{◌≡◌, ◌≢◌, ◌≤◌, ◌<◌, ◌+◌, ◌-◌, ◌^◌, ℕ, true, false, length, slice_index_or};
+ghost use Rattle.std.specs.Prelude.{◌≡◌, ◌≢◌, ◌≤◌, ◌<◌, ◌+◌, ◌-◌, ◌^◌, ◌==◌, ℕ, if◌then◌else◌, true, false, length, slice_index_or};
 ghost use Rattle.manchester_line.specs.declared.Sym.TheVariants.{Idle};
 ghost use Rattle.manchester_line.specs.Line.{is_signal as is_signal_of};
 ghost use Rattle.tap_lines.specs.TapLines.{IsReachOf, heard_by_lines};
@@ -8,6 +8,7 @@ ghost use Rattle.tap_lines.specs.TapLists.{AreIdleButFor};
 
 use crate::line::Line;
 use crate::loud::LoudTaps;
+use crate::sources::known_ahead;
 use manchester_line::{Sym, is_signal};
 
 /// For how many half bits from `t` on, at most `most`, tap `p` hears Idle in all of them.
@@ -129,11 +130,30 @@ fn class_ahead(
     ensures steady { (j : ℕ) → j < result → is_signal_of (heard_by_lines lookahead (t + j) lines.now p) ≡ carrier }
     ensures longest { result < most → is_signal_of (heard_by_lines lookahead (t + result) lines.now p) ≢ carrier }
 {
+    if let Some(q) = loud.only() {
+        return known_ahead(lines, q, p, lookahead, far, t, most, carrier);
+    }
     if carrier {
         signals_ahead(lines, loud, p, lookahead, far, t, most)
     } else {
         idle_ahead(lines, loud, p, lookahead, far, t, most)
     }
+}
+
+/// Whether of the first so many taps each hears a signal but that of the source, which hears Idle.
+fn hear_source(taps: usize, source: usize, heard: &[Sym]) -> bool
+    requires { taps ≤ length heard.now }
+    ensures all { result ≡ true → (r : ℕ) → r < taps →
+        is_signal_of (slice_index_or heard.now r Idle) ≡ if r == source then false else true }
+    ensures other { result ≡ false → ¬ ((r : ℕ) → r < taps →
+        is_signal_of (slice_index_or heard.now r Idle) ≡ if r == source then false else true) }
+{
+    for r in 0..taps {
+        if is_signal(heard[r]) == (r == source) {
+            return false;
+        }
+    }
+    true
 }
 
 /// For how many half bits from `t` on, at most `most`, each of the first so many taps hears a signal, where it does so now, and
@@ -159,6 +179,11 @@ pub fn classes_ahead(
     ensures longest { result < most → ¬ ((r : ℕ) → r < taps →
         is_signal_of (heard_by_lines lookahead (t + result) lines.now r) ≡ is_signal_of (slice_index_or heard.now r Idle)) }
 {
+    if let Some(q) = loud.only() {
+        if far <= t && lines[q].is_signal_over(t - far, far as usize + most) {
+            return if hear_source(taps, q, heard) { most } else { 0 };
+        }
+    }
     let mut steady = most;
     for r in 0..taps {
         let carrier = is_signal(heard[r]);

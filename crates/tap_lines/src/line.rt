@@ -5,7 +5,7 @@ ghost use Rattle.manchester_line.specs.declared.Sym.TheVariants.{Idle};
 ghost use Rattle.manchester_line.specs.Line.{mix_of, is_signal as is_signal_of};
 ghost use Rattle.net_parts.specs.Machines.{span};
 ghost use Rattle.tap_lines.specs.Signals.{signals_end};
-ghost use Rattle.tap_lines.specs.TapLines.{line_cut, IsIdleFrom, IsWithinSignals, TapLine, symbol_on, half_bits_back, line_extended, slid};
+ghost use Rattle.tap_lines.specs.TapLines.{line_cut, IsIdleFrom, IsSignalOver, IsWithinSignals, TapLine, symbol_on, half_bits_back, line_extended, slid};
 ghost use Rattle.network.specs.Times.{earlier};
 
 use crate::runs::{end_of_signals, steady_from};
@@ -269,6 +269,15 @@ impl Line {
         steady_from(text, self.loud, place, most, carrier)
     }
 
+    /// Whether a signal stands on it in each of so many half bits from `u` on.
+    pub fn is_signal_over(&self, u: u64, count: usize) -> bool
+        requires { u + count < 2 ^ 64 }
+        ensures signals { result ≡ true → IsSignalOver u count self.now }
+        ensures other { result ≡ false → ¬ IsSignalOver u count self.now }
+    {
+        self.steady_back(0, u, count, true) == count
+    }
+
     /// What stands on it so many half bits before those from `t` on, as many as `count`; none where not all of it is written.
     pub fn written_back(&self, back: u64, t: u64, count: usize) -> Option<&[Sym]>
         ensures len { IfSome result (λ piece. length piece.now ≡ count) }
@@ -332,11 +341,12 @@ impl Line {
         requires { length piece.now ≤ self.old.room }
         ensures { self.new ≡ line_extended self.old piece.now }
     {
-        if is_idle(piece) {
-            self.rest(piece.len());
-            return;
-        }
-        if are_signals(piece) {
+        if piece.is_empty() || piece[0] == Sym::Idle {
+            if is_idle(piece) {
+                self.rest(piece.len());
+                return;
+            }
+        } else if are_signals(piece) {
             self.put(piece);
             return;
         }
