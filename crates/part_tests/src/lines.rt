@@ -2,24 +2,24 @@
 
 use lists::OutOfMemory;
 use manchester_line::Sym;
-use tap_lines::{
-    Line, LoudTaps, classes_ahead, farthest, hear_all_listed, hear_listed, only_source, piece_of,
-    steady_ahead,
-};
+use tap_lines::{Line, LoudTaps, classes_ahead, farthest, hear_all, hear_listed, piece_of};
 
 /// Two taps 10 half bits apart: from half bit 0 on the first emits Idle, three signals and Idle, the other Idle, five times. A
 /// window has 4 half bits.
 #[test]
 fn one_line_is_heard_by_the_other_tap(rt: HostRuntime) -> Result<(), OutOfMemory> {
-    let mut first = Line::new(rt.alloc(), 0, 4, 8)?;
-    let mut second = Line::new(rt.alloc(), 10, 4, 8)?;
+    let mut first = Line::new(rt.alloc(), 0, 4, 20, 8)?;
+    let mut second = Line::new(rt.alloc(), 10, 4, 20, 8)?;
     first.extend(&[Sym::Idle, Sym::Hi, Sym::Lo, Sym::Hi, Sym::Idle]);
     second.rest(5);
     let lines = [first, second];
     let far = farthest(&lines, 4);
     assert_eq!(rt; far, 10);
-    assert_eq!(rt; only_source(&lines, 4), None);
-    let source = only_source(&lines, 3);
+    let mut loud = LoudTaps::new(rt.alloc(), 2)?;
+    loud.find(&lines, 4);
+    assert_eq!(rt; loud.only(), None);
+    loud.find(&lines, 3);
+    let source = loud.only();
     assert_eq!(rt; source, Some(0));
     let piece = piece_of(&lines, source, 1, 4, far, 13, 1);
     assert_eq!(rt; piece.is_some(), true);
@@ -28,27 +28,31 @@ fn one_line_is_heard_by_the_other_tap(rt: HostRuntime) -> Result<(), OutOfMemory
     }
     assert_eq!(rt; piece_of(&lines, source, 1, 4, far, 13, 2).is_none(), true);
     assert_eq!(rt; piece_of(&lines, source, 0, 4, far, 13, 1).is_none(), true);
-    let mut room = [Sym::Idle; 5];
     let heard = [Sym::Idle, Sym::Hi];
-    let steady = steady_ahead(&lines, 2, source, 4, far, 13, &heard, &mut room);
-    assert_eq!(rt; steady, 1);
+    assert_eq!(rt; classes_ahead(&lines, 2, &loud, 4, far, 13, &heard, 5), 1);
     Ok(())
 }
 
 /// Two taps, the second of which emits a signal in half bit 2, which is cut again, and with it the Idle behind its first.
 #[test]
 fn a_line_that_is_cut_is_no_source(rt: HostRuntime) -> Result<(), OutOfMemory> {
-    let mut first = Line::new(rt.alloc(), 0, 4, 8)?;
-    let mut second = Line::new(rt.alloc(), 10, 4, 8)?;
+    let mut first = Line::new(rt.alloc(), 0, 4, 20, 8)?;
+    let mut second = Line::new(rt.alloc(), 10, 4, 20, 8)?;
     first.extend(&[Sym::Hi, Sym::Lo, Sym::Idle]);
     second.extend(&[Sym::Hi, Sym::Idle, Sym::Lo]);
     let mut lines = [first, second];
-    assert_eq!(rt; only_source(&lines, 1), None);
-    assert_eq!(rt; only_source(&lines, 2), Some(1));
+    let mut loud = LoudTaps::new(rt.alloc(), 2)?;
+    loud.find(&lines, 1);
+    assert_eq!(rt; loud.only(), None);
+    loud.find(&lines, 2);
+    assert_eq!(rt; loud.only(), Some(1));
     lines[1].cut(2);
-    assert_eq!(rt; only_source(&lines, 2), None);
-    assert_eq!(rt; only_source(&lines, 1), Some(0));
-    assert_eq!(rt; only_source(&lines, 0), None);
+    loud.find(&lines, 2);
+    assert_eq!(rt; loud.only(), None);
+    loud.find(&lines, 1);
+    assert_eq!(rt; loud.only(), Some(0));
+    loud.find(&lines, 0);
+    assert_eq!(rt; loud.only(), None);
     Ok(())
 }
 
@@ -57,9 +61,9 @@ fn a_line_that_is_cut_is_no_source(rt: HostRuntime) -> Result<(), OutOfMemory> {
 /// clash. Tap 1 hears tap 2 from half bit 23 on.
 #[test]
 fn a_tap_hears_two_lines_one_after_another(rt: HostRuntime) -> Result<(), OutOfMemory> {
-    let mut listener = Line::new(rt.alloc(), 20, 4, 20)?;
-    let mut first = Line::new(rt.alloc(), 0, 4, 20)?;
-    let mut second = Line::new(rt.alloc(), 10, 4, 20)?;
+    let mut listener = Line::new(rt.alloc(), 20, 4, 20, 20)?;
+    let mut first = Line::new(rt.alloc(), 0, 4, 20, 20)?;
+    let mut second = Line::new(rt.alloc(), 10, 4, 20, 20)?;
     listener.rest(17);
     first.extend(&[Sym::Hi, Sym::Lo, Sym::Hi, Sym::Lo]);
     first.rest(13);
@@ -79,7 +83,7 @@ fn a_tap_hears_two_lines_one_after_another(rt: HostRuntime) -> Result<(), OutOfM
     assert_eq!(rt; loud.tap(0), 1);
     assert_eq!(rt; loud.tap(1), 2);
     let mut heard = [Sym::Clash; 3];
-    hear_all_listed(&lines, &loud, 4, far, 20, &mut heard);
+    hear_all(&lines, 4, far, 20, &mut heard);
     assert_eq!(rt; heard, [Sym::Hi, Sym::Idle, Sym::Idle]);
     let mut piece = [Sym::Clash; 8];
     hear_listed(&lines, &loud, 0, 4, far, 20, &mut piece);
@@ -104,8 +108,8 @@ fn a_tap_hears_two_lines_one_after_another(rt: HostRuntime) -> Result<(), OutOfM
 /// Two taps 10 half bits apart, the first of which emits signals in half bits 0 to 23: the other hears them in 10 to 33.
 #[test]
 fn the_only_loud_tap_hears_idle(rt: HostRuntime) -> Result<(), OutOfMemory> {
-    let mut first = Line::new(rt.alloc(), 0, 4, 24)?;
-    let second = Line::new(rt.alloc(), 10, 4, 24)?;
+    let mut first = Line::new(rt.alloc(), 0, 4, 20, 24)?;
+    let second = Line::new(rt.alloc(), 10, 4, 20, 24)?;
     first.extend(&[Sym::Hi; 24]);
     let lines = [first, second];
     let far = farthest(&lines, 4);

@@ -7,14 +7,12 @@ mod line;
 mod lines;
 mod listed;
 mod loud;
-mod pieces;
 mod runs;
 mod sources;
 
 pub use classes::classes_ahead;
 pub use line::Line;
 pub use lines::{are_idle_from, cut_all, farthest, hear_all, rest_all, slide_all, take_in, tell};
-pub use listed::{hear_all_listed, hear_listed};
+pub use listed::hear_listed;
 pub use loud::LoudTaps;
-pub use pieces::{hear_piece, steady_ahead};
-pub use sources::{only_source, piece_of};
+pub use sources::piece_of;

@@ -24,7 +24,7 @@ fn heard_of(line: &Line, p: usize, q: usize, at: u32, lookahead: u32, t: u64) ->
 }
 
 /// Adds to what each tap hears in half bit `t` what reaches it of tap `q`'s line.
-pub fn hear_line(lines: &[Line], q: usize, lookahead: u32, t: u64, heard: &mut [Sym])
+fn hear_line(lines: &[Line], q: usize, lookahead: u32, t: u64, heard: &mut [Sym])
     requires line { q < length lines.now }
     requires taps { length heard.old ≡ length lines.now }
     ensures { (p : ℕ) (d : Sym) → p < length heard.new →

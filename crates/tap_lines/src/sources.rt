@@ -6,25 +6,6 @@ ghost use Rattle.tap_lines.specs.TapLines.{AreIdleFrom, IsIdleFrom, IsWithinSign
 use crate::line::Line;
 use manchester_line::Sym;
 
-/// The one tap on whose line something else than Idle stands from half bit `u` on, if there is just one.
-pub fn only_source(lines: &[Line], u: u64) -> Option<usize>
-    ensures only { IfSome result (IsOnlySource u lines.now) }
-    ensures loud { IfSome result (λ q. ¬ IsIdleFrom u (slice_index_or lines.now q no_line)) }
-    ensures none { IfNone result ((q : ℕ) → IsOnlySource u lines.now q → AreIdleFrom u lines.now) }
-{
-    let mut source = None;
-    for r in 0..lines.len() {
-        if lines[r].is_quiet_from(u) {
-            continue;
-        }
-        if source.is_some() {
-            return None;
-        }
-        source = Some(r);
-    }
-    source
-}
-
 /// For how many half bits from `t` on, at most `most`, tap `p` hears a signal in all of them, or Idle in all, as `carrier` says,
 /// by the line of `source`, the only one that it may hear.
 pub fn known_ahead(
