@@ -9,8 +9,8 @@ use crate::lines::hear_line;
 use crate::loud::LoudTaps;
 use manchester_line::Sym;
 
-/// What each tap hears in half bit `t`, where nothing reaches a tap that is further back than `far` half bits: only the lines
-/// of the listed taps are looked at.
+/// What each tap hears in half bit `t`, where nothing reaches a tap that is further back than `far` half bits: only
+/// the lines of the listed taps are looked at.
 pub fn hear_all_listed(
     lines: &[Line],
     loud: &LoudTaps,
@@ -31,8 +31,8 @@ pub fn hear_all_listed(
     }
 }
 
-/// What tap `p` hears in the half bits from `t` on, as many as the piece has, where nothing reaches a tap that is further back
-/// than `far` half bits: only the lines of the listed taps are looked at.
+/// What tap `p` hears in the half bits from `t` on, as many as the piece has, where nothing reaches a tap that is
+/// further back than `far` half bits: only the lines of the listed taps are looked at.
 pub fn hear_listed(
     lines: &[Line],
     loud: &LoudTaps,
