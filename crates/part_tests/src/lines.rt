@@ -56,9 +56,9 @@ fn a_line_that_is_cut_is_no_source(rt: HostRuntime) -> Result<(), OutOfMemory> {
     Ok(())
 }
 
-/// Tap 0 listens at place 20. Tap 1, at place 0, emits signals in half bits 0 to 3, and tap 2, at place 10, in half bits 13 to
-/// 16. So tap 0 hears the first 20 half bits later, in 20 to 23, and the others 10 half bits later, in 23 to 26: in 23 they
-/// clash. Tap 1 hears tap 2 from half bit 23 on.
+/// Tap 0 listens at place 20. Tap 1, at place 0, emits signals in half bits 0 to 3, and tap 2, at place 10, in half
+/// bits 13 to 16. So tap 0 hears the first 20 half bits later, in 20 to 23, and the others 10 half bits later, in 23
+/// to 26: in 23 they clash. Tap 1 hears tap 2 from half bit 23 on.
 #[test]
 fn a_tap_hears_two_lines_one_after_another(rt: HostRuntime) -> Result<(), OutOfMemory> {
     let mut listener = Line::new(rt.alloc(), 20, 4, 20, 20)?;
@@ -105,7 +105,8 @@ fn a_tap_hears_two_lines_one_after_another(rt: HostRuntime) -> Result<(), OutOfM
     Ok(())
 }
 
-/// Two taps 10 half bits apart, the first of which emits signals in half bits 0 to 23: the other hears them in 10 to 33.
+/// Two taps 10 half bits apart, the first of which emits signals in half bits 0 to 23: the other hears them in 10 to
+/// 33.
 #[test]
 fn the_only_loud_tap_hears_idle(rt: HostRuntime) -> Result<(), OutOfMemory> {
     let mut first = Line::new(rt.alloc(), 0, 4, 20, 24)?;

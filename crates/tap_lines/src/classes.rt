@@ -1,6 +1,7 @@
-//! For how long taps go on to hear a signal, or Idle, where the taps are listed on whose lines anything stands that may still be
-//! heard: a tap hears Idle where all that reaches it is Idle.
-ghost use Rattle.std.specs.Prelude.{◌≡◌, ◌≢◌, ◌≤◌, ◌<◌, ◌+◌, ◌-◌, ◌^◌, ◌==◌, ℕ, if◌then◌else◌, true, false, length, slice_index_or};
+//! For how long taps go on to hear a signal, or Idle, where the taps are listed on whose lines anything stands that
+//! may still be heard: a tap hears Idle where all that reaches it is Idle.
+ghost use Rattle.std.specs.Prelude.{◌≡◌, ◌≢◌, ◌≤◌, ◌<◌, ◌+◌, ◌-◌, ◌^◌, ◌==◌, ℕ, length, slice_index_or};
+ghost use Rattle.std.specs.Prelude.{if◌then◌else◌, true, false};
 ghost use Rattle.manchester_line.specs.declared.Sym.TheVariants.{Idle};
 ghost use Rattle.manchester_line.specs.Line.{is_signal as is_signal_of};
 ghost use Rattle.tap_lines.specs.TapLines.{IsReachOf, heard_by_lines};
@@ -43,8 +44,8 @@ fn idle_ahead(
     idle
 }
 
-/// For how many half bits from `t` on, at most `most`, one of the listed lines alone lets tap `p` hear a signal: the most that
-/// any of them does.
+/// For how many half bits from `t` on, at most `most`, one of the listed lines alone lets tap `p` hear a signal: the
+/// most that any of them does.
 fn one_signal_ahead(
     lines: &[Line],
     loud: &LoudTaps,
@@ -81,7 +82,8 @@ fn one_signal_ahead(
     longest
 }
 
-/// For how many half bits from `t` on, at most `most`, tap `p` hears a signal in all of them, by one line after another.
+/// For how many half bits from `t` on, at most `most`, tap `p` hears a signal in all of them, by one line after
+/// another.
 fn signals_ahead(
     lines: &[Line],
     loud: &LoudTaps,
@@ -111,7 +113,8 @@ fn signals_ahead(
     steady
 }
 
-/// For how many half bits from `t` on, at most `most`, tap `p` hears a signal in all of them, or Idle in all, as `carrier` says.
+/// For how many half bits from `t` on, at most `most`, tap `p` hears a signal in all of them, or Idle in all, as
+/// `carrier` says.
 fn class_ahead(
     lines: &[Line],
     loud: &LoudTaps,
@@ -156,8 +159,8 @@ fn hear_source(taps: usize, source: usize, heard: &[Sym]) -> bool
     true
 }
 
-/// For how many half bits from `t` on, at most `most`, each of the first so many taps hears a signal, where it does so now, and
-/// else Idle. Only the lines of the listed taps are looked at.
+/// For how many half bits from `t` on, at most `most`, each of the first so many taps hears a signal, where it does so
+/// now, and else Idle. Only the lines of the listed taps are looked at.
 pub fn classes_ahead(
     lines: &[Line],
     taps: usize,
@@ -177,7 +180,8 @@ pub fn classes_ahead(
     ensures steady { (r j : ℕ) → r < taps → j < result →
         is_signal_of (heard_by_lines lookahead (t + j) lines.now r) ≡ is_signal_of (slice_index_or heard.now r Idle) }
     ensures longest { result < most → ¬ ((r : ℕ) → r < taps →
-        is_signal_of (heard_by_lines lookahead (t + result) lines.now r) ≡ is_signal_of (slice_index_or heard.now r Idle)) }
+        is_signal_of (heard_by_lines lookahead (t + result) lines.now r)
+        ≡ is_signal_of (slice_index_or heard.now r Idle)) }
 {
     if let Some(q) = loud.only() {
         if far <= t && lines[q].is_signal_over(t - far, far as usize + most) {

@@ -1,5 +1,6 @@
 //! The taps on whose lines anything stands that may still be heard.
-ghost use Rattle.std.specs.Prelude.{◌≡◌, ◌≢◌, ◌<◌, ◌≤◌, ◌∷◌, [], ℕ, List, length, take, slice_index_or, IfOk, IfSome, IfNone};
+ghost use Rattle.std.specs.Prelude.{◌≡◌, ◌≢◌, ◌<◌, ◌≤◌, ◌∷◌, [], ℕ, List, length, take, slice_index_or};
+ghost use Rattle.std.specs.Prelude.{IfOk, IfSome, IfNone};
 ghost use Rattle.tap_lines.specs.TapLines.{AreIdleFrom, IsIdleFrom, IsOnlySource, TapLine, no_line};
 ghost use Rattle.tap_lines.specs.TapLists.{AreIdleButFor, AreLoudTaps, TapList};
 
@@ -29,7 +30,8 @@ impl Model for LoudTaps {
     ghost invariant = { λ s. s.count ≤ length s.numbers.items };
 }
 
-/// Writes the numbers of the taps on whose lines something else than Idle stands from half bit `u` on, and says how many.
+/// Writes the numbers of the taps on whose lines something else than Idle stands from half bit `u` on, and says how
+/// many.
 fn write_loud(lines: &[Line], u: u64, numbers: &mut [usize]) -> usize
     requires { length lines.now ≤ length numbers.old }
     ensures within { result ≤ length numbers.new }
@@ -86,7 +88,8 @@ impl LoudTaps {
     pub fn only(&self) -> Option<usize>
         ensures some { IfSome result (λ q. self.now.taps ≡ q ∷ []) }
         ensures none { IfNone result ((q : ℕ) → self.now.taps ≢ q ∷ []) }
-        ensures only { (u : ℕ) (ls : List TapLine) → AreIdleButFor u ls self.now.taps → IfSome result (IsOnlySource u ls) }
+        ensures only { (u : ℕ) (ls : List TapLine) → AreIdleButFor u ls self.now.taps →
+            IfSome result (IsOnlySource u ls) }
         ensures loud { (u : ℕ) (ls : List TapLine) → AreLoudTaps u ls self.now.taps →
             IfSome result (λ q. ¬ IsIdleFrom u (slice_index_or ls q no_line)) }
         ensures no_source { (u : ℕ) (ls : List TapLine) → AreLoudTaps u ls self.now.taps →
