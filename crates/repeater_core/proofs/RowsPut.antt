@@ -115,10 +115,11 @@ stretch_put p delay turn next rows k xs ys flags texts len below n fits l e ke y
     ∙ sym (append_assoc (drop (h + rows * p) xs) (take h xs) ys)
     ∙ sym (rows_with p delay flags texts old some lined l (omega arith)
     ∙ ap₂ (λ i bs. drop (i * p) (rotated h xs) ++ bs) n (sym ye)
-    ∙ ap (λ cs. cs ++ ys) (drop-append-le (rows * p) (drop h xs) (take h xs) (let s = length-drop h xs in omega arith) ∙ ap (λ cs. cs ++ take h xs) (drop-drop (rows * p) h xs))) in
-    (long,
-    same_line p delay (ring p delay next zs) (line_with flags texts old) (record { ports_are = refl; delay_is = refl; rows_len = rotated_len (next * p) zs ∙ long ∙ len })
-    (lined_with p delay flags texts old some lined l) (later_ring turn rows delay p next zs (long ∙ len) e ∙ after))
+    ∙ ap (λ cs. cs ++ ys) (drop-append-le (rows * p) (drop h xs) (take h xs) (let s = length-drop h xs in omega arith) ∙ ap (λ cs. cs ++ take h xs) (drop-drop (rows * p) h xs))) in (
+      long,
+      same_line p delay (ring p delay next zs) (line_with flags texts old) (record { ports_are = refl; delay_is = refl; rows_len = rotated_len (next * p) zs ∙ long ∙ len })
+          (lined_with p delay flags texts old some lined l) (later_ring turn rows delay p next zs (long ∙ len) e ∙ after),
+    )
 
 pub with_both : (flags : List Bool) (texts more : List Sym) (d : Delayed) → line_with flags (texts ++ more) d ≡ line_with flags more (line_with flags texts d)
 with_both flags [] more d = refl
