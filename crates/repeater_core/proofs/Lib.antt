@@ -21,4 +21,5 @@ pub mod RowsPut
 pub mod LaterTexts
 pub mod SteadyMost
 pub mod SteadyRows
+pub mod SteadinessLasts
 pub mod LeapedParts

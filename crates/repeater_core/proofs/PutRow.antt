@@ -1,13 +1,12 @@
 -- A row that is put into a ring symbol by symbol.
-use Rattle.std.proofs.Common.{◌≡◌, ℕ, zero, suc, ◌+◌, ◌<◌, ◌≤◌, Bool, true, false, cond, ◌++◌, [], ◌∷◌, List, length, map, take, drop, set, get_or, refl, sym, ap, ◌∙◌, ap₂, append_assoc, length-drop, arith}
+use Rattle.std.proofs.Common.{◌≡◌, ℕ, zero, suc, ◌+◌, ◌<◌, Bool, true, false, cond, ◌++◌, [], ◌∷◌, List, length, map, take, drop, set, get_or, refl, sym, ap, ◌∙◌, append_assoc, arith}
 use Rattle.std.proofs.lemmas.Grind.{common_steps, take-set_at}
-use Rattle.std.proofs.lemmas.List.{take_more, drop-drop, drop-append-le, length-map}
+use Rattle.std.proofs.lemmas.List.{take_more, drop-drop, length-map}
 use Rattle.std.proofs.lemmas.List.Elements.{All-from_recursion}
 use Rattle.std.specs.List.{All, AllByRecursion}
 use Rattle.manchester_line.specs.declared.Sym.{Sym}
 use Rattle.manchester_line.specs.declared.Sym.TheVariants.{Idle}
 use Rattle.manchester_line.specs.Line.{is_signal}
-use Rattle.repeater_core.specs.Delayed.{rotated}
 use Rattle.repeater_core.specs.Steady.{texted}
 
 pub put_one : (h k : ℕ) (old new ds : List Sym) → h + k < length new → k < length ds → take (h + k) new ≡ take h old ++ take k ds
@@ -44,17 +43,3 @@ idle_texts (b ∷ bs) text e = (idle_either b text e, idle_texts bs text e)
 
 pub all_idle_texts : (bs : List Bool) (text : Sym) → text ≡ Idle → All (λ s. s ≡ Idle) (texted bs text)
 all_idle_texts bs text e = All-from_recursion (λ s. s ≡ Idle) (texted bs text) (idle_texts bs text e)
-
--- a row of two that is put in
-pub pair_put : (h : ℕ) (old : List Sym) (a b : Sym) → h + 2 ≤ length old → rotated (h + 2) (set (set old h a) (h + 1) b) ≡ drop 2 (rotated h old) ++ (a ∷ b ∷ [])
-pair_put h old a b l =
-    let one = set old h a in
-    let both = set one (h + 1) b in
-    let long : length one ≡ length old = grind (arith, common_steps) in
-    let before : take (h + 2) both ≡ take h old ++ (a ∷ b ∷ []) =
-    take-set_at one (h + 1) (h + 2) b (omega arith) (omega arith) ∙ ap (λ xs. xs ++ b ∷ []) (take-set_at old h (h + 1) a (omega arith) (omega arith)) ∙ append_assoc (take h old) (a ∷ []) (b ∷ []) in
-    let behind : drop (h + 2) both ≡ drop (h + 2) old = grind (arith, common_steps) in
-    let size = length-drop h old in
-    ap₂ ◌++◌ behind before
-    ∙ sym (ap (λ xs. xs ++ (a ∷ b ∷ [])) (drop-append-le 2 (drop h old) (take h old) (omega arith) ∙ ap (λ xs. xs ++ take h old) (drop-drop 2 h old))
-    ∙ append_assoc (drop (h + 2) old) (take h old) (a ∷ b ∷ []))

@@ -1,25 +1,23 @@
 -- Rows that are put into a ring one after another, each a text at the same places.
-use Rattle.std.proofs.Common.{◌≡◌, ℕ, zero, suc, ◌+◌, ◌-◌, ◌*◌, ◌<◌, ◌≤◌, Bool, true, false, cond, List, [], ◌∷◌, ◌++◌, length, take, drop, replicate, refl, sym, ap, ap₂, subst, ◌∙◌, inl, inr, arith, length-drop, length-take-le, mul-le-mul_right}
-use Rattle.std.proofs.lemmas.Bool.{cases_lt}
-use Rattle.std.proofs.lemmas.List.{drop_all, drop-drop, drop-append-le, take-append-drop, take_all, length-replicate}
+use Rattle.std.proofs.Common.{◌≡◌, ℕ, zero, suc, ◌+◌, ◌-◌, ◌*◌, ◌<◌, ◌≤◌, Bool, true, false, cond, eqb, List, [], ◌∷◌, ◌++◌, length, take, drop, replicate, refl, sym, ap, ap₂, subst, ◌∙◌, inl, inr, arith, length-append, append_assoc, length-drop, length-take-le, mul-le-mul_right}
+use Rattle.std.proofs.lemmas.Bool.{cases_eq, cases_lt}
+use Rattle.std.proofs.lemmas.Bool.Decides.{nat_tests}
+use Rattle.std.proofs.lemmas.Slice.{take-put_mid, drop-put_mid}
+use borrow.Rule.Slice.PartMut.{put_mid, mid_of, same_len_mid}
+use Rattle.std.proofs.lemmas.List.{drop_all, drop-drop, drop-append-le, take-append-drop, take_all, append-nil, length-replicate}
 use Rattle.std.proofs.lemmas.List.Elements.{All-append, All-drop, All-nil, All-replicate, All-take, recursion_from_All}
-use Rattle.std.specs.List.{AllByRecursion}
+use Rattle.std.specs.List.{AllByRecursion, flat_map}
 use Rattle.mac_parameters.specs.Parameters.{greatest_delay}
 use Rattle.manchester_line.specs.declared.Sym.{Sym}
 use Rattle.manchester_line.specs.declared.Sym.TheVariants as sy
 use Rattle.repeater_core.specs.Delayed.{Delayed, moved_on, rotated, delayed_row, turn_after, IsRing}
 use Rattle.repeater_core.specs.Steady.{texted}
 use Rattle.repeater_core.specs.Classes.{line_with}
-use Rattle.repeater_core.proofs.NextTurnOfRing.{rotated_turn, same_delayed}
+use Rattle.repeater_core.proofs.NextTurnOfRing.{rotated_turn}
 use Rattle.repeater_core.proofs.PutRow.{all_idle_texts}
-use Rattle.repeater_core.proofs.RingLeaps.{AllIdle, ring, rotated_add, rotated_len, row_in, moved_row, filled_falls}
+use Rattle.repeater_core.proofs.RingLeaps.{AllIdle, ring, rotated_add, rotated_len, row_in, filled_falls}
 use Rattle.repeater_core.proofs.DelayRows.{row_last}
 use Rattle.repeater_core.proofs.AlikeNewest.{Lined, lined_on, lined_with, texted_len, NewestAre, KeepSignals, newest_with, newest_same, idle_newest}
-
--- one row more
-pub row_put : (ports delay turn next : ℕ) (xs ys : List Sym) (flags : List Bool) (text : Sym) → length ys ≡ delay * ports → next ≡ turn_after turn delay
-    → rotated (turn * ports + ports) ys ≡ drop ports (rotated (turn * ports) xs) ++ texted flags text → ring ports delay next ys ≡ moved_on (texted flags text) (ring ports delay turn xs)
-row_put ports delay turn next xs ys flags text len e put = same_delayed (moved_row ports delay turn next ports xs xs ys (texted flags text) refl len e refl put)
 
 -- the newest row of a ring
 pub newest_row : (ports delay last turn : ℕ) (xs : List Sym) → length xs ≡ delay * ports → last < delay → turn ≡ turn_after last delay
@@ -39,6 +37,17 @@ same_line p delay x y h k e = parts x.ports x.delay x.rows y.ports y.delay y.row
     parts : (p d : ℕ) (xs : List Sym) (q e : ℕ) (ys : List Sym) → p ≡ q → d ≡ e → xs ≡ ys → ◌≡◌ {A = Delayed} (record { ports = p; delay = d; rows = xs }) (record { ports = q; delay = e; rows = ys })
     parts p d xs q e ys a b c = cc
 
+-- one row more, of which no more are left out than there are
+row_fewer : (m p delay : ℕ) (d : Delayed) (row : List Sym) → Lined p delay d → suc m ≤ delay → drop (m * p) (drop d.ports d.rows ++ row) ≡ drop (suc m * p) d.rows ++ row
+row_fewer m p delay d row h l =
+    let whole : suc m * p ≡ p + m * p = omega arith in
+    let fits : suc m * p ≤ delay * p = mul-le-mul_right p l in
+    let size = length-drop p d.rows in
+    let all = h.rows_len in
+    ap (λ i. drop (m * p) (drop i d.rows ++ row)) h.ports_are
+    ∙ drop-append-le (m * p) (drop p d.rows) row (omega arith)
+    ∙ ap (λ zs. zs ++ row) (drop-drop (m * p) p d.rows ∙ ap (λ i. drop i d.rows) (sym whole))
+
 -- lines that differ in no more rows than are put in
 forgotten : (m p delay : ℕ) (flags : List Bool) (texts : List Sym) (x y : Delayed) → 0 < delay → Lined p delay x → Lined p delay y → length flags ≡ p → m ≤ delay → m ≤ length texts
     → drop (m * p) x.rows ≡ drop (m * p) y.rows → line_with flags texts x ≡ line_with flags texts y
@@ -49,19 +58,70 @@ forgotten (suc m) p delay flags [] x y some h k n d l e = absurd (omega arith)
 forgotten (suc m) p delay flags (t ∷ texts) x y some h k n d l e =
     let row = texted_len flags t ∙ n in
     forgotten m p delay flags texts (moved_on (texted flags t) x) (moved_on (texted flags t) y) some (lined_on p delay x (texted flags t) some h row) (lined_on p delay y (texted flags t) some k row) n
-    (omega arith) (omega arith) (fewer x h ∙ ap (λ zs. zs ++ texted flags t) e ∙ sym (fewer y k))
-  where
-    fewer : (z : Delayed) → Lined p delay z → drop (m * p) (drop z.ports z.rows ++ texted flags t) ≡ drop (suc m * p) z.rows ++ texted flags t
-    fewer z h =
-        let whole : suc m * p ≡ p + m * p = omega arith in
-        let fits : suc m * p ≤ delay * p = mul-le-mul_right p d in
-        let size = length-drop p z.rows in
-        let all = h.rows_len in
-        ap (λ i. drop (m * p) (drop i z.rows ++ texted flags t)) h.ports_are
-        ∙ drop-append-le (m * p) (drop p z.rows) (texted flags t) (omega arith)
-        ∙ ap (λ zs. zs ++ texted flags t) (drop-drop (m * p) p z.rows ∙ ap (λ i. drop i z.rows) (sym whole))
+    (omega arith) (omega arith) (row_fewer m p delay x (texted flags t) h d ∙ ap (λ zs. zs ++ texted flags t) e ∙ sym (row_fewer m p delay y (texted flags t) k d))
 
-with_both : (flags : List Bool) (texts more : List Sym) (d : Delayed) → line_with flags (texts ++ more) d ≡ line_with flags more (line_with flags texts d)
+-- rows that are put in at the end
+rows_with : (p delay : ℕ) (flags : List Bool) (texts : List Sym) (d : Delayed) → 0 < delay → Lined p delay d → length flags ≡ p → length texts ≤ delay
+    → (line_with flags texts d).rows ≡ drop (length texts * p) d.rows ++ flat_map (texted flags) texts
+rows_with p delay flags [] d some h n l =
+    let none : 0 * p ≡ 0 = omega arith in
+    sym (append-nil (drop (0 * p) d.rows) ∙ ap (λ i. drop i d.rows) none)
+rows_with p delay flags (t ∷ texts) d some h n l =
+    rows_with p delay flags texts (moved_on (texted flags t) d) some (lined_on p delay d (texted flags t) some h (texted_len flags t ∙ n)) n (omega arith)
+    ∙ ap (λ zs. zs ++ flat_map (texted flags) texts) (row_fewer (length texts) p delay d (texted flags t) h l)
+    ∙ append_assoc (drop (suc (length texts) * p) d.rows) (texted flags t) (flat_map (texted flags) texts)
+
+pub rows_length : (flags : List Bool) (texts : List Sym) → length (flat_map (texted flags) texts) ≡ length texts * length flags
+rows_length flags [] = let none : 0 * length flags ≡ 0 = omega arith in sym none
+rows_length flags (t ∷ texts) =
+    let more : suc (length texts) * length flags ≡ length flags + length texts * length flags = omega arith in
+    length-append (texted flags t) (flat_map (texted flags) texts) ∙ ap₂ ◌+◌ (texted_len flags t) (rows_length flags texts) ∙ sym more
+
+pub rows_room : (turn rows delay p : ℕ) → turn + rows ≤ delay → turn * p + rows * p ≤ delay * p
+rows_room turn rows delay p l = let m : (turn + rows) * p ≤ delay * p = mul-le-mul_right p l in omega arith
+
+later_ring : (turn rows delay p next : ℕ) (xs : List Sym) → length xs ≡ delay * p → next ≡ cond (eqb (turn + rows) delay) 0 (turn + rows) → rotated (next * p) xs ≡ rotated (turn * p + rows * p) xs
+later_ring turn rows delay p next xs len e = elim (cases_eq (turn + rows) delay) [
+  | inl is ↦
+      let wraps : next ≡ 0 = grind (arith, nat_tests) in
+      let none : next * p ≡ 0 = rw wraps (omega arith) in
+      let all : turn * p + rows * p ≡ length xs = omega (arith, ap (λ d. d * p) is) in
+      ap (λ h. rotated h xs) none ∙ append-nil xs ∙ sym (ap (λ h. rotated h xs) all ∙ ap₂ ◌++◌ (drop_all (length xs) xs (omega arith)) (take_all (length xs) xs (omega arith)))
+  | inr ne ↦
+      let goes : next ≡ turn + rows = grind (arith, nat_tests) in
+      let same : next * p ≡ turn * p + rows * p = rw goes (omega arith) in
+      ap (λ h. rotated h xs) same
+]
+
+-- rows that are written one after another, up to the ring's end at most
+pub stretch_put : (p delay turn next rows k : ℕ) (xs ys : List Sym) (flags : List Bool) (texts : List Sym) → length xs ≡ delay * p → turn < delay → length texts ≡ rows → turn + rows ≤ delay → length flags ≡ p
+    → next ≡ cond (eqb (turn + rows) delay) 0 (turn + rows) → k ≡ rows * p → ys ≡ flat_map (texted flags) texts
+    → (length (put_mid (turn * p) k xs ys) ≡ length xs) × (ring p delay next (put_mid (turn * p) k xs ys) ≡ line_with flags texts (ring p delay turn xs))
+stretch_put p delay turn next rows k xs ys flags texts len below n fits l e ke ye =
+    let h = turn * p in
+    let zs = put_mid h k xs ys in
+    let room = rows_room turn rows delay p fits in
+    let size : length ys ≡ rows * p = ap length ye ∙ rows_length flags texts ∙ ap₂ ◌*◌ n l in
+    let near : h ≤ length xs = omega arith in
+    let first : take (h + rows * p) zs ≡ take h xs ++ ys = take-put_mid h k xs ys (h + rows * p) (omega arith) near in
+    let rest : drop (h + rows * p) zs ≡ drop (h + rows * p) xs = drop-put_mid h k xs ys (h + rows * p) (omega arith) near (omega arith) in
+    let mid : length ys ≡ length (mid_of h k xs) = (let d = length-drop h xs in let f = length-take-le k (drop h xs) (omega arith) in omega arith) in
+    let long : length zs ≡ length xs = same_len_mid h k xs ys mid in
+    let some : 0 < delay = omega arith in
+    let old = ring p delay turn xs in
+    let lined : Lined p delay old = record { ports_are = refl; delay_is = refl; rows_len = rotated_len h xs ∙ len } in
+    let after : rotated (h + rows * p) zs ≡ (line_with flags texts old).rows =
+    ap₂ ◌++◌ rest first
+    ∙ sym (append_assoc (drop (h + rows * p) xs) (take h xs) ys)
+    ∙ sym (rows_with p delay flags texts old some lined l (omega arith)
+    ∙ ap₂ (λ i bs. drop (i * p) (rotated h xs) ++ bs) n (sym ye)
+    ∙ ap (λ cs. cs ++ ys) (drop-append-le (rows * p) (drop h xs) (take h xs) (let s = length-drop h xs in omega arith) ∙ ap (λ cs. cs ++ take h xs) (drop-drop (rows * p) h xs))) in (
+      long,
+      same_line p delay (ring p delay next zs) (line_with flags texts old) (record { ports_are = refl; delay_is = refl; rows_len = rotated_len (next * p) zs ∙ long ∙ len })
+          (lined_with p delay flags texts old some lined l) (later_ring turn rows delay p next zs (long ∙ len) e ∙ after),
+    )
+
+pub with_both : (flags : List Bool) (texts more : List Sym) (d : Delayed) → line_with flags (texts ++ more) d ≡ line_with flags more (line_with flags texts d)
 with_both flags [] more d = refl
 with_both flags (t ∷ texts) more d = with_both flags texts more (moved_on (texted flags t) d)
 

@@ -173,7 +173,7 @@ events_like hears row r x k e =
     events_by_kind x.guards row (emitted_by x) ∙ ap₂ (λ gs bs. events_by (kinds_of row bs) gs) k.guards_same (emitted_like r x k)
     ∙ ap (λ ks. events_by ks r.guards) (kinds_like row hears (map is_signal (emitted_by r)) e) ∙ sym (events_by_kind r.guards hears (emitted_by r))
 
-step_like : (hears row : List Sym) (emitting deciding : List Bool) (r x : State) → Like r x → map class_of row ≡ map class_of hears → IsSteadyStep hears emitting deciding r → IsSteadyStep row emitting deciding x
+pub step_like : (hears row : List Sym) (emitting deciding : List Bool) (r x : State) → Like r x → map class_of row ≡ map class_of hears → IsSteadyStep hears emitting deciding r → IsSteadyStep row emitting deciding x
 step_like hears row emitting deciding r x k e s =
     let events = events_like hears row r x k e in
     record {
@@ -189,7 +189,7 @@ flags_moved : (xs ys ds es : List Sym) (p q : ℕ) → p ≡ q → map is_signal
 flags_moved xs ys ds es p q e f g =
     map-append is_signal (drop p xs) ds ∙ ap₂ ◌++◌ (sym (drop-map is_signal p xs) ∙ ap₂ drop e f ∙ drop-map is_signal q ys) g ∙ sym (map-append is_signal (drop q ys) es)
 
-after_like : (hears row : List Sym) (emitting deciding : List Bool) (r x : State) → Like r x → map class_of row ≡ map class_of hears → IsSteadyStep hears emitting deciding r → Like (after hears r) (after row x)
+pub after_like : (hears row : List Sym) (emitting deciding : List Bool) (r x : State) → Like r x → map class_of row ≡ map class_of hears → IsSteadyStep hears emitting deciding r → Like (after hears r) (after row x)
 after_like hears row emitting deciding r x k e s =
     let then = steady_once row emitting deciding x (step_like hears row emitting deciding r x k e s) in
     let first = steady_once hears emitting deciding r s in

@@ -1,6 +1,6 @@
 -- Half bits in which each port, closed ones too, hears symbols of one class, and nothing happens but counts (profile,
 -- for the modes and guards of clause 9): what a frame or a jam does to a repeater. Ports and half bits count from 0.
-use Rattle.std.specs.Prelude.{ℕ, ◌≡◌, ◌*◌, ◌<◌, nat_lt, Bool, if◌then◌else◌, List, [], ◌∷◌, length, map, take, drop, slice_index_or}
+use Rattle.std.specs.Prelude.{ℕ, ◌≡◌, ◌+◌, ◌*◌, ◌<◌, nat_lt, Bool, if◌then◌else◌, List, [], ◌∷◌, length, map, take, drop, slice_index_or}
 use Rattle.std.specs.List.{AllByRecursion}
 use Rattle.mac_parameters.specs.Parameters.{preamble_length}
 use Rattle.manchester_line.specs.declared.Sym.{Sym}
@@ -10,7 +10,7 @@ use Rattle.repeater_core.specs.declared.modes.Mode.{Mode}
 use Rattle.repeater_core.specs.declared.modes.Mode.TheVariants.{Idle, Repeat, Extend, RxClash, TxClash, OnePort}
 use Rattle.repeater_core.specs.Delayed.{Delayed, moved_on}
 use Rattle.repeater_core.specs.Step.{State, after, emitted_by, decided_by}
-use Rattle.repeater_core.specs.Steady.{mode_on, texted, IsSteadyStep}
+use Rattle.repeater_core.specs.Steady.{mode_on, texted, IsSteady, IsSteadyStep}
 
 -- the class of a symbol, named by one symbol of it: Idle, a signal of either level, or Clash
 abbrev pub class_of : Sym → Sym
@@ -83,3 +83,11 @@ abbrev pub EmitRows : List (List Sym) → State → Type 0
 EmitRows rows r =
     (k : ℕ) → k < length rows → k < r.line.delay
     → emitted_by (after_rows (take k rows) r) ≡ take r.line.ports (drop (k * r.line.ports) r.line.rows)
+
+-- steady half bits stay steady: once some of them are over, in which the ports heard symbols of those classes, the n
+-- that are left are steady, also with other symbols of those classes
+abbrev pub SteadinessLasts : Type 0
+SteadinessLasts =
+    (hears row : List Sym) (rows : List (List Sym)) (r : State) (n : ℕ)
+    → AllByRecursion (λ row. map class_of row ≡ map class_of hears) rows → map class_of row ≡ map class_of hears
+    → IsSteady hears r (length rows + n) → IsSteady row (after_rows rows r) n

@@ -13,6 +13,6 @@ mod repeater;
 mod steady;
 mod texts;
 
-pub use laws::signals_are_repeated;
+pub use laws::{signals_are_repeated, steadiness_lasts};
 pub use modes::Mode;
 pub use repeater::{Repeater, RepeaterEvents, behind_first, has_first};

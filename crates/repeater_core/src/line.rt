@@ -1,6 +1,6 @@
 //! A repeater's delay: rows of symbols that come out `delay` half bits after they were put in.
 ghost use Rattle.std.specs.Prelude.{◌≡◌, ◌<◌, ◌≤◌, ◌+◌, ◌-◌, ◌*◌, [], ◌∷◌, ◌++◌, ◌==◌, ℕ, if◌then◌else◌, length, map, take, drop, replicate, slice_index_or, IfOk, IsTrue};
-ghost use Rattle.std.specs.List.{All};
+ghost use Rattle.std.specs.List.{All, flat_map};
 ghost use Rattle.manchester_line.specs.declared.Sym.TheVariants.{Idle};
 ghost use Rattle.std.specs.Fn.{iterate};
 ghost use Rattle.repeater_core.specs.Limits.{most_calm};
@@ -57,35 +57,46 @@ fn turn_row(slots: &mut [Sym], head: usize, decided: &[Sym], emits: &mut [Sym])
     }
 }
 
-/// The text where there is a signal, and else Idle.
-fn text_at(flag: Sym, text: Sym) -> Sym
-    ensures { result ≡ (if is_signal flag then text else Idle) }
+/// The text where `sends` says so, and else Idle.
+fn text_where(sends: bool, text: Sym) -> Sym
+    ensures { result ≡ (if sends then text else Idle) }
 {
-    if is_signal(flag) { text } else { Sym::Idle }
+    if sends { text } else { Sym::Idle }
 }
 
-/// Puts a row of two ports in at `head`, as `put_row` does.
-fn put_pair(slots: &mut [Sym], head: usize, first: Sym, second: Sym, text: Sym)
-    requires { head + 2 ≤ length slots.old }
-    ensures len { length slots.new ≡ length slots.old }
-    ensures rows { rotated (head + 2) slots.new ≡ drop 2 (rotated head slots.old) ++ texted (map is_signal (first ∷ second ∷ [])) text }
+/// Writes rows of two ports, as `write_rows` does.
+fn write_pairs(rows: &mut [Sym], first: bool, second: bool, texts: &[Sym])
+    requires { length rows.old ≡ length texts.now * 2 }
+    ensures { rows.new ≡ flat_map (texted (first ∷ second ∷ [])) texts.now }
 {
-    slots[head] = text_at(first, text);
-    slots[head + 1] = text_at(second, text);
+    for k in 0..texts.len() {
+        rows[2 * k] = text_where(first, texts[k]);
+        rows[2 * k + 1] = text_where(second, texts[k]);
+    }
 }
 
-/// Puts a row in at `head`: the text at the places of signals in `flags`, and Idle at the others.
-fn put_row(slots: &mut [Sym], head: usize, flags: &[Sym], text: Sym)
-    requires { head + length flags.now ≤ length slots.old }
-    ensures len { length slots.new ≡ length slots.old }
-    ensures rows { rotated (head + length flags.now) slots.new ≡ drop (length flags.now) (rotated head slots.old) ++ texted (map is_signal flags.now) text }
+/// Writes a row: the text at the places of signals in `flags`, and Idle at the others.
+fn write_row(row: &mut [Sym], flags: &[Sym], text: Sym)
+    requires { length row.old ≡ length flags.now }
+    ensures { row.new ≡ texted (map is_signal flags.now) text }
+{
+    for k in 0..flags.len() {
+        row[k] = text_where(is_signal(flags[k]), text);
+    }
+}
+
+/// Writes rows that lie one after another: each text at the places of signals in `flags`, and Idle at the others.
+fn write_rows(rows: &mut [Sym], flags: &[Sym], texts: &[Sym])
+    requires { length rows.old ≡ length texts.now * length flags.now }
+    ensures { rows.new ≡ flat_map (texted (map is_signal flags.now)) texts.now }
 {
     if flags.len() == 2 {
-        put_pair(slots, head, flags[0], flags[1], text);
+        write_pairs(rows, is_signal(flags[0]), is_signal(flags[1]), texts);
         return;
     }
-    for k in 0..flags.len() {
-        slots[head + k] = text_at(flags[k], text);
+    for k in 0..texts.len() {
+        let begin = k * flags.len();
+        write_row(&mut rows[begin..begin + flags.len()], flags, texts[k]);
     }
 }
 
@@ -134,6 +145,16 @@ fn next_turn(turn: usize, delay: usize) -> usize
     if turn + 1 == delay { 0 } else { turn + 1 }
 }
 
+/// The turn after so many rows that don't go past the ring's end.
+fn later_turn(turn: usize, delay: usize, rows: usize) -> usize
+    requires some { 0 < delay }
+    requires within { turn + rows ≤ delay }
+    ensures later { result ≡ (if turn + rows == delay then 0 else turn + rows) }
+    ensures within { result < delay }
+{
+    if turn + rows == delay { 0 } else { turn + rows }
+}
+
 /// The turn before this one.
 fn last_turn(turn: usize, delay: usize) -> usize
     requires { turn < delay }
@@ -171,9 +192,17 @@ fn put_rows(slots: &mut [Sym], delay: usize, turn: usize, flags: &[Sym], texts: 
     ensures rows { rotated (result * length flags.now) slots.new ≡ (line_with (map is_signal flags.now) texts.now (record { ports = length flags.now; delay = delay; rows = rotated (turn * length flags.now) slots.old })).rows }
 {
     let mut turn = turn;
-    for k in 0..texts.len() {
-        put_row(slots, turn * flags.len(), flags, texts[k]);
-        turn = next_turn(turn, delay);
+    let mut written = 0;
+    while written < texts.len() {
+        let rows = (texts.len() - written).min(delay - turn);
+        let begin = turn * flags.len();
+        write_rows(
+            &mut slots[begin..begin + rows * flags.len()],
+            flags,
+            &texts[written..written + rows],
+        );
+        turn = later_turn(turn, delay, rows);
+        written += rows;
     }
     turn
 }
@@ -262,7 +291,7 @@ impl DelayLine {
         copy_row(&self.slots, self.turn * self.ports, emits);
     }
 
-    /// How many of the oldest rows have signals at the places of the first, which is `front`. Where all are known to, none is
+    /// How many of the oldest rows have signals at the places of the first, which is `front`. Those that are known to aren't
     /// looked at.
     pub fn alike(&self, front: &[Sym]) -> u32
         requires front { front.now ≡ oldest self.now }
@@ -274,8 +303,9 @@ impl DelayLine {
         if self.alike == self.delay {
             return self.delay as u32;
         }
+        let known = self.alike_to(front);
         let mut turn = self.turn;
-        for row in 0..self.delay {
+        for row in 0..self.delay - known {
             if !row_alike(&self.slots, turn * self.ports, front) {
                 return row as u32;
             }

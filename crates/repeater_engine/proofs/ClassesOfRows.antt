@@ -29,20 +29,30 @@ at_span P f k zero j l h = absurd (omega arith)
 at_span P f k (suc m) zero l h = let first : k ≡ k + 0 = omega arith in subst (λ n. P (f n)) first h.0
 at_span P f k (suc m) (suc j) l h = let next : suc k + j ≡ k + suc j = omega arith in subst (λ n. P (f n)) next (at_span P f (suc k) m j (omega arith) h.1)
 
-row_classes : (heard : List Sym) (parcels : List Parcel) (k : ℕ) → length heard ≡ length parcels →
+pub row_classes : (heard : List Sym) (parcels : List Parcel) (k : ℕ) → length heard ≡ length parcels →
     ((p : ℕ) (d : Parcel) → p < length parcels → class_of (get_or (get_or parcels p d).symbols k Idle) ≡ class_of (get_or heard p Idle)) → map class_of (row_brought k parcels) ≡ map class_of heard
 row_classes [] [] k e h = refl
 row_classes [] (x ∷ xs) k e h = absurd (omega arith)
 row_classes (s ∷ ss) [] k e h = absurd (omega arith)
 row_classes (s ∷ ss) (x ∷ xs) k e h = ap₂ ◌∷◌ (h 0 x (omega arith)) (row_classes ss xs k (omega arith) (λ p d l. h (suc p) d (omega arith)))
 
-class_at : (heard : List Sym) (parcels : List Parcel) (k p : ℕ) (d : Parcel) → p < length parcels → length heard ≡ length parcels → map class_of (row_brought k parcels) ≡ map class_of heard →
+pub class_at : (heard : List Sym) (parcels : List Parcel) (k p : ℕ) (d : Parcel) → p < length parcels → length heard ≡ length parcels → map class_of (row_brought k parcels) ≡ map class_of heard →
     class_of (get_or (get_or parcels p d).symbols k Idle) ≡ class_of (get_or heard p Idle)
 class_at heard parcels k p d l e same =
     ap class_of (sym (get_or-map (λ (x : Parcel). get_or x.symbols k Idle) parcels p d Idle l))
     ∙ sym (get_or-map class_of (row_brought k parcels) p Idle Idle (omega (arith, length-map parcels (λ (x : Parcel). get_or x.symbols k Idle))))
     ∙ ap (λ xs. get_or xs p Idle) same
     ∙ get_or-map class_of heard p Idle Idle (omega arith)
+
+-- where they are of the same classes, so are the two symbols of a port
+pub one_class : (heard : List Sym) (parcels : List Parcel) (k p : ℕ) (parcel : Parcel) (symbols : List Sym) (s t a b : Sym) → p < length parcels → length heard ≡ length parcels →
+    parcel ≡ get_or parcels p parcel → k < length (get_or parcels p parcel).symbols → symbols ≡ parcel.symbols → a ≡ class_of (get_or symbols k s) → b ≡ class_of (get_or heard p t) →
+    map class_of (row_brought k parcels) ≡ map class_of heard → a ≡ b
+one_class heard parcels k p parcel symbols s t a b l e is long cut first second same =
+    let there = ap (λ (x : Parcel). x.symbols) is in
+    let at : p < length heard = omega arith in
+    first ∙ ap (λ xs. class_of (get_or xs k s)) (cut ∙ there) ∙ ap class_of (get_or_default (get_or parcels p parcel).symbols k s Idle long)
+    ∙ class_at heard parcels k p parcel l e same ∙ sym (second ∙ ap class_of (get_or_default heard p t Idle at))
 
 -- rows are of the classes of another where each port's symbols are
 pub of_classes : (heard : List Sym) (parcels : List Parcel) (k m : ℕ) → length heard ≡ length parcels →

@@ -6,6 +6,7 @@ use Rattle.manchester_line.specs.declared.Sym.TheVariants.{Idle}
 use Rattle.load_plan.specs.declared.plan.Plan.{Plan}
 use Rattle.mac_parameters.specs.Parameters.{greatest_delay, most_ports}
 use Rattle.repeater_core.specs.Step.{State}
+use Rattle.repeater_core.specs.Steady.{IsSteady}
 use Rattle.window_room.specs.Rooms.{Room}
 use Rattle.network.specs.Times.{decided}
 use Rattle.net_parts.specs.declared.parcel.Parcel.{Parcel}
@@ -16,23 +17,27 @@ use Rattle.net_parts.specs.Parts.{edges_of_part}
 use Rattle.net_parts.specs.Windows.{lookahead, windows}
 use Rattle.network.specs.Outputs.{half_bits}
 
--- The number of its device, the repeater with its time and its rows, and how many more rows there is room for
--- (profile).
+-- The number of its device, the repeater with its time and its rows, how many more rows there is room for, what its
+-- ports heard last, and for how many half bits more it is known to be steady where they hear as in that row (profile).
 pub record KeptRepeater : Type 0 where
   pub device : ℕ
   pub state : RepeaterState
   pub room : ℕ
+  pub heard : List Sym
+  pub steady : ℕ
 
 -- Each port has its guard and its places for what it hears, emits and is sent; there are as many places for what is
--- sent in half bits that are made at once as a delay may have half bits; and a repeater has no captures (profile).
-pub record AreSized (ports : ℕ) (r : State) (log : Room) (heard emitted decided sent : ℕ) : Type 0 where
+-- sent in half bits that are made at once as a delay may have half bits; a repeater has no captures; and it is steady
+-- for as long as is kept (profile).
+pub record FitTogether (ports : ℕ) (r : State) (log : Room) (heard : List Sym) (emitted decided sent steady : ℕ) : Type 0 where
   pub guards : length r.guards ≡ ports
   pub few : ports ≤ most_ports
-  pub hearing : heard ≡ ports
+  pub hearing : length heard ≡ ports
   pub emitting : emitted ≡ ports
   pub deciding : decided ≡ ports
   pub sending : sent ≡ greatest_delay
   pub no_captures : log.captures ≡ []
+  pub stays_steady : IsSteady heard r steady
 
 -- What parcels bring for half bit k of a window, in their order (profile).
 abbrev pub row_brought : ℕ → List Parcel → List Sym

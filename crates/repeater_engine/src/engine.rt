@@ -4,13 +4,14 @@ ghost use Rattle.load_plan.specs.declared.plan.Plan.{Plan};
 ghost use Rattle.mac_parameters.specs.Parameters.{greatest_delay, most_ports};
 ghost use Rattle.net_parts.specs.RepeaterParts.{repeater_step};
 ghost use Rattle.net_parts.specs.Standing.{repeater_at};
+ghost use Rattle.repeater_core.specs.Limits.{most_calm};
 ghost use Rattle.repeater_core.specs.Step.{decided_by, new_state};
 ghost use Rattle.repeater_core.specs.Steady.{IsSteady};
 ghost use Rattle.repeater_engine.specs.KeptRepeaters.{HaveRow, KeptRepeater, parcels_after, row_brought};
 ghost use Rattle.repeater_engine.specs.LeapedHalfBits.{made_of, rows_brought, AreOfClasses, HaveRows, ReachFrom};
 ghost use Rattle.repeater_engine.specs.RowWaits.{HasRowRoom};
 
-use crate::leaps::{leap_over, steady_ahead};
+use crate::leaps::{alike_ahead, heard_alike, leap_over};
 use crate::parcels::{MOST_AT_ONCE, hear_all, put_all, put_pieces};
 use crate::rows::{log_events, rows_in};
 use lists::OutOfMemory;
@@ -28,7 +29,8 @@ use window_room::RowRoom;
 const FEWEST_AT_ONCE: usize = 4;
 
 /// A repeater before half bit `t`, its device's number and its rows. `heard`, `emitted` and `decided` have a symbol for
-/// each of its ports.
+/// each of its ports. It is known to be steady for `steady` half bits more in which each port hears symbols of the class of
+/// what it has in `heard`.
 #[derive(Drop)]
 pub struct RepeaterEngine {
     t: u64,
@@ -37,6 +39,7 @@ pub struct RepeaterEngine {
     repeater: Repeater,
     log: RowRoom,
     heard: Vec<Sym>,
+    steady: usize,
     emitted: Vec<Sym>,
     decided: Vec<Sym>,
     sent: Vec<Sym>,
@@ -44,7 +47,7 @@ pub struct RepeaterEngine {
 
 impl Model for RepeaterEngine {
     ghost use Rattle.std.specs.Prelude.{length};
-    ghost use Rattle.repeater_engine.specs.KeptRepeaters.{KeptRepeater, AreSized};
+    ghost use Rattle.repeater_engine.specs.KeptRepeaters.{KeptRepeater, FitTogether};
 
     ghost Value = { KeptRepeater };
 
@@ -52,15 +55,18 @@ impl Model for RepeaterEngine {
       device = e.device;
       state = record { t = e.t; repeater = e.repeater; rows = e.log.rows };
       room = e.log.row_room;
+      heard = e.heard.items;
+      steady = e.steady;
     } };
 
-    ghost invariant = { λ e. AreSized e.ports e.repeater e.log (length e.heard.items) (length e.emitted.items) (length e.decided.items) (length e.sent.items) };
+    ghost invariant = { λ e. FitTogether e.ports e.repeater e.log e.heard.items (length e.emitted.items) (length e.decided.items) (length e.sent.items) e.steady };
 }
 
 impl RepeaterEngine {
     ghost use Rattle.std.specs.Prelude.{◌≡◌, ◌<◌, ◌≤◌, ◌+◌, ◌-◌, ◌^◌, [], All, length, IfOk, OnOk};
     ghost use Rattle.mac_parameters.specs.Parameters.{greatest_delay, most_ports};
     ghost use Rattle.net_parts.specs.RepeaterParts.{repeater_step};
+    ghost use Rattle.repeater_core.specs.Limits.{most_calm};
     ghost use Rattle.repeater_core.specs.Step.{decided_by, new_state};
     ghost use Rattle.repeater_core.specs.Steady.{IsSteady};
     ghost use Rattle.repeater_engine.specs.KeptRepeaters.{HaveRow, row_brought};
@@ -89,6 +95,7 @@ impl RepeaterEngine {
             repeater: Repeater::new(alloc, ports, delay)?,
             log: RowRoom::new(alloc, 0)?,
             heard: vec![in alloc; Sym::Idle; count]?,
+            steady: 0,
             emitted: vec![in alloc; Sym::Idle; count]?,
             decided: vec![in alloc; Sym::Idle; count]?,
             sent: vec![in alloc; Sym::Idle; MOST_AT_ONCE]?,
@@ -133,33 +140,50 @@ impl RepeaterEngine {
             self.ports as usize,
             events,
         );
+        self.steady = 0;
         self.t += 1;
     }
 
-    /// How many half bits of a window from half bit `k` of its `n` on may be made at once.
+    /// Hears half bit `k` of a window. For how long the repeater is steady is asked anew where that isn't known of `most`
+    /// half bits from the one before.
+    fn hear(&mut self, parcels: &[Parcel], k: usize, most: usize)
+        requires many { length parcels.now ≡ length self.old.state.repeater.guards }
+        requires long { All (λ p. k < length p.symbols) parcels.now }
+        ensures device { self.new.device ≡ self.old.device }
+        ensures state { self.new.state ≡ self.old.state }
+        ensures room { self.new.room ≡ self.old.room }
+        ensures heard { self.new.heard ≡ row_brought k parcels.now }
+        ensures greatest { self.new.steady < most → self.new.steady < most_calm → ¬ IsSteady self.new.heard self.new.state.repeater (self.new.steady + 1) }
+    {
+        let stays = most <= self.steady && heard_alike(parcels, k, &self.heard);
+        hear_all(parcels, k, &mut self.heard);
+        if stays {
+            return;
+        }
+        self.steady = self.repeater.steady(&self.heard, &mut self.emitted) as usize;
+    }
+
+    /// How many half bits of a window from half bit `k` of its `n` on may be made at once. It hears the first of them.
     fn ahead(&mut self, parcels: &[Parcel], k: usize, n: usize) -> usize
         requires many { length parcels.now ≡ length self.old.state.repeater.guards }
         requires left { k < n }
         requires long { ReachFrom k (n - k) parcels.now }
-        ensures same { self.new ≡ self.old }
+        ensures device { self.new.device ≡ self.old.device }
+        ensures state { self.new.state ≡ self.old.state }
+        ensures room { self.new.room ≡ self.old.room }
+        ensures heard { self.new.heard ≡ row_brought k parcels.now }
         ensures within { k + result ≤ n }
         ensures few { result ≤ greatest_delay }
         ensures alike { AreOfClasses (row_brought k parcels.now) (rows_brought k result parcels.now) }
-        ensures steady { IsSteady (row_brought k parcels.now) self.old.state.repeater result }
+        ensures steady { result ≤ self.new.steady }
     {
-        hear_all(parcels, k, &mut self.heard);
         let most = (n - k).min(MOST_AT_ONCE);
-        steady_ahead(
-            &self.repeater,
-            parcels,
-            k,
-            most,
-            &self.heard,
-            &mut self.emitted,
-        )
+        self.hear(parcels, k, most);
+        alike_ahead(parcels, k, most.min(self.steady), &self.heard)
     }
 
-    /// Makes the `m` half bits of a window from half bit `k` of its `n` on at once, in which nothing happens but counts.
+    /// Makes the `m` half bits of a window from half bit `k` of its `n` on at once, in which nothing happens but counts. The
+    /// first of them was heard.
     fn leap(&mut self, parcels: &mut [Parcel], k: usize, m: usize, n: usize)
         requires many { length parcels.old ≡ length self.old.state.repeater.guards }
         requires some { 0 < m }
@@ -169,14 +193,14 @@ impl RepeaterEngine {
         requires time { self.old.state.t < 2 ^ 63 }
         requires room { HasRowRoom (length self.old.state.repeater.guards) (n - k) self.old.room self.old.state.repeater }
         requires alike { AreOfClasses (row_brought k parcels.old) (rows_brought k m parcels.old) }
-        requires steady { IsSteady (row_brought k parcels.old) self.old.state.repeater m }
+        requires heard { self.old.heard ≡ row_brought k parcels.old }
+        requires steady { m ≤ self.old.steady }
         ensures device { self.new.device ≡ self.old.device }
         ensures state { self.new.state ≡ (made_of self.old.device (rows_brought k m parcels.old) self.old.state).state }
         ensures ports { length self.new.state.repeater.guards ≡ length self.old.state.repeater.guards }
         ensures parcels { HaveRows k (made_of self.old.device (rows_brought k m parcels.old) self.old.state).rows parcels.old parcels.new }
         ensures room { HasRowRoom (length self.new.state.repeater.guards) (n - (k + m)) self.new.room self.new.state.repeater }
     {
-        hear_all(parcels, k, &mut self.heard);
         leap_over(
             &mut self.repeater,
             parcels,
@@ -188,6 +212,7 @@ impl RepeaterEngine {
             &mut self.sent,
         );
         put_pieces(parcels, k, &self.decided, &self.sent[..m]);
+        self.steady -= m;
         self.t += m as u64;
     }
 
@@ -228,6 +253,7 @@ impl RepeaterEngine {
             repeater: _,
             mut log,
             heard: _,
+            steady: _,
             emitted: _,
             decided: _,
             sent: _,

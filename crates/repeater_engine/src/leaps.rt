@@ -1,6 +1,6 @@
 //! Half bits of a window that are made at once: those in which each port, a closed one too, hears symbols of one class, and
 //! nothing happens to the repeater but counts.
-ghost use Rattle.std.specs.Prelude.{◌≡◌, ◌≢◌, ◌≤◌, ◌<◌, ◌+◌, ℕ, IsTrue, length, map, take, slice_index_or};
+ghost use Rattle.std.specs.Prelude.{◌≡◌, ◌≢◌, ◌≤◌, ◌<◌, ◌+◌, ℕ, All, IsTrue, length, map, take, slice_index_or};
 ghost use Rattle.mac_parameters.specs.Parameters.{greatest_delay};
 ghost use Rattle.manchester_line.specs.declared.Sym.TheVariants.{Idle};
 ghost use Rattle.manchester_line.specs.Line.{is_signal};
@@ -67,6 +67,22 @@ fn alike_in(symbols: &[Sym], first: Sym) -> usize
     symbols.len()
 }
 
+/// Whether each port hears in half bit `k` of a window a symbol of the class of what it hears in this row.
+pub fn heard_alike(parcels: &[Parcel], k: usize, heard: &[Sym]) -> bool
+    requires as_many { length heard.now ≡ length parcels.now }
+    requires long { All (λ p. k < length p.symbols) parcels.now }
+    ensures alike { IsTrue result → map class_of (row_brought k parcels.now) ≡ map class_of heard.now }
+    ensures differs { map class_of (row_brought k parcels.now) ≡ map class_of heard.now → IsTrue result }
+{
+    for p in 0..parcels.len() {
+        let parcel = &parcels[p];
+        if class_of(parcel.symbols.as_slice()[k]) != class_of(heard[p]) {
+            return false;
+        }
+    }
+    true
+}
+
 /// For how many half bits of a window from `k` on, `most` at most, each port hears symbols of the class of what it hears in
 /// this row.
 pub fn alike_ahead(parcels: &[Parcel], k: usize, most: usize, heard: &[Sym]) -> usize
@@ -83,28 +99,6 @@ pub fn alike_ahead(parcels: &[Parcel], k: usize, most: usize, heard: &[Sym]) -> 
         least = alike_in(symbols, heard[p]);
     }
     least
-}
-
-/// For how many half bits of a window from `k` on, `most` at most, each port hears symbols of the class of what it hears in
-/// half bit `k`, and nothing happens to the repeater but counts.
-pub fn steady_ahead(
-    repeater: &Repeater,
-    parcels: &[Parcel],
-    k: usize,
-    most: usize,
-    heard: &[Sym],
-    emitted: &mut [Sym],
-) -> usize
-    requires heard_len { length heard.now ≡ length repeater.now.guards }
-    requires emitted_len { length emitted.old ≡ length repeater.now.guards }
-    requires many { length parcels.now ≡ length repeater.now.guards }
-    requires long { ReachFrom k most parcels.now }
-    ensures within { result ≤ most }
-    ensures alike { AreOfClasses heard.now (rows_brought k result parcels.now) }
-    ensures steady { IsSteady heard.now repeater.now result }
-{
-    let steady = repeater.steady(heard, emitted) as usize;
-    alike_ahead(parcels, k, steady.min(most), heard)
 }
 
 /// Makes the `m` half bits of a window from `k` on at once, which are steady: each port hears symbols of the class of what it

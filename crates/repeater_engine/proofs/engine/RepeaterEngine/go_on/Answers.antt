@@ -4,7 +4,8 @@ use Rattle.manchester_line.specs.declared.Sym.{Sym}
 use Rattle.manchester_line.specs.declared.Sym.TheVariants.{Idle}
 use Rattle.net_parts.specs.declared.parcel.Parcel.{Parcel}
 use Rattle.repeater_core.specs.Step.{decided_by}
-use Rattle.repeater_engine.specs.KeptRepeaters.{KeptRepeater, row_brought, with_piece, with_symbol}
+use Rattle.net_parts.specs.RepeaterParts.{RepeaterState}
+use Rattle.repeater_engine.specs.KeptRepeaters.{row_brought, with_piece, with_symbol}
 use Rattle.repeater_engine.proofs.engine.RepeaterEngine.go_on.Goals as goal
 
 set_is_piece : (k : ℕ) (s : Sym) (p : Parcel) → k < length p.symbols → with_symbol k s p ≡ with_piece k (s ∷ []) p
@@ -19,5 +20,5 @@ returns-then-m-lt-FEWEST_AT_ONCE-clause-parcels c = λ p d l.
     let in_it : p < length c.args.parcels.now = omega (arith, l, c.half_bit.auto.parcels) in
     let long : c.args.k < length old.symbols = omega (arith, c.requires.left, c.requires.long p d in_it) in
     c.half_bit.ensures.parcels p d l
-    ∙ ap (λ (x : KeptRepeater). with_symbol c.args.k (get_or (decided_by (row_brought c.args.k c.args.parcels.now) x.state.repeater) p Idle) old) c.ahead-m.ensures.same
+    ∙ ap (λ (x : RepeaterState). with_symbol c.args.k (get_or (decided_by (row_brought c.args.k c.args.parcels.now) x.repeater) p Idle) old) c.ahead-m.ensures.state
     ∙ set_is_piece c.args.k (get_or (decided_by (row_brought c.args.k c.args.parcels.now) c.args.self.now.state.repeater) p Idle) old long

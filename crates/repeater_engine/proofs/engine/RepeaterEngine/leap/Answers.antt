@@ -1,4 +1,4 @@
-use Rattle.std.proofs.Common.{◌≡◌, ℕ, zero, suc, ◌+◌, ◌-◌, false, List, [], ◌∷◌, ◌++◌, map, length, length-take-le, take, drop, get_or, refl, sym, subst, ap, ap₂, ◌∙◌, arith, rules}
+use Rattle.std.proofs.Common.{◌≡◌, ℕ, zero, suc, ◌+◌, ◌-◌, ◌≤◌, false, List, [], ◌∷◌, ◌++◌, map, length, length-take-le, take, drop, get_or, refl, sym, subst, ap, ap₂, ◌∙◌, arith, rules}
 use Rattle.std.proofs.Math.Seq.{take-append_seam}
 use Rattle.std.proofs.lemmas.List.{length-map}
 use Rattle.manchester_line.specs.declared.Sym.{Sym}
@@ -6,11 +6,13 @@ use Rattle.manchester_line.specs.declared.Sym.TheVariants.{Idle}
 use Rattle.manchester_line.specs.Line.{is_signal}
 use Rattle.repeater_core.specs.Counts.{Choice}
 use Rattle.repeater_core.specs.Step.{State, chosen, emitted_by}
+use Rattle.repeater_core.specs.Steady.{IsSteady}
 use Rattle.repeater_core.proofs.Lawful.{length_chosen}
+use Rattle.repeater_core.proofs.SteadinessLasts.{lasts}
 use Rattle.net_parts.specs.RepeaterParts.{RepeaterState}
 use Rattle.net_parts.proofs.RepeaterSteps.{length-span}
 use Rattle.repeater_engine.specs.KeptRepeaters.{KeptRepeater, piece_of, row_brought, with_piece}
-use Rattle.repeater_engine.specs.LeapedHalfBits.{made_of, rows_brought}
+use Rattle.repeater_engine.specs.LeapedHalfBits.{made_of, rows_brought, AreOfClasses}
 use Rattle.repeater_engine.specs.RowWaits.{HasRowRoom}
 use Rattle.repeater_engine.proofs.ClassesOfRows.{rows_wide}
 use Rattle.repeater_engine.proofs.SteadyRuns.{HasPorts, steady_run, room_lasts, decided_run, piece_decided}
@@ -45,11 +47,45 @@ has_ports c =
 many : (c : After-leap_over) → length c.args.parcels.now ≡ c.self.inside.ports
 many c = c.requires.many ∙ sym (ap (λ (x : KeptRepeater). length x.state.repeater.guards) c.self.view_is) ∙ c.self.invariant.guards
 
+emitted_long : (c : After-leap_over) → length c.leap_over.new.emitted ≡ c.self.inside.ports
+emitted_long c = search rules
+
+decided_long : (c : After-leap_over) → length c.leap_over.new.decided ≡ c.self.inside.ports
+decided_long c = search rules
+
 sent_long : (c : After-leap_over) → length c.leap_over.new.sent ≡ 200
 sent_long c = search rules
 
 time_fits : (c : After-leap_over) → length (rows_brought c.args.k c.args.m c.args.parcels.now) ≡ c.args.m
 time_fits c = length-span (λ j. row_brought j c.args.parcels.now) c.args.k c.args.m
+
+-- the repeater stays steady for what is left
+stays_steady : (c : After-leap_over) → IsSteady c.self.inside.heard.items c.leap_over.new.repeater (c.self.inside.steady - c.args.m)
+stays_steady c =
+    let heard = c.self.inside.heard.items in
+    let rows = rows_brought c.args.k c.args.m c.args.parcels.now in
+    let row : heard ≡ row_brought c.args.k c.args.parcels.now = ap (λ (x : KeptRepeater). x.heard) c.self.view_is ∙ c.requires.heard in
+    let most : c.args.m ≤ c.self.inside.steady = subst (λ (x : KeptRepeater). c.args.m ≤ x.steady) (sym c.self.view_is) c.requires.steady in
+    let classes : AreOfClasses heard rows = subst (λ xs. AreOfClasses xs rows) (sym row) c.requires.alike in
+    let count = time_fits c in
+    subst (λ (x : State). IsSteady heard x (c.self.inside.steady - c.args.m)) (sym c.leap_over.ensures.state)
+    (lasts heard heard rows c.self.inside.repeater (c.self.inside.steady - c.args.m) classes refl (λ j l. c.self.invariant.stays_steady j (omega (arith, count, most, l))))
+
+pub invariant_of-self : goal.invariant_of-self
+invariant_of-self c =
+    let at = (goal.at.invariant_of-self c).After-leap_over in
+    let i = c.self.invariant in
+    let q = c.self.inside in
+    record {
+      guards = c.leap_over.ensures.ports ∙ i.guards;
+      few = i.few;
+      hearing = i.hearing;
+      emitting = ap length (overwritten q.emitted.len c.leap_over.new.emitted q.emitted.items (search rules)) ∙ emitted_long at;
+      deciding = ap length (overwritten q.decided.len c.leap_over.new.decided q.decided.items (search rules)) ∙ decided_long at;
+      sending = ap length (overwritten q.sent.len c.leap_over.new.sent q.sent.items (search rules)) ∙ sent_long at;
+      no_captures = i.no_captures;
+      stays_steady = stays_steady at;
+    }
 
 pub returns-clause-state : goal.returns-clause-state
 returns-clause-state c =
