@@ -1,4 +1,4 @@
-use Rattle.std.proofs.Common.{◌≡◌, ◌≤◌, length, get_or, sym, ap, ◌∙◌, arith, subst}
+use Rattle.std.proofs.Common.{◌≡◌, get_or, ap, ◌∙◌, arith, subst}
 use Rattle.std.specs.Prelude.{◌⊎◌, Any}
 use Rattle.std.proofs.lemmas.List.{get_or_default}
 use Rattle.layout.specs.declared.lines.PortLine.{PortLine}
@@ -19,6 +19,6 @@ returns-clause-one c d =
     let r = c.index-as_slice-repeater.result in
     let within = c.requires in
     let same : c.as_slice-ports.result.now ≡ (get_or c.args.layout.now.repeaters c.args.repeater d).ports
-        = c.as_slice-ports.ensures ∙ ap (λ x. x.ports) (ap (λ xs. get_or xs c.args.repeater r) c.as_slice.ensures ∙ get_or_default c.args.layout.now.repeaters c.args.repeater r d within) in
+    = c.as_slice-ports.ensures ∙ ap (λ x. x.ports) (ap (λ xs. get_or xs c.args.repeater r) c.as_slice.ensures ∙ get_or_default c.args.layout.now.repeaters c.args.repeater r d within) in
     subst (λ ps. (c.loop-p.last ≡ 0) ⊎ Any (λ (p : PortLine). p.segment ≡ c.loop-p.last) ps) same
     (one_of_all c.as_slice-ports.result.now c.loop-p.p c.loop-p.last (let end = c.loop-p.auto.p-end in omega (arith, end)) c.loop-p.invariant.one)

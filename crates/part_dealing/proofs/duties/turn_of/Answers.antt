@@ -1,4 +1,4 @@
-use Rattle.std.proofs.Common.{◌<◌, length, get_or, arith, sym}
+use Rattle.std.proofs.Common.{length, arith, sym}
 use Rattle.part_dealing.proofs.DutyPlaces.{turn_at}
 use Rattle.part_dealing.proofs.duties.turn_of.Goals as goal
 
