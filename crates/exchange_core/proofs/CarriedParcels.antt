@@ -8,7 +8,7 @@ use Rattle.net_parts.specs.Parts.{is_segment_part}
 use Rattle.net_parts.specs.Parcels.{IsTrueParcel}
 use Rattle.net_parts.specs.Boards.{has_edge, place_in}
 use Rattle.exchange_core.specs.Holdings.{Holding, edges_of_parcels, place_of_edge, absent_parcel, is_here, vacate_holding, take_holding}
-use Rattle.exchange_core.specs.Shares.{Rack, rack, Held, share_of, part_on, is_owned, changed, change_on, has_place, first_with_edge, may_post, is_same_way, leaves, parcel_in, is_refilled, posted_parcel, post_held, has_place_for, take_held, received, received_on, carry_held, IsOfPlan, IsWholeShare}
+use Rattle.exchange_core.specs.Shares.{Rack, rack, Held, share_of, part_on, changed, change_on, has_place, first_with_edge, may_post, is_same_way, leaves, parcel_in, is_refilled, posted_parcel, post_held, take_held, received, received_on, carry_held, IsOfPlan, IsWholeShare}
 use Rattle.exchange_core.proofs.SoundHoldings.{edges_set}
 use Rattle.exchange_core.proofs.ChangedRacks.{found_changed, some_part, without_place, may_post_first}
 use Rattle.exchange_core.proofs.SidedShares.{sided}

@@ -219,7 +219,8 @@ impl<P: Part> Holder<P> {
     }
 
     /// Brings the parcel of this edge to another part, if it is here and goes there, and says whether it is so. Where that part
-    /// isn't there, the parcel is dropped. It is looked for at place `hint` first, and its place there at `there`.
+    /// isn't there, the parcel is emptied, and its memory stays here. It is looked for at place `hint` first, and its place there
+    /// at `there`.
     pub fn bring<Q: Part>(
         &mut self,
         edge: u32,
@@ -288,7 +289,8 @@ impl<P: Part> Holder<P> {
         replace(&mut self.parcels[place], absent)
     }
 
-    /// Brings the parcel of this edge, whose place is known, to another part, and drops it where that isn't there.
+    /// Brings the parcel of this edge, whose place is known, to another part, or empties it where that isn't there. What then lies
+    /// in its place, it or what lay there, is emptied and keeps its memory.
     fn hand_over<Q: Part>(
         &mut self,
         here: usize,

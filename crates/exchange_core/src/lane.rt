@@ -184,7 +184,8 @@ impl<P: Part> Lane<P> {
     }
 
     /// Brings the parcel of an edge to a part of the other kind, if it is at this part, which has the edge, and goes there, and
-    /// says whether it is so. Where that part isn't there, the parcel is dropped. It is looked for at the places that are given.
+    /// says whether it is so. Where that part isn't there, the parcel is emptied, and its memory stays here. It is looked for at the
+    /// places that are given.
     pub fn bring<Q: Part>(&mut self, from: Spot, edge: u32, to: &mut Lane<Q>, at: Spot) -> bool
         requires { leaves edge (part_on from.part self.old) ≡ true → IfSome (part_on at.part to.old) (λ h. IsTrueParcel h.plan (parcel_in edge (part_on from.part self.old))) }
         ensures value { result ≡ leaves edge (part_on from.part self.old) }

@@ -257,7 +257,8 @@ impl<S: Part, R: Part> Share<S, R> {
     }
 
     /// Post and Take at once: brings the parcel of an edge to the part where it isn't, if it is here and goes there. Where that part
-    /// isn't here, the parcel is dropped. It is looked for at the segment first, or else at the repeater. It takes no memory.
+    /// isn't here, the parcel is emptied, and its memory stays in its place. It is looked for at the segment first, or else at the
+    /// repeater. It takes no memory.
     pub fn carry(&mut self, edge: u32, at_segment: bool)
         ensures { self.new ≡ carry_held edge self.old }
     {

@@ -1,1 +1,2 @@
 pub mod EndsOfEdges
+mod DutyPlaces

@@ -1,1 +1,2 @@
 pub mod OtherEnds
+pub mod Turns

@@ -1,5 +1,5 @@
 //! Which worker gets which part: parts are dealt along a walk of the tree, in runs of about equal work.
-ghost use Rattle.std.specs.Prelude.{◌≡◌, ◌<◌, ◌≤◌, ◌==◌, true, All, IfOk, count_by, length, map, slice_index_or};
+ghost use Rattle.std.specs.Prelude.{◌≡◌, ◌<◌, ◌≤◌, ◌+◌, ◌==◌, true, All, IfOk, count_by, length, map, slice_index_or};
 ghost use Rattle.net_parts.specs.Boards.{has_edge};
 ghost use Rattle.part_dealing.specs.OtherEnds.{GoesToOwner, IsOtherEnd};
 ghost use Rattle.layout.specs.declared.lines.PortLine.{PortLine};
@@ -22,11 +22,16 @@ pub struct Outlet {
 
 /// For each part of so many workers that which gets it.
 pub fn owners(alloc: Global, layout: &Layout, workers: u32) -> Result<Vec<u32>, OutOfMemory>
-    ensures { 0 < workers → IfOk result (λ owners. All (λ w. w < workers) owners.items) }
+    ensures parts { IfOk result (λ owners. length owners.items ≡ length layout.now.segments + length layout.now.repeaters) }
+    ensures workers { 0 < workers → IfOk result (λ owners. All (λ w. w < workers) owners.items) }
 {
+    let segments = layout.segments.len();
+    let Some(parts) = segments.checked_add(layout.repeaters.len()) else {
+        return Err(OutOfMemory);
+    };
     let order = walk(alloc, layout)?;
     let total = work_of_all(layout, order.as_slice());
-    let mut owners = vec![in alloc; 0u32; order.len()]?;
+    let mut owners = vec![in alloc; 0u32; parts]?;
     let mut before = 0u64;
     for i in 0..order.len() {
         let part = order[i];

@@ -1,5 +1,8 @@
 //! What a worker does with its parts.
-ghost use Rattle.std.specs.Prelude.{◌≡◌, ◌<◌, ◌≤◌, ◌↔◌, [], length, IsTrue};
+ghost use Rattle.std.specs.Prelude.{◌≡◌, ◌<◌, ◌≤◌, ◌+◌, ◌++◌, ◌↔◌, ◌⊎◌, [], All, Any, IsTrue, OnErr, OnOk, insert, length, slice_index_or};
+ghost use Rattle.layout.specs.declared.lines.PortLine.{PortLine};
+ghost use Rattle.layout.specs.declared.lines.RepeaterLine.{RepeaterLine};
+ghost use Rattle.part_dealing.specs.Turns.{turn_place, duty_with};
 
 use crate::dealing::Outlet;
 use layout::Layout;
@@ -44,12 +47,16 @@ impl Duties {
         }
     }
 
-    /// Adds a part whose last segment is this one.
-    pub fn add(&mut self, part: u32, last: u32, outlets: &[Outlet]) -> Result<(), OutOfMemory> {
+    /// Adds a part whose last segment is this one. On refusal nothing changes.
+    pub fn add(&mut self, part: u32, last: u32, outlets: &[Outlet]) -> Result<(), OutOfMemory>
+        ensures turns { OnOk result (self.new.turns.items ≡ insert self.old.turns.items (turn_place last self.old.turns.items) (duty_with part last (length self.old.outlets.items) (length outlets.now))) }
+        ensures outlets { OnOk result (self.new.outlets.items ≡ self.old.outlets.items ++ outlets.now) }
+        ensures turns_kept { OnErr result (self.new.turns.items ≡ self.old.turns.items) }
+        ensures outlets_kept { OnErr result (self.new.outlets.items ≡ self.old.outlets.items) }
+    {
         let first = self.outlets.len();
-        for k in 0..outlets.len() {
-            self.outlets.push(outlets[k])?;
-        }
+        self.turns.reserve(1)?;
+        self.outlets.extend_from_slice(outlets)?;
         let end = self.outlets.len();
         let place = turn_of(self.turns.as_slice(), last);
         self.turns.insert(
@@ -65,9 +72,10 @@ impl Duties {
     }
 }
 
-/// The place of the first turn whose part has a later segment.
+/// The place of the first turn whose part has a later segment, or behind the last.
 fn turn_of(turns: &[Duty], last: u32) -> usize
-    ensures { result ≤ length turns.now }
+    ensures place { result ≡ turn_place last turns.now }
+    ensures within { result ≤ length turns.now }
 {
     for i in 0..turns.len() {
         if turns[i].last > last {
@@ -77,9 +85,11 @@ fn turn_of(turns: &[Duty], last: u32) -> usize
     turns.len()
 }
 
-/// The last of the segments on which a repeater has ports.
+/// The last of the segments on which a repeater has ports, and 0 where it has none.
 pub fn last_segment(layout: &Layout, repeater: usize) -> u32
     requires { repeater < length layout.now.repeaters }
+    ensures none_later { (d : RepeaterLine) → All (λ (p : PortLine). p.segment ≤ result) (slice_index_or layout.now.repeaters repeater d).ports }
+    ensures one { (d : RepeaterLine) → (result ≡ 0) ⊎ Any (λ (p : PortLine). p.segment ≡ result) (slice_index_or layout.now.repeaters repeater d).ports }
 {
     let ports = layout.repeaters.as_slice()[repeater].ports.as_slice();
     let mut last = 0u32;

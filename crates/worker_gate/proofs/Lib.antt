@@ -1,3 +1,4 @@
 pub mod KeptPlans
 pub mod GatheredParts
 pub mod SteppedParts
+pub mod SamePorts

@@ -1,5 +1,5 @@
 //! Parts in order of their numbers.
-ghost use Rattle.std.specs.Prelude.{◌≡◌, ◌<◌, ◌≤◌, ◌+◌, ◌^◌, All, IfOk, IfSome, OnOk, Some};
+ghost use Rattle.std.specs.Prelude.{◌≡◌, ◌<◌, ◌≤◌, ◌+◌, ◌++◌, ◌^◌, All, IfOk, IfSome, OnOk, Some, map, reverse};
 ghost use Rattle.net_parts.specs.Windows.{windows};
 ghost use Rattle.worker_gate.specs.FinishedParts.{AreFinished};
 
@@ -18,13 +18,14 @@ pub struct Own<P: Planned, S: Part> {
     ghost planned: { Some (S.plan part) ≡ P.plan },
 }
 
-/// Puts parts to others.
+/// Puts parts behind others, the last of them first.
 #[tactic(auto, using(crate::proofs::GatheredParts::all_before))]
 pub fn put_parts<P: Planned, S: Part>(
     owns: &mut Vec<Own<P, S>>,
     parts: Vec<S>,
 ) -> Result<(), OutOfMemory>
     requires { All (λ s. Some (S.plan s) ≡ P.plan) parts.items }
+    ensures { OnOk result (map (λ o. o.part) owns.new.items ≡ map (λ o. o.part) owns.old.items ++ reverse parts.items) }
 {
     let mut parts = parts;
     while let Some(part) = parts.pop() {

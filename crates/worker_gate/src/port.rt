@@ -1,7 +1,7 @@
 //! Boxes with passes of them.
-ghost use Rattle.std.specs.Prelude.{◌≡◌, ◌<◌, ◌++◌, ◌∷◌, []};
+ghost use Rattle.std.specs.Prelude.{◌≡◌, ◌<◌, ◌++◌, ◌∷◌, [], All, AllPairs, IfOk, OnOk, length, map};
 ghost use Rattle.std.specs.Arc.{arc_value};
-ghost use Rattle.crossbeam_queue.specs.Passes.{view, IsPassOf};
+ghost use Rattle.crossbeam_queue.specs.Passes.{view, IsPassOf, ruled_capacity};
 ghost use Rattle.window_exchange.specs.Balance.{name_lists};
 ghost use Rattle.window_exchange.specs.MailNames.{IsHonest, mail_name};
 
@@ -31,14 +31,19 @@ impl<P: Planned, U: Named> FreshPort<P, U> {
     /// A new box with room for so many mails.
     fn new(alloc: Global, room: u32) -> Result<FreshPort<P, U>, OutOfMemory>
         requires { 0 < room }
+        ensures { IfOk result (λ port. ruled_capacity (arc_value port.mailbox).queue ≡ room) }
     {
         let (mailbox, pass) = Mailbox::new(alloc, room)?;
         let mailbox = Arc::new(alloc, mailbox)?;
         Ok(FreshPort { mailbox, pass })
     }
 
-    /// A port to this box.
-    fn port(&mut self) -> Result<Port<P, U>, OutOfMemory> {
+    /// A port to this box, whose pass has put and taken nothing.
+    fn port(&mut self) -> Result<Port<P, U>, OutOfMemory>
+        ensures mailbox { IfOk result (λ port. arc_value port.mailbox ≡ arc_value self.old.mailbox) }
+        ensures lists { IfOk result (λ port. view port.pass.pass ≡ name_lists [] []) }
+        ensures kept { arc_value self.new.mailbox ≡ arc_value self.old.mailbox }
+    {
         let mailbox = Arc::try_clone(&self.mailbox)?;
         let pass = mailbox.split(&mut self.pass);
         Ok(Port { mailbox, pass })
@@ -63,30 +68,39 @@ impl<P: Planned, U: Named> Port<P, U> {
     }
 }
 
-/// For each of so many workers its ports to the boxes of all, each box with room for so many mails.
+/// For each of so many workers its ports to the boxes of all, in the same order, each box with room for so many mails. No pass
+/// has put or taken anything.
 pub fn make_ports<P: Planned, U: Named>(
     alloc: Global,
     workers: u32,
     room: u32,
 ) -> Result<Vec<Vec<Port<P, U>>>, OutOfMemory>
     requires { 0 < room }
+    ensures rows { IfOk result (λ rows. length rows.items ≡ workers) }
+    ensures ports { IfOk result (λ rows. All (λ row. length row.items ≡ workers) rows.items) }
+    ensures boxes { IfOk result (λ rows. AllPairs (λ row other. map (λ p. arc_value p.mailbox) row.items ≡ map (λ p. arc_value p.mailbox) other.items) rows.items) }
+    ensures lists { IfOk result (λ rows. All (λ row. All (λ p. view p.pass.pass ≡ name_lists [] []) row.items) rows.items) }
 {
     let mut boxes: Vec<FreshPort<P, U>> = Vec::new(alloc);
-    for _worker in 0..workers {
+    for _box in 0..workers {
         boxes.push(FreshPort::new(alloc, room)?)?;
     }
     let mut rows = Vec::new(alloc);
-    for _worker in 0..workers {
+    for _row in 0..workers {
         rows.push(ports_to(alloc, &mut boxes)?)?;
     }
     Ok(rows)
 }
 
-/// A port to each box.
+/// A port to each box, in their order, whose pass has put and taken nothing.
 fn ports_to<P: Planned, U: Named>(
     alloc: Global,
     boxes: &mut Vec<FreshPort<P, U>>,
-) -> Result<Vec<Port<P, U>>, OutOfMemory> {
+) -> Result<Vec<Port<P, U>>, OutOfMemory>
+    ensures boxes { IfOk result (λ ports. map (λ p. arc_value p.mailbox) ports.items ≡ map (λ p. arc_value p.mailbox) boxes.old.items) }
+    ensures lists { IfOk result (λ ports. All (λ p. view p.pass.pass ≡ name_lists [] []) ports.items) }
+    ensures kept { OnOk result (map (λ p. arc_value p.mailbox) boxes.new.items ≡ map (λ p. arc_value p.mailbox) boxes.old.items) }
+{
     let mut ports = Vec::new(alloc);
     for i in 0..boxes.len() {
         ports.push(boxes[i].port()?)?;

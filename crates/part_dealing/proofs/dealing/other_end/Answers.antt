@@ -1,4 +1,4 @@
-use Rattle.std.proofs.Common.{◌≡◌, ◌+◌, ◌<◌, length, get_or, sym, ap, ◌∙◌, arith, subst}
+use Rattle.std.proofs.Common.{◌≡◌, ◌+◌, length, get_or, sym, ap, ◌∙◌, arith, subst}
 use Rattle.load_plan.proofs.PlansAreSound.{sound_of_plan}
 use Rattle.net_parts.specs.RepeaterParts.{edges_before}
 use Rattle.net_parts.proofs.EdgeNumbers.{none_before, one_more_before}

@@ -1,6 +1,9 @@
-use Rattle.std.proofs.Common.{◌<◌, All}
+use Rattle.std.proofs.Common.{◌≡◌, ◌<◌, All, length}
 use Rattle.part_dealing.proofs.dealing.owners.Given as goal
 
--- all are workers
+-- there are as many as parts, and all are workers
 abbrev pub invariant-loop-i : goal.invariant-loop-i
-invariant-loop-i l = 0 < l.workers → All (λ w. w < l.workers) l.owners.items
+invariant-loop-i l = record {
+  long : length l.owners.items ≡ l.parts;
+  workers : 0 < l.workers → All (λ w. w < l.workers) l.owners.items;
+}

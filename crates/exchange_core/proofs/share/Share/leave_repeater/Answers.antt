@@ -1,4 +1,4 @@
-use Rattle.std.proofs.Common.{◌≡◌, get_or, ap, ◌∙◌}
+use Rattle.std.proofs.Common.{get_or, ap, ◌∙◌}
 use Rattle.std.specs.Prelude.{if◌then◌else◌}
 use Rattle.exchange_core.specs.Shares.{Held, first_with_edge, may_post, carry_held}
 use Rattle.exchange_core.proofs.TakenParcels.{IsEdgeOf}
