@@ -29,7 +29,8 @@ pub record KeptRepeater : Type 0 where
 -- Each port has its guard and its places for what it hears, emits and is sent; there are as many places for what is
 -- sent in half bits that are made at once as a delay may have half bits; a repeater has no captures; and it is steady
 -- for as long as is kept (profile).
-pub record FitTogether (ports : ℕ) (r : State) (log : Room) (heard : List Sym) (emitted decided sent steady : ℕ) : Type 0 where
+pub record FitTogether (ports : ℕ) (r : State) (log : Room) (heard : List Sym)
+    (emitted decided sent steady : ℕ) : Type 0 where
   pub guards : length r.guards ≡ ports
   pub few : ports ≤ most_ports
   pub hearing : length heard ≡ ports
