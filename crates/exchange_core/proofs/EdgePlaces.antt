@@ -84,6 +84,14 @@ module _ (h now : Holding) (e k : ℕ) (view : h ≡ now) where
       let m : length h.parcels ≡ length now.parcels = ap (λ (v : Holding). length v.parcels) view in
       has_at_place now.parcels e (omega (arith, in', m, is))
 
+  pub has_by_place : (n : ℕ) → n ≡ length h.parcels → k ≡ place_of_edge e now → ltb k n ≡ has_edge (edges_of_parcels now.parcels) e
+  has_by_place n count is =
+      let m : length h.parcels ≡ length now.parcels = ap (λ (v : Holding). length v.parcels) view in
+      elim (cases_lt k n) [
+        | inl l ↦ (let less : ltb k n ≡ true = grind (arith, nat_tests) in less ∙ sym (has_where is (omega (arith, l, count))))
+        | inr past ↦ (let more : ltb k n ≡ false = grind (arith, nat_tests) in more ∙ sym (none_at_place now.parcels e (omega (arith, past, count, m, is))))
+      ]
+
   pub leaves_by : IsSoundHolding h → k ≡ place_of_edge e now → k < length h.parcels → (away segment : Bool) (p : Parcel) → away ≡ get_or h.away k away → not away ≡ true → p ≡ get_or h.parcels k p
       → segment ≡ is_segment_part h.plan h.number → beq p.to_repeater segment ≡ leaves e (Some now)
   leaves_by s is in' away segment p flag here at kind =

@@ -6,7 +6,7 @@ use Rattle.load_plan.specs.declared.plan.Plan.{Plan}
 use Rattle.net_parts.specs.declared.parcel.Parcel.{Parcel}
 use Rattle.net_parts.specs.Parcels.{IsTrueParcel}
 use Rattle.exchange_core.specs.Holdings.{Holding, place_of_edge, parcel_of_edge, absent_parcel, vacate_holding, take_holding}
-use Rattle.exchange_core.specs.Shares.{Rack, share_of, part_on, is_owned, change_on, change_edge, has_place, first_with_edge, may_post, parcel_in, is_refilled, posted_parcel, post_held, rack_of_way, has_place_for, take_of_way, take_held, IsOfPlan, IsWholeShare}
+use Rattle.exchange_core.specs.Shares.{Rack, share_of, part_on, is_owned, change_on, change_edge, has_place, first_with_edge, may_post, leaves, parcel_in, is_refilled, posted_parcel, post_held, rack_of_way, has_place_for, take_of_way, take_held, received_on, IsOfPlan, IsWholeShare}
 use Rattle.exchange_core.proofs.SoundHoldings.{place_here, edge_in_place}
 use Rattle.exchange_core.proofs.ChangedRacks.{some_part, without_place, has_at_owner, owned_first, may_post_first, place_for, emptied_is, changed_is}
 use Rattle.exchange_core.proofs.SoundShares.{none_here, vacate_next}
@@ -42,7 +42,7 @@ module _ (kind : Bool) (so ro : List ℕ) (a b : Rack) (p : Parcel) (s r : ℕ) 
   mine_is true = refl
   mine_is false = refl
 
-  pub has_taken : has_place p.edge (part_on (cond kind s r) (cond kind a b)) ≡ true
+  has_taken : has_place p.edge (part_on (cond kind s r) (cond kind a b)) ≡ true
   has_taken = owned_first (cond kind so ro) (cond kind a b) (sided kind so ro a b t.edge.whole).known p.edge (cond kind s r) (at_kind kind so ro a b p.edge s r t.edge)
       (ap (λ (x : Rack). is_owned (first_with_edge p.edge x.places)) (sym (ap (λ k. rack_of_way k (share_of a b)) way ∙ mine_is kind)) ∙ t.owned)
 
@@ -55,6 +55,10 @@ module _ (kind : Bool) (so ro : List ℕ) (a b : Rack) (p : Parcel) (s r : ℕ) 
 
   pub if_honest : IfSome (part_on (cond kind s r) (cond kind a b)) (λ h. IsTrueParcel h.plan p)
   if_honest = if_some (part_on (cond kind s r) (cond kind a b)) (λ h. IsTrueParcel h.plan p) honest_here
+
+  -- it comes to the part, which has its edge
+  pub taken_on : (mine : Rack) → mine ≡ received_on p (cond kind s r) (cond kind a b) → mine ≡ change_on (take_holding p) (cond kind s r) (cond kind a b)
+  taken_on mine is = is ∙ ap (λ x. if x then change_on (take_holding p) (cond kind s r) (cond kind a b) else cond kind a b) has_taken
 
   module _ (mine other : Rack) (m : mine ≡ change_on (take_holding p) (cond kind s r) (cond kind a b))
       (o : other ≡ (if has_place p.edge (part_on (cond kind r s) (cond kind b a)) then change_on (vacate_holding p.edge) (cond kind r s) (cond kind b a) else cond kind b a)) where
@@ -93,6 +97,12 @@ other_of : (x y : Bool) → (x || y) ≡ true → x ≡ false → y ≡ true
 other_of true y h n = absurd (true≢false n)
 other_of false y h n = h
 
+pub chosen_first : {A : Type 0} (b : Bool) (x y z : A) → z ≡ (if b then x else y) → b ≡ true → z ≡ x
+chosen_first b x y z is holds = is ∙ ap (λ d. if d then x else y) holds
+
+pub chosen_second : {A : Type 0} (b : Bool) (x y z : A) → z ≡ (if b then x else y) → b ≡ false → z ≡ y
+chosen_second b x y z is fails = is ∙ ap (λ d. if d then x else y) fails
+
 -- A parcel that a share may post, from a part of this kind.
 pub record MayPost (kind : Bool) (so ro : List ℕ) (a b : Rack) (e s r : ℕ) : Type 0 where
   pub edge : IsEdgeOf so ro a b e s r
@@ -107,13 +117,18 @@ module _ (so ro : List ℕ) (a b : Rack) (e s r : ℕ) (f : IsEdgeOf so ro a b e
     first = may_post_first so a f.whole.segments_known e s f.segment ∙ may;
   }
 
+  -- what leaves no segment leaves a repeater
+  pub leaves_repeater : leaves e (part_on s a) ≡ false → is_refilled e (share_of a b) ≡ true → leaves e (part_on r b) ≡ true
+  leaves_repeater not_may refilled =
+      let none = may_post_first so a f.whole.segments_known e s f.segment ∙ not_may in
+      sym (may_post_first ro b f.whole.repeaters_known e r f.repeater) ∙ other_of (may_post e (first_with_edge e a.places)) (may_post e (first_with_edge e b.places)) refilled none
+
   pub may_at_repeater : (has_place e (part_on s a) && may_post e (part_on s a)) ≡ false → is_refilled e (share_of a b) ≡ true → MayPost false so ro a b e s r
   may_at_repeater not_may refilled =
       let none = may_post_first so a f.whole.segments_known e s f.segment ∙ not_may in
       record {
         edge = f;
-        has = both (has_place e (part_on r b)) (may_post e (part_on r b))
-            (sym (may_post_first ro b f.whole.repeaters_known e r f.repeater) ∙ other_of (may_post e (first_with_edge e a.places)) (may_post e (first_with_edge e b.places)) refilled none);
+        has = both (has_place e (part_on r b)) (may_post e (part_on r b)) (leaves_repeater not_may refilled);
         first = none;
       }
 

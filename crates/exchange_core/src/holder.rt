@@ -6,18 +6,18 @@ ghost use Rattle.net_parts.specs.Parts.{is_segment_part, edges_of_part};
 ghost use Rattle.net_parts.specs.Parcels.{IsTrueParcel};
 ghost use Rattle.net_parts.specs.Boards.{place_in, has_edge};
 ghost use Rattle.exchange_core.specs.Holdings.{Holding, IsHoldingReady, IsHoldingClean, IsSoundHolding, IsOnWay, edges_of_parcels, place_of_edge, new_holding, absent_parcel, emptied_parcel, parcel_of_edge, is_here, added_segment, added_repeater, reserved_holding, refused_holding, run_holding, spoil_holding, vacate_holding, take_holding};
-ghost use Rattle.exchange_core.specs.Shares.{AreParcelsFor, part_on, may_post, has_place, leaves, received_on};
+ghost use Rattle.exchange_core.specs.Shares.{AreParcelsFor, part_on, has_place, leaves, received_on};
 
 use crate::lane::Lane;
 use lists::OutOfMemory;
 use net_parts::{Parcel, ParcelList, Part, Symbols};
 use std::alloc::Global;
 use std::marker::Model;
-use std::mem::{replace, swap};
+use std::mem::swap;
 
 /// A part with the places of its parcels. In the place of a parcel that is away lies one that has left by the same way,
-/// spoiled and empty, so that whether the part is ready is told by the parcels alone. What a parcel that comes or goes needs
-/// comes first, and so lies together.
+/// spoiled and empty, so that whether the part is ready is told by the parcels alone. What a parcel that comes or goes
+/// needs comes first, and so lies together.
 #[derive(Drop)]
 pub struct Holder<P: Part> {
     parcels: Vec<Parcel>,
@@ -30,7 +30,6 @@ pub struct Holder<P: Part> {
     refused: bool,
     reserved: bool,
     part: P,
-    alloc: Global,
 }
 
 impl<P: Part> Model for Holder<P> {
@@ -46,13 +45,7 @@ impl<P: Part> Model for Holder<P> {
 
 impl<P: Part> Holder<P> {
     /// A segment or else a repeater that is new in a share, with these parcels, of which these are away.
-    fn new(
-        alloc: Global,
-        part: P,
-        segment: bool,
-        parcels: Vec<Parcel>,
-        away: Vec<bool>,
-    ) -> Holder<P>
+    fn new(part: P, segment: bool, parcels: Vec<Parcel>, away: Vec<bool>) -> Holder<P>
         requires kind { segment ≡ is_segment_part (P.plan part) (P.number part) }
         requires sound { IsSoundHolding (new_holding (P.plan part) (P.number part) (P.at part) parcels.items away.items) }
         ensures { result ≡ new_holding (P.plan part) (P.number part) (P.at part) parcels.items away.items }
@@ -61,7 +54,6 @@ impl<P: Part> Holder<P> {
         let window = part.window();
         let windows = part.windows();
         Holder {
-            alloc,
             part,
             number,
             window,
@@ -83,7 +75,7 @@ impl<P: Part> Holder<P> {
     {
         let parcels = in_order(alloc, parcels)?;
         let away = vec![in alloc; false; parcels.len()]?;
-        Ok(Holder::new(alloc, part, true, parcels, away))
+        Ok(Holder::new(part, true, parcels, away))
     }
 
     /// A repeater, whose parcels are all away.
@@ -93,7 +85,7 @@ impl<P: Part> Holder<P> {
     {
         let parcels = absent_parcels(alloc, part.edges())?;
         let away = vec![in alloc; true; parcels.len()]?;
-        Ok(Holder::new(alloc, part, false, parcels, away))
+        Ok(Holder::new(part, false, parcels, away))
     }
 
     /// What is so of every holder.
@@ -181,46 +173,54 @@ impl<P: Part> Holder<P> {
         self.window = next;
     }
 
-    /// Whether one of the parcels is that of this edge.
-    pub fn has(&self, edge: u32) -> bool
+    /// Whether one of the parcels is that of this edge, which is looked for at place `hint` first.
+    pub fn has(&self, edge: u32, hint: u32) -> bool
         ensures { result ≡ has_edge (edges_of_parcels self.now.parcels) edge }
     {
-        has_edge(self.parcels.as_slice(), edge)
+        self.place_of(edge, hint) < self.parcels.len()
     }
 
-    /// Whether the parcel of this edge is here and goes to the other part.
-    pub fn may_post(&self, edge: u32) -> bool
-        requires { has_edge (edges_of_parcels self.now.parcels) edge ≡ true }
-        ensures { result ≡ may_post edge (Some self.now) }
+    /// Whether one of the parcels is that of this edge, and it is here and goes to the other part. It is looked for at
+    /// place `hint` first.
+    pub fn may_post(&self, edge: u32, hint: u32) -> bool
+        ensures { result ≡ leaves edge (Some self.now) }
     {
-        let place = place_in(self.parcels.as_slice(), edge);
-        !self.away[place] && self.parcels[place].to_repeater == self.segment
+        let place = self.place_of(edge, hint);
+        self.leaves(place, edge)
     }
 
-    /// Hands out the parcel of this edge.
-    pub fn post(&mut self, edge: u32) -> Parcel
-        requires { has_edge (edges_of_parcels self.old.parcels) edge ≡ true }
-        ensures value { result ≡ parcel_of_edge edge self.old }
-        ensures new { self.new ≡ vacate_holding edge self.old }
+    /// Hands out the parcel of this edge for another of the edge, if it is here and goes to the other part, and says
+    /// whether it is so. It is looked for at place `hint` first.
+    pub fn post(&mut self, edge: u32, hint: u32, parcel: &mut Parcel) -> bool
+        requires { parcel.old.edge ≡ edge }
+        ensures value { result ≡ leaves edge (Some self.old) }
+        ensures left { self.new ≡ (if leaves edge (Some self.old) then vacate_holding edge self.old else self.old) }
+        ensures out { parcel.new ≡ (if leaves edge (Some self.old) then parcel_of_edge edge self.old else parcel.old) }
     {
-        let place = place_in(self.parcels.as_slice(), edge);
-        self.hand_out(place, edge)
+        let place = self.place_of(edge, hint);
+        if self.leaves(place, edge) {
+            self.hand_out(place, edge, parcel);
+            true
+        } else {
+            false
+        }
     }
 
-    /// Puts a parcel in its place.
-    pub fn take(&mut self, parcel: Parcel)
-        requires edge { has_edge (edges_of_parcels self.old.parcels) parcel.edge ≡ true }
-        requires honest { IsTrueParcel self.old.plan parcel }
-        ensures { self.new ≡ take_holding parcel self.old }
+    /// Empties the parcel of this edge, if there is a place for it, which is looked for at `hint` first, and counts it
+    /// as away. Its memory stays in its place.
+    pub fn vacate(&mut self, edge: u32, hint: u32)
+        ensures { self.new ≡ (if has_place edge (Some self.old) then vacate_holding edge self.old else self.old) }
     {
-        let mut parcel = parcel;
-        let place = place_in(self.parcels.as_slice(), parcel.edge);
-        self.put(place, &mut parcel);
+        let place = self.place_of(edge, hint);
+        if place >= self.parcels.len() {
+            return;
+        }
+        self.clear(place, edge);
     }
 
-    /// Brings the parcel of this edge to another part, if it is here and goes there, and says whether it is so. Where that part
-    /// isn't there, the parcel is emptied, and its memory stays here. It is looked for at place `hint` first, and its place there
-    /// at `there`.
+    /// Brings the parcel of this edge to another part, if it is here and goes there, and says whether it is so. Where
+    /// that part isn't there, the parcel is emptied, and its memory stays here. It is looked for at place `hint` first,
+    /// and its place there at `there`.
     pub fn bring<Q: Part>(
         &mut self,
         edge: u32,
@@ -243,7 +243,8 @@ impl<P: Part> Holder<P> {
         }
     }
 
-    /// Puts a parcel in its place, if there is one, and hands out what lay there. The place is looked for at `hint` first.
+    /// Puts a parcel in its place, if there is one, and hands out what lay there. The place is looked for at `hint`
+    /// first.
     pub fn receive(&mut self, parcel: &mut Parcel, hint: u32)
         requires { IsTrueParcel self.old.plan parcel.old }
         ensures new { self.new ≡ (if has_place parcel.old.edge (Some self.old) then take_holding parcel.old self.old else self.old) }
@@ -277,20 +278,32 @@ impl<P: Part> Holder<P> {
             && self.parcels[place].to_repeater == self.segment
     }
 
-    /// Hands out the parcel of this edge, whose place is known.
-    fn hand_out(&mut self, place: usize, edge: u32) -> Parcel
+    /// Hands out the parcel of this edge, whose place is known, for another of the edge, which is emptied.
+    fn hand_out(&mut self, place: usize, edge: u32, parcel: &mut Parcel)
         requires edge { has_edge (edges_of_parcels self.old.parcels) edge ≡ true }
         requires place { place ≡ place_of_edge edge self.old }
-        ensures value { result ≡ parcel_of_edge edge self.old }
+        requires same { parcel.old.edge ≡ edge }
+        ensures value { parcel.new ≡ parcel_of_edge edge self.old }
         ensures new { self.new ≡ vacate_holding edge self.old }
     {
+        empty(parcel, self.segment, 0);
         self.away[place] = true;
-        let absent = absent_parcel(self.alloc, edge, self.segment);
-        replace(&mut self.parcels[place], absent)
+        swap(parcel, &mut self.parcels[place]);
     }
 
-    /// Brings the parcel of this edge, whose place is known, to another part, or empties it where that isn't there. What then lies
-    /// in its place, it or what lay there, is emptied and keeps its memory.
+    /// Empties the parcel of this edge, whose place is known, and counts it as away. Its memory stays in its place.
+    fn clear(&mut self, place: usize, edge: u32)
+        requires edge { has_edge (edges_of_parcels self.old.parcels) edge ≡ true }
+        requires place { place ≡ place_of_edge edge self.old }
+        ensures { self.new ≡ vacate_holding edge self.old }
+    {
+        let segment = self.segment;
+        self.away[place] = true;
+        empty(&mut self.parcels[place], segment, 0);
+    }
+
+    /// Brings the parcel of this edge, whose place is known, to another part, or empties it where that isn't there.
+    /// What then lies in its place, it or what lay there, is emptied and keeps its memory.
     fn hand_over<Q: Part>(
         &mut self,
         here: usize,
@@ -331,7 +344,6 @@ impl<P: Part> Holder<P> {
         ensures at { P.at result ≡ self.at }
     {
         let Holder {
-            alloc: _,
             part,
             number: _,
             window: _,
@@ -376,20 +388,8 @@ fn place_in(parcels: &[Parcel], edge: u32) -> usize
     parcels.len()
 }
 
-/// Whether one of the parcels is of this edge.
-fn has_edge(parcels: &[Parcel], edge: u32) -> bool
-    ensures { result ≡ has_edge (edges_of_parcels parcels.now) edge }
-{
-    for i in 0..parcels.len() {
-        if parcels[i].edge == edge {
-            return true;
-        }
-    }
-    false
-}
-
 /// What lies in the place of a parcel that is away, which takes no memory.
-fn absent_parcel(alloc: Global, edge: u32, to_repeater: bool) -> Parcel
+pub fn absent_parcel(alloc: Global, edge: u32, to_repeater: bool) -> Parcel
     ensures { result ≡ absent_parcel to_repeater edge }
 {
     Parcel {

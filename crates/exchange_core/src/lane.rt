@@ -1,9 +1,9 @@
 //! Parts of one kind.
-ghost use Rattle.std.specs.Prelude.{◌≡◌, ◌<◌, ◌≤◌, ◌+◌, ◌++◌, ◌&&◌, [], ℕ, false, true, length, map, if◌then◌else◌, OnOk, OnErr, IfSome, None, Some, slice_index_or, slice_set, vec_len, vec_capacity};
+ghost use Rattle.std.specs.Prelude.{◌≡◌, ◌<◌, ◌≤◌, ◌+◌, ◌++◌, [], ℕ, false, true, length, map, if◌then◌else◌, OnOk, OnErr, IfSome, None, Some, slice_index_or, slice_set, vec_len, vec_capacity};
 ghost use Rattle.net_parts.specs.declared.parcel.Parcel.{Parcel};
 ghost use Rattle.net_parts.specs.Parcels.{IsTrueParcel};
 ghost use Rattle.exchange_core.specs.Holdings.{Holding, IsHoldingReady, IsHoldingClean, reserved_holding, refused_holding, run_holding, spoil_holding, vacate_holding, take_holding};
-ghost use Rattle.exchange_core.specs.Shares.{Rack, part_on, is_owned, changed, change_on, has_place, may_post, leaves, parcel_in, received_on, widened, add_on, handed, handed_as, handed_out, IsAddedInOrder};
+ghost use Rattle.exchange_core.specs.Shares.{Rack, part_on, is_owned, changed, change_on, has_place, leaves, parcel_in, received_on, widened, add_on, handed, handed_as, handed_out, IsAddedInOrder};
 
 use crate::holder::Holder;
 use lists::OutOfMemory;
@@ -131,61 +131,51 @@ impl<P: Part> Lane<P> {
         unreachable!()
     }
 
-    /// Whether a part has this edge.
-    pub fn has(&self, part: u32, edge: u32) -> bool
-        ensures { result ≡ has_place edge (part_on part self.now) }
+    /// Whether a part has this edge, whose parcel is looked for at the place that is given.
+    pub fn has(&self, at: Spot, edge: u32) -> bool
+        ensures { result ≡ has_place edge (part_on at.part self.now) }
     {
-        let part = part as usize;
-        part < self.places.len() && has_at(&self.places[part], edge)
+        let part = at.part as usize;
+        part < self.places.len() && has_at(&self.places[part], edge, at.place)
     }
 
-    /// Whether the parcel of this edge is at a part that has the edge, and goes to the other part.
-    pub fn may_post(&self, part: u32, edge: u32) -> bool
-        ensures { result ≡ (has_place edge (part_on part self.now) && may_post edge (part_on part self.now)) }
+    /// Whether the parcel of this edge is at a part that has the edge, and goes to the other part. It is looked for at
+    /// the place that is given.
+    pub fn may_post(&self, from: Spot, edge: u32) -> bool
+        ensures { result ≡ leaves edge (part_on from.part self.now) }
     {
-        let part = part as usize;
-        part < self.places.len() && may_post_at(&self.places[part], edge)
+        let part = from.part as usize;
+        part < self.places.len() && may_post_at(&self.places[part], edge, from.place)
     }
 
-    /// Hands out the parcel of an edge.
-    pub fn post(&mut self, part: u32, edge: u32) -> Parcel
-        requires { has_place edge (part_on part self.old) ≡ true }
-        ensures value { result ≡ parcel_in edge (part_on part self.old) }
-        ensures new { self.new ≡ change_on (vacate_holding edge) part self.old }
+    /// Hands out the parcel of an edge for another of the edge, if it is at this part, which has the edge, and goes to
+    /// the other part, and says whether it is so. It is looked for at the place that is given.
+    pub fn post(&mut self, from: Spot, edge: u32, parcel: &mut Parcel) -> bool
+        requires { parcel.old.edge ≡ edge }
+        ensures value { result ≡ leaves edge (part_on from.part self.old) }
+        ensures left { self.new ≡ (if leaves edge (part_on from.part self.old) then change_on (vacate_holding edge) from.part self.old else self.old) }
+        ensures out { parcel.new ≡ (if leaves edge (part_on from.part self.old) then parcel_in edge (part_on from.part self.old) else parcel.old) }
     {
-        let part = part as usize;
+        let part = from.part as usize;
         if part < self.places.len() {
-            return post_at(&mut self.places[part], edge);
+            return post_at(&mut self.places[part], edge, from.place, parcel);
         }
-        unreachable!()
+        false
     }
 
-    /// Drops the parcel of an edge.
-    pub fn empty(&mut self, part: u32, edge: u32)
-        ensures { self.new ≡ (if has_place edge (part_on part self.old) then change_on (vacate_holding edge) part self.old else self.old) }
+    /// Empties the parcel of an edge, which is looked for at the place that is given. Its memory stays in its place.
+    pub fn empty(&mut self, at: Spot, edge: u32)
+        ensures { self.new ≡ (if has_place edge (part_on at.part self.old) then change_on (vacate_holding edge) at.part self.old else self.old) }
     {
-        if self.has(part, edge) {
-            let _ = self.post(part, edge);
-        }
-    }
-
-    /// Puts a parcel in its place.
-    pub fn take(&mut self, part: u32, parcel: Parcel)
-        requires edge { has_place parcel.edge (part_on part self.old) ≡ true }
-        requires honest { IfSome (part_on part self.old) (λ h. IsTrueParcel h.plan parcel) }
-        ensures { self.new ≡ change_on (take_holding parcel) part self.old }
-    {
-        let part = part as usize;
+        let part = at.part as usize;
         if part < self.places.len() {
-            take_at(&mut self.places[part], parcel);
-            return;
+            empty_at(&mut self.places[part], edge, at.place);
         }
-        unreachable!()
     }
 
-    /// Brings the parcel of an edge to a part of the other kind, if it is at this part, which has the edge, and goes there, and
-    /// says whether it is so. Where that part isn't there, the parcel is emptied, and its memory stays here. It is looked for at the
-    /// places that are given.
+    /// Brings the parcel of an edge to a part of the other kind, if it is at this part, which has the edge, and goes
+    /// there, and says whether it is so. Where that part isn't there, the parcel is emptied, and its memory stays here.
+    /// It is looked for at the places that are given.
     pub fn bring<Q: Part>(&mut self, from: Spot, edge: u32, to: &mut Lane<Q>, at: Spot) -> bool
         requires { leaves edge (part_on from.part self.old) ≡ true → IfSome (part_on at.part to.old) (λ h. IsTrueParcel h.plan (parcel_in edge (part_on from.part self.old))) }
         ensures value { result ≡ leaves edge (part_on from.part self.old) }
@@ -199,7 +189,8 @@ impl<P: Part> Lane<P> {
         false
     }
 
-    /// Puts a parcel to a part that has its edge, and hands out what lay there. The place is looked for at `hint` first.
+    /// Puts a parcel to a part that has its edge, and hands out what lay there. The place is looked for at `hint`
+    /// first.
     pub fn receive(&mut self, part: u32, parcel: &mut Parcel, hint: u32)
         requires { IfSome (part_on part self.old) (λ h. IsTrueParcel h.plan parcel.old) }
         ensures new { self.new ≡ received_on parcel.old part self.old }
@@ -294,51 +285,57 @@ fn spoil_at<P: Part>(place: &mut Option<Holder<P>>)
     }
 }
 
-/// Whether the part in this place has this edge.
-fn has_at<P: Part>(place: &Option<Holder<P>>, edge: u32) -> bool
+/// Whether the part in this place has this edge, whose parcel is looked for at `hint` first.
+fn has_at<P: Part>(place: &Option<Holder<P>>, edge: u32, hint: u32) -> bool
     ensures { result ≡ has_place edge place.now }
 {
     match place {
-        Some(holder) => holder.has(edge),
+        Some(holder) => holder.has(edge, hint),
         None => false,
     }
 }
 
-/// Whether the part in this place has this edge, and its parcel is there and goes to the other part.
-fn may_post_at<P: Part>(place: &Option<Holder<P>>, edge: u32) -> bool
-    ensures { result ≡ (has_place edge place.now && may_post edge place.now) }
+/// Whether the part in this place has this edge, and its parcel is there and goes to the other part. It is looked for
+/// at `hint` first.
+fn may_post_at<P: Part>(place: &Option<Holder<P>>, edge: u32, hint: u32) -> bool
+    ensures { result ≡ leaves edge place.now }
 {
     match place {
-        Some(holder) => holder.has(edge) && holder.may_post(edge),
+        Some(holder) => holder.may_post(edge, hint),
         None => false,
     }
 }
 
-/// Hands out the parcel of an edge of the part in this place.
-fn post_at<P: Part>(place: &mut Option<Holder<P>>, edge: u32) -> Parcel
-    requires { has_place edge place.old ≡ true }
-    ensures value { result ≡ parcel_in edge place.old }
-    ensures new { place.new ≡ changed (vacate_holding edge) place.old }
+/// Hands out the parcel of an edge of the part in this place for another of the edge, if it is there and goes to the
+/// other part, and says whether it is so. It is looked for at `hint` first.
+fn post_at<P: Part>(
+    place: &mut Option<Holder<P>>,
+    edge: u32,
+    hint: u32,
+    parcel: &mut Parcel,
+) -> bool
+    requires { parcel.old.edge ≡ edge }
+    ensures value { result ≡ leaves edge place.old }
+    ensures left { place.new ≡ (if leaves edge place.old then changed (vacate_holding edge) place.old else place.old) }
+    ensures out { parcel.new ≡ (if leaves edge place.old then parcel_in edge place.old else parcel.old) }
 {
-    if let Some(holder) = place {
-        return holder.post(edge);
-    }
-    unreachable!()
-}
-
-/// Puts a parcel to the part in this place.
-fn take_at<P: Part>(place: &mut Option<Holder<P>>, parcel: Parcel)
-    requires edge { has_place parcel.edge place.old ≡ true }
-    requires honest { IfSome place.old (λ h. IsTrueParcel h.plan parcel) }
-    ensures { place.new ≡ changed (take_holding parcel) place.old }
-{
-    if let Some(holder) = place {
-        holder.take(parcel);
+    match place {
+        Some(holder) => holder.post(edge, hint, parcel),
+        None => false,
     }
 }
 
-/// Brings the parcel of an edge of the part in this place to one of the other kind, if it is there and goes to that, and says
-/// whether it is so.
+/// Empties the parcel of an edge of the part in this place, if that has the edge. It is looked for at `hint` first.
+fn empty_at<P: Part>(place: &mut Option<Holder<P>>, edge: u32, hint: u32)
+    ensures { place.new ≡ (if has_place edge place.old then changed (vacate_holding edge) place.old else place.old) }
+{
+    if let Some(holder) = place {
+        holder.vacate(edge, hint);
+    }
+}
+
+/// Brings the parcel of an edge of the part in this place to one of the other kind, if it is there and goes to that,
+/// and says whether it is so.
 fn bring_at<P: Part, Q: Part>(
     place: &mut Option<Holder<P>>,
     edge: u32,

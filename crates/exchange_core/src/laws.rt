@@ -24,7 +24,8 @@ pub fn take_is_take()
     ensures { TakeIsTake }
 {}
 
-/// The parcels that come to a part for a window, such as those with which a run begins, are those with which it is added.
+/// The parcels that come to a part for a window, such as those with which a run begins, are those with which it is
+/// added.
 pub fn parcels_serve()
     ensures { ParcelsServe }
 {}
@@ -34,8 +35,8 @@ pub fn parts_change()
     ensures { PartsChange }
 {}
 
-/// A share that is filled for a run is on the opening board: the board has all its parts, and the parcels at them, as the share
-/// has them.
+/// A share that is filled for a run is on the opening board: the board has all its parts, and the parcels at them, as
+/// the share has them.
 pub fn shares_begin()
     ensures { SharesBegin }
 {}
@@ -60,8 +61,8 @@ pub fn shares_post()
     ensures { SharesPost }
 {}
 
-/// Where a share may take a parcel that is so in mail, it may come out of mail on the board, and then the whole share is on the
-/// board.
+/// Where a share may take a parcel that is so in mail, it may come out of mail on the board, and then the whole share
+/// is on the board.
 pub fn shares_take()
     ensures { SharesTake }
 {}

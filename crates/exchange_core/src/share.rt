@@ -8,7 +8,7 @@ ghost use Rattle.net_parts.specs.Boards.{has_edge};
 ghost use Rattle.exchange_core.specs.Holdings.{Holding, IsHoldingReady, IsHoldingClean, MayBeSpoiled, added_segment, added_repeater, reserved_holding, refused_holding, run_holding, spoil_holding};
 ghost use Rattle.exchange_core.specs.Shares.{Held, nothing_held, part_of, owns, is_owned, change, is_refilled, posted_parcel, post_held, has_place_for, take_held, may_post, first_with_edge, carry_held, with_segment, with_repeater, handed_as, handed_out, IsOfPlan, HasNoneOf, AreParcelsFor, IsSoundShare};
 
-use crate::holder::Holder;
+use crate::holder::{Holder, absent_parcel};
 use crate::lane::{Lane, Spot};
 use lists::OutOfMemory;
 use net_parts::{Parcel, ParcelList, Part};
@@ -18,8 +18,8 @@ use std::marker::Model;
 /// Parts, in the order in which they were added.
 pub type PartList<T> = Vec<T>;
 
-/// What one worker owns: parts of one plan, each once, and the parcels at them, each of which has that plan's symbols or is
-/// spoiled. It never has two parcels of one edge.
+/// What one worker owns: parts of one plan, each once, and the parcels at them, each of which has that plan's symbols
+/// or is spoiled. It never has two parcels of one edge.
 #[derive(Drop)]
 pub struct Share<S: Part, R: Part> {
     alloc: Global,
@@ -109,7 +109,8 @@ impl<S: Part, R: Part> Share<S, R> {
         self.segments.owns(part) || self.repeaters.owns(part)
     }
 
-    /// Whether the part's window is one of the run's, and all its parcels are here with that window's stamp, spoiled or not.
+    /// Whether the part's window is one of the run's, and all its parcels are here with that window's stamp, spoiled or
+    /// not.
     pub fn ready(&self, part: u32) -> bool
         requires { owns part self.now ≡ true }
         ensures { IsTrue result ↔ IfSome (part_of part self.now) IsHoldingReady }
@@ -204,22 +205,41 @@ impl<S: Part, R: Part> Share<S, R> {
     pub fn refilled(&self, edge: u32) -> bool
         ensures { result ≡ is_refilled edge self.now }
     {
-        let segment = owner(self.segment_of.as_slice(), edge);
-        let repeater = owner(self.repeater_of.as_slice(), edge);
-        self.segments.may_post(segment, edge) || self.repeaters.may_post(repeater, edge)
+        let segment = spot(
+            self.segment_of.as_slice(),
+            self.segment_place.as_slice(),
+            edge,
+        );
+        if self.segments.may_post(segment, edge) {
+            return true;
+        }
+        let repeater = spot(
+            self.repeater_of.as_slice(),
+            self.repeater_place.as_slice(),
+            edge,
+        );
+        self.repeaters.may_post(repeater, edge)
     }
 
     /// Whether the share owns the part to which the parcel goes.
     pub fn awaits(&self, parcel: &Parcel) -> bool
         ensures { result ≡ has_place_for parcel.now self.now }
     {
-        let segment = owner(self.segment_of.as_slice(), parcel.edge);
-        let repeater = owner(self.repeater_of.as_slice(), parcel.edge);
+        let edge = parcel.edge;
         if parcel.to_repeater {
-            self.repeaters.has(repeater, parcel.edge)
-        } else {
-            self.segments.has(segment, parcel.edge)
+            let repeater = spot(
+                self.repeater_of.as_slice(),
+                self.repeater_place.as_slice(),
+                edge,
+            );
+            return self.repeaters.has(repeater, edge);
         }
+        let segment = spot(
+            self.segment_of.as_slice(),
+            self.segment_place.as_slice(),
+            edge,
+        );
+        self.segments.has(segment, edge)
     }
 
     /// Post: hands out a parcel that is here and goes to where it isn't. It takes no memory.
@@ -230,12 +250,22 @@ impl<S: Part, R: Part> Share<S, R> {
         ensures honest { (plan : Plan) → IsOfPlan plan self.old → IsTrueParcel plan result }
         ensures new { self.new ≡ post_held edge self.old }
     {
-        let segment = owner(self.segment_of.as_slice(), edge);
-        if self.segments.may_post(segment, edge) {
-            return self.segments.post(segment, edge);
+        let mut parcel = absent_parcel(self.alloc, edge, true);
+        let segment = spot(
+            self.segment_of.as_slice(),
+            self.segment_place.as_slice(),
+            edge,
+        );
+        if self.segments.post(segment, edge, &mut parcel) {
+            return parcel;
         }
-        let repeater = owner(self.repeater_of.as_slice(), edge);
-        self.repeaters.post(repeater, edge)
+        let repeater = spot(
+            self.repeater_of.as_slice(),
+            self.repeater_place.as_slice(),
+            edge,
+        );
+        self.repeaters.post(repeater, edge, &mut parcel);
+        parcel
     }
 
     /// Take: puts a parcel to the part to which it goes, and drops another of its edge. It takes no memory.
@@ -244,21 +274,32 @@ impl<S: Part, R: Part> Share<S, R> {
         requires honest { (plan : Plan) → IsOfPlan plan self.old → IsTrueParcel plan parcel }
         ensures { self.new ≡ take_held parcel self.old }
     {
+        let mut parcel = parcel;
         let edge = parcel.edge;
-        let segment = owner(self.segment_of.as_slice(), edge);
-        let repeater = owner(self.repeater_of.as_slice(), edge);
+        let segment = spot(
+            self.segment_of.as_slice(),
+            self.segment_place.as_slice(),
+            edge,
+        );
+        let repeater = spot(
+            self.repeater_of.as_slice(),
+            self.repeater_place.as_slice(),
+            edge,
+        );
         if parcel.to_repeater {
             self.segments.empty(segment, edge);
-            self.repeaters.take(repeater, parcel);
+            self.repeaters
+                .receive(repeater.part, &mut parcel, repeater.place);
         } else {
             self.repeaters.empty(repeater, edge);
-            self.segments.take(segment, parcel);
+            self.segments
+                .receive(segment.part, &mut parcel, segment.place);
         }
     }
 
-    /// Post and Take at once: brings the parcel of an edge to the part where it isn't, if it is here and goes there. Where that part
-    /// isn't here, the parcel is emptied, and its memory stays in its place. It is looked for at the segment first, or else at the
-    /// repeater. It takes no memory.
+    /// Post and Take at once: brings the parcel of an edge to the part where it isn't, if it is here and goes there.
+    /// Where that part isn't here, the parcel is emptied, and its memory stays in its place. It is looked for at the
+    /// segment first, or else at the repeater. It takes no memory.
     pub fn carry(&mut self, edge: u32, at_segment: bool)
         ensures { self.new ≡ carry_held edge self.old }
     {
@@ -271,7 +312,8 @@ impl<S: Part, R: Part> Share<S, R> {
         }
     }
 
-    /// Brings the parcel of an edge from its segment to its repeater, and says whether it was at the segment and goes there.
+    /// Brings the parcel of an edge from its segment to its repeater, and says whether it was at the segment and goes
+    /// there.
     fn leave_segment(&mut self, edge: u32) -> bool
         ensures when { result ≡ may_post edge (first_with_edge edge self.old.segments.places) }
         ensures new { self.new ≡ (if may_post edge (first_with_edge edge self.old.segments.places) then carry_held edge self.old else self.old) }
@@ -290,7 +332,8 @@ impl<S: Part, R: Part> Share<S, R> {
             .bring(segment, edge, &mut self.repeaters, repeater)
     }
 
-    /// Brings the parcel of an edge from its repeater to its segment, and says whether it was at the repeater and goes there.
+    /// Brings the parcel of an edge from its repeater to its segment, and says whether it was at the repeater and goes
+    /// there.
     fn leave_repeater(&mut self, edge: u32) -> bool
         ensures when { result ≡ may_post edge (first_with_edge edge self.old.repeaters.places) }
         ensures new { self.new ≡ (if may_post edge (first_with_edge edge self.old.repeaters.places) then carry_held edge self.old else self.old) }
@@ -345,8 +388,8 @@ fn spot(owners: &[u32], places: &[u32], edge: u32) -> Spot
     }
 }
 
-/// Keeps the number of the part that has these edges, and the place of each among them. On refusal what is kept of other edges
-/// stays.
+/// Keeps the number of the part that has these edges, and the place of each among them. On refusal what is kept of
+/// other edges stays.
 fn learn(
     owners: &mut Vec<u32>,
     places: &mut Vec<u32>,
