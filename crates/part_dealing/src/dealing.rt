@@ -188,7 +188,8 @@ pub fn outlets_of(
     Ok(outlets)
 }
 
-/// The part at the other end of an edge of this part: the repeater of the edge's port, or the segment on which the port is.
+/// The part at the other end of an edge of this part: the repeater of the edge's port, or the segment on which the port
+/// is.
 pub fn other_end(plan: &Plan, part: usize, edge: usize) -> usize
     requires { has_edge (edges_of_part plan.now part) edge ≡ true }
     ensures { IsOtherEnd plan.now part edge result }

@@ -9,7 +9,8 @@ use layout::Layout;
 use lists::OutOfMemory;
 use std::alloc::Global;
 
-/// A part of a worker, and the last segment on which it is; its outlets are those from place `first` on to before place `end`.
+/// A part of a worker, and the last segment on which it is; its outlets are those from place `first` on to before place
+/// `end`.
 #[derive(Clone, Copy, Debug)]
 pub struct Duty {
     pub part: u32,
@@ -18,8 +19,8 @@ pub struct Duty {
     pub end: usize,
 }
 
-/// The parts of a worker in the order of their turns, and all their outlets. A repeater has its turn behind its last segment: then
-/// the parcels of all its segments are there, and those of the last are at hand.
+/// The parts of a worker in the order of their turns, and all their outlets. A repeater has its turn behind its last
+/// segment: then the parcels of all its segments are there, and those of the last are at hand.
 #[derive(Drop)]
 pub struct Duties {
     pub turns: Vec<Duty>,

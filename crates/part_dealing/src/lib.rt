@@ -1,4 +1,5 @@
-//! Which worker gets which part of a plan, and where the parcels of its parts go. Nothing here starts a thread or waits.
+//! Which worker gets which part of a plan, and where the parcels of its parts go. Nothing here starts a thread or
+//! waits.
 #![tactic(auto)]
 
 mod dealing;

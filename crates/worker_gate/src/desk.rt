@@ -133,8 +133,9 @@ impl<P: Planned, S: Part, R: Part> Desk<P, S, R> {
         }
     }
 
-    /// Brings the parcel of an edge to the part where it isn't, if it is here and goes there; where that part isn't here, it is
-    /// emptied, and its memory stays in its place. It is looked for at the segment first, or else at the repeater.
+    /// Brings the parcel of an edge to the part where it isn't, if it is here and goes there; where that part isn't
+    /// here, it is emptied, and its memory stays in its place. It is looked for at the segment first, or else at the
+    /// repeater.
     pub fn carry(&mut self, edge: u32, at_segment: bool)
         ensures { self.new.share ≡ carry_held edge self.old.share }
     {

@@ -1,10 +1,11 @@
 //! What a worker works on.
-ghost use Rattle.std.specs.Prelude.{◌≡◌, ◌≤◌, ◌↔◌, false, true, All, IfSome, IsTrue, Some, [], if◌then◌else◌};
+ghost use Rattle.std.specs.Prelude.{◌≡◌, ◌↔◌, false, true, All, IfSome, IsTrue, Some, [], if◌then◌else◌};
 ghost use Rattle.load_plan.specs.declared.plan.Plan.{Plan};
 ghost use Rattle.net_parts.specs.Parcels.{IsTrueParcel};
 ghost use Rattle.net_parts.specs.Windows.{windows};
 ghost use Rattle.exchange_core.specs.Shares.{has_place_for, nothing_held, part_of, take_held};
 ghost use Rattle.worker_gate.specs.PlannedShares.{has_plan, the_plan};
+ghost use Rattle.worker_gate.specs.SteppedShares.{ArePast};
 ghost use Rattle.part_dealing.specs.declared.duties.Duty.{Duty};
 
 use crate::desk::Desk;
@@ -67,12 +68,18 @@ impl<P: Planned + Send, S: Part, R: Part> Kit<P, S, R> {
     }
 
     /// Makes one window of each part whose parcels are here, and hands its parcels on. Says whether it made one.
-    pub fn turn<X: Wait>(&mut self, rt: &X, ports: &mut Ports<P, S, R>) -> bool {
+    pub fn turn<X: Wait>(&mut self, rt: &X, ports: &mut Ports<P, S, R>) -> bool
+        ensures windows { self.new.windows ≡ self.old.windows }
+        ensures duties { self.new.duties ≡ self.old.duties }
+    {
         turn(rt, &mut self.desk, &self.duties, self.number, ports)
     }
 
     /// Makes all windows where all parts are this worker's.
-    pub fn run_alone(&mut self) {
+    pub fn run_alone(&mut self)
+        ensures windows { self.new.windows ≡ self.old.windows }
+        ensures duties { self.new.duties ≡ self.old.duties }
+    {
         for _window in 0..self.windows {
             turn_alone(&mut self.desk, &self.duties);
         }
@@ -81,14 +88,16 @@ impl<P: Planned + Send, S: Part, R: Part> Kit<P, S, R> {
     /// Puts a parcel to its part, if that is here, and drops it otherwise.
     pub fn take(&mut self, parcel: Parcel)
         requires { IfSome P.plan (λ plan. IsTrueParcel plan parcel) }
-        ensures { self.new.desk.share ≡ (if has_place_for parcel self.old.desk.share then take_held parcel self.old.desk.share else self.old.desk.share) }
+        ensures share { self.new.desk.share ≡ (if has_place_for parcel self.old.desk.share then take_held parcel self.old.desk.share else self.old.desk.share) }
+        ensures windows { self.new.windows ≡ self.old.windows }
+        ensures duties { self.new.duties ≡ self.old.duties }
     {
         self.desk.take(parcel);
     }
 
     /// Whether all windows of all parts are made, or the parts were given up for them.
     pub fn is_done(&self) -> bool
-        ensures { IsTrue result ↔ All (λ (duty : Duty). IfSome (part_of duty.part self.now.desk.share) (λ h. self.now.windows ≤ h.window)) self.now.duties.turns.items }
+        ensures { IsTrue result ↔ ArePast self.now.windows self.now.desk.share self.now.duties.turns.items }
     {
         are_past(&self.desk, self.duties.turns.as_slice(), self.windows)
     }
@@ -121,7 +130,7 @@ fn are_past<P: Planned, S: Part, R: Part>(
     duties: &[Duty],
     windows: u64,
 ) -> bool
-    ensures { IsTrue result ↔ All (λ (duty : Duty). IfSome (part_of duty.part desk.now.share) (λ h. windows ≤ h.window)) duties.now }
+    ensures { IsTrue result ↔ ArePast windows desk.now.share duties.now }
 {
     duties.iter().all(|duty| desk.is_past(duty.part, windows))
 }

@@ -68,8 +68,8 @@ impl<P: Planned, U: Named> Port<P, U> {
     }
 }
 
-/// For each of so many workers its ports to the boxes of all, in the same order, each box with room for so many mails. No pass
-/// has put or taken anything.
+/// For each of so many workers its ports to the boxes of all, in the same order, each box with room for so many mails.
+/// No pass has put or taken anything.
 pub fn make_ports<P: Planned, U: Named>(
     alloc: Global,
     workers: u32,

@@ -20,8 +20,8 @@ use std::thread::Threads;
 use window_exchange::Planned;
 
 /// Runs a plan by 1 to 64 workers, the caller being one of them, on parts that closures make: `make_segment` and
-/// `make_repeater` are told the number of a segment and of a repeater, from 0. The gate is told that the run begins. Answers the
-/// parts, each once, in order of numbers, each with all its windows made, or want of memory. It may wait.
+/// `make_repeater` are told the number of a segment and of a repeater, from 0. The gate is told that the run begins.
+/// Answers the parts, each once, in order of numbers, each with all its windows made, or want of memory. It may wait.
 pub fn run_planned<
     S: Part,
     R: Part,
@@ -63,8 +63,8 @@ pub fn run_planned<
     run_boxed::<Brand, S, R, F, H, X>(rt, alloc, plan, &pace, workers, make_segment, make_repeater)
 }
 
-/// The same for a plan that a type carries, without the gate. Where the workers' parts aren't whole, they are made anew and run
-/// alone.
+/// The same for a plan that a type carries, without the gate. Where the workers' parts aren't whole, they are made anew
+/// and run alone.
 fn run_boxed<
     P: Planned + Send,
     S: Part,
@@ -129,8 +129,8 @@ fn run_alone<
     Ok(kits)
 }
 
-/// All parts of the kits in order; none where one isn't there or hasn't made all windows. Where a part was given up, memory was
-/// short.
+/// All parts of the kits in order; none where one isn't there or hasn't made all windows. Where a part was given up,
+/// memory was short.
 fn whole<P: Planned + Send, S: Part, R: Part>(
     alloc: Global,
     plan: &Plan,

@@ -30,8 +30,8 @@ fn start<'s, E, P: Planned + Send + 's, S: Part + 's, R: Part + 's, X: Wait + Sy
     }
 }
 
-/// Starts a worker for each of these ports, numbered from 1 on, until no more threads can be made. Answers how many workers
-/// there are with the caller.
+/// Starts a worker for each of these ports, numbered from 1 on, until no more threads can be made. Answers how many
+/// workers there are with the caller.
 fn start_all<'s, E, P: Planned + Send + 's, S: Part + 's, R: Part + 's, X: Wait + Sync>(
     scope: &Scope<'s, E>,
     rt: &'s X,
@@ -62,8 +62,8 @@ fn join_all<P: Planned + Send, S: Part, R: Part, X: Threads + Wait>(
     }
 }
 
-/// Makes a kit for each of so many workers, then sends them, and works on the caller's own. Where memory is short, each worker
-/// gets a kit with which it ends.
+/// Makes a kit for each of so many workers, then sends them, and works on the caller's own. Where memory is short, each
+/// worker gets a kit with which it ends.
 fn lead<
     P: Planned + Send,
     S: Part,
@@ -134,7 +134,8 @@ fn send_kit<P: Planned + Send, S: Part, R: Part, X: Wait>(
     }
 }
 
-/// Runs the plan by so many workers, or as many fewer as there are threads, each part at one of them. Answers their kits.
+/// Runs the plan by so many workers, or as many fewer as there are threads, each part at one of them. Answers their
+/// kits.
 pub fn run_threads<
     P: Planned + Send,
     S: Part,
