@@ -18,8 +18,8 @@ pub struct Mark {
     pub end: usize,
 }
 
-/// What each station captured: the frames that are settled, and those that lie in the room of a window, from mark `done` on,
-/// the octets of one after those of the other. `list` has a place for the captures of each station.
+/// What each station captured: the frames that are settled, and those that lie in the room of a window, from mark
+/// `done` on, the octets of one after those of the other. `list` has a place for the captures of each station.
 #[derive(Drop)]
 pub struct WindowFrames {
     alloc: Global,
@@ -63,7 +63,8 @@ fn settle_frame(
     taken.push(Taken { t, octets: frame })
 }
 
-/// Puts the frames of the marks from place `done` on at the end of the captures. On refusal those that were put there are done.
+/// Puts the frames of the marks from place `done` on at the end of the captures. On refusal those that were put there
+/// are done.
 fn settle_frames(
     alloc: Global,
     octets: &[u8],

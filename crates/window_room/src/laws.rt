@@ -1,5 +1,5 @@
-//! How much a station can log and capture in so many half bits, whatever comes: calls without a body, whose contracts are the
-//! laws.
+//! How much a station can log and capture in so many half bits, whatever comes: calls without a body, whose contracts
+//! are the laws.
 ghost use Rattle.std.specs.Prelude.{◌≡◌, ◌<◌, ◌≤◌, ◌+◌, ◌*◌, ◌/◌, ℕ, suc, Bool, List, All, Some, length, map, min};
 ghost use Rattle.mac_parameters.specs.Parameters.{check_sequence, half_bits_an_octet, preamble_length};
 ghost use Rattle.collision_log.specs.declared.row.Body.TheVariants.{Received};
@@ -15,8 +15,8 @@ ghost use Rattle.window_room.specs.Receptions.{HeardHalf, reception_bodies, coun
 ghost use Rattle.window_room.specs.Sendings.{least_turn, sending_bodies};
 ghost use Rattle.window_room.specs.Signals.{SignalsAreLong};
 
-/// Whatever a receiver hears and its station sends, it receives at most one frame, and one more for each least reception and
-/// the half bit after it that is Idle.
+/// Whatever a receiver hears and its station sends, it receives at most one frame, and one more for each least
+/// reception and the half bit after it that is Idle.
 pub fn receptions_are_few()
     ensures count { (r : Receiving) (halves : List HeardHalf) →
         count_received (reception_bodies r halves) ≤ 1 + length halves / least_reception }
@@ -25,8 +25,8 @@ pub fn receptions_are_few()
         ≤ length halves + min least_reception (length r.halves) }
 {}
 
-/// The octets of all the frames that it receives are at most those of one frame, and one more for each 16 half bits; and each
-/// frame has at most the most.
+/// The octets of all the frames that it receives are at most those of one frame, and one more for each 16 half bits;
+/// and each frame has at most the most.
 pub fn octets_are_few()
     ensures all { (r : Receiving) (halves : List HeardHalf) →
         octets_received (reception_bodies r halves) ≤ r.most + check_sequence + length halves / half_bits_an_octet }
@@ -46,16 +46,16 @@ pub fn leaps_are_events()
         receiver_bodies r heard sending ≡ reception_bodies r (map (heard_half sending) heard) }
 {}
 
-/// Where each signal that ends in these half bits has at least so many half bits, of which the first had u before them, it has
-/// at most one row, and one more for each signal and the half bit that is Idle after it.
+/// Where each signal that ends in these half bits has at least so many half bits, of which the first had u before them,
+/// it has at most one row, and one more for each signal and the half bit that is Idle after it.
 pub fn long_signals_give_few_rows()
     ensures { (r : Receiving) (halves : List HeardHalf) (least u : ℕ) →
         SignalsAreLong least u halves → (0 < length r.halves → 0 < u) →
         length (reception_bodies r halves) ≤ 1 + length halves / (least + 1) }
 {}
 
-/// Whatever a sender hears, it has at most one row, and one more for each preamble and start frame delimiter; and since its
-/// gaps are kept, one more for each interframe gap beside that.
+/// Whatever a sender hears, it has at most one row, and one more for each preamble and start frame delimiter; and since
+/// its gaps are kept, one more for each interframe gap beside that.
 pub fn sendings_are_few()
     ensures gaps { (s : Sender) (heard : List Sym) → IsSender s → s.t + length heard ≤ 2000000000 →
         length (sending_bodies s heard) ≤ 1 + length heard / least_turn }
@@ -63,8 +63,8 @@ pub fn sendings_are_few()
         length (sending_bodies s heard) ≤ 1 + length heard / preamble_length }
 {}
 
-/// What n half bits can need of a receiver in any state is at most one known demand, and of a sender too; and of what n + 1
-/// half bits can need, the first one leaves what n can need when what happens in it is taken.
+/// What n half bits can need of a receiver in any state is at most one known demand, and of a sender too; and of what n
+/// + 1 half bits can need, the first one leaves what n can need when what happens in it is taken.
 pub fn room_is_paid()
     ensures any { (most h n : ℕ) → IsDemandWithin (reception_demand most h n) (window_demand most n) }
     ensures any_sender { (s : Sender) (n : ℕ) → (sender_demand n s).rows ≤ 1 + n / preamble_length }
@@ -87,10 +87,10 @@ pub fn stations_need_little()
         (stations_demand n senders receivers) (demand_times (length receivers) (station_demand most n)) }
 {}
 
-/// Whatever its ports hear, of the rows that n + 1 half bits can give of a repeater the first one leaves what n can give when
-/// its own rows are taken; and in any state they are at most a known number: for each port two partitions and reconnections, and
-/// one more for each half of the reconnection's clean run, and one halt, and one more for each unbroken output; and one collision
-/// that begins, and one more for each fragment extension.
+/// Whatever its ports hear, of the rows that n + 1 half bits can give of a repeater the first one leaves what n can
+/// give when its own rows are taken; and in any state they are at most a known number: for each port two partitions and
+/// reconnections, and one more for each half of the reconnection's clean run, and one halt, and one more for each
+/// unbroken output; and one collision that begins, and one more for each fragment extension.
 pub fn repeater_rows_are_few()
     ensures paid { (r : State) (heard : List Sym) (n : ℕ) →
         repeater_rows_left n (after heard r) + length (repeater_bodies heard r) ≤ repeater_rows_left (suc n) r }

@@ -21,14 +21,15 @@ use mac_parameters::{
 use mac_receive::Receiver;
 use manchester_line::Sym;
 
-/// The half bits of the shortest reception of a frame: the end of the start frame delimiter and the least frame (3.2.2, 4.4.2).
+/// The half bits of the shortest reception of a frame: the end of the start frame delimiter and the least frame (3.2.2,
+/// 4.4.2).
 const LEAST_RECEPTION: u32 = HALF_BITS_AN_OCTET * LEAST_FRAME + 2 * HALF_BITS_A_BIT;
 
 /// Half of the half bits from one partition of a port to the next, at least (profile).
 const GUARD_TURN: u32 = RECONNECTION / 2;
 
-/// Makes room for `n` half bits of so many stations with frames of at most `most` octets before the check sequence, in whatever
-/// state they are and whatever they hear. Nothing is lost, whether there is memory or not.
+/// Makes room for `n` half bits of so many stations with frames of at most `most` octets before the check sequence, in
+/// whatever state they are and whatever they hear. Nothing is lost, whether there is memory or not.
 pub fn reserve_stations(
     room: &mut RowRoom,
     stations: usize,
@@ -48,8 +49,8 @@ pub fn reserve_stations(
     room.reserve(rows, frames, octets)
 }
 
-/// Makes room for `n` half bits of a repeater of so many ports, in whatever state it is and whatever its ports hear. Nothing is
-/// lost, whether there is memory or not.
+/// Makes room for `n` half bits of a repeater of so many ports, in whatever state it is and whatever its ports hear.
+/// Nothing is lost, whether there is memory or not.
 pub fn reserve_repeater(room: &mut RowRoom, ports: usize, n: u32) -> Result<(), OutOfMemory>
     ensures same { SameLists room.old room.new }
     ensures kept { KeepsRoom 0 0 0 room.old room.new }
@@ -101,8 +102,8 @@ fn capture_event(room: &mut RowRoom, station: usize, t: u64, event: Option<Body>
     }
 }
 
-/// Logs what happened to a station's receiver in half bit `t`, and captures the frame that was received in it, whose octets
-/// these are. The station is counted among those of the room, the device among all.
+/// Logs what happened to a station's receiver in half bit `t`, and captures the frame that was received in it, whose
+/// octets these are. The station is counted among those of the room, the device among all.
 pub fn keep_reception(
     room: &mut RowRoom,
     station: usize,
@@ -123,8 +124,8 @@ pub fn keep_reception(
     capture_event(room, station, t, event, octets);
 }
 
-/// Half bit `t` of a station's receiver, in which this symbol is heard and its station sends or doesn't. With the room that one
-/// half bit can need it takes no memory, and leaves what the later ones can need, beside any other demand.
+/// Half bit `t` of a station's receiver, in which this symbol is heard and its station sends or doesn't. With the room
+/// that one half bit can need it takes no memory, and leaves what the later ones can need, beside any other demand.
 pub fn receive_one(
     receiver: &mut Receiver,
     room: &mut RowRoom,
@@ -156,8 +157,9 @@ pub fn receive_one(
     keep_reception(room, station, t, device, event, receiver.octets());
 }
 
-/// The half bits from `t` on of a station's receiver, in which these symbols are heard while its station sends all the time or not
-/// at all. With the room that so many half bits can need it takes no memory, and leaves what the later ones can need.
+/// The half bits from `t` on of a station's receiver, in which these symbols are heard while its station sends all the
+/// time or not at all. With the room that so many half bits can need it takes no memory, and leaves what the later ones
+/// can need.
 pub fn receive_window(
     receiver: &mut Receiver,
     room: &mut RowRoom,

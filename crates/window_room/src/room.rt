@@ -11,7 +11,8 @@ use std::alloc::Global;
 use std::marker::Model;
 
 /// The rows of a part and the captures of its stations, and room for those of a window. Stations count from 0 among the
-/// stations of the part. What comes in a window lies in the room until `settle`, or a `reserve` for which the room is too small, moves it into lists.
+/// stations of the part. What comes in a window lies in the room until `settle`, or a `reserve` for which the room is
+/// too small, moves it into lists.
 #[derive(Drop)]
 pub struct RowRoom {
     rows: WindowRows,
@@ -47,8 +48,8 @@ impl RowRoom {
         })
     }
 
-    /// Moves the rows and frames out of the room of a window into the lists that are handed out. Nothing is lost, whether
-    /// there is memory or not.
+    /// Moves the rows and frames out of the room of a window into the lists that are handed out. Nothing is lost,
+    /// whether there is memory or not.
     pub fn settle(&mut self) -> Result<(), OutOfMemory>
         ensures same { SameLists self.old self.new }
         ensures kept { KeepsRoom 0 0 0 self.old self.new }
@@ -58,8 +59,8 @@ impl RowRoom {
         self.frames.settle()
     }
 
-    /// Makes room for so many more rows, frames, and octets of frames. Nothing is lost, whether there is memory or not. Where
-    /// there is room already, nothing is moved.
+    /// Makes room for so many more rows, frames, and octets of frames. Nothing is lost, whether there is memory or not.
+    /// Where there is room already, nothing is moved.
     pub fn reserve(&mut self, rows: usize, frames: usize, octets: usize) -> Result<(), OutOfMemory>
         ensures same { SameLists self.old self.new }
         ensures kept { KeepsRoom 0 0 0 self.old self.new }
@@ -83,8 +84,8 @@ impl RowRoom {
         self.rows.push(row)
     }
 
-    /// Puts a frame whose reception ended at half bit `t`, without its frame check sequence, at the end of what this station
-    /// captured.
+    /// Puts a frame whose reception ended at half bit `t`, without its frame check sequence, at the end of what this
+    /// station captured.
     #[tactic(auto, using(crate::proofs::StationCaptures::length_with))]
     pub fn capture(&mut self, station: usize, t: u64, octets: &[u8])
         requires station { station < length self.old.captures }
