@@ -14,7 +14,7 @@ use crate::places::{Place, places_of, taps_of};
 use crate::relay::Relay;
 use crate::rows::{log_all, log_cut};
 use crate::segment::Segment;
-use crate::settling::{delays_of, reaches_of, settled_after};
+use crate::settling::Settling;
 use crate::states::{all_idle, all_still, guards_of, none_sends, rests_of, states_of};
 use collision_log::{Body, Rows};
 use lists::OutOfMemory;
@@ -39,8 +39,7 @@ const NOTHING: RepeaterEvents = RepeaterEvents {
 
 /// A network, stepped half bit by half bit: its stations' senders and receivers, its repeaters and its segments.
 /// `heard` and `row` have a symbol for each tap, the stations' taps first; `emitted` has one for each station, and
-/// `port_emitted` and `decided` one for each port. `reaches` has for each tap the half bits to the farthest other tap,
-/// `delays` the delay of each port, and from half bit `settled` on all signals so far are over.
+/// `port_emitted` and `decided` one for each port. `settling` knows from when on all signals so far are over.
 #[derive(Drop)]
 pub struct PlainNet {
     alloc: Global,
@@ -60,9 +59,7 @@ pub struct PlainNet {
     events: Vec<RepeaterEvents>,
     rows: Rows,
     captures: Vec<TakenList>,
-    reaches: Vec<u32>,
-    delays: Vec<u32>,
-    settled: u64,
+    settling: Settling,
 }
 
 impl Model for PlainNet {
@@ -71,9 +68,9 @@ impl Model for PlainNet {
 
     ghost Value = { KeptNet };
 
-    ghost view = { λ p. record { t = p.t; senders = p.senders.items; receivers = p.receivers.items; repeaters = p.relays.items; wires = p.segments.items; places = p.places.items; rows = p.rows; captures = p.captures.items; reaches = p.reaches.items; delays = p.delays.items; settled = p.settled } };
+    ghost view = { λ p. record { t = p.t; senders = p.senders.items; receivers = p.receivers.items; repeaters = p.relays.items; wires = p.segments.items; places = p.places.items; rows = p.rows; captures = p.captures.items; reaches = p.settling.reaches.items; delays = p.settling.delays.items; settled = p.settling.settled } };
 
-    ghost invariant = { λ p. IsWhole (record { t = p.t; senders = p.senders.items; receivers = p.receivers.items; repeaters = p.relays.items; wires = p.segments.items; places = p.places.items; rows = p.rows; captures = p.captures.items; reaches = p.reaches.items; delays = p.delays.items; settled = p.settled })
+    ghost invariant = { λ p. IsWhole (record { t = p.t; senders = p.senders.items; receivers = p.receivers.items; repeaters = p.relays.items; wires = p.segments.items; places = p.places.items; rows = p.rows; captures = p.captures.items; reaches = p.settling.reaches.items; delays = p.settling.delays.items; settled = p.settling.settled })
         (length p.heard.items) (length p.emitted.items) (length p.port_emitted.items) (length p.decided.items) (length p.row.items) (length p.sent.items) (length p.received.items) (length p.events.items) };
 }
 
@@ -169,9 +166,7 @@ impl PlainNet {
             events: vec![in alloc; NOTHING; relays.len()]?,
             rows: logs.0,
             captures: logs.1,
-            reaches: reaches_of(alloc, &taps)?,
-            delays: delays_of(alloc, &relays)?,
-            settled: 0,
+            settling: Settling::new(alloc, &taps, &relays)?,
             relays,
         })
     }
@@ -239,9 +234,8 @@ impl PlainNet {
         ensures { OnOk result (IsNextKept self.old self.new) }
     {
         let t = self.t;
-        let stations = self.senders.len();
         hear_all(&self.segments, &self.places, &mut self.heard);
-        let (heard, ports_heard) = self.heard.split_at(stations);
+        let (heard, ports_heard) = self.heard.split_at(self.senders.len());
         step_stations(
             t,
             &mut self.senders,
@@ -260,14 +254,7 @@ impl PlainNet {
         );
         join(&self.emitted, &self.port_emitted, &mut self.row);
         carry_all(&mut self.segments, &self.row);
-        self.settled = settled_after(
-            self.settled,
-            t,
-            &self.reaches,
-            &self.row,
-            &self.delays,
-            &self.decided,
-        );
+        self.settling.pass(t, &self.row, &self.decided);
         self.t = t + 1;
         log_all(
             t,
@@ -296,12 +283,12 @@ impl PlainNet {
         self.go_on()
     }
 
-    /// Whether the half bit that the next step makes is quiet: nothing is under way at any device, on any cable or in any
-    /// repeater's delay.
+    /// Whether the half bit that the next step makes is quiet: nothing is under way at any device, on any cable or in
+    /// any repeater's delay.
     pub fn quiet(&self) -> bool
         ensures { (n : Net) → Stands n self.now → IsTrue result ↔ IsQuietAsKept n }
     {
-        if self.t < self.settled {
+        if self.t < self.settling.settled {
             return false;
         }
         if !none_sends(&self.senders) || !all_still(&self.receivers) {

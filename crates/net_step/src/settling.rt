@@ -25,7 +25,7 @@ fn reach_over(here: PortLine, taps: &[PortLine]) -> u32
 }
 
 /// The same of each of these taps, over all of them.
-pub fn reaches_of(alloc: Global, taps: &[PortLine]) -> Result<Vec<u32>, OutOfMemory>
+fn reaches_of(alloc: Global, taps: &[PortLine]) -> Result<Vec<u32>, OutOfMemory>
     ensures { IfOk result (λ reaches. reaches.items ≡ map (λ x. reach_over x taps.now) taps.now) }
 {
     let mut reaches = Vec::new(alloc);
@@ -36,7 +36,7 @@ pub fn reaches_of(alloc: Global, taps: &[PortLine]) -> Result<Vec<u32>, OutOfMem
 }
 
 /// The delay of each port of these repeaters.
-pub fn delays_of(alloc: Global, relays: &[Relay]) -> Result<Vec<u32>, OutOfMemory>
+fn delays_of(alloc: Global, relays: &[Relay]) -> Result<Vec<u32>, OutOfMemory>
     ensures { IfOk result (λ delays. delays.items ≡ line_delays relays.now) }
 {
     let mut delays = Vec::new(alloc);
@@ -59,8 +59,8 @@ fn symbol_over(t: u64, need: u32, symbol: Sym) -> u64
     }
 }
 
-/// The half bit from which on the signals of a row that is sent in half bit `t` are over, where each symbol needs so many
-/// half bits; 0 where there is none.
+/// The half bit from which on the signals of a row that is sent in half bit `t` are over, where each symbol needs so
+/// many half bits; 0 where there is none.
 fn over_from(t: u64, needs: &[u32], row: &[Sym]) -> u64
     requires { t < 2000000000 }
     ensures { result ≡ over_from t needs.now row.now }
@@ -72,20 +72,42 @@ fn over_from(t: u64, needs: &[u32], row: &[Sym]) -> u64
     from
 }
 
-/// From which half bit on all signals are over, where those before half bit `t` are from `settled` on, and in it the
-/// taps emit one row and the other is decided for the ports.
-pub fn settled_after(
-    settled: u64,
-    t: u64,
-    reaches: &[u32],
-    emitted: &[Sym],
-    delays: &[u32],
-    decided: &[Sym],
-) -> u64
-    requires { t < 2000000000 }
-    ensures { result ≡ max (max settled (over_from t reaches.now emitted.now)) (over_from t delays.now decided.now) }
-{
-    settled
-        .max(over_from(t, reaches, emitted))
-        .max(over_from(t, delays, decided))
+/// From when on the signals so far are over. `reaches` has for each tap the half bits to the farthest other tap,
+/// `delays` the delay of each port, and from half bit `settled` on all signals so far are over.
+#[derive(Drop)]
+pub struct Settling {
+    pub reaches: Vec<u32>,
+    pub delays: Vec<u32>,
+    pub settled: u64,
+}
+
+impl Settling {
+    ghost use Rattle.std.specs.Prelude.{◌≡◌, ◌<◌, max, map, IfOk};
+    ghost use Rattle.net_step.specs.KeptNet.{over_from};
+    ghost use Rattle.quiet_state.specs.LastSignals.{reach_over, line_delays};
+
+    /// Of these taps and repeaters before the first signal.
+    pub fn new(alloc: Global, taps: &[PortLine], relays: &[Relay]) -> Result<Settling, OutOfMemory>
+        ensures reaches { IfOk result (λ made. made.reaches.items ≡ map (λ x. reach_over x taps.now) taps.now) }
+        ensures delays { IfOk result (λ made. made.delays.items ≡ line_delays relays.now) }
+        ensures settled { IfOk result (λ made. made.settled ≡ 0) }
+    {
+        Ok(Settling {
+            reaches: reaches_of(alloc, taps)?,
+            delays: delays_of(alloc, relays)?,
+            settled: 0,
+        })
+    }
+
+    /// Takes in the signals of half bit `t`, in which the taps emit one row and the other is decided for the ports.
+    pub fn pass(&mut self, t: u64, emitted: &[Sym], decided: &[Sym])
+        requires { t < 2000000000 }
+        ensures reaches { self.new.reaches ≡ self.old.reaches }
+        ensures delays { self.new.delays ≡ self.old.delays }
+        ensures settled { self.new.settled ≡ max (max self.old.settled (over_from t self.old.reaches.items emitted.now)) (over_from t self.old.delays.items decided.now) }
+    {
+        let taps_over = over_from(t, &self.reaches, emitted);
+        let ports_over = over_from(t, &self.delays, decided);
+        self.settled = self.settled.max(taps_over).max(ports_over);
+    }
 }

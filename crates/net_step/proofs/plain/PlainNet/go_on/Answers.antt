@@ -85,7 +85,7 @@ returns c =
     let row = with_items_is q.row c.join.new.row (search rules) in
     let segments = with_items_is q.segments c.carry_all.new.segments (search rules) in
     let captures = with_items_is q.captures c.capture_all.new.captures (search rules) in
-    let first : KeptNet = record { t = q.t; senders = q.senders.items; receivers = q.receivers.items; repeaters = q.relays.items; wires = q.segments.items; places = q.places.items; rows = q.rows; captures = q.captures.items; reaches = q.reaches.items; delays = q.delays.items; settled = q.settled } in
+    let first : KeptNet = record { t = q.t; senders = q.senders.items; receivers = q.receivers.items; repeaters = q.relays.items; wires = q.segments.items; places = q.places.items; rows = q.rows; captures = q.captures.items; reaches = q.settling.reaches.items; delays = q.settling.delays.items; settled = q.settling.settled } in
     let last : KeptNet = record {
       t = q.t + 1;
       senders = (with_items q.senders c.step_stations.new.senders).items;
@@ -95,26 +95,28 @@ returns c =
       places = q.places.items;
       rows = c.log_all.new.rows;
       captures = (with_items q.captures c.capture_all.new.captures).items;
-      reaches = q.reaches.items;
-      delays = q.delays.items;
-      settled = c.settled_after-self-inside.result;
+      reaches = c.pass.new.self.reaches.items;
+      delays = c.pass.new.self.delays.items;
+      settled = c.pass.new.self.settled;
     } in
-    let stations : c.len-stations.result ≡ length q.senders.items = search rules in
+    let stations : c.len.result ≡ length q.senders.items = search rules in
     let all : c.deref-3.result.now ≡ map (heard_at_place q.segments.items) q.places.items =
     c.deref-3.ensures.value ∙ heard ∙ c.hear_all.ensures ∙ ap₂ (λ (ws : List Wire) (at : List Place). map (heard_at_place ws) at) c.deref.ensures.value c.deref-2.ensures.value in
     let stations_hear : hs ≡ stations_hear_kept first = c.split_at.ensures.front ∙ ap₂ (λ n (xs : List Sym). take n xs) stations all in
     let ports_hear : ps ≡ ports_hear_kept first = c.split_at.ensures.back ∙ ap₂ (λ n (xs : List Sym). drop n xs) stations all in
-    let many : length c.deref-11.result.now ≡ length q.senders.items = ap length (c.deref-11.ensures.value ∙ sent) ∙ c.step_stations.auto.sent ∙ ap length c.deref_mut-5.ensures.value ∙ c.self.invariant.sending in
+    let many : length c.deref-9.result.now ≡ length q.senders.items = ap length (c.deref-9.ensures.value ∙ sent) ∙ c.step_stations.auto.sent ∙ ap length c.deref_mut-5.ensures.value ∙ c.self.invariant.sending in
     let outcomes : sendings hs c.deref_mut-2.result.now ≡ sendings hs q.senders.items = ap (sendings hs) c.deref_mut-2.ensures.value in
-    let settled : c.settled_after-self-inside.result ≡ max (max q.settled (over_from q.t q.reaches.items (es ++ pes))) (over_from q.t q.delays.items c.relay_all.new.decided) =
-    c.settled_after-self-inside.ensures
-    ∙ ap₂ (λ m n. max (max q.settled m) n)
-    (ap₂ (over_from q.t) c.deref-7.ensures.value (c.deref-8.ensures.value ∙ row ∙ c.join.ensures ∙ ap₂ (λ (xs ys : List Sym). xs ++ ys) (c.deref-4.ensures.value ∙ emitted) (c.deref-5.ensures.value ∙ port_emitted)))
-    (ap₂ (over_from q.t) c.deref-9.ensures.value (c.deref-10.ensures.value ∙ decided)) in
+    let settled : c.pass.new.self.settled ≡ max (max q.settling.settled (over_from q.t q.settling.reaches.items (es ++ pes))) (over_from q.t q.settling.delays.items c.relay_all.new.decided) =
+    c.pass.ensures.settled
+    ∙ ap₂ (λ m n. max (max q.settling.settled m) n)
+    (ap (over_from q.t q.settling.reaches.items) (c.deref-7.ensures.value ∙ row ∙ c.join.ensures ∙ ap₂ (λ (xs ys : List Sym). xs ++ ys) (c.deref-4.ensures.value ∙ emitted) (c.deref-5.ensures.value ∙ port_emitted)))
+    (ap (over_from q.t q.settling.delays.items) (c.deref-8.ensures.value ∙ decided)) in
+    let reaches : c.pass.new.self.reaches.items ≡ q.settling.reaches.items = search rules in
+    let delays : c.pass.new.self.delays.items ≡ q.settling.delays.items = search rules in
     let counts : map (λ (x : State). length x.guards) last.repeaters ≡ map (λ (x : State). length x.guards) q.relays.items =
     kept_of (map (λ (x : State). length x.guards)) relays c.relay_all.ensures.ports c.deref_mut-7.ensures.value in
     let bodies = all_told c.relay_all.new.relays c.relay_all.new.events in
-    let goes : (c.capture_all.new.captures ≡ captured q.t c.deref-15.result.now (map kept_octets c.deref-16.result.now) c.deref_mut-13.result.now) → IsNextKept first last = λ kept.
+    let goes : (c.capture_all.new.captures ≡ captured q.t c.deref-13.result.now (map kept_octets c.deref-14.result.now) c.deref_mut-13.result.now) → IsNextKept first last = λ kept.
     goes_on first last hs ps es pes c.step_stations.new.sent os bodies stations_hear ports_hear refl
     (senders ∙ c.step_stations.ensures.states ∙ ap (map (λ (o : SendOutcome). o.state)) outcomes)
     (c.step_stations.ensures.emitted ∙ ap (map (λ (o : SendOutcome). o.emitted)) outcomes)
@@ -124,15 +126,15 @@ returns c =
     (relays ∙ c.relay_all.ensures.states ∙ ap (each_repeater after ps) c.deref_mut-7.ensures.value)
     (c.relay_all.ensures.emitted ∙ ap (flat_map emitted_by) c.deref_mut-7.ensures.value)
     (segments ∙ c.carry_all.ensures ∙ ap₂ (λ (xs : List Sym) (ws : List Wire). map (carried xs) ws) (c.deref-6.ensures.value ∙ row ∙ c.join.ensures ∙ ap₂ (λ (xs ys : List Sym). xs ++ ys) (c.deref-4.ensures.value ∙ emitted) (c.deref-5.ensures.value ∙ port_emitted)) c.deref_mut-12.ensures.value)
-    refl counts refl refl c.relay_all.new.decided
+    refl counts reaches delays c.relay_all.new.decided
     (c.relay_all.ensures.decided ∙ ap (λ (rs : List State). flat_map (λ (symbols : List Sym). symbols) (each_repeater decided_by ps rs)) c.deref_mut-7.ensures.value)
     settled
     (c.relay_all.ensures.bodies ∙ ap (each_repeater repeater_bodies ps) c.deref_mut-7.ensures.value)
     (c.in_ok-log_all.ensures
-    ∙ ap₂ (λ (xs : List Row) (bs : List (List Body)). xs ++ repeater_rows q.t (length c.deref-11.result.now) bs)
-    (ap₂ (λ (s r : List (Option Body)). q.rows ++ rows_of q.t 0 s r) (c.deref-11.ensures.value ∙ sent) (c.deref-12.ensures.value ∙ received))
-    (ap₂ all_told (c.deref-13.ensures.value ∙ relays) (c.deref-14.ensures.value ∙ events))
+    ∙ ap₂ (λ (xs : List Row) (bs : List (List Body)). xs ++ repeater_rows q.t (length c.deref-9.result.now) bs)
+    (ap₂ (λ (s r : List (Option Body)). q.rows ++ rows_of q.t 0 s r) (c.deref-9.ensures.value ∙ sent) (c.deref-10.ensures.value ∙ received))
+    (ap₂ all_told (c.deref-11.ensures.value ∙ relays) (c.deref-12.ensures.value ∙ events))
     ∙ ap (λ n. (q.rows ++ rows_of q.t 0 c.step_stations.new.sent os) ++ repeater_rows q.t n bodies) many)
-    (captures ∙ kept ∙ ap₂ (λ (o : List (Option Body)) (k : List Kept). captured q.t o (map kept_octets k) c.deref_mut-13.result.now) (c.deref-15.ensures.value ∙ received) c.deref-16.ensures.value ∙ ap (captured q.t os (map kept_octets last.receivers)) c.deref_mut-13.ensures.value) in
-    let moved : (c.capture_all.new.captures ≡ captured q.t c.deref-15.result.now (map kept_octets c.deref-16.result.now) c.deref_mut-13.result.now) → IsNextKept c.args.self.now last = λ kept. subst (λ k. IsNextKept k last) c.self.view_is (goes kept) in
+    (captures ∙ kept ∙ ap₂ (λ (o : List (Option Body)) (k : List Kept). captured q.t o (map kept_octets k) c.deref_mut-13.result.now) (c.deref-13.ensures.value ∙ received) c.deref-14.ensures.value ∙ ap (captured q.t os (map kept_octets last.receivers)) c.deref_mut-13.ensures.value) in
+    let moved : (c.capture_all.new.captures ≡ captured q.t c.deref-13.result.now (map kept_octets c.deref-14.result.now) c.deref_mut-13.result.now) → IsNextKept c.args.self.now last = λ kept. subst (λ k. IsNextKept k last) c.self.view_is (goes kept) in
     search rules

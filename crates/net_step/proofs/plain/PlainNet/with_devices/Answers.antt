@@ -1,4 +1,4 @@
-use Rattle.std.proofs.Common.{◌≡◌, ◌-◌, ◌≤◌, All, List, length, map, refl, sym, subst, ap, ap₂, ◌∙◌, arith, rules}
+use Rattle.std.proofs.Common.{◌≡◌, ◌-◌, ◌≤◌, All, List, length, map, sym, subst, ap, ap₂, ◌∙◌, arith, rules}
 use Rattle.std.specs.List.{range_with_len}
 use Rattle.layout.specs.declared.lines.PortLine.{PortLine}
 use Rattle.layout.specs.Taps.{taps_of}
@@ -28,8 +28,8 @@ invariant_of-result c =
     let many : length c.in_ok-taps.taps.items ≡ length (taps_of l) = ap length all in
     let wires : c.in_ok-new_segments.field-0.items ≡ map (new_wire (taps_of l)) (range_with_len 0 (length l.segments)) = c.in_ok-new_segments.ensures ∙ ap₂ (λ n (ts : List PortLine). map (new_wire ts) (range_with_len 0 n)) c.len.ensures (c.deref.ensures.value ∙ all) in
     let places : c.in_ok-places_of.field-0.items ≡ places_from 0 (taps_of l) (taps_of l) = c.in_ok-places_of.ensures ∙ ap (λ ts. places_from 0 ts ts) (c.deref-2.ensures.value ∙ all) in
-    let reaches : c.in_ok-reaches_of.field-0.items ≡ map (λ x. reach_over x (taps_of l)) (taps_of l) = c.in_ok-reaches_of.ensures ∙ ap (λ (ts : List PortLine). map (λ (x : PortLine). reach_over x ts) ts) (c.deref-3.ensures.value ∙ all) in
-    let delays : c.in_ok-delays_of.field-0.items ≡ line_delays c.args.relays.items = search rules in
+    let reaches : c.in_ok-new.field-0.reaches.items ≡ map (λ x. reach_over x (taps_of l)) (taps_of l) = c.in_ok-new.ensures.reaches ∙ ap (λ (ts : List PortLine). map (λ (x : PortLine). reach_over x ts) ts) (c.deref-3.ensures.value ∙ all) in
+    let delays : c.in_ok-new.field-0.delays.items ≡ line_delays c.args.relays.items = search rules in
     let heard_len : length c.in_ok-vec.field-0.items ≡ length c.in_ok-taps.taps.items = search rules in
     let heard : length c.in_ok-vec.field-0.items ≡ length (taps_of l) = heard_len ∙ many in
     let emitted : length c.in_ok-vec-2.field-0.items ≡ length l.stations = search rules in
@@ -42,7 +42,7 @@ invariant_of-result c =
     let sent : length c.in_ok-vec-6.field-0.items ≡ length l.stations = search rules in
     let received : length c.in_ok-vec-7.field-0.items ≡ length l.stations = search rules in
     let events : length c.in_ok-vec-8.field-0.items ≡ length c.args.relays.items = search rules in
-    whole_silent plan _ _ _ _ _ _ _ _ _ (runnable_plan plan) (record { wires = wires; places = places; reaches = reaches; delays = delays; settled = refl })
+    whole_silent plan _ _ _ _ _ _ _ _ _ (runnable_plan plan) (record { wires = wires; places = places; reaches = reaches; delays = delays; settled = c.in_ok-new.ensures.settled })
     c.requires.senders c.requires.receivers c.requires.captures c.requires.ports heard emitted ports decided row sent received events c.requires.times c.requires.steps
 
 pub returns-clause-silent : goal.returns-clause-silent
@@ -51,6 +51,6 @@ returns-clause-silent c =
     let all : c.in_ok-taps.taps.items ≡ taps_of l = c.in_ok-taps.ensures in
     let wires : c.in_ok-new_segments.field-0.items ≡ map (new_wire (taps_of l)) (range_with_len 0 (length l.segments)) = c.in_ok-new_segments.ensures ∙ ap₂ (λ n (ts : List PortLine). map (new_wire ts) (range_with_len 0 n)) c.len.ensures (c.deref.ensures.value ∙ all) in
     let places : c.in_ok-places_of.field-0.items ≡ places_from 0 (taps_of l) (taps_of l) = c.in_ok-places_of.ensures ∙ ap (λ ts. places_from 0 ts ts) (c.deref-2.ensures.value ∙ all) in
-    let reaches : c.in_ok-reaches_of.field-0.items ≡ map (λ x. reach_over x (taps_of l)) (taps_of l) = c.in_ok-reaches_of.ensures ∙ ap (λ (ts : List PortLine). map (λ (x : PortLine). reach_over x ts) ts) (c.deref-3.ensures.value ∙ all) in
-    let delays : c.in_ok-delays_of.field-0.items ≡ line_delays c.args.relays.items = search rules in
-    record { wires = wires; places = places; reaches = reaches; delays = delays; settled = refl }
+    let reaches : c.in_ok-new.field-0.reaches.items ≡ map (λ x. reach_over x (taps_of l)) (taps_of l) = c.in_ok-new.ensures.reaches ∙ ap (λ (ts : List PortLine). map (λ (x : PortLine). reach_over x ts) ts) (c.deref-3.ensures.value ∙ all) in
+    let delays : c.in_ok-new.field-0.delays.items ≡ line_delays c.args.relays.items = search rules in
+    record { wires = wires; places = places; reaches = reaches; delays = delays; settled = c.in_ok-new.ensures.settled }
