@@ -1,5 +1,5 @@
 -- What the lines of one name say, station and repeater together, and how figures come from it (profile).
-use Rattle.std.specs.Prelude.{◌≡◌, ℕ, ◌+◌, max, Bool, true, false, if◌then◌else◌, List, [], ◌∷◌, filter, flat_map, unwrap_or}
+use Rattle.std.specs.Prelude.{◌≡◌, ℕ, ◌+◌, max, Bool, true, false, not, ◌||◌, if◌then◌else◌, List, [], ◌∷◌, filter, flat_map, unwrap_or}
 use Rattle.std.specs.Borrow.{Bor}
 use Rattle.std.specs.BTreeMap.{BTreeMap, get_by}
 use Rattle.std.specs.Cmp.Lexicographic.{slice_cmp}
@@ -9,6 +9,7 @@ use Rattle.std.specs.Str.{bytes_eq}
 use Rattle.collision_log.specs.declared.row.Body.{Body}
 use Rattle.collision_log.specs.declared.row.Body.TheVariants.{Sent, Collided, GivenUp, Cut, Received, Dropped, Clash, Closed, Opened, Halted}
 use Rattle.log_meter.specs.Figures.{collided_share, kind_count, is_clash, is_closed, is_collided, is_cut, is_dropped, is_given_up, is_halted, is_of_repeater_named, is_of_station, is_opened, is_received, is_sent_body, longest_row, senders, sending_time, sending_times}
+use Rattle.log_meter.specs.Lines.{is_of_repeater}
 use Rattle.log_meter.specs.declared.device_figures.RepeaterFigures.{RepeaterFigures}
 use Rattle.log_meter.specs.declared.device_figures.StationFigures.{StationFigures}
 use Rattle.log_meter.specs.declared.line.LogLine.{LogLine}
@@ -58,6 +59,16 @@ abbrev pub name_tally : List LogLine → List ℕ → Tally
 name_tally lines name =
     tally_from (list_any (is_of_station name) lines) (list_any (is_of_repeater_named name) lines)
     (filter (is_of_station name) lines) (filter (is_of_repeater_named name) lines) (longest_row name (senders lines))
+
+-- a tally with one more line of this body at t, so far as it tells of the kind of the device and of the time for which
+-- a sending went on
+abbrev pub with_device : Tally → ℕ → Body → Tally
+with_device tally t body =
+    record tally {
+      station = not (is_of_repeater body) || tally.station;
+      repeater = is_of_repeater body || tally.repeater;
+      half_bits = tally.half_bits + sending_time t body;
+    }
 
 -- a tally with one more line in front, at t, after which so many Sent lines in a row are of its name
 abbrev pub with_body : Tally → ℕ → Body → ℕ → Tally

@@ -1,7 +1,8 @@
 //! What the lines of one name say, summed up.
 ghost use Rattle.std.specs.Prelude.{◌≡◌, ◌+◌, ◌-◌, IfOk};
 ghost use Rattle.log_meter.specs.Figures.{collided_share, sending_time};
-ghost use Rattle.log_meter.specs.Tallies.{empty_tally, with_body};
+ghost use Rattle.log_meter.specs.Lines.{is_of_repeater};
+ghost use Rattle.log_meter.specs.Tallies.{empty_tally, with_body, with_device};
 
 use crate::LogLine;
 use collision_log::Body;
@@ -33,6 +34,16 @@ pub fn sum(a: u64, b: u64) -> Result<u64, OutOfMemory>
     a.checked_add(b).ok_or(OutOfMemory)
 }
 
+/// Whether this happens at a repeater.
+fn is_of_repeater(body: &Body) -> bool
+    ensures { result ≡ is_of_repeater body.now }
+{
+    match *body {
+        Body::Clash | Body::Closed { .. } | Body::Opened { .. } | Body::Halted { .. } => true,
+        _ => false,
+    }
+}
+
 /// For how many half bits a sending went on.
 fn sending_time(t: u64, body: &Body) -> u64
     ensures { result ≡ sending_time t body.now }
@@ -49,7 +60,7 @@ fn sending_time(t: u64, body: &Body) -> u64
 impl Tally {
     ghost use Rattle.std.specs.Prelude.{◌≡◌, ◌+◌, IfOk, true};
     ghost use Rattle.log_meter.specs.Figures.{collided_share, sending_time};
-    ghost use Rattle.log_meter.specs.Tallies.{empty_tally, with_body};
+    ghost use Rattle.log_meter.specs.Tallies.{empty_tally, with_body, with_device};
 
     /// No line has the name.
     pub fn new() -> Tally
@@ -73,13 +84,16 @@ impl Tally {
         }
     }
 
-    /// The tally of a station that sent something for so many half bits more.
-    fn sending(self, half_bits: u64) -> Result<Tally, OutOfMemory>
-        ensures { IfOk result (λ tally. tally ≡ record self { station = true; half_bits = self.half_bits + half_bits }) }
+    /// The tally with one more line of this body at `t`, so far as it tells of the kind of the device and of the time
+    /// for which a sending went on.
+    fn of_device(self, t: u64, body: &Body) -> Result<Tally, OutOfMemory>
+        ensures { IfOk result (λ tally. tally ≡ with_device self t body.now) }
     {
+        let repeater = is_of_repeater(body);
         Ok(Tally {
-            station: true,
-            half_bits: sum(self.half_bits, half_bits)?,
+            station: !repeater || self.station,
+            repeater: repeater || self.repeater,
+            half_bits: sum(self.half_bits, sending_time(t, body))?,
             ..self
         })
     }
@@ -88,49 +102,21 @@ impl Tally {
     pub fn with(self, line: &LogLine, row: u64) -> Result<Tally, OutOfMemory>
         ensures { IfOk result (λ tally. tally ≡ with_body self line.now.t line.now.body row) }
     {
-        let mut tally = self;
+        let mut tally = self.of_device(line.t, &line.body)?;
         match line.body {
             Body::Sent { .. } => {
-                tally = tally.sending(sending_time(line.t, &line.body))?;
                 tally.sent = sum(tally.sent, 1)?;
                 tally.longest = row.max(tally.longest);
             }
-            Body::Collided { .. } => {
-                tally = tally.sending(sending_time(line.t, &line.body))?;
-                tally.collided = sum(tally.collided, 1)?;
-            }
-            Body::GivenUp { .. } => {
-                tally = tally.sending(sending_time(line.t, &line.body))?;
-                tally.given_up = sum(tally.given_up, 1)?;
-            }
-            Body::Cut { .. } => {
-                tally = tally.sending(sending_time(line.t, &line.body))?;
-                tally.cut = sum(tally.cut, 1)?;
-            }
-            Body::Received { .. } => {
-                tally.station = true;
-                tally.received = sum(tally.received, 1)?;
-            }
-            Body::Dropped { .. } => {
-                tally.station = true;
-                tally.dropped = sum(tally.dropped, 1)?;
-            }
-            Body::Clash => {
-                tally.repeater = true;
-                tally.clash = sum(tally.clash, 1)?;
-            }
-            Body::Closed { .. } => {
-                tally.repeater = true;
-                tally.closed = sum(tally.closed, 1)?;
-            }
-            Body::Opened { .. } => {
-                tally.repeater = true;
-                tally.opened = sum(tally.opened, 1)?;
-            }
-            Body::Halted { .. } => {
-                tally.repeater = true;
-                tally.halted = sum(tally.halted, 1)?;
-            }
+            Body::Collided { .. } => tally.collided = sum(tally.collided, 1)?,
+            Body::GivenUp { .. } => tally.given_up = sum(tally.given_up, 1)?,
+            Body::Cut { .. } => tally.cut = sum(tally.cut, 1)?,
+            Body::Received { .. } => tally.received = sum(tally.received, 1)?,
+            Body::Dropped { .. } => tally.dropped = sum(tally.dropped, 1)?,
+            Body::Clash => tally.clash = sum(tally.clash, 1)?,
+            Body::Closed { .. } => tally.closed = sum(tally.closed, 1)?,
+            Body::Opened { .. } => tally.opened = sum(tally.opened, 1)?,
+            Body::Halted { .. } => tally.halted = sum(tally.halted, 1)?,
         }
         Ok(tally)
     }
