@@ -40,8 +40,8 @@ pub fn failed_runs_are_told()
     ensures silent { AreFailuresSilent }
 {}
 
-/// A form that only tells of a layout, `check` or `slack`, leaves a front of its text on the sink where it isn't done, and
-/// every file as at entry; with 5 a write to the sink failed. One that nothing hinders has the status 0 or 6.
+/// A form that only tells of a layout, `check` or `slack`, leaves a front of its text on the sink where it isn't done,
+/// and every file as at entry; with 5 a write to the sink failed. One that nothing hinders has the status 0 or 6.
 pub fn layouts_are_told()
     ensures failed { AreTellingsCutShort }
     ensures refused { AreTellingsRefused }
@@ -49,8 +49,8 @@ pub fn layouts_are_told()
     ensures complete { AreTellingsComplete }
 {}
 
-/// `demo` has the status 0, 5 or 6; where it isn't done it leaves a front of its text on the sink; with 5 a write to the sink
-/// failed, and without such a failure the status is 0 or 6. It leaves every file as at entry.
+/// `demo` has the status 0, 5 or 6; where it isn't done it leaves a front of its text on the sink; with 5 a write to
+/// the sink failed, and without such a failure the status is 0 or 6. It leaves every file as at entry.
 pub fn demos_are_told()
     ensures statuses { HaveDemosStatuses }
     ensures failed { AreDemosCutShort }
@@ -59,8 +59,8 @@ pub fn demos_are_told()
     ensures complete { AreDemosComplete }
 {}
 
-/// Status 7 comes exactly of a probe of a layout without fault that hasn't one of the taps, or else ends before the probe
-/// does, but for a failed read and want of memory, and its line is on the sink.
+/// Status 7 comes exactly of a probe of a layout without fault that hasn't one of the taps, or else ends before the
+/// probe does, but for a failed read and want of memory, and its line is on the sink.
 pub fn misses_decide()
     ensures said { AreMissesSaid }
     ensures only { DoMissesDecide }
@@ -72,8 +72,8 @@ pub fn probed_loads_decide()
     ensures absent { DoProbedAbsentLoadsDecide }
 {}
 
-/// `probe` and `waves` leave a front of their text on the sink where they aren't done, and every file as at entry; with 5 a write
-/// to the sink failed. One that nothing hinders has the status 0 or 6.
+/// `probe` and `waves` leave a front of their text on the sink where they aren't done, and every file as at entry; with
+/// 5 a write to the sink failed. One that nothing hinders has the status 0 or 6.
 pub fn probes_are_told()
     ensures failed { AreProbesCutShort }
     ensures refused { AreProbesRefused }
@@ -89,8 +89,8 @@ pub fn log_faults_decide()
     ensures absent { DoAbsentLogsDecide }
 {}
 
-/// `meter` leaves a front of its text on the sink where it isn't done, and every file as at entry; with 5 a write to the
-/// sink failed. One that nothing hinders has the status 0 or 6.
+/// `meter` leaves a front of its text on the sink where it isn't done, and every file as at entry; with 5 a write to
+/// the sink failed. One that nothing hinders has the status 0 or 6.
 pub fn meters_are_told()
     ensures failed { AreMetersCutShort }
     ensures refused { AreMetersRefused }
@@ -98,8 +98,8 @@ pub fn meters_are_told()
     ensures complete { AreMetersComplete }
 {}
 
-/// Status 11 comes exactly of a picture of a layout and a log without fault where a line of the log names what the layout
-/// lacks, but for a failed read and want of memory, and the first such line is on the sink.
+/// Status 11 comes exactly of a picture of a layout and a log without fault where a line of the log names what the
+/// layout lacks, but for a failed read and want of memory, and the first such line is on the sink.
 pub fn strangers_decide()
     ensures said { AreStrangersSaid }
     ensures only { DoStrangersDecide }
@@ -111,8 +111,8 @@ pub fn pictured_logs_decide()
     ensures absent { DoPicturedAbsentLogsDecide }
 {}
 
-/// `picture` leaves a front of its text on the sink where it isn't done, and every file as at entry; with 5 a write to the
-/// sink failed. One that nothing hinders has the status 0 or 6.
+/// `picture` leaves a front of its text on the sink where it isn't done, and every file as at entry; with 5 a write to
+/// the sink failed. One that nothing hinders has the status 0 or 6.
 pub fn pictures_are_told()
     ensures failed { ArePicturesCutShort }
     ensures refused { ArePicturesRefused }
@@ -120,26 +120,26 @@ pub fn pictures_are_told()
     ensures complete { ArePicturesComplete }
 {}
 
-/// Status 9 comes exactly of a stop of a layout and loads without fault whose run has no quiet half bit at or after FROM,
-/// but for a failed read and want of memory, and that is on the sink.
+/// Status 9 comes exactly of a stop of a layout and loads without fault whose run has no quiet half bit at or after
+/// FROM, but for a failed read and want of memory, and that is on the sink.
 pub fn unquiet_runs_decide()
     ensures said { AreUnquietSaid }
     ensures only { DoUnquietDecide }
 {}
 
-/// Status 10 comes exactly of a resume of a layout and loads without fault whose state has a fault, but for a failed read
-/// and want of memory, and its line is on the sink; status 4 then comes of a state that isn't held, but for want of
-/// memory.
+/// Status 10 comes exactly of a resume of a layout and loads without fault whose state has a fault, but for a failed
+/// read and want of memory, and its line is on the sink; status 4 then comes of a state that isn't held, but for want
+/// of memory.
 pub fn state_faults_decide()
     ensures said { AreStateFaultsSaid }
     ensures only { DoStateFaultsDecide }
     ensures absent { DoAbsentStatesDecide }
 {}
 
-/// Where `stop` or `resume` isn't done, of its files those before one are whole, that one is as it was or a front of its
-/// text, later ones are as at entry, and the sink got nothing; or all are whole, and the sink got a front of its text. With
-/// 5 all files are whole where no write to the store failed, and the sink is as at entry where no write to it did. One that
-/// nothing hinders has the status 0 or 6.
+/// Where `stop` or `resume` isn't done, of its files those before one are whole, that one is as it was or a front of
+/// its text, later ones are as at entry, and the sink got nothing; or all are whole, and the sink got a front of its
+/// text. With 5 all files are whole where no write to the store failed, and the sink is as at entry where no write to
+/// it did. One that nothing hinders has the status 0 or 6.
 pub fn stops_are_told()
     ensures failed { AreStopsBroken }
     ensures refused { AreStopsRefused }
@@ -148,7 +148,8 @@ pub fn stops_are_told()
     ensures complete { AreStopsComplete }
 {}
 
-/// `stop`, and then `resume` from what it left, both done and with the same layout and loads, leave what `plain` leaves.
+/// `stop`, and then `resume` from what it left, both done and with the same layout and loads, leave what `plain`
+/// leaves.
 pub fn stopped_runs_are_whole()
     ensures { AreStoppedRunsWhole }
 {}

@@ -69,8 +69,8 @@ fn read_lines<S: Store, K: Sink>(
     }
 }
 
-/// Draws what these lines of a log tell of the half bits from `from` on and before `to`, or says which line is the first
-/// that names what the layout lacks.
+/// Draws what these lines of a log tell of the half bits from `from` on and before `to`, or says which line is the
+/// first that names what the layout lacks.
 fn draw<K: Sink>(
     alloc: Global,
     network: &Layout,

@@ -25,8 +25,8 @@ use std::alloc::Global;
 use std::sync::Wait;
 use std::thread::Threads;
 
-/// Does what the words ask for. The forms `run` and `demo` may wait for other workers. The others are done by calls that take
-/// no runtime, and so return; words of no form too.
+/// Does what the words ask for. The forms `run` and `demo` may wait for other workers. The others are done by calls
+/// that take no runtime, and so return; words of no form too.
 pub fn run_words<X: Threads + Wait + Sync, S: Store, K: Sink, G: Gate>(
     rt: &X,
     alloc: Global,
@@ -40,72 +40,63 @@ pub fn run_words<X: Threads + Wait + Sync, S: Store, K: Sink, G: Gate>(
         (moment S.held S.read_faults S.write_faults K.written K.faults K.refused store.new out.new)
         result }
 {
-    match read_words(words) {
-        Some(Request::Check { layout }) => tell(alloc, Telling::Verdict, layout, store, out),
-        Some(Request::Slack { layout }) => tell(alloc, Telling::Slacks, layout, store, out),
-        Some(Request::Plain { layout, prefix }) => plain(alloc, layout, prefix, store, out),
-        Some(
-            Request::Run {
-                layout,
-                prefix,
-                workers,
-            },
-        ) => run(rt, alloc, layout, prefix, workers, gate, store, out),
-        Some(
-            Request::Stop {
-                layout,
-                prefix,
-                from,
-            },
-        ) => stop(alloc, layout, prefix, from, store, out),
-        Some(Request::Resume { layout, prefix }) => resume(alloc, layout, prefix, store, out),
-        Some(Request::Demo { number, workers }) => demo(rt, alloc, number, workers, gate, out),
-        Some(
-            Request::Probe {
-                hearing,
-                layout,
-                from,
-                to,
-                taps,
-            },
-        ) => probe(alloc, hearing, layout, from, to, taps, store, out),
-        Some(Request::Meter { log }) => meter(alloc, log, store, out),
-        Some(
-            Request::Picture {
-                layout,
-                log,
-                from,
-                to,
-            },
-        ) => picture(alloc, layout, log, from, to, store, out),
-        Some(Request::Help) => write_line(out, HELP.as_bytes()),
-        Some(Request::Version) => write_line(out, VERSION.as_bytes()),
-        None => {
-            say(out, WORDS_FAULT.as_bytes());
-            Ending::Words
-        }
+    let Some(request) = read_words(words) else {
+        say(out, WORDS_FAULT.as_bytes());
+        return Ending::Words;
+    };
+    match request {
+        Request::Check { layout } => tell(alloc, Telling::Verdict, layout, store, out),
+        Request::Slack { layout } => tell(alloc, Telling::Slacks, layout, store, out),
+        Request::Plain { layout, prefix } => plain(alloc, layout, prefix, store, out),
+        Request::Run {
+            layout,
+            prefix,
+            workers,
+        } => run(rt, alloc, layout, prefix, workers, gate, store, out),
+        Request::Stop {
+            layout,
+            prefix,
+            from,
+        } => stop(alloc, layout, prefix, from, store, out),
+        Request::Resume { layout, prefix } => resume(alloc, layout, prefix, store, out),
+        Request::Demo { number, workers } => demo(rt, alloc, number, workers, gate, out),
+        Request::Probe {
+            hearing,
+            layout,
+            from,
+            to,
+            taps,
+        } => probe(alloc, hearing, layout, from, to, taps, store, out),
+        Request::Meter { log } => meter(alloc, log, store, out),
+        Request::Picture {
+            layout,
+            log,
+            from,
+            to,
+        } => picture(alloc, layout, log, from, to, store, out),
+        Request::Help => write_line(out, HELP.as_bytes()),
+        Request::Version => write_line(out, VERSION.as_bytes()),
     }
 }
 
 /// The top call: does what the words ask for, and answers the program's status.
 ///
-/// `check LAYOUT` writes the path verdict of the layout to the sink, and `slack LAYOUT` that and how far each gap between
-/// neighbouring taps and each repeater's delay can grow. `plain LAYOUT PREFIX` runs the network of the layout with its
-/// loads by half bits, writes PREFIX.log, PREFIX.counters and a capture PREFIX.STATION.pcap for each station, and then
-/// the summary to the sink. `run LAYOUT PREFIX WORKERS` does the same by windows, on 1 to 64 workers.
-/// `stop LAYOUT PREFIX FROM` runs it by half bits to its first quiet half bit at or after FROM and writes the state there
-/// to PREFIX.state, and `resume LAYOUT PREFIX` goes on from that state and does as `plain`.
-/// `demo NUMBER WORKERS` runs the layout of demo of 1 to 128 so, and writes its size and the summary to the sink.
-/// `probe LAYOUT FROM TO TAP ..` runs the network by half bits and writes to the sink what 1 to 16 taps hear from half bit
-/// FROM on and before TO, as runs of one symbol and bursts, and `waves LAYOUT FROM TO TAP ..` the same as a value change
-/// dump. `meter LOG` writes the figures of a log to the sink, and `picture LAYOUT LOG FROM TO` what the log tells of the
-/// half bits from FROM on and before TO as a picture. `--help` and `--version` write a fixed text to the sink.
-/// LAYOUT, PREFIX and LOG have 1 to 200 octets, and a TAP 1 to 40; FROM is below TO, which is at most 2,000,000,000 and at
-/// most 1,000,000 more. The statuses are 0 for done, 1 for words of no form, 2 for a layout with a fault, 3 for a load
-/// with a fault, 4 for a file that can't be read, 5 for a failed write, 6 for want of memory, which alone is free, 7 for
-/// a tap that the layout hasn't or a TO past the run, 8 for a log with a fault, 9 for a run without a quiet half bit from
-/// FROM on, 10 for a state with a fault, and 11 for a log that names what the layout lacks. The forms `run` and `demo` may
-/// wait.
+/// `check LAYOUT` writes the path verdict of the layout to the sink, and `slack LAYOUT` that and how far each gap
+/// between neighbouring taps and each repeater's delay can grow. `plain LAYOUT PREFIX` runs the network of the layout
+/// with its loads by half bits, writes PREFIX.log, PREFIX.counters and a capture PREFIX.STATION.pcap for each station,
+/// and then the summary to the sink. `run LAYOUT PREFIX WORKERS` does the same by windows, on 1 to 64 workers. `stop
+/// LAYOUT PREFIX FROM` runs it by half bits to its first quiet half bit at or after FROM and writes the state there to
+/// PREFIX.state, and `resume LAYOUT PREFIX` goes on from that state and does as `plain`. `demo NUMBER WORKERS` runs the
+/// layout of demo of 1 to 128 so, and writes its size and the summary to the sink. `probe LAYOUT FROM TO TAP ..` runs
+/// the network by half bits and writes to the sink what 1 to 16 taps hear from half bit FROM on and before TO, as runs
+/// of one symbol and bursts, and `waves LAYOUT FROM TO TAP ..` the same as a value change dump. `meter LOG` writes the
+/// figures of a log to the sink, and `picture LAYOUT LOG FROM TO` what the log tells of the half bits from FROM on and
+/// before TO as a picture. `--help` and `--version` write a fixed text to the sink. LAYOUT, PREFIX and LOG have 1 to
+/// 200 octets, and a TAP 1 to 40; FROM is below TO, which is at most 2,000,000,000 and at most 1,000,000 more. The
+/// statuses are 0 for done, 1 for words of no form, 2 for a layout with a fault, 3 for a load with a fault, 4 for a
+/// file that can't be read, 5 for a failed write, 6 for want of memory, which alone is free, 7 for a tap that the
+/// layout hasn't or a TO past the run, 8 for a log with a fault, 9 for a run without a quiet half bit from FROM on, 10
+/// for a state with a fault, and 11 for a log that names what the layout lacks. The forms `run` and `demo` may wait.
 pub fn netsim<X: Threads + Wait + Sync, S: Store, K: Sink, G: Gate>(
     rt: &X,
     alloc: Global,
@@ -147,8 +138,8 @@ pub fn netsim<X: Threads + Wait + Sync, S: Store, K: Sink, G: Gate>(
         (moment S.held S.read_faults S.write_faults K.written K.faults K.refused store.old out.old)
         (moment S.held S.read_faults S.write_faults K.written K.faults K.refused store.new out.new)) }
 
-    // A demo is done: the sink got the size of the layout of that number and the summary of its run, and nothing else is
-    // changed.
+    // A demo is done: the sink got the size of the layout of that number and the summary of its run, and nothing else
+    // is changed.
     ensures demonstrated { result ≡ 0 → IfDemo (asked words.now) (λ number. IsDemoDone number
         (moment S.held S.read_faults S.write_faults K.written K.faults K.refused store.old out.old)
         (moment S.held S.read_faults S.write_faults K.written K.faults K.refused store.new out.new)) }
@@ -170,20 +161,21 @@ pub fn netsim<X: Threads + Wait + Sync, S: Store, K: Sink, G: Gate>(
         (moment S.held S.read_faults S.write_faults K.written K.faults K.refused store.old out.old)
         (moment S.held S.read_faults S.write_faults K.written K.faults K.refused store.new out.new)) }
 
-    // A picture is drawn: the sink got the picture of what the log held at entry tells of the half bits in the network of
-    // the layout held then, and nothing else is changed.
+    // A picture is drawn: the sink got the picture of what the log held at entry tells of the half bits in the network
+    // of the layout held then, and nothing else is changed.
     ensures pictured { result ≡ 0 → IfPicture (asked words.now) (λ layout log from to. IsPictureDone layout log from to
         (moment S.held S.read_faults S.write_faults K.written K.faults K.refused store.old out.old)
         (moment S.held S.read_faults S.write_faults K.written K.faults K.refused store.new out.new)) }
 
-    // A run is stopped: the file PREFIX.state is the text of the state of the network of the layout and the loads held at
-    // entry before its first quiet half bit at or after FROM, nothing else is changed, and the sink got that half bit.
+    // A run is stopped: the file PREFIX.state is the text of the state of the network of the layout and the loads held
+    // at entry before its first quiet half bit at or after FROM, nothing else is changed, and the sink got that half
+    // bit.
     ensures stopped { result ≡ 0 → IfStop (asked words.now) (λ layout prefix from. IsStopDone layout prefix from
         (moment S.held S.read_faults S.write_faults K.written K.faults K.refused store.old out.old)
         (moment S.held S.read_faults S.write_faults K.written K.faults K.refused store.new out.new)) }
 
-    // A run went on: the store holds the files of the run of that network that goes on from the state in PREFIX.state as
-    // held at entry, nothing else is changed, and the sink got that run's summary.
+    // A run went on: the store holds the files of the run of that network that goes on from the state in PREFIX.state
+    // as held at entry, nothing else is changed, and the sink got that run's summary.
     ensures resumed { result ≡ 0 → IfResume (asked words.now) (λ layout prefix. IsResumeDone layout prefix
         (moment S.held S.read_faults S.write_faults K.written K.faults K.refused store.old out.old)
         (moment S.held S.read_faults S.write_faults K.written K.faults K.refused store.new out.new)) }
