@@ -26,18 +26,20 @@ pub record KeptRepeater : Type 0 where
   pub heard : List Sym
   pub steady : ℕ
 
--- Each port has its guard and its places for what it hears, emits and is sent; there are as many places for what is
--- sent in half bits that are made at once as a delay may have half bits; a repeater has no captures; and it is steady
--- for as long as is kept (profile).
-pub record FitTogether (ports : ℕ) (r : State) (log : Room) (heard : List Sym)
-    (emitted decided sent steady : ℕ) : Type 0 where
+-- Each port has its guard and its places for what it emits and is sent; there are as many places for what is sent in
+-- half bits that are made at once as a delay may have half bits; and a repeater has no captures (profile).
+pub record FitTogether (ports : ℕ) (r : State) (log : Room) (emitted decided sent : ℕ) : Type 0 where
   pub guards : length r.guards ≡ ports
   pub few : ports ≤ most_ports
-  pub hearing : length heard ≡ ports
   pub emitting : emitted ≡ ports
   pub deciding : decided ≡ ports
   pub sending : sent ≡ greatest_delay
   pub no_captures : log.captures ≡ []
+
+-- What is kept of a repeater's steadiness: a row with a symbol for each port, and for how many half bits more it is
+-- known to be steady where its ports hear as in that row (profile).
+pub record IsKnownSteady (ports : ℕ) (r : State) (heard : List Sym) (steady : ℕ) : Type 0 where
+  pub hearing : length heard ≡ ports
   pub stays_steady : IsSteady heard r steady
 
 -- What parcels bring for half bit k of a window, in their order (profile).

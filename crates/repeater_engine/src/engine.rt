@@ -29,8 +29,8 @@ use window_room::RowRoom;
 const FEWEST_AT_ONCE: usize = 4;
 
 /// A repeater before half bit `t`, its device's number and its rows. `heard`, `emitted` and `decided` have a symbol for
-/// each of its ports. It is known to be steady for `steady` half bits more in which each port hears symbols of the class of
-/// what it has in `heard`.
+/// each of its ports. It is known to be steady for `steady` half bits more in which each port hears symbols of the
+/// class of what it has in `heard`.
 #[derive(Drop)]
 pub struct RepeaterEngine {
     t: u64,
@@ -47,7 +47,7 @@ pub struct RepeaterEngine {
 
 impl Model for RepeaterEngine {
     ghost use Rattle.std.specs.Prelude.{length};
-    ghost use Rattle.repeater_engine.specs.KeptRepeaters.{KeptRepeater, FitTogether};
+    ghost use Rattle.repeater_engine.specs.KeptRepeaters.{KeptRepeater, FitTogether, IsKnownSteady};
 
     ghost Value = { KeptRepeater };
 
@@ -59,7 +59,8 @@ impl Model for RepeaterEngine {
       steady = e.steady;
     } };
 
-    ghost invariant = { λ e. FitTogether e.ports e.repeater e.log e.heard.items (length e.emitted.items) (length e.decided.items) (length e.sent.items) e.steady };
+    ghost invariant = { λ e. FitTogether e.ports e.repeater e.log (length e.emitted.items) (length e.decided.items) (length e.sent.items)
+        × IsKnownSteady e.ports e.repeater e.heard.items e.steady };
 }
 
 impl RepeaterEngine {
@@ -114,8 +115,8 @@ impl RepeaterEngine {
         self.log.reserve(rows, 0, 0)
     }
 
-    /// Half bit `k` of the `n` of a window: each port hears what its parcel brings for it, and what is decided for it takes
-    /// its place.
+    /// Half bit `k` of the `n` of a window: each port hears what its parcel brings for it, and what is decided for it
+    /// takes its place.
     pub fn half_bit(&mut self, parcels: &mut [Parcel], k: usize, n: usize)
         requires many { length parcels.old ≡ length self.old.state.repeater.guards }
         requires long { All (λ p. k < length p.symbols) parcels.old }
@@ -144,8 +145,8 @@ impl RepeaterEngine {
         self.t += 1;
     }
 
-    /// Hears half bit `k` of a window. For how long the repeater is steady is asked anew where that isn't known of `most`
-    /// half bits from the one before.
+    /// Hears half bit `k` of a window. For how long the repeater is steady is asked anew where that isn't known of
+    /// `most` half bits from the one before.
     fn hear(&mut self, parcels: &[Parcel], k: usize, most: usize)
         requires many { length parcels.now ≡ length self.old.state.repeater.guards }
         requires long { All (λ p. k < length p.symbols) parcels.now }
@@ -182,8 +183,8 @@ impl RepeaterEngine {
         alike_ahead(parcels, k, most.min(self.steady), &self.heard)
     }
 
-    /// Makes the `m` half bits of a window from half bit `k` of its `n` on at once, in which nothing happens but counts. The
-    /// first of them was heard.
+    /// Makes the `m` half bits of a window from half bit `k` of its `n` on at once, in which nothing happens but
+    /// counts. The first of them was heard.
     fn leap(&mut self, parcels: &mut [Parcel], k: usize, m: usize, n: usize)
         requires many { length parcels.old ≡ length self.old.state.repeater.guards }
         requires some { 0 < m }
@@ -216,8 +217,8 @@ impl RepeaterEngine {
         self.t += m as u64;
     }
 
-    /// Makes half bits of a window from half bit `k` of its `n` on, and answers how many: all that may be made at once, or
-    /// one where those are fewer than a few.
+    /// Makes half bits of a window from half bit `k` of its `n` on, and answers how many: all that may be made at once,
+    /// or one where those are fewer than a few.
     pub fn go_on(&mut self, parcels: &mut [Parcel], k: usize, n: usize) -> usize
         requires many { length parcels.old ≡ length self.old.state.repeater.guards }
         requires long { ReachFrom k (n - k) parcels.old }

@@ -1,5 +1,5 @@
-//! Half bits of a window that are made at once: those in which each port, a closed one too, hears symbols of one class, and
-//! nothing happens to the repeater but counts.
+//! Half bits of a window that are made at once: those in which each port, a closed one too, hears symbols of one class,
+//! and nothing happens to the repeater but counts.
 ghost use Rattle.std.specs.Prelude.{◌≡◌, ◌≢◌, ◌≤◌, ◌<◌, ◌+◌, ℕ, All, IsTrue, length, map, take, slice_index_or};
 ghost use Rattle.mac_parameters.specs.Parameters.{greatest_delay};
 ghost use Rattle.manchester_line.specs.declared.Sym.TheVariants.{Idle};
@@ -36,8 +36,8 @@ fn twin_of(symbol: Sym) -> Sym
     }
 }
 
-/// Whether all symbols are one of these two, which are of one class. None is the last that is looked at, so that many are at
-/// once.
+/// Whether all symbols are one of these two, which are of one class. None is the last that is looked at, so that many
+/// are at once.
 fn all_of(symbols: &[Sym], one: Sym, twin: Sym) -> bool
     requires { class_of twin ≡ class_of one }
     ensures { IsTrue result → (j : ℕ) → j < length symbols.now → class_of (slice_index_or symbols.now j Idle) ≡ class_of one }
@@ -83,8 +83,8 @@ pub fn heard_alike(parcels: &[Parcel], k: usize, heard: &[Sym]) -> bool
     true
 }
 
-/// For how many half bits of a window from `k` on, `most` at most, each port hears symbols of the class of what it hears in
-/// this row.
+/// For how many half bits of a window from `k` on, `most` at most, each port hears symbols of the class of what it
+/// hears in this row.
 pub fn alike_ahead(parcels: &[Parcel], k: usize, most: usize, heard: &[Sym]) -> usize
     requires as_many { length heard.now ≡ length parcels.now }
     requires long { ReachFrom k most parcels.now }
@@ -101,9 +101,9 @@ pub fn alike_ahead(parcels: &[Parcel], k: usize, most: usize, heard: &[Sym]) -> 
     least
 }
 
-/// Makes the `m` half bits of a window from `k` on at once, which are steady: each port hears symbols of the class of what it
-/// hears in half bit `k`, and nothing happens but counts. Written are what is emitted and decided in the first of them, and
-/// what is sent in each.
+/// Makes the `m` half bits of a window from `k` on at once, which are steady: each port hears symbols of the class of
+/// what it hears in half bit `k`, and nothing happens but counts. Written are what is emitted and decided in the first
+/// of them, and what is sent in each.
 pub fn leap_over(
     repeater: &mut Repeater,
     parcels: &[Parcel],

@@ -50,7 +50,8 @@ fn idle_piece(m: usize) -> &'static [Sym]
     &IDLE[..m]
 }
 
-/// What the port that a mode repeats hears in the `m` half bits of a window from `k` on, and Idle where it repeats none.
+/// What the port that a mode repeats hears in the `m` half bits of a window from `k` on, and Idle where it repeats
+/// none.
 pub fn repeated(mode: Mode, parcels: &[Parcel], k: usize, m: usize) -> &[Sym]
     requires few { m ≤ greatest_delay }
     requires long { ReachFrom k m parcels.now }
@@ -78,8 +79,8 @@ fn piece_for(decided: Sym, sent: &[Sym]) -> &[Sym]
     }
 }
 
-/// Puts what is sent in the half bits of a window from `k` on into the parcels of the ports that have a signal in `decided`,
-/// and Idle into the others.
+/// Puts what is sent in the half bits of a window from `k` on into the parcels of the ports that have a signal in
+/// `decided`, and Idle into the others.
 pub fn put_pieces(parcels: &mut [Parcel], k: usize, decided: &[Sym], sent: &[Sym])
     requires len { length decided.now ≡ length parcels.old }
     requires few { length sent.now ≤ greatest_delay }

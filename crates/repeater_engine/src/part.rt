@@ -16,8 +16,8 @@ use net_parts::{Pace, Parcel, Part, PartOutputs, edges_of};
 use std::alloc::Global;
 use std::snapshot::Snapshot;
 
-/// A repeater of a plan, which stands in its network before the first half bit of a window. `part` is its number among the
-/// plan's parts, and `repeater` that among its repeaters; both count from 0, as windows do.
+/// A repeater of a plan, which stands in its network before the first half bit of a window. `part` is its number among
+/// the plan's parts, and `repeater` that among its repeaters; both count from 0, as windows do.
 #[derive(Drop)]
 pub struct RepeaterPart {
     plan: Snapshot<Plan>,
@@ -88,8 +88,8 @@ impl RepeaterPart {
         left.min(u64::from(self.lookahead)) as usize
     }
 
-    /// Its rows, and the captures of its stations, of which it has none. It takes memory for the rows of its last window; on
-    /// refusal it is dropped.
+    /// Its rows, and the captures of its stations, of which it has none. It takes memory for the rows of its last
+    /// window; on refusal it is dropped.
     pub fn take_out(self) -> Result<PartOutputs, OutOfMemory>
         ensures part { IfOk result (λ outputs. outputs.part ≡ self.part) }
         ensures so_far { IfOk result (λ outputs. outputs.rows ≡ (repeater_at self.plan.value self.repeater (time self.plan.value self.window)).rows) }

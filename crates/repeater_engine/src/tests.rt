@@ -48,8 +48,8 @@ fn no_loads(alloc: Global, stations: usize) -> Result<RecordsList, OutOfMemory>
     Ok(loads)
 }
 
-/// The part of the repeater stands behind the two segments, has its two edges, and hands out what there is before the first
-/// window, which is nothing.
+/// The part of the repeater stands behind the two segments, has its two edges, and hands out what there is before the
+/// first window, which is nothing.
 #[test]
 fn a_repeater_is_a_part_of_its_plan(rt: HostRuntime) -> Result<(), Fail> {
     let plan = plan_of_two(rt.alloc())?;
@@ -97,8 +97,8 @@ fn make_forty(engine: &mut RepeaterEngine, parcels: &mut [Parcel])
     }
 }
 
-/// A signal of 8 half bits at the first of two ports goes on to the other alone: the preamble's bits 1, 0, 1, 0, and then the
-/// jam's, which begins as the preamble does.
+/// A signal of 8 half bits at the first of two ports goes on to the other alone: the preamble's bits 1, 0, 1, 0, and
+/// then the jam's, which begins as the preamble does.
 #[test]
 fn a_signal_goes_on_to_the_other_port(rt: HostRuntime) -> Result<(), OutOfMemory> {
     let mut engine = RepeaterEngine::new(rt.alloc(), 5, 2, 8)?;

@@ -19,7 +19,7 @@ has_stepped : (c : After-step-events) → Stepped c.deref.result.now c.step-even
 has_stepped c =
     let step = c.step-events.ensures in
     record {
-      half = record { heard_len = search rules; emitted_len = search rules; decided_len = search rules; guards_len = c.self.invariant.guards; emits = step.emits; decides = step.decided; state = step.state };
+      half = record { heard_len = search rules; emitted_len = search rules; decided_len = search rules; guards_len = c.self.invariant.0.guards; emits = step.emits; decides = step.decided; state = step.state };
       clash = step.clash;
       closed = step.closed;
       opened = step.opened;

@@ -24,15 +24,18 @@ invariant_of-self c =
     let classes : map class_of row ≡ map class_of heard = elim c.if-most-self.branch [
       | then-most-self w ↦ w.heard_alike-stays.ensures.alike (sym w.stays-is ∙ c.if-stays.true) ∙ ap (map class_of) w.deref.ensures.value
       | else-most-self w ↦ absurd (let yes = sym w.stays-is ∙ c.if-stays.true in grind (arith, nat_tests))
-    ] in
-    record {
-      guards = i.guards;
-      few = i.few;
-      hearing = search rules;
-      emitting = i.emitting;
-      deciding = i.deciding;
-      sending = i.sending;
-      no_captures = i.no_captures;
-      stays_steady = subst (λ xs. IsSteady xs r c.self.inside.steady) (sym (is ∙ c.hear_all.ensures))
-          (lasts heard row [] r c.self.inside.steady tt classes (λ j l. i.stays_steady j (omega arith)));
-    }
+    ] in (
+      record {
+        guards = i.0.guards;
+        few = i.0.few;
+        emitting = i.0.emitting;
+        deciding = i.0.deciding;
+        sending = i.0.sending;
+        no_captures = i.0.no_captures;
+      },
+      record {
+        hearing = search rules;
+        stays_steady = subst (λ xs. IsSteady xs r c.self.inside.steady) (sym (is ∙ c.hear_all.ensures))
+            (lasts heard row [] r c.self.inside.steady tt classes (λ j l. i.1.stays_steady j (omega arith)));
+      },
+    )

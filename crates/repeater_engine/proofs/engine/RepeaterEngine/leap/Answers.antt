@@ -40,12 +40,12 @@ has_ports c =
     let r = c.self.inside.repeater in
     let heard = c.deref.result.now in
     record {
-      guards = c.self.invariant.guards;
+      guards = c.self.invariant.0.guards;
       counts = sym (length_chosen heard r) ∙ sym (length-map (chosen heard r) (λ (x : Choice). x.symbol)) ∙ ap length (sym c.leap_over.ensures.decided) ∙ search rules;
     }
 
 many : (c : After-leap_over) → length c.args.parcels.now ≡ c.self.inside.ports
-many c = c.requires.many ∙ sym (ap (λ (x : KeptRepeater). length x.state.repeater.guards) c.self.view_is) ∙ c.self.invariant.guards
+many c = c.requires.many ∙ sym (ap (λ (x : KeptRepeater). length x.state.repeater.guards) c.self.view_is) ∙ c.self.invariant.0.guards
 
 emitted_long : (c : After-leap_over) → length c.leap_over.new.emitted ≡ c.self.inside.ports
 emitted_long c = search rules
@@ -69,23 +69,26 @@ stays_steady c =
     let classes : AreOfClasses heard rows = subst (λ xs. AreOfClasses xs rows) (sym row) c.requires.alike in
     let count = time_fits c in
     subst (λ (x : State). IsSteady heard x (c.self.inside.steady - c.args.m)) (sym c.leap_over.ensures.state)
-    (lasts heard heard rows c.self.inside.repeater (c.self.inside.steady - c.args.m) classes refl (λ j l. c.self.invariant.stays_steady j (omega (arith, count, most, l))))
+    (lasts heard heard rows c.self.inside.repeater (c.self.inside.steady - c.args.m) classes refl (λ j l. c.self.invariant.1.stays_steady j (omega (arith, count, most, l))))
 
 pub invariant_of-self : goal.invariant_of-self
 invariant_of-self c =
     let at = (goal.at.invariant_of-self c).After-leap_over in
     let i = c.self.invariant in
-    let q = c.self.inside in
-    record {
-      guards = c.leap_over.ensures.ports ∙ i.guards;
-      few = i.few;
-      hearing = i.hearing;
-      emitting = ap length (overwritten q.emitted.len c.leap_over.new.emitted q.emitted.items (search rules)) ∙ emitted_long at;
-      deciding = ap length (overwritten q.decided.len c.leap_over.new.decided q.decided.items (search rules)) ∙ decided_long at;
-      sending = ap length (overwritten q.sent.len c.leap_over.new.sent q.sent.items (search rules)) ∙ sent_long at;
-      no_captures = i.no_captures;
-      stays_steady = stays_steady at;
-    }
+    let q = c.self.inside in (
+      record {
+        guards = c.leap_over.ensures.ports ∙ i.0.guards;
+        few = i.0.few;
+        emitting = ap length (overwritten q.emitted.len c.leap_over.new.emitted q.emitted.items (search rules)) ∙ emitted_long at;
+        deciding = ap length (overwritten q.decided.len c.leap_over.new.decided q.decided.items (search rules)) ∙ decided_long at;
+        sending = ap length (overwritten q.sent.len c.leap_over.new.sent q.sent.items (search rules)) ∙ sent_long at;
+        no_captures = i.0.no_captures;
+      },
+      record {
+        hearing = i.1.hearing;
+        stays_steady = stays_steady at;
+      },
+    )
 
 pub returns-clause-state : goal.returns-clause-state
 returns-clause-state c =
@@ -126,9 +129,9 @@ returns-clause-room c =
     let ports = c.self.inside.ports in
     let room = c.self.inside.log.row_room in
     let given = subst (λ (x : KeptRepeater). HasRowRoom (length x.state.repeater.guards) (c.args.n - c.args.k) x.room x.state.repeater) (sym c.self.view_is) c.requires.room in
-    let among = subst (λ n. HasRowRoom n (c.args.n - c.args.k) room r) c.self.invariant.guards given in
+    let among = subst (λ n. HasRowRoom n (c.args.n - c.args.k) room r) c.self.invariant.0.guards given in
     let left : c.args.n - c.args.k ≡ c.args.n - (c.args.k + c.args.m) + length rows = omega (arith, c.requires.within, time_fits at) in
     let lasts = room_lasts ports (map is_signal (emitted_by r)) (map is_signal c.leap_over.new.decided) (wide at) rows r (has_ports at) (rows_wide c.args.parcels.now ports c.args.k c.args.m (many at)) c.leap_over.ensures.steps
     (c.args.n - c.args.k) (c.args.n - (c.args.k + c.args.m)) room left among in
     let later = subst (λ (x : State). HasRowRoom ports (c.args.n - (c.args.k + c.args.m)) room x) (sym c.leap_over.ensures.state) lasts in
-    subst (λ n. HasRowRoom n (c.args.n - (c.args.k + c.args.m)) room c.leap_over.new.repeater) (sym (c.leap_over.ensures.ports ∙ c.self.invariant.guards)) later
+    subst (λ n. HasRowRoom n (c.args.n - (c.args.k + c.args.m)) room c.leap_over.new.repeater) (sym (c.leap_over.ensures.ports ∙ c.self.invariant.0.guards)) later
