@@ -6,3 +6,4 @@ pub mod EndsOfSignals
 pub mod LoudLists
 pub mod HeardLists
 pub mod HeardClasses
+pub mod LoudExample

@@ -5,7 +5,7 @@ ghost use Rattle.std.specs.Prelude.{if◌then◌else◌, true, false};
 ghost use Rattle.manchester_line.specs.declared.Sym.TheVariants.{Idle};
 ghost use Rattle.manchester_line.specs.Line.{is_signal as is_signal_of};
 ghost use Rattle.tap_lines.specs.TapLines.{IsReachOf, heard_by_lines};
-ghost use Rattle.tap_lines.specs.TapLists.{AreIdleButFor};
+ghost use Rattle.tap_lines.specs.TapLists.{AreIdleButFor, HearsListed};
 
 use crate::line::Line;
 use crate::loud::LoudTaps;
@@ -22,10 +22,7 @@ fn idle_ahead(
     t: u64,
     most: usize,
 ) -> usize
-    requires tap { p < length lines.now }
-    requires reach { IsReachOf far lookahead lines.now }
-    requires loud { AreIdleButFor (t - far) lines.now loud.now.taps }
-    requires in_time { t + most < 2 ^ 64 }
+    requires listed { HearsListed p lookahead far t most lines.now loud.now.taps }
     ensures within { result ≤ most }
     ensures idle { (j : ℕ) → j < result → is_signal_of (heard_by_lines lookahead (t + j) lines.now p) ≡ false }
     ensures longest { result < most → is_signal_of (heard_by_lines lookahead (t + result) lines.now p) ≡ true }
@@ -55,10 +52,7 @@ fn one_signal_ahead(
     t: u64,
     most: usize,
 ) -> usize
-    requires tap { p < length lines.now }
-    requires reach { IsReachOf far lookahead lines.now }
-    requires loud { AreIdleButFor (t - far) lines.now loud.now.taps }
-    requires in_time { t + most < 2 ^ 64 }
+    requires listed { HearsListed p lookahead far t most lines.now loud.now.taps }
     ensures within { result ≤ most }
     ensures signals { (j : ℕ) → j < result → is_signal_of (heard_by_lines lookahead (t + j) lines.now p) ≡ true }
     ensures none { result ≡ 0 → 0 < most → is_signal_of (heard_by_lines lookahead t lines.now p) ≡ false }
@@ -93,10 +87,7 @@ fn signals_ahead(
     t: u64,
     most: usize,
 ) -> usize
-    requires tap { p < length lines.now }
-    requires reach { IsReachOf far lookahead lines.now }
-    requires loud { AreIdleButFor (t - far) lines.now loud.now.taps }
-    requires in_time { t + most < 2 ^ 64 }
+    requires listed { HearsListed p lookahead far t most lines.now loud.now.taps }
     ensures within { result ≤ most }
     ensures signals { (j : ℕ) → j < result → is_signal_of (heard_by_lines lookahead (t + j) lines.now p) ≡ true }
     ensures longest { result < most → is_signal_of (heard_by_lines lookahead (t + result) lines.now p) ≡ false }
@@ -125,10 +116,7 @@ fn class_ahead(
     most: usize,
     carrier: bool,
 ) -> usize
-    requires tap { p < length lines.now }
-    requires reach { IsReachOf far lookahead lines.now }
-    requires loud { AreIdleButFor (t - far) lines.now loud.now.taps }
-    requires in_time { t + most < 2 ^ 64 }
+    requires listed { HearsListed p lookahead far t most lines.now loud.now.taps }
     ensures within { result ≤ most }
     ensures steady { (j : ℕ) → j < result → is_signal_of (heard_by_lines lookahead (t + j) lines.now p) ≡ carrier }
     ensures longest { result < most → is_signal_of (heard_by_lines lookahead (t + result) lines.now p) ≢ carrier }

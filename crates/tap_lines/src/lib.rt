@@ -1,5 +1,5 @@
-//! The lines of a segment's taps: what each tap emitted or what comes in for it, half bit by half bit, and what the taps hear
-//! of it.
+//! The lines of a segment's taps: what each tap emitted or what comes in for it, half bit by half bit, and what the
+//! taps hear of it.
 #![tactic(auto)]
 
 mod classes;

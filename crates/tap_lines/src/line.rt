@@ -14,10 +14,11 @@ use manchester_line::{Sym, is_signal, mix};
 use std::alloc::Global;
 use std::marker::Model;
 
-/// A line, from half bit `base` on, of a tap at a place in half bits from its segment's end. What stands on it for a half
-/// bit is emitted `delay` half bits later, less the half bits of a window. The first `written` symbols of the buffer stand on
-/// it; the last of them, at least the last `loud`, are signals. The Idle behind them, `quiet` half bits, isn't written. What is
-/// further back than `backlog` half bits reaches no other tap, and is dropped where there is want of room.
+/// A line, from half bit `base` on, of a tap at a place in half bits from its segment's end. What stands on it for a
+/// half bit is emitted `delay` half bits later, less the half bits of a window. The first `written` symbols of the
+/// buffer stand on it; the last of them, at least the last `loud`, are signals. The Idle behind them, `quiet` half
+/// bits, isn't written. What is further back than `backlog` half bits reaches no other tap, and is dropped where there
+/// is want of room.
 #[derive(Drop)]
 pub struct Line {
     at: u32,
@@ -206,8 +207,8 @@ impl Line {
         self.back_from(self.back(at, lookahead), t)
     }
 
-    /// Adds to what a tap hears in the half bits from `t` on, as many as the piece has, what stands on it so many half bits
-    /// before.
+    /// Adds to what a tap hears in the half bits from `t` on, as many as the piece has, what stands on it so many half
+    /// bits before.
     fn mix_back(&self, back: u64, t: u64, piece: &mut [Sym])
         requires { t + length piece.old < 2 ^ 64 }
         ensures { (j : ℕ) (d : Sym) → j < length piece.new → slice_index_or piece.new j d
@@ -218,8 +219,8 @@ impl Line {
         }
     }
 
-    /// Adds to what a tap at a place hears in the half bits from `t` on, as many as the piece has, what reaches it of the line.
-    /// Only where that was nothing so far may `fresh` be set.
+    /// Adds to what a tap at a place hears in the half bits from `t` on, as many as the piece has, what reaches it of
+    /// the line. Only where that was nothing so far may `fresh` be set.
     pub fn mix_over(&self, at: u32, lookahead: u32, t: u64, piece: &mut [Sym], fresh: bool)
         requires in_time { t + length piece.old < 2 ^ 64 }
         requires fresh { fresh ≡ true → (j : ℕ) (d : Sym) → j < length piece.old → slice_index_or piece.old j d ≡ Idle }
@@ -253,8 +254,8 @@ impl Line {
         most
     }
 
-    /// For how many half bits from `t` on, at most `most`, what stands on it so many half bits before is a signal in all of
-    /// them, or Idle in all, as `carrier` says.
+    /// For how many half bits from `t` on, at most `most`, what stands on it so many half bits before is a signal in
+    /// all of them, or Idle in all, as `carrier` says.
     pub fn steady_back(&self, back: u64, t: u64, most: usize, carrier: bool) -> usize
         requires { t + most < 2 ^ 64 }
         ensures within { result ≤ most }
@@ -278,7 +279,8 @@ impl Line {
         self.steady_back(0, u, count, true) == count
     }
 
-    /// What stands on it so many half bits before those from `t` on, as many as `count`; none where not all of it is written.
+    /// What stands on it so many half bits before those from `t` on, as many as `count`; none where not all of it is
+    /// written.
     pub fn written_back(&self, back: u64, t: u64, count: usize) -> Option<&[Sym]>
         ensures len { IfSome result (λ piece. length piece.now ≡ count) }
         ensures piece { IfSome result (λ piece. piece.now ≡ span (λ u. earlier (symbol_on self.now) u back) t count) }

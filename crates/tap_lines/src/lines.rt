@@ -53,8 +53,8 @@ pub fn farthest(lines: &[Line], lookahead: u32) -> u64
     way.saturating_sub(u64::from(lookahead))
 }
 
-/// What each tap hears in half bit `t`, where nothing reaches a tap that is further back than `far` half bits. A line on
-/// which nothing but Idle stands since then is passed over.
+/// What each tap hears in half bit `t`, where nothing reaches a tap that is further back than `far` half bits. A line
+/// on which nothing but Idle stands since then is passed over.
 pub fn hear_all(lines: &[Line], lookahead: u32, far: u64, t: u64, heard: &mut [Sym])
     requires taps { length heard.old ≡ length lines.now }
     requires reach { IsReachOf far lookahead lines.now }

@@ -1,15 +1,14 @@
 //! What taps hear where the taps are listed on whose lines anything stands that may still be heard.
-ghost use Rattle.std.specs.Prelude.{◌≡◌, ◌≤◌, ◌<◌, ◌+◌, ◌-◌, ◌^◌, ℕ, length};
-ghost use Rattle.net_parts.specs.Machines.{span};
-ghost use Rattle.tap_lines.specs.TapLines.{heard_for, IsReachOf, heard_by_lines};
-ghost use Rattle.tap_lines.specs.TapLists.{AreIdleButFor};
+ghost use Rattle.std.specs.Prelude.{◌≡◌, length};
+ghost use Rattle.tap_lines.specs.TapLines.{heard_for};
+ghost use Rattle.tap_lines.specs.TapLists.{HearsListed};
 
 use crate::line::Line;
 use crate::loud::LoudTaps;
 use manchester_line::Sym;
 
-/// What tap `p` hears in the half bits from `t` on, as many as the piece has, where nothing reaches a tap that is further back
-/// than `far` half bits: only the lines of the listed taps are looked at.
+/// What tap `p` hears in the half bits from `t` on, as many as the piece has, where nothing reaches a tap that is
+/// further back than `far` half bits: only the lines of the listed taps are looked at.
 pub fn hear_listed(
     lines: &[Line],
     loud: &LoudTaps,
@@ -19,10 +18,7 @@ pub fn hear_listed(
     t: u64,
     piece: &mut [Sym],
 )
-    requires tap { p < length lines.now }
-    requires reach { IsReachOf far lookahead lines.now }
-    requires loud { AreIdleButFor (t - far) lines.now loud.now.taps }
-    requires in_time { t + length piece.old < 2 ^ 64 }
+    requires listed { HearsListed p lookahead far t (length piece.old) lines.now loud.now.taps }
     ensures { piece.new ≡ heard_for lookahead t (length piece.old) lines.now p }
 {
     let _ = far;

@@ -36,8 +36,8 @@ pub fn steady_first(piece: &[Sym], carrier: bool) -> usize
     piece.len()
 }
 
-/// How many symbols from place `place` on, from 0, at most `most`, are all a signal, or are all Idle, as `carrier` says, where
-/// behind the text only Idle stands. At least the last `loud` symbols of the text are signals.
+/// How many symbols from place `place` on, from 0, at most `most`, are all a signal, or are all Idle, as `carrier`
+/// says, where behind the text only Idle stands. At least the last `loud` symbols of the text are signals.
 pub fn steady_from(text: &[Sym], loud: usize, place: u64, most: usize, carrier: bool) -> usize
     requires { EndsInSignals loud text.now }
     ensures within { result ≤ most }

@@ -6,8 +6,8 @@ ghost use Rattle.tap_lines.specs.TapLines.{AreIdleFrom, IsIdleFrom, IsWithinSign
 use crate::line::Line;
 use manchester_line::Sym;
 
-/// For how many half bits from `t` on, at most `most`, tap `p` hears a signal in all of them, or Idle in all, as `carrier` says,
-/// by the line of `source`, the only one that it may hear.
+/// For how many half bits from `t` on, at most `most`, tap `p` hears a signal in all of them, or Idle in all, as
+/// `carrier` says, by the line of `source`, the only one that it may hear.
 pub fn known_ahead(
     lines: &[Line],
     source: usize,
@@ -35,8 +35,8 @@ pub fn known_ahead(
     line.steady_back(back, t, most, carrier)
 }
 
-/// What tap `p` hears in the half bits from `t` on, as many as `count`, where it stands as a whole on the only line that the
-/// tap may hear.
+/// What tap `p` hears in the half bits from `t` on, as many as `count`, where it stands as a whole on the only line
+/// that the tap may hear.
 pub fn piece_of(
     lines: &[Line],
     source: Option<usize>,

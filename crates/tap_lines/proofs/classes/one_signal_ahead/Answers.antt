@@ -18,10 +18,10 @@ returns-then-longest-most-clause-signals c = λ j h.
     let test = c.loop-i-test.true in
     let many = c.len-i-end.ensures in
     let which = c.tap-q.ensures in
-    let below = c.requires.loud.within i (omega (arith, test, many)) in
+    let below = c.requires.listed.loud.within i (omega (arith, test, many)) in
     let in_it : q < length ls = omega (arith, which, below) in
     let line : c.index-lines-q.result ≡ get_or ls q no_line = get_or_read ls q c.index-lines-q.result in_it c.index-lines-q.is no_line in
-    let tap : c.index-lines-p.result ≡ get_or ls p no_line = get_or_read ls p c.index-lines-p.result c.requires.tap c.index-lines-p.is no_line in
+    let tap : c.index-lines-p.result ≡ get_or ls p no_line = get_or_read ls p c.index-lines-p.result c.requires.listed.tap c.index-lines-p.is no_line in
     let greater = c.max-longest.ensures in
     elim (cases_lt j c.steady_back.result) [
       | inl before ↦ by_signal L u p q ls in_it
@@ -43,10 +43,10 @@ loop-i-preserved c =
     let test = c.loop-i-test.true in
     let many = c.len-i-end.ensures in
     let which = c.tap-q.ensures in
-    let below = c.requires.loud.within i (omega (arith, test, many)) in
+    let below = c.requires.listed.loud.within i (omega (arith, test, many)) in
     let in_it : q < length ls = omega (arith, which, below) in
     let line : c.index-lines-q.result ≡ get_or ls q no_line = get_or_read ls q c.index-lines-q.result in_it c.index-lines-q.is no_line in
-    let tap : c.index-lines-p.result ≡ get_or ls p no_line = get_or_read ls p c.index-lines-p.result c.requires.tap c.index-lines-p.is no_line in
+    let tap : c.index-lines-p.result ≡ get_or ls p no_line = get_or_read ls p c.index-lines-p.result c.requires.listed.tap c.index-lines-p.is no_line in
     let greater = c.max-longest.ensures in
     let few = c.steady_back.ensures.within in
     let within = inv.within in
@@ -78,5 +78,5 @@ returns-clause-none c = λ zero some.
     let ns = c.args.loud.now.taps in
     let test = c.loop-i-test.false in
     let many = c.len-i-end.ensures in
-    all_idle c.args.lookahead c.args.t c.args.far c.args.t c.args.p ls ns c.requires.reach c.requires.tap c.requires.loud (omega arith)
+    all_idle c.args.lookahead c.args.t c.args.far c.args.t c.args.p ls ns c.requires.listed.reach c.requires.listed.tap c.requires.listed.loud (omega arith)
     (λ k m. c.loop-i.invariant.none zero some k (omega (arith, m, test, many)))

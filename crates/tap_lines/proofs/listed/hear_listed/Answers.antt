@@ -22,8 +22,8 @@ loop-i-init c =
       heard = λ j h.
           let in_it : j < length c.fill.new.self = omega (arith, h, len) in
           let none : get_or c.fill.new.self j Idle ≡ Idle = search rules in
-          let idle = later_idle _ (c.args.t + j - c.args.far) ls ns (omega arith) c.requires.loud in
-          listed_first c.args.lookahead (c.args.t + j) c.args.far c.args.p ls ns _ c.requires.reach c.requires.tap idle none;
+          let idle = later_idle _ (c.args.t + j - c.args.far) ls ns (omega arith) c.requires.listed.loud in
+          listed_first c.args.lookahead (c.args.t + j) c.args.far c.args.p ls ns _ c.requires.listed.reach c.requires.listed.tap idle none;
     }
 
 pub loop-i-preserved-then-q-p : goal.loop-i-preserved-then-q-p
@@ -42,8 +42,8 @@ loop-i-preserved-then-q-p c =
       heard = λ j h.
           let s = get_or c.loop-i.piece j Idle in
           let u = c.args.t + j in
-          let idle = later_idle _ (u - c.args.far) ls ns (omega arith) c.requires.loud in
-          listed_next L u c.args.far p i ls ns s s c.requires.reach c.requires.tap idle (omega (arith, test, many))
+          let idle = later_idle _ (u - c.args.far) ls ns (omega arith) c.requires.listed.loud in
+          listed_next L u c.args.far p i ls ns s s c.requires.listed.reach c.requires.listed.tap idle (omega (arith, test, many))
           (sym (ap (mix_of s) (own_line L u p (get_or ns i 0) ls own) ∙ mix_idle s))
           (c.loop-i.invariant.heard j h);
     }
@@ -60,18 +60,18 @@ loop-i-preserved c =
     let many = c.len-i-end.ensures in
     let len = c.mix_over.auto.piece ∙ c.loop-i.invariant.len in
     let which = c.tap-q.ensures in
-    let below = c.requires.loud.within i (omega (arith, test, many)) in
+    let below = c.requires.listed.loud.within i (omega (arith, test, many)) in
     let in_it : q < length ls = omega (arith, which, below) in
     let line : c.index-lines-q.result ≡ get_or ls q no_line = get_or_read ls q c.index-lines-q.result in_it c.index-lines-q.is no_line in
-    let tap : c.index-lines-p.result ≡ get_or ls p no_line = get_or_read ls p c.index-lines-p.result c.requires.tap c.index-lines-p.is no_line in
+    let tap : c.index-lines-p.result ≡ get_or ls p no_line = get_or_read ls p c.index-lines-p.result c.requires.listed.tap c.index-lines-p.is no_line in
     record {
       len = len;
       fresh = λ (e : false ≡ true). absurd (search rules);
       heard = λ j h.
           let s = get_or c.loop-i.piece j Idle in
           let u = c.args.t + j in
-          let idle = later_idle _ (u - c.args.far) ls ns (omega arith) c.requires.loud in
-          listed_next L u c.args.far p i ls ns s (get_or c.mix_over.new.piece j Idle) c.requires.reach c.requires.tap idle (omega (arith, test, many))
+          let idle = later_idle _ (u - c.args.far) ls ns (omega arith) c.requires.listed.loud in
+          listed_next L u c.args.far p i ls ns s (get_or c.mix_over.new.piece j Idle) c.requires.listed.reach c.requires.listed.tap idle (omega (arith, test, many))
           (c.mix_over.ensures j Idle (omega (arith, h, len))
           ∙ ap (mix_of s) (sym (other_line L u p q c.place-at.result _ ls c.index-lines-p.result c.index-lines-q.result c.if-q-p.false tap line c.place-at.ensures refl)
           ∙ ap (λ k. heard_of_line L u ls p k) which))
@@ -86,6 +86,6 @@ returns c =
     let test = c.loop-i-test.false in
     let many = c.len-i-end.ensures in
     let auto = c.loop-i.auto.i-end in
-    let parts = all_listed _ i ls ns c.requires.loud (omega (arith, test, many)) (omega (arith, auto, many)) in
+    let parts = all_listed _ i ls ns c.requires.listed.loud (omega (arith, test, many)) (omega (arith, auto, many)) in
     heard_piece c.args.lookahead c.args.t _ c.args.p (length ls) ls c.loop-i.piece c.loop-i.invariant.len (omega arith)
     (λ j h. c.loop-i.invariant.heard j h (length ls) parts (omega arith))
