@@ -1,5 +1,5 @@
 -- A segment stands in the network before half bit 0.
-use Rattle.std.proofs.Common.{◌≡◌, ℕ, zero, suc, ◌+◌, ◌-◌, ◌*◌, ◌<◌, ◌≤◌, All, cond, ltb, eqb, List, [], ◌∷◌, ◌++◌, map, replicate, take, length, get_or, refl, sym, subst, ap, ap₂, ◌∙◌, arith}
+use Rattle.std.proofs.Common.{◌≡◌, ℕ, zero, suc, ◌+◌, ◌-◌, ◌<◌, ◌≤◌, All, cond, ltb, eqb, List, [], ◌∷◌, ◌++◌, map, replicate, take, length, get_or, refl, sym, subst, ap, ap₂, ◌∙◌, arith}
 use Rattle.std.proofs.lemmas.List.{get_or-map, length-map, take_more, map-append}
 use Rattle.std.proofs.lemmas.Grind.{same_number_lists, get_or_default_zero}
 use Rattle.std.proofs.lemmas.Bool.Decides.{nat_tests}

@@ -5,6 +5,7 @@ pub mod StationsStep
 pub mod HalfBits
 pub mod WindowLines
 pub mod WindowParcels
+pub mod Strides
 pub mod SegmentWindows
 pub mod Beginnings
 pub mod KeptParts
@@ -18,3 +19,7 @@ pub mod SteadyHalfBits
 pub mod SteadyStations
 pub mod SteadyReceivers
 pub mod SteadyCalm
+pub mod NearExample
+pub mod FirstRows
+pub mod FirstReceptions
+pub mod PieceRoom

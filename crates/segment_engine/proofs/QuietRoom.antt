@@ -1,5 +1,5 @@
 -- Stations to which nothing happens need no more room after several half bits than before them.
-use Rattle.std.proofs.Common.{◌≡◌, ℕ, suc, ◌+◌, ◌<◌, Bool, false, List, [], ◌∷◌, length, get_or, subst, sym, ap, ap₂, arith}
+use Rattle.std.proofs.Common.{◌≡◌, ℕ, suc, ◌+◌, ◌<◌, Bool, false, List, [], ◌∷◌, length, get_or, subst, sym, ap₂, arith}
 use Rattle.manchester_line.specs.declared.Sym.{Sym}
 use Rattle.mac_transmit.specs.Sender.{Sender, sender_step}
 use Rattle.mac_transmit.specs.Calm.{after_all}
@@ -25,14 +25,14 @@ in_a_row a b c h i = record {
   fewer_octets = let x = h.fewer_octets in let y = i.fewer_octets in omega (arith, x, y);
 }
 
-both_within : (a b c d : Demand) → IsDemandWithin a c → IsDemandWithin b d → IsDemandWithin (both_demands a b) (both_demands c d)
+pub both_within : (a b c d : Demand) → IsDemandWithin a c → IsDemandWithin b d → IsDemandWithin (both_demands a b) (both_demands c d)
 both_within a b c d h i = record {
   fewer_rows = let x = h.fewer_rows in let y = i.fewer_rows in omega (arith, x, y);
   fewer_frames = let x = h.fewer_frames in let y = i.fewer_frames in omega (arith, x, y);
   fewer_octets = let x = h.fewer_octets in let y = i.fewer_octets in omega (arith, x, y);
 }
 
-same_within : (a : Demand) → IsDemandWithin a a
+pub same_within : (a : Demand) → IsDemandWithin a a
 same_within a = record { fewer_rows = omega arith; fewer_frames = omega arith; fewer_octets = omega arith }
 
 -- a sender after half bits
@@ -70,7 +70,7 @@ pub record GoesOn (hs : List Sym) (sending : Bool) (k k' : Kept) : Type 0 where
   pub before : Hears receiver k
   pub after : Hears (receiver_after receiver hs sending) k'
 
-kept_needs : (hs : List Sym) (sending : Bool) (k k' : Kept) (n : ℕ) → GoesOn hs sending k k' → IsDemandWithin (receiver_demand n k') (receiver_demand (n + length hs) k)
+pub kept_needs : (hs : List Sym) (sending : Bool) (k k' : Kept) (n : ℕ) → GoesOn hs sending k k' → IsDemandWithin (receiver_demand n k') (receiver_demand (n + length hs) k)
 kept_needs hs sending k k' n g =
     rw (needs_kept (receiver_after g.receiver hs sending) k' n g.after, needs_kept g.receiver k (n + length hs) g.before) (receiver_needs hs g.receiver sending n)
 
@@ -104,32 +104,3 @@ pub room_later : (m n : ℕ) (hs : List Sym) (ss ss' : List Sender) (ks ks' : Li
 room_later m n hs ss ss' ks ks' room size a b e f g c =
     covers_within (stations_demand n ss' ks') (stations_demand (n + length hs) ss ks) room (stations_need hs n ss ss' ks ks' a b e f g)
     (subst (λ x. Covers (stations_demand (n + x) ss ks) room) (sym size) c)
-
--- the same where each station hears what it hears
-each_needs : (f : ℕ → List Sym) (b : ℕ → Bool) (m n : ℕ) (ss ss' : List Sender) (ks ks' : List Kept) → ((i : ℕ) → length (f i) ≡ m) → length ss' ≡ length ss → length ks' ≡ length ks → length ss ≡ length ks →
-    ((i : ℕ) (d : Sender) → i < length ss' → get_or ss' i d ≡ after_all (get_or ss i d) (f i)) →
-    ((i : ℕ) (d : Kept) → i < length ks' → GoesOn (f i) (b i) (get_or ks i d) (get_or ks' i d)) →
-    IsDemandWithin (stations_demand n ss' ks') (stations_demand (n + m) ss ks)
-each_needs f b m n [] [] [] [] z a q e u v = no_needs n (n + m)
-each_needs f b m n [] [] [] (k' ∷ ks') z a q e u v = absurd (omega (arith, q))
-each_needs f b m n [] [] (k ∷ ks) ks' z a q e u v = absurd (omega (arith, e))
-each_needs f b m n [] (s' ∷ ss') ks ks' z a q e u v = absurd (omega (arith, a))
-each_needs f b m n (s ∷ ss) [] ks ks' z a q e u v = absurd (omega (arith, a))
-each_needs f b m n (s ∷ ss) (s' ∷ ss') [] ks' z a q e u v = absurd (omega (arith, e))
-each_needs f b m n (s ∷ ss) (s' ∷ ss') (k ∷ ks) [] z a q e u v = absurd (omega (arith, q))
-each_needs f b m n (s ∷ ss) (s' ∷ ss') (k ∷ ks) (k' ∷ ks') z a q e u v =
-    let x = n + m in
-    let size : n + length (f 0) ≡ x = ap (λ i. n + i) (z 0) in
-    let sends : IsDemandWithin (sender_demand n s') (sender_demand (n + length (f 0)) s) = subst (λ y. IsDemandWithin (sender_demand n y) (sender_demand (n + length (f 0)) s)) (sym (u 0 s (omega arith))) (sender_needs (f 0) s n) in
-    let of_sender : IsDemandWithin (sender_demand n s') (sender_demand x s) = subst (λ y. IsDemandWithin (sender_demand n s') (sender_demand y s)) size sends in
-    let of_receiver : IsDemandWithin (receiver_demand n k') (receiver_demand x k) = subst (λ y. IsDemandWithin (receiver_demand n k') (receiver_demand y k)) size (kept_needs (f 0) (b 0) k k' n (v 0 k (omega arith))) in
-    let rest = each_needs (λ i. f (suc i)) (λ i. b (suc i)) m n ss ss' ks ks' (λ i. z (suc i)) (omega (arith, a)) (omega (arith, q)) (omega (arith, e)) (λ i d h. u (suc i) d (omega (arith, h))) (λ i d h. v (suc i) d (omega (arith, h))) in
-    both_within (both_demands (sender_demand n s') (receiver_demand n k')) (stations_demand n ss' ks') (both_demands (sender_demand x s) (receiver_demand x k)) (stations_demand x ss ks)
-    (both_within (sender_demand n s') (receiver_demand n k') (sender_demand x s) (receiver_demand x k) of_sender of_receiver) rest
-
-pub room_later_each : (f : ℕ → List Sym) (b : ℕ → Bool) (m n : ℕ) (ss ss' : List Sender) (ks ks' : List Kept) (room : Room) → ((i : ℕ) → length (f i) ≡ m) → length ss' ≡ length ss → length ks' ≡ length ks → length ss ≡ length ks →
-    ((i : ℕ) (d : Sender) → i < length ss' → get_or ss' i d ≡ after_all (get_or ss i d) (f i)) →
-    ((i : ℕ) (d : Kept) → i < length ks' → GoesOn (f i) (b i) (get_or ks i d) (get_or ks' i d)) →
-    Covers (stations_demand (n + m) ss ks) room → Covers (stations_demand n ss' ks') room
-room_later_each f b m n ss ss' ks ks' room z a q e u v c =
-    covers_within (stations_demand n ss' ks') (stations_demand (n + m) ss ks) room (each_needs f b m n ss ss' ks ks' z a q e u v) c

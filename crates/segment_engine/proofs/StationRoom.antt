@@ -23,7 +23,7 @@ after_event a e b d old new p k c = record {
   for_octets = let x = p.fewer_octets in let y = c.for_octets in let z = k.keeps_octets in omega (arith, x, y, z);
 }
 
-second : (a d : Demand) (room : Room) → Covers (both_demands a d) room → Covers d room
+pub second : (a d : Demand) (room : Room) → Covers (both_demands a d) room → Covers d room
 second a d room c = record {
   for_rows = let y = c.for_rows in omega (arith, y);
   for_frames = let y = c.for_frames in omega (arith, y);
@@ -82,7 +82,7 @@ station_left n other s s' h k k' e old mid new state is keeps received c =
     subst P (sym state) (to_right other (sender_demand n sent) (receiver_demand n k') new four)
 
 -- over several stations
-same_demand : {a b c d e f : ℕ} → a ≡ d → b ≡ e → c ≡ f → ◌≡◌ {A = Demand} (record { rows = a; frames = b; octets = c }) (record { rows = d; frames = e; octets = f })
+pub same_demand : {a b c d e f : ℕ} → a ≡ d → b ≡ e → c ≡ f → ◌≡◌ {A = Demand} (record { rows = a; frames = b; octets = c }) (record { rows = d; frames = e; octets = f })
 same_demand x y z = λ i. record { rows = x i; frames = y i; octets = z i }
 
 demand_snoc : (n : ℕ) (ss : List Sender) (ks : List Kept) (s : Sender) (k : Kept) → length ss ≡ length ks →

@@ -25,6 +25,8 @@ use Rattle.net_parts.proofs.LateRows.{map-map, map_alike}
 use Rattle.net_parts.proofs.DeviceSteps.{sendings_of, receptions_of, receiver_next, capture_next}
 use Rattle.net_parts.proofs.SegmentSteps.{below}
 use Rattle.segment_engine.specs.StationPasses.{receptions_by}
+use Rattle.segment_engine.specs.FirstReceptions.{rows_of_first}
+use Rattle.segment_engine.proofs.FirstRows.{rows_received, rows_none}
 use Rattle.segment_engine.proofs.HalfBits.{rows_next, emissions_next}
 
 -- a sender calm over half bits gives no event in the last of them
@@ -63,12 +65,7 @@ nothing (x ∷ xs) h = absurd (omega (arith, h))
 pub no_halves : (r : Receiving) (k : Kept) → k.halves ≡ 0 → Hears r k → r.halves ≡ []
 no_halves r k rest h = nothing r.halves (sym h.count ∙ rest)
 
--- no rows
-no_rows : (t : ℕ) (ks : List ℕ) (f g : ℕ → Option Body) → ((i : ℕ) → i < length ks → f (get_or ks i 0) ≡ None) → ((i : ℕ) → i < length ks → g (get_or ks i 0) ≡ None) → rows_on t ks (map f ks) (map g ks) ≡ []
-no_rows t [] f g a b = refl
-no_rows t (k ∷ ks) f g a b =
-    rw (a 0 (omega arith), b 0 (omega arith)) (no_rows t ks f g (λ i h. a (suc i) (omega (arith, h))) (λ i h. b (suc i) (omega (arith, h))))
-
+-- no capture
 no_capture : (t : ℕ) (e : Option Body) (os : List ℕ) → e ≡ None → taken_by t e os ≡ []
 no_capture t e os is = ap (λ x. taken_by t x os) is
 
@@ -106,14 +103,14 @@ module _ (plan : Plan) (s : ℕ) where
   pub station : (r : ℕ) → r < length ks → get_or ks r 0 < length plan.layout.stations
   station r h = below plan (station_facts plan) (lookahead plan.layout) s 0 (leads plan.layout) r h
 
-  -- a half bit without an event
-  quiet_row : (u : ℕ) → ((r : ℕ) → r < length ks → (sent u (get_or ks r 0) ≡ None) × (received u (get_or ks r 0) ≡ None)) → rows_of_devices plan ks (suc u) ≡ rows_of_devices plan ks u
+  -- a half bit in which nothing happens at the senders
+  pub row_later : (u : ℕ) → ((r : ℕ) → r < length ks → (sender_step (sender_at plan (get_or ks r 0) u) (heard plan (get_or ks r 0) u)).event ≡ None) →
+      rows_of_devices plan ks (suc u) ≡ rows_of_devices plan ks u ++ rows_of_first u ks (λ i. (receiver_step (receiver_at plan (get_or ks i 0) u) (heard plan (get_or ks i 0) u) (is_signal (emitted plan (get_or ks i 0) u))).event) (length ks)
   unfolding sent received
-  quiet_row u none =
+  row_later u none =
       let hs = map (λ k. heard plan k u) ks in
       let ss = map (λ k. sender_at plan k u) ks in
       let rs = map (λ k. receiver_at plan k u) ks in
-      let es = map (λ k. emitted plan k u) ks in
       let sends : map (λ (o : SendOutcome). o.event) (sendings hs ss) ≡ map (sent u) ks =
       ap (map (λ (o : SendOutcome). o.event)) (sendings_of (λ k. heard plan k u) (λ k. sender_at plan k u) ks) ∙ map-map (λ (o : SendOutcome). o.event) (λ k. sender_step (sender_at plan k u) (heard plan k u)) ks in
       let receives : map (λ (r : Reception). r.event) (receptions_by hs ss rs) ≡ map (received u) ks =
@@ -122,7 +119,14 @@ module _ (plan : Plan) (s : ℕ) where
       ∙ map-map (λ (r : Reception). r.event) (λ k. receiver_step (receiver_at plan k u) (heard plan k u) (is_signal (emitted plan k u))) ks in
       sym (rows_next plan s u hs ss refl refl)
       ∙ ap₂ (λ a b. rows_of_devices plan ks u ++ rows_on u ks a b) sends receives
-      ∙ ap (λ xs. rows_of_devices plan ks u ++ xs) (no_rows u ks (sent u) (received u) (λ i h. (none i h).0) (λ i h. (none i h).1))
+      ∙ ap (λ xs. rows_of_devices plan ks u ++ xs) (rows_received u ks (sent u) (received u) none)
+
+  -- and one in which nothing happens at all
+  quiet_row : (u : ℕ) → ((r : ℕ) → r < length ks → (sent u (get_or ks r 0) ≡ None) × (received u (get_or ks r 0) ≡ None)) → rows_of_devices plan ks (suc u) ≡ rows_of_devices plan ks u
+  unfolding sent received
+  quiet_row u none =
+      row_later u (λ r h. (none r h).0)
+      ∙ ap (λ xs. rows_of_devices plan ks u ++ xs) (rows_none u ks (λ i. received u (get_or ks i 0)) (length ks) (λ r h. (none r h).1))
       ∙ append-nil (rows_of_devices plan ks u)
 
   module _ (t m : ℕ)
@@ -138,7 +142,7 @@ module _ (plan : Plan) (s : ℕ) where
     pub rows_stay : rows_of_devices plan ks (t + m) ≡ rows_of_devices plan ks t
     rows_stay = rows_to m (omega arith)
 
-    captures_to : (r j : ℕ) → r < length ks → j ≤ m → captures_at plan (get_or ks r 0) (t + j) ≡ captures_at plan (get_or ks r 0) t
+    pub captures_to : (r j : ℕ) → r < length ks → j ≤ m → captures_at plan (get_or ks r 0) (t + j) ≡ captures_at plan (get_or ks r 0) t
     captures_to r zero l h = let e : t + 0 ≡ t = omega arith in ap (captures_at plan (get_or ks r 0)) e
     captures_to r (suc j) l h =
         let k = get_or ks r 0 in

@@ -4,7 +4,6 @@ use Rattle.std.specs.Prelude.{◌↔◌, Option}
 use Rattle.manchester_line.specs.declared.Sym.{Sym}
 use Rattle.manchester_line.specs.declared.Sym.TheVariants.{Idle}
 use Rattle.manchester_line.specs.Line.{is_signal}
-use Rattle.mac_receive.specs.KeptReceiver.{Kept}
 use Rattle.mac_transmit.specs.declared.phase.Phase.TheVariants.{Sending}
 use Rattle.mac_transmit.specs.Sender.{Sender, is_sending, frame_at, symbol_of}
 use Rattle.mac_transmit.specs.Calm.{AllHeardAs, AreCalm, calm_of}
@@ -13,23 +12,20 @@ use Rattle.tap_lines.specs.TapLines.{TapLine, line_extended}
 use Rattle.segment_engine.specs.SteadyPieces.{IsCalmAs, IsToldAhead, sent_ahead}
 use Rattle.segment_engine.proofs.QuietHalfBits.{emits_idle, span_same}
 
-pub fewer_calm : (m n : ℕ) (c : Bool) (s : Sender) (k : Kept) → n ≤ m → IsCalmAs m c s k → IsCalmAs n c s k
-fewer_calm m n c s k h is = record {
+pub fewer_calm : (m n : ℕ) (c : Bool) (s : Sender) → n ≤ m → IsCalmAs m c s → IsCalmAs n c s
+fewer_calm m n c s h is = record {
   number = let x = is.number in omega (arith, x, h);
   calm = λ hs a l. is.calm hs a (omega (arith, l, h));
-  at_rest = is.at_rest;
 }
 
-pub calm_as : (n most : ℕ) (c c' : Bool) (s s' : Sender) (k k' : Kept) → n ≤ most → most ≡ calm_of s c → most ≤ 4096 →
-    ((hs : List Sym) → AllHeardAs c hs → length hs ≤ 4096 → AreCalm s hs ↔ (length hs ≤ most)) →
-    (is_sending s.phase ≡ false → c ≡ false → k.halves ≡ 0) → c ≡ c' → s ≡ s' → k ≡ k' → IsCalmAs n c' s' k'
-calm_as n most c c' s s' k k' h is within exact rest ec es ek =
-    let one : IsCalmAs n c s k = record {
+pub calm_as : (n most : ℕ) (c c' : Bool) (s s' : Sender) → n ≤ most → most ≡ calm_of s c → most ≤ 4096 →
+    ((hs : List Sym) → AllHeardAs c hs → length hs ≤ 4096 → AreCalm s hs ↔ (length hs ≤ most)) → c ≡ c' → s ≡ s' → IsCalmAs n c' s'
+calm_as n most c c' s s' h is within exact ec es =
+    let one : IsCalmAs n c s = record {
       number = omega (arith, h, is);
       calm = λ hs a l. (exact hs a (omega (arith, l, h, within))).1 (omega (arith, l, h));
-      at_rest = rest;
     } in
-    subst (λ x. IsCalmAs n c' s' x) ek (subst (λ x. IsCalmAs n c' x k) es (subst (λ x. IsCalmAs n x s k) ec one))
+    subst (λ x. IsCalmAs n c' x) es (subst (λ x. IsCalmAs n x s) ec one)
 
 -- what a sending has ahead
 pub emission_is : (s : Sender) (octets : List ℕ) (start : ℕ) (hit : Option ℕ) (t j : ℕ) → octets ≡ frame_at s.queue s.place → s.phase ≡ Sending start hit → t ≡ s.t → start ≤ t →

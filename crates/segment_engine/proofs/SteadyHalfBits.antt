@@ -10,7 +10,6 @@ use Rattle.load_plan.specs.declared.plan.Plan.{Plan}
 use Rattle.mac_transmit.specs.Sender.{Sender, sender_step, is_sending}
 use Rattle.mac_transmit.specs.Calm.{after_all, AllHeardAs, AreCalm, calm_of}
 use Rattle.mac_transmit.specs.Emissions.{emission_by}
-use Rattle.mac_receive.specs.KeptReceiver.{Kept}
 use Rattle.network.specs.Attempts.{sender_at}
 use Rattle.network.specs.Times.{heard, emitted}
 use Rattle.net_parts.specs.Windows.{lookahead}
@@ -29,7 +28,7 @@ use Rattle.tap_lines.proofs.Spans.{span_more}
 use Rattle.segment_engine.proofs.StationsLater.{sender_runs, station, last_calm}
 
 -- each station hears a signal all the time, or Idle all the time, for m half bits, and its line tells ahead what it emits
-pub record GoesAhead (plan : Plan) (s t front m least most : ℕ) (ls ls' : List TapLine) (ss : List Sender) (ks : List Kept) (carrier : ℕ → Bool) (a_sender : Sender) (a_kept : Kept) : Type 0 where
+pub record GoesAhead (plan : Plan) (s t front m least most : ℕ) (ls ls' : List TapLine) (ss : List Sender) (carrier : ℕ → Bool) (a_sender : Sender) : Type 0 where
   pub are : AreLinesAt plan (wiring plan.layout s) (lookahead plan.layout) t front ls
   pub ahead : t + m ≤ front
   pub few : m ≤ least
@@ -38,10 +37,10 @@ pub record GoesAhead (plan : Plan) (s t front m least most : ℕ) (ls ls' : List
   pub told : (r : ℕ) → r < length (wiring plan.layout s).stations → IsToldAhead (get_or ss r a_sender) least most (get_or ls r no_line) (get_or ls' r no_line)
   pub others : (r : ℕ) → length (wiring plan.layout s).stations ≤ r → get_or ls' r no_line ≡ get_or ls r no_line
   pub steady : (r j : ℕ) → r < length (wiring plan.layout s).stations → j < m → is_signal (heard_by_lines (lookahead plan.layout) (t + j) ls' r) ≡ carrier r
-  pub calm : (r : ℕ) → r < length (wiring plan.layout s).stations → IsCalmAs m (carrier r) (get_or ss r a_sender) (get_or ks r a_kept)
+  pub calm : (r : ℕ) → r < length (wiring plan.layout s).stations → IsCalmAs m (carrier r) (get_or ss r a_sender)
 
-module _ (plan : Plan) (s t front m least most : ℕ) (ls ls' : List TapLine) (ss : List Sender) (ks : List Kept) (carrier : ℕ → Bool) (a_sender : Sender) (a_kept : Kept)
-    (g : GoesAhead plan s t front m least most ls ls' ss ks carrier a_sender a_kept) where
+module _ (plan : Plan) (s t front m least most : ℕ) (ls ls' : List TapLine) (ss : List Sender) (carrier : ℕ → Bool) (a_sender : Sender)
+    (g : GoesAhead plan s t front m least most ls ls' ss carrier a_sender) where
   abbrev w : Wiring
   w = wiring plan.layout s
 

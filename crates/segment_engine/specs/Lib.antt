@@ -2,6 +2,8 @@ pub mod NewLines
 pub mod StationPasses
 pub mod PartStates
 pub mod RunningStates
+pub mod Strides
 pub mod KeptParts
 pub mod QuietHalfBits
 pub mod SteadyPieces
+pub mod FirstReceptions

@@ -1,9 +1,8 @@
 -- Several half bits of a segment in which each of its stations hears a signal all the time, or Idle all the time, and
 -- goes on with what it does (profile). Half bits and taps count from 0.
-use Rattle.std.specs.Prelude.{ℕ, ◌≡◌, ◌+◌, ◌<◌, ◌≤◌, Bool, false, List, ◌++◌, take, drop, length}
+use Rattle.std.specs.Prelude.{ℕ, ◌≡◌, ◌+◌, ◌<◌, ◌≤◌, Bool, List, ◌++◌, take, drop, length}
 use Rattle.manchester_line.specs.declared.Sym.{Sym}
 use Rattle.manchester_line.specs.Line.{is_signal}
-use Rattle.mac_receive.specs.KeptReceiver.{Kept}
 use Rattle.mac_transmit.specs.Sender.{Sender, is_sending}
 use Rattle.mac_transmit.specs.Calm.{AllHeardAs, AreCalm, calm_of}
 use Rattle.mac_transmit.specs.Emissions.{emission_by}
@@ -24,12 +23,11 @@ pub record IsToldAhead (s : Sender) (least most : ℕ) (l l' : TapLine) : Type 0
   pub line : l' ≡ line_extended l (sent_ahead s number)
   pub signal : (j : ℕ) → j < least → is_signal (emission_by s j s.phase) ≡ is_sending s.phase
 
--- Nothing happens to a station in n half bits in which it hears a signal all the time, or Idle all the time, as
--- `carrier` says: its sender goes on, and no reception ends (profile).
-pub record IsCalmAs (n : ℕ) (carrier : Bool) (s : Sender) (k : Kept) : Type 0 where
+-- Nothing happens at a station's sender in n half bits in which the station hears a signal all the time, or Idle all
+-- the time, as `carrier` says: it goes on with what it does (profile).
+pub record IsCalmAs (n : ℕ) (carrier : Bool) (s : Sender) : Type 0 where
   pub number : n ≤ calm_of s carrier
   pub calm : (hs : List Sym) → AllHeardAs carrier hs → length hs ≤ n → AreCalm s hs
-  pub at_rest : is_sending s.phase ≡ false → carrier ≡ false → k.halves ≡ 0
 
 -- A parcel with these symbols for the half bits of its window from k on (profile).
 abbrev pub with_piece_at : ℕ → List Sym → Parcel → Parcel

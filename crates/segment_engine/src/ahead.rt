@@ -55,7 +55,8 @@ fn sending_symbol(octets: &[u8], hit: Option<u32>, p: u64) -> Sym
     }
 }
 
-/// Writes the symbols of a sending from position `p` on into a piece, as long as they are a signal. It answers how many.
+/// Writes the symbols of a sending from position `p` on into a piece, as long as they are a signal. It answers how
+/// many.
 fn write_ahead(octets: &[u8], hit: Option<u32>, p: u64, piece: &mut [Sym]) -> usize
     requires length { length octets.now ≤ 1600 }
     requires place { p + length piece.old < 2 ^ 32 }
@@ -73,8 +74,8 @@ fn write_ahead(octets: &[u8], hit: Option<u32>, p: u64, piece: &mut [Sym]) -> us
     piece.len()
 }
 
-/// Puts the symbols of a sending from position `p` on behind a line's, as long as they are a signal and at most so many. It
-/// answers how many, and writes them at the front of a piece first.
+/// Puts the symbols of a sending from position `p` on behind a line's, as long as they are a signal and at most so
+/// many. It answers how many, and writes them at the front of a piece first.
 fn send_ahead(
     octets: &[u8],
     hit: Option<u32>,
@@ -97,8 +98,8 @@ fn send_ahead(
     told as u32
 }
 
-/// Puts on a station's line what its sending has for the half bits from `t` on, as long as that is a signal and at most so many.
-/// It answers how many.
+/// Puts on a station's line what its sending has for the half bits from `t` on, as long as that is a signal and at most
+/// so many. It answers how many.
 fn send_on(t: u64, count: u32, sender: &Transmitter, line: &mut Line, piece: &mut [Sym]) -> u32
     requires time { t ≡ sender.now.t }
     requires in_time { t + count ≤ 2000000000 }
@@ -120,8 +121,8 @@ fn send_on(t: u64, count: u32, sender: &Transmitter, line: &mut Line, piece: &mu
     send_ahead(frame.octets(), hit, t - start, count, line, piece)
 }
 
-/// Puts on a station's line what it emits in the half bits from `t` on, at most so many, if nothing happens to its sender. It
-/// answers for how many.
+/// Puts on a station's line what it emits in the half bits from `t` on, at most so many, if nothing happens to its
+/// sender. It answers for how many.
 fn go_ahead(t: u64, count: u32, sender: &Transmitter, line: &mut Line, piece: &mut [Sym]) -> u32
     requires time { t ≡ sender.now.t }
     requires in_time { t + count ≤ 2000000000 }
@@ -138,8 +139,8 @@ fn go_ahead(t: u64, count: u32, sender: &Transmitter, line: &mut Line, piece: &m
     count
 }
 
-/// Puts on the line of each station what it emits in the half bits from `t` on, at most so many, if nothing happens to its
-/// sender: those lines come first. It answers for how many half bits all of them have that.
+/// Puts on the line of each station what it emits in the half bits from `t` on, at most so many, if nothing happens to
+/// its sender: those lines come first. It answers for how many half bits all of them have that.
 pub fn emit_ahead(
     t: u64,
     count: u32,

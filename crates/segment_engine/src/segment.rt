@@ -19,8 +19,8 @@ use net_parts::{Pace, edges_of};
 use std::alloc::Global;
 use std::snapshot::Snapshot;
 
-/// A segment of a plan: its number, the numbers of its stations and edges, the half bits of a window and of the run, and how
-/// many windows the run has.
+/// A segment of a plan: its number, the numbers of its stations and edges, the half bits of a window and of the run,
+/// and how many windows the run has.
 #[derive(Drop)]
 pub struct Segment {
     pub plan: Snapshot<Plan>,

@@ -17,9 +17,9 @@ use mac_transmit::Transmitter;
 use manchester_line::{Sym, is_signal};
 use window_room::{RowRoom, log_event, receive_one};
 
-/// Half bit `t` of a station, in which it hears this symbol: of its sender, then of its receiver, which is told whether the
-/// station emits something. The station is counted among those of the room, the device among all. It answers what the
-/// station emits.
+/// Half bit `t` of a station, in which it hears this symbol: of its sender, then of its receiver, which is told whether
+/// the station emits something. The station is counted among those of the room, the device among all. It answers what
+/// the station emits.
 fn step_station(
     t: u64,
     station: usize,
@@ -56,8 +56,8 @@ fn step_station(
     step.emitted
 }
 
-/// Half bit `t` of each station of a segment, which hears one of these symbols. It takes no memory, and leaves the room that
-/// later half bits can need.
+/// Half bit `t` of each station of a segment, which hears one of these symbols. It takes no memory, and leaves the room
+/// that later half bits can need.
 pub fn step_stations(
     t: u64,
     devices: &[u32],

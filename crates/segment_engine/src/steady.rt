@@ -1,21 +1,21 @@
-//! Several half bits at once in which each station hears a signal all the time, or Idle all the time, and goes on with what it
-//! does.
-ghost use Rattle.std.specs.Prelude.{◌≡◌, ◌≤◌, ◌<◌, ◌+◌, ◌-◌, ◌*◌, ◌^◌, ℕ, List, [], true, false, All, map, length, slice_index_or};
+//! Several half bits at once in which each station hears a signal all the time, or Idle all the time, and goes on with
+//! what it does. A reception may end in the first of them.
+ghost use Rattle.std.specs.Prelude.{◌≡◌, ◌≤◌, ◌<◌, ◌+◌, ◌-◌, ◌^◌, ◌++◌, ℕ, List, [], false, All, length, replicate, slice_index_or};
 ghost use Rattle.manchester_line.specs.declared.Sym.{Sym};
 ghost use Rattle.manchester_line.specs.declared.Sym.TheVariants.{Idle};
 ghost use Rattle.manchester_line.specs.Line.{is_signal as is_signal_of};
-ghost use Rattle.mac_receive.specs.KeptReceiver.{Kept, Hears};
-ghost use Rattle.mac_receive.specs.Receiver.{Receiving, receiver_after, receiver_bodies};
+ghost use Rattle.mac_receive.specs.KeptReceiver.{Kept, Hears, IsReceiver};
+ghost use Rattle.mac_receive.specs.Receiver.{Receiving, receiver_after};
 ghost use Rattle.mac_transmit.specs.Calm.{AllHeardAs, after_all, calm_of};
 ghost use Rattle.mac_transmit.specs.Sender.{Sender, is_sending as is_sending_in};
 ghost use Rattle.net_parts.specs.declared.parcel.Parcel.{Parcel};
-ghost use Rattle.net_parts.specs.SegmentParts.{wiring};
-ghost use Rattle.segment_engine.specs.PartStates.{half_filled};
-ghost use Rattle.segment_engine.specs.RunningStates.{IsRunningAt, HaveLinesRoom};
+ghost use Rattle.network.specs.Captures.{taken_by};
+ghost use Rattle.segment_engine.specs.FirstReceptions.{HasTaken, first_reception, later_bodies, rows_of_first, receivers_demand};
+ghost use Rattle.segment_engine.specs.Strides.{MayGoOnFor, HasGoneOn};
 ghost use Rattle.segment_engine.specs.SteadyPieces.{IsCalmAs, with_piece_at};
 ghost use Rattle.tap_lines.specs.TapLines.{heard_for, IsReachOf, heard_by_lines};
 ghost use Rattle.tap_lines.specs.TapLists.{AreIdleButFor};
-ghost use Rattle.window_room.specs.NeededRoom.{Covers, stations_demand};
+ghost use Rattle.window_room.specs.NeededRoom.{Covers, Demand, both_demands, receiver_demand, stations_demand};
 
 use crate::ahead::emit_ahead;
 use crate::quiet::is_sending;
@@ -26,45 +26,60 @@ use mac_transmit::Transmitter;
 use manchester_line::{Sym, is_signal};
 use net_parts::Parcel;
 use tap_lines::{Line, LoudTaps, classes_ahead, cut_all, hear_listed, piece_of};
+use window_room::{RowRoom, receive_one};
 
-/// Whether no reception ends at a station that hears a signal, or Idle, as `carrier` says.
-fn is_ready(sender: &Transmitter, receiver: &Receiver, carrier: bool) -> bool
-    ensures { result ≡ true → is_sending_in sender.now.phase ≡ false → carrier ≡ false → receiver.now.halves ≡ 0 }
-{
-    carrier || is_sending(sender) || !receiver.is_receiving()
-}
-
-/// For how many half bits from `t` on, at most `most`, nothing happens to the stations, where each hears a signal in all of
-/// them, if it does so now, and else Idle; none at once says nothing.
-pub fn calm_ahead(
-    t: u64,
-    heard: &[Sym],
-    senders: &[Transmitter],
-    receivers: &[Receiver],
-    most: u32,
-) -> u32
+/// For how many half bits from `t` on, at most `most`, nothing happens at the stations' senders, where each station
+/// hears a signal in all of them, if it does so now, and else Idle.
+pub fn calm_ahead(t: u64, heard: &[Sym], senders: &[Transmitter], most: u32) -> u32
     requires many { length senders.now ≤ length heard.now }
-    requires receivers_len { length receivers.now ≡ length senders.now }
     requires times { All (λ s. s.t ≡ t) senders.now }
     requires in_time { t < 2000000000 }
     ensures within { result ≤ most }
-    ensures calm { 0 < result → (r : ℕ) (d : Sender) (k : Kept) → r < length senders.now →
-        IsCalmAs result (is_signal_of (slice_index_or heard.now r Idle)) (slice_index_or senders.now r d) (slice_index_or receivers.now r k) }
+    ensures calm { (r : ℕ) (d : Sender) → r < length senders.now →
+        IsCalmAs result (is_signal_of (slice_index_or heard.now r Idle)) (slice_index_or senders.now r d) }
 {
     let mut calm = most;
     for r in 0..senders.len() {
         let sender = &senders[r];
         let carrier = is_signal(heard[r]);
-        if !is_ready(sender, &receivers[r], carrier) {
-            return 0;
-        }
         calm = calm.min(sender.calm(t, carrier) as u32);
     }
     calm
 }
 
-/// The half bits from `t` on of a receiver, tap `p`, as many as the piece has: its station sends in all of them or in none, and
-/// hears a signal in all of them or Idle in all. Only the listed taps may be heard.
+/// So many half bits from `t` on of a receiver, whose station hears Idle in all of them and doesn't send. A reception
+/// that is under way ends in the first of them. The station is counted among those of the room, the device among all.
+fn take_idle(
+    t: u64,
+    count: u64,
+    station: usize,
+    device: u32,
+    receiver: &mut Receiver,
+    room: &mut RowRoom,
+)
+    requires steps { receiver.old.steps ≡ t }
+    requires in_time { t + count ≤ 2000000000 }
+    requires hears { IsReceiver receiver.old }
+    requires station { station < length room.old.captures }
+    requires room { Covers (receiver_demand count receiver.old) room.old }
+    ensures taken { HasTaken t station device (replicate count Idle) false receiver.old receiver.new room.old room.new }
+    ensures stations { length room.new.captures ≡ length room.old.captures }
+    ensures steps { receiver.new.steps ≡ t + count }
+{
+    if count == 0 {
+        return;
+    }
+    if receiver.is_receiving() {
+        receive_one(receiver, room, station, t, device, Sym::Idle, false);
+        receiver.leap_quiet(count - 1);
+    } else {
+        receiver.leap_quiet(count);
+    }
+}
+
+/// The half bits from `t` on of a receiver, tap `p`, as many as the piece has: its station sends in all of them or in
+/// none, and hears a signal in all of them or Idle in all. Only the listed taps may be heard. With the room that so
+/// many half bits can need it takes no memory.
 fn take_one(
     t: u64,
     lines: &[Line],
@@ -74,7 +89,9 @@ fn take_one(
     far: u64,
     sending: bool,
     carrier: bool,
+    device: u32,
     receiver: &mut Receiver,
+    room: &mut RowRoom,
     piece: &mut [Sym],
 )
     requires tap { p < length lines.now }
@@ -82,19 +99,19 @@ fn take_one(
     requires loud { AreIdleButFor (t - far) lines.now loud.now.taps }
     requires steps { receiver.old.steps ≡ t }
     requires in_time { t + length piece.old ≤ 2000000000 }
-    requires ready { sending ≡ false → carrier ≡ false → receiver.old.halves ≡ 0 }
+    requires hears { IsReceiver receiver.old }
+    requires station { p < length room.old.captures }
+    requires room { Covers (receiver_demand (length piece.old) receiver.old) room.old }
     requires steady { (j : ℕ) → j < length piece.old → is_signal_of (heard_by_lines lookahead (t + j) lines.now p) ≡ carrier }
-    ensures state { (r : Receiving) → Hears r receiver.old →
-        Hears (receiver_after r (heard_for lookahead t (length piece.old) lines.now p) sending) receiver.new }
-    ensures bodies { (r : Receiving) → Hears r receiver.old →
-        receiver_bodies r (heard_for lookahead t (length piece.old) lines.now p) sending ≡ [] }
+    ensures taken { HasTaken t p device (heard_for lookahead t (length piece.old) lines.now p) sending receiver.old receiver.new room.old room.new }
+    ensures stations { length room.new.captures ≡ length room.old.captures }
     ensures steps { receiver.new.steps ≡ t + length piece.old }
 {
     let count = piece.len() as u64;
     if sending {
         receiver.leap_sending(count);
     } else if !carrier {
-        receiver.leap_quiet(count);
+        take_idle(t, count, p, device, receiver, room);
     } else if receiver.is_deaf() {
         receiver.leap_deaf(count);
     } else if let Some(heard) = piece_of(lines, loud.only(), p, lookahead, far, t, piece.len()) {
@@ -105,7 +122,8 @@ fn take_one(
     }
 }
 
-/// The half bits from `t` on of all receivers, as many as the piece has.
+/// The half bits from `t` on of all receivers, as many as the piece has. With the room that so many half bits can need
+/// it takes no memory, and leaves what the later ones can need.
 fn take_all(
     t: u64,
     lines: &[Line],
@@ -114,25 +132,42 @@ fn take_all(
     far: u64,
     heard: &[Sym],
     senders: &[Transmitter],
+    devices: &[u32],
     receivers: &mut [Receiver],
+    room: &mut RowRoom,
     piece: &mut [Sym],
 )
     requires few { length senders.now ≤ length lines.now }
     requires many { length senders.now ≤ length heard.now }
+    requires devices_len { length devices.now ≡ length senders.now }
     requires receivers_len { length receivers.old ≡ length senders.now }
+    requires captures_len { length room.old.captures ≡ length senders.now }
     requires reach { IsReachOf far lookahead lines.now }
     requires loud { AreIdleButFor (t - far) lines.now loud.now.taps }
     requires steps { All (λ r. r.steps ≡ t) receivers.old }
     requires in_time { t + length piece.old ≤ 2000000000 }
-    requires ready { (r : ℕ) (d : Sender) (k : Kept) → r < length senders.now → is_sending_in (slice_index_or senders.now r d).phase ≡ false →
-        is_signal_of (slice_index_or heard.now r Idle) ≡ false → (slice_index_or receivers.old r k).halves ≡ 0 }
+    requires hear { All IsReceiver receivers.old }
+    requires room { Covers (receivers_demand (length piece.old) receivers.old) room.old }
     requires steady { (r j : ℕ) → r < length senders.now → j < length piece.old →
         is_signal_of (heard_by_lines lookahead (t + j) lines.now r) ≡ is_signal_of (slice_index_or heard.now r Idle) }
     ensures states { (i : ℕ) (d : Kept) (e : Sender) (r : Receiving) → i < length receivers.new → Hears r (slice_index_or receivers.old i d) →
         Hears (receiver_after r (heard_for lookahead t (length piece.old) lines.now i) (is_sending_in (slice_index_or senders.now i e).phase))
         (slice_index_or receivers.new i d) }
-    ensures bodies { (i : ℕ) (d : Kept) (e : Sender) (r : Receiving) → i < length receivers.new → Hears r (slice_index_or receivers.old i d) →
-        receiver_bodies r (heard_for lookahead t (length piece.old) lines.now i) (is_sending_in (slice_index_or senders.now i e).phase) ≡ [] }
+    ensures later { (i : ℕ) (d : Kept) (e : Sender) (r : Receiving) → i < length receivers.new → Hears r (slice_index_or receivers.old i d) →
+        later_bodies r (heard_for lookahead t (length piece.old) lines.now i) (is_sending_in (slice_index_or senders.now i e).phase) ≡ [] }
+    ensures rows { (rs : ℕ → Receiving) (e : Sender) →
+        ((i : ℕ) (d : Kept) → i < length receivers.new → Hears (rs i) (slice_index_or receivers.old i d)) →
+        room.new.rows ≡ room.old.rows ++ rows_of_first t devices.now
+        (λ i. (first_reception (rs i) (heard_for lookahead t (length piece.old) lines.now i) (is_sending_in (slice_index_or senders.now i e).phase)).event)
+        (length senders.now) }
+    ensures captures { (i : ℕ) (d : Kept) (e : Sender) (r : Receiving) → i < length receivers.new → Hears r (slice_index_or receivers.old i d) →
+        slice_index_or room.new.captures i [] ≡ slice_index_or room.old.captures i [] ++ taken_by t
+        (first_reception r (heard_for lookahead t (length piece.old) lines.now i) (is_sending_in (slice_index_or senders.now i e).phase)).event
+        (first_reception r (heard_for lookahead t (length piece.old) lines.now i) (is_sending_in (slice_index_or senders.now i e).phase)).octets }
+    ensures stations { length room.new.captures ≡ length room.old.captures }
+    ensures left { (n : ℕ) (other : Demand) →
+        Covers (both_demands other (receivers_demand (n + length piece.old) receivers.old)) room.old →
+        Covers (both_demands other (receivers_demand n receivers.new)) room.new }
     ensures steps { All (λ r. r.steps ≡ t + length piece.old) receivers.new }
 {
     for k in 0..senders.len() {
@@ -140,13 +175,13 @@ fn take_all(
         let carrier = is_signal(heard[k]);
         let receiver = &mut receivers[k];
         take_one(
-            t, lines, loud, k, lookahead, far, sending, carrier, receiver, piece,
+            t, lines, loud, k, lookahead, far, sending, carrier, devices[k], receiver, room, piece,
         );
     }
 }
 
-/// What the ports hear in the half bits from `t` on, as many as the piece has, takes the place of what came in for them from
-/// half bit `k` of the window on. Their taps come behind so many others.
+/// What the ports hear in the half bits from `t` on, as many as the piece has, takes the place of what came in for them
+/// from half bit `k` of the window on. Their taps come behind so many others.
 fn put_all(
     t: u64,
     k: usize,
@@ -178,8 +213,8 @@ fn put_all(
     }
 }
 
-/// So many half bits from `t` on of senders to which nothing happens in them, where each station hears a signal in all of them,
-/// if it does so now, and else Idle.
+/// So many half bits from `t` on of senders to which nothing happens in them, where each station hears a signal in all
+/// of them, if it does so now, and else Idle.
 fn leap_all(t: u64, count: u32, heard: &[Sym], senders: &mut [Transmitter])
     requires many { length senders.old ≤ length heard.now }
     requires times { All (λ s. s.t ≡ t) senders.old }
@@ -197,8 +232,9 @@ fn leap_all(t: u64, count: u32, heard: &[Sym], senders: &mut [Transmitter])
     }
 }
 
-/// As many half bits of a window of a segment from half bit `k` on, from 0, as the stations hear what they hear now, a signal or
-/// Idle, and at most so many, in which nothing happens to them then. It answers how many.
+/// As many half bits of a window of a segment from half bit `k` on, from 0, as the stations hear what they hear now, a
+/// signal or Idle, and at most so many, in which nothing happens at their senders then. A reception may end in the
+/// first of them. With the room that they can need it takes no memory. It answers how many.
 pub fn leap_steady(
     of: &Segment,
     window: u64,
@@ -207,27 +243,13 @@ pub fn leap_steady(
     state: &mut Running,
     parcels: &mut [Parcel],
 ) -> u32
-    requires at { IsRunningAt of.now.plan.value of.now.number ((window + 1) * of.now.lookahead) state.old }
-    requires time { state.old.t ≡ window * of.now.lookahead + k }
-    requires within { k + count ≤ of.now.lookahead }
-    requires in_time { state.old.t + count ≤ 2000000000 }
+    requires stands { MayGoOnFor of.now window k count state.old parcels.old }
     requires piece { count ≤ length state.old.piece.items }
-    requires calm { (r : ℕ) (d : Sender) (k : Kept) → r < length state.old.senders.items →
-        IsCalmAs count (is_signal_of (slice_index_or state.old.heard.items r Idle)) (slice_index_or state.old.senders.items r d)
-        (slice_index_or state.old.receivers.items r k) }
-    requires parcels { parcels.old
-        ≡ map (half_filled of.now.plan.value of.now.lookahead window k) (wiring of.now.plan.value.layout of.now.number).edges }
-    requires lines { HaveLinesRoom of.now.plan.value of.now.number count state.old.lines.items }
+    requires calm { (r : ℕ) (d : Sender) → r < length state.old.senders.items →
+        IsCalmAs count (is_signal_of (slice_index_or state.old.heard.items r Idle)) (slice_index_or state.old.senders.items r d) }
+    requires room { Covers (stations_demand count state.old.senders.items state.old.receivers.items) state.old.room }
     ensures within { result ≤ count }
-    ensures at { IsRunningAt of.now.plan.value of.now.number ((window + 1) * of.now.lookahead) state.new }
-    ensures time { state.new.t ≡ state.old.t + result }
-    ensures parcels { parcels.new
-        ≡ map (half_filled of.now.plan.value of.now.lookahead window (k + result)) (wiring of.now.plan.value.layout of.now.number).edges }
-    ensures room { (n : ℕ) →
-        Covers (stations_demand (n + result) state.old.senders.items state.old.receivers.items) state.old.room →
-        Covers (stations_demand n state.new.senders.items state.new.receivers.items) state.new.room }
-    ensures lines { (n : ℕ) → HaveLinesRoom of.now.plan.value of.now.number (n + result) state.old.lines.items →
-        HaveLinesRoom of.now.plan.value of.now.number n state.new.lines.items }
+    ensures gone { HasGoneOn of.now window k result state.old state.new parcels.new }
 {
     let t = state.t;
     let far = state.far;
@@ -245,7 +267,17 @@ pub fn leap_steady(
     let receivers: &mut [Receiver] = &mut state.receivers;
     let part = &mut piece[..steady];
     take_all(
-        t, lines, loud, lookahead, far, heard, senders, receivers, part,
+        t,
+        lines,
+        loud,
+        lookahead,
+        far,
+        heard,
+        senders,
+        &of.stations,
+        receivers,
+        &mut state.room,
+        part,
     );
     put_all(
         t, k as usize, lines, loud, stations, lookahead, far, parcels, part,

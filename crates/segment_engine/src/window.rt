@@ -1,10 +1,11 @@
 //! A window of a segment.
-ghost use Rattle.std.specs.Prelude.{◌≡◌, ◌<◌, ◌≤◌, ◌+◌, ◌*◌, ℕ, map};
+ghost use Rattle.std.specs.Prelude.{◌≡◌, ◌<◌, ◌≤◌, ◌+◌, ◌*◌, map};
 ghost use Rattle.net_parts.specs.Windows.{time};
 ghost use Rattle.net_parts.specs.SegmentParts.{wiring};
 ghost use Rattle.net_parts.specs.Parcels.{arrived, refilled};
 ghost use Rattle.segment_engine.specs.PartStates.{half_filled};
 ghost use Rattle.segment_engine.specs.RunningStates.{IsRunningAt, HaveLinesRoom};
+ghost use Rattle.segment_engine.specs.Strides.{MayGoOnFor, HasGoneOn};
 ghost use Rattle.window_room.specs.NeededRoom.{Covers, stations_demand};
 
 use crate::parcels::turn;
@@ -36,9 +37,9 @@ fn begin(of: &Segment, window: u64, state: &mut Running, parcels: &[Parcel])
     take_in(&mut state.lines, of.stations.len(), parcels);
 }
 
-/// Half bits of a window of a segment from half bit `k` on, from 0, at most `most`, in which each station hears what it was
-/// last said to hear, a signal or Idle, and goes on with what it does: what they emit is told ahead for at most `ahead` of
-/// them. It answers how many.
+/// Half bits of a window of a segment from half bit `k` on, from 0, at most `most`, in which each station hears what it
+/// was last said to hear, a signal or Idle, and goes on with what it does: what they emit is told ahead for at most
+/// `ahead` of them. It answers how many.
 fn go_as_heard(
     of: &Segment,
     window: u64,
@@ -48,28 +49,15 @@ fn go_as_heard(
     state: &mut Running,
     parcels: &mut [Parcel],
 ) -> u32
-    requires at { IsRunningAt of.now.plan.value of.now.number ((window + 1) * of.now.lookahead) state.old }
-    requires time { state.old.t ≡ window * of.now.lookahead + k }
     requires some { 0 < most }
-    requires within { k + most ≤ of.now.lookahead }
-    requires in_time { state.old.t + most ≤ 2000000000 }
-    requires parcels { parcels.old
-        ≡ map (half_filled of.now.plan.value of.now.lookahead window k) (wiring of.now.plan.value.layout of.now.number).edges }
-    requires lines { HaveLinesRoom of.now.plan.value of.now.number most state.old.lines.items }
+    requires stands { MayGoOnFor of.now window k most state.old parcels.old }
+    requires room { Covers (stations_demand most state.old.senders.items state.old.receivers.items) state.old.room }
     ensures within { result ≤ most }
-    ensures at { IsRunningAt of.now.plan.value of.now.number ((window + 1) * of.now.lookahead) state.new }
-    ensures time { state.new.t ≡ state.old.t + result }
-    ensures parcels { parcels.new
-        ≡ map (half_filled of.now.plan.value of.now.lookahead window (k + result)) (wiring of.now.plan.value.layout of.now.number).edges }
-    ensures room { (n : ℕ) →
-        Covers (stations_demand (n + result) state.old.senders.items state.old.receivers.items) state.old.room →
-        Covers (stations_demand n state.new.senders.items state.new.receivers.items) state.new.room }
-    ensures lines { (n : ℕ) → HaveLinesRoom of.now.plan.value of.now.number (n + result) state.old.lines.items →
-        HaveLinesRoom of.now.plan.value of.now.number n state.new.lines.items }
+    ensures gone { HasGoneOn of.now window k result state.old state.new parcels.new }
 {
     let t = state.t;
     let most = (most.min(ahead) as usize).min(state.piece.len()) as u32;
-    let calm = calm_ahead(t, &state.heard, &state.senders, &state.receivers, most);
+    let calm = calm_ahead(t, &state.heard, &state.senders, most);
     if calm == 0 {
         return 0;
     }
@@ -86,33 +74,20 @@ fn hear_and_go(
     state: &mut Running,
     parcels: &mut [Parcel],
 ) -> u32
-    requires at { IsRunningAt of.now.plan.value of.now.number ((window + 1) * of.now.lookahead) state.old }
-    requires time { state.old.t ≡ window * of.now.lookahead + k }
     requires some { 0 < most }
-    requires within { k + most ≤ of.now.lookahead }
-    requires in_time { state.old.t + most ≤ 2000000000 }
-    requires parcels { parcels.old
-        ≡ map (half_filled of.now.plan.value of.now.lookahead window k) (wiring of.now.plan.value.layout of.now.number).edges }
-    requires lines { HaveLinesRoom of.now.plan.value of.now.number most state.old.lines.items }
+    requires stands { MayGoOnFor of.now window k most state.old parcels.old }
+    requires room { Covers (stations_demand most state.old.senders.items state.old.receivers.items) state.old.room }
     ensures within { result ≤ most }
-    ensures at { IsRunningAt of.now.plan.value of.now.number ((window + 1) * of.now.lookahead) state.new }
-    ensures time { state.new.t ≡ state.old.t + result }
-    ensures parcels { parcels.new
-        ≡ map (half_filled of.now.plan.value of.now.lookahead window (k + result)) (wiring of.now.plan.value.layout of.now.number).edges }
-    ensures room { (n : ℕ) →
-        Covers (stations_demand (n + result) state.old.senders.items state.old.receivers.items) state.old.room →
-        Covers (stations_demand n state.new.senders.items state.new.receivers.items) state.new.room }
-    ensures lines { (n : ℕ) → HaveLinesRoom of.now.plan.value of.now.number (n + result) state.old.lines.items →
-        HaveLinesRoom of.now.plan.value of.now.number n state.new.lines.items }
+    ensures gone { HasGoneOn of.now window k result state.old state.new parcels.new }
 {
     let t = state.t;
     hear_all(&state.lines, of.lookahead, state.far, t, &mut state.heard);
     go_as_heard(of, window, k, most, ahead, state, parcels)
 }
 
-/// Half bits of a window of a segment from half bit `k` on, from 0, at most `most`, in which each station goes on with what it
-/// does: what they emit is told ahead for at most `ahead` of them. It answers how many. At the front of a window the stations
-/// mostly hear what they heard before, so that is tried first.
+/// Half bits of a window of a segment from half bit `k` on, from 0, at most `most`, in which each station goes on with
+/// what it does: what they emit is told ahead for at most `ahead` of them. It answers how many. At the front of a
+/// window the stations mostly hear what they heard before, so that is tried first.
 fn go_steadily(
     of: &Segment,
     window: u64,
@@ -122,24 +97,11 @@ fn go_steadily(
     state: &mut Running,
     parcels: &mut [Parcel],
 ) -> u32
-    requires at { IsRunningAt of.now.plan.value of.now.number ((window + 1) * of.now.lookahead) state.old }
-    requires time { state.old.t ≡ window * of.now.lookahead + k }
     requires some { 0 < most }
-    requires within { k + most ≤ of.now.lookahead }
-    requires in_time { state.old.t + most ≤ 2000000000 }
-    requires parcels { parcels.old
-        ≡ map (half_filled of.now.plan.value of.now.lookahead window k) (wiring of.now.plan.value.layout of.now.number).edges }
-    requires lines { HaveLinesRoom of.now.plan.value of.now.number most state.old.lines.items }
+    requires stands { MayGoOnFor of.now window k most state.old parcels.old }
+    requires room { Covers (stations_demand most state.old.senders.items state.old.receivers.items) state.old.room }
     ensures within { result ≤ most }
-    ensures at { IsRunningAt of.now.plan.value of.now.number ((window + 1) * of.now.lookahead) state.new }
-    ensures time { state.new.t ≡ state.old.t + result }
-    ensures parcels { parcels.new
-        ≡ map (half_filled of.now.plan.value of.now.lookahead window (k + result)) (wiring of.now.plan.value.layout of.now.number).edges }
-    ensures room { (n : ℕ) →
-        Covers (stations_demand (n + result) state.old.senders.items state.old.receivers.items) state.old.room →
-        Covers (stations_demand n state.new.senders.items state.new.receivers.items) state.new.room }
-    ensures lines { (n : ℕ) → HaveLinesRoom of.now.plan.value of.now.number (n + result) state.old.lines.items →
-        HaveLinesRoom of.now.plan.value of.now.number n state.new.lines.items }
+    ensures gone { HasGoneOn of.now window k result state.old state.new parcels.new }
 {
     if k > 0 {
         return hear_and_go(of, window, k, most, ahead, state, parcels);
@@ -162,26 +124,12 @@ fn go_on(
     state: &mut Running,
     parcels: &mut [Parcel],
 ) -> u32
-    requires at { IsRunningAt of.now.plan.value of.now.number ((window + 1) * of.now.lookahead) state.old }
-    requires time { state.old.t ≡ window * of.now.lookahead + k }
     requires some { 0 < most }
-    requires within { k + most ≤ of.now.lookahead }
-    requires in_time { state.old.t + most ≤ 2000000000 }
-    requires parcels { parcels.old
-        ≡ map (half_filled of.now.plan.value of.now.lookahead window k) (wiring of.now.plan.value.layout of.now.number).edges }
+    requires stands { MayGoOnFor of.now window k most state.old parcels.old }
     requires room { Covers (stations_demand most state.old.senders.items state.old.receivers.items) state.old.room }
-    requires lines { HaveLinesRoom of.now.plan.value of.now.number most state.old.lines.items }
     ensures some { 0 < result }
     ensures within { result ≤ most }
-    ensures at { IsRunningAt of.now.plan.value of.now.number ((window + 1) * of.now.lookahead) state.new }
-    ensures time { state.new.t ≡ state.old.t + result }
-    ensures parcels { parcels.new
-        ≡ map (half_filled of.now.plan.value of.now.lookahead window (k + result)) (wiring of.now.plan.value.layout of.now.number).edges }
-    ensures room { (n : ℕ) →
-        Covers (stations_demand (n + result) state.old.senders.items state.old.receivers.items) state.old.room →
-        Covers (stations_demand n state.new.senders.items state.new.receivers.items) state.new.room }
-    ensures lines { (n : ℕ) → HaveLinesRoom of.now.plan.value of.now.number (n + result) state.old.lines.items →
-        HaveLinesRoom of.now.plan.value of.now.number n state.new.lines.items }
+    ensures gone { HasGoneOn of.now window k result state.old state.new parcels.new }
 {
     let quiet = quiet_half_bits(state, most);
     if quiet > 0 {
@@ -196,8 +144,8 @@ fn go_on(
     1
 }
 
-/// How many half bits are told ahead after `made` half bits were made where `ahead` were told: twice as many if all that were
-/// told stood, and else as few as at first.
+/// How many half bits are told ahead after `made` half bits were made where `ahead` were told: twice as many if all
+/// that were told stood, and else as few as at first.
 fn next_ahead(ahead: u32, made: u32) -> u32 {
     if made < ahead {
         FEW_AHEAD

@@ -1,4 +1,4 @@
-use Rattle.std.proofs.Common.{◌≡◌, ℕ, ◌<◌, ◌+◌, ◌*◌, length, get_or}
+use Rattle.std.proofs.Common.{◌≡◌, ℕ, ◌<◌, length, get_or}
 use Rattle.tap_lines.specs.TapLines.{TapLine}
 use Rattle.segment_engine.specs.NewLines.{IsNewLine, new_delay}
 use Rattle.segment_engine.proofs.start.lines_of.Given as goal

@@ -1,4 +1,4 @@
-use Rattle.std.proofs.Common.{◌≡◌, get_or, inl, inr, true, subst, ap, ◌∙◌, arith, rules}
+use Rattle.std.proofs.Common.{◌≡◌, get_or, inl, inr, subst, ap, ◌∙◌, arith}
 use Rattle.std.proofs.lemmas.List.{get_or_read, get_or_default}
 use Rattle.std.proofs.lemmas.Bool.{cases_lt}
 use Rattle.manchester_line.specs.declared.Sym.TheVariants.{Idle}
@@ -17,19 +17,16 @@ loop-r-preserved c =
     let test = c.loop-r-test.true in
     record {
       within = omega (arith, m, w);
-      so_far = λ q d k h. elim (cases_lt q r) [
-        | inl before ↦ fewer_calm c.loop-r.calm n (is_signal (get_or hs q Idle)) (get_or c.args.senders.now q d) (get_or c.args.receivers.now q k) (omega (arith, m)) (c.loop-r.invariant.so_far q d k before)
+      so_far = λ q d h. elim (cases_lt q r) [
+        | inl before ↦ fewer_calm c.loop-r.calm n (is_signal (get_or hs q Idle)) (get_or c.args.senders.now q d) (omega (arith, m)) (c.loop-r.invariant.so_far q d before)
         | inr now ↦
             let within = c.calm.ensures.within in
             let many = c.requires.many in
-            let as_many = c.requires.receivers_len in
-            let ready : c.is_ready.result ≡ true = search rules in
             let carrier : c.is_signal-carrier.result ≡ is_signal (get_or hs r Idle) = c.is_signal-carrier.ensures ∙ ap is_signal (get_or_default hs r _ Idle (omega (arith, test, many))) in
             let of_sender : c.index-senders-r.result ≡ get_or c.args.senders.now r d = get_or_read c.args.senders.now r c.index-senders-r.result (omega (arith, test)) c.index-senders-r.is d in
-            let of_receiver : c.index-receivers-r.result ≡ get_or c.args.receivers.now r k = get_or_read c.args.receivers.now r c.index-receivers-r.result (omega (arith, test, as_many)) c.index-receivers-r.is k in
             let e : r ≡ q = omega (arith, h, now) in
-            subst (λ z. IsCalmAs n (is_signal (get_or hs z Idle)) (get_or c.args.senders.now z d) (get_or c.args.receivers.now z k)) e
-            (calm_as n c.calm.result c.is_signal-carrier.result (is_signal (get_or hs r Idle)) c.index-senders-r.result (get_or c.args.senders.now r d) c.index-receivers-r.result (get_or c.args.receivers.now r k)
-            (omega (arith, m, within)) c.calm.ensures.number within c.calm.ensures.exact (c.is_ready.ensures ready) carrier of_sender of_receiver)
+            subst (λ z. IsCalmAs n (is_signal (get_or hs z Idle)) (get_or c.args.senders.now z d)) e
+            (calm_as n c.calm.result c.is_signal-carrier.result (is_signal (get_or hs r Idle)) c.index-senders-r.result (get_or c.args.senders.now r d)
+            (omega (arith, m, within)) c.calm.ensures.number within c.calm.ensures.exact carrier of_sender)
       ];
     }

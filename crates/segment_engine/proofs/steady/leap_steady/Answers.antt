@@ -1,4 +1,4 @@
-use Rattle.std.proofs.Common.{◌≡◌, ℕ, ◌+◌, ◌*◌, ◌<◌, ◌≤◌, All, Bool, [], false, List, map, take, length, length-take-le, get_or, sym, subst, ap, ap₂, ◌∙◌, arith, rules}
+use Rattle.std.proofs.Common.{◌≡◌, ℕ, ◌+◌, ◌*◌, ◌<◌, ◌≤◌, All, Bool, [], ◌++◌, false, List, map, take, length, length-take-le, get_or, sym, subst, ap, ap₂, ◌∙◌, arith, rules}
 use Rattle.std.specs.Vec.{with_items}
 use Rattle.std.proofs.lemmas.List.{with_items_is, length-map}
 use Rattle.manchester_line.specs.declared.Sym.{Sym}
@@ -8,9 +8,10 @@ use Rattle.manchester_line.specs.Decoding.{new_decoding}
 use Rattle.load_plan.specs.declared.plan.Plan.{Plan}
 use Rattle.mac_transmit.specs.Sender.{Sender, is_sending}
 use Rattle.mac_transmit.specs.Calm.{AllHeardAs, after_all, calm_of}
-use Rattle.mac_receive.specs.KeptReceiver.{Kept, Hears}
-use Rattle.mac_receive.specs.Receiver.{Receiving, receiver_after, receiver_bodies, new_receiving}
+use Rattle.mac_receive.specs.KeptReceiver.{Kept, Hears, IsReceiver}
+use Rattle.mac_receive.specs.Receiver.{Receiving, Reception, receiver_after, new_receiving}
 use Rattle.network.specs.Attempts.{sender_at}
+use Rattle.network.specs.Captures.{taken_by}
 use Rattle.net_step.proofs.KeptReceivers.{length-AllHear, AllHear-at}
 use Rattle.net_parts.specs.Windows.{lookahead}
 use Rattle.net_parts.specs.SegmentParts.{Wiring, wiring}
@@ -19,12 +20,16 @@ use Rattle.net_parts.specs.declared.parcel.Parcel.{Parcel}
 use Rattle.tap_lines.specs.TapLines.{TapLine, no_line, heard_by_lines, IsReachOf, heard_for, line_cut}
 use Rattle.tap_lines.specs.TapLists.{AreIdleButFor}
 use Rattle.segment_engine.specs.PartStates.{AreLinesAt, AreStationsAt, half_filled}
+use Rattle.segment_engine.specs.Strides.{parcels_at}
+use Rattle.window_room.specs.NeededRoom.{Demand, Covers, both_demands, stations_demand}
+use Rattle.segment_engine.specs.FirstReceptions.{first_reception, later_bodies, rows_of_first, receivers_demand}
 use Rattle.segment_engine.specs.SteadyPieces.{IsToldAhead, with_piece_at}
+use Rattle.segment_engine.proofs.FirstRows.{rows_alike}
 use Rattle.segment_engine.proofs.LinesHear.{same_reach}
-use Rattle.segment_engine.proofs.QuietRoom.{GoesOn, room_later_each}
+use Rattle.segment_engine.proofs.PieceRoom.{piece_covered, room_after_piece}
 use Rattle.segment_engine.proofs.SteadyCalm.{fewer_calm}
 use Rattle.segment_engine.proofs.SteadyHalfBits.{GoesAhead, heard_as, heard_size}
-use Rattle.segment_engine.proofs.SteadyStations.{ss_many, rs_many, steady_stations, steady_lines, steady_room, steady_parcels, reach_ahead, parcels_long_for}
+use Rattle.segment_engine.proofs.SteadyStations.{ss_many, rs_many, first, hears_at, steady_stations, steady_lines, steady_room, steady_parcels, reach_ahead, parcels_long_for}
 use Rattle.segment_engine.proofs.steady.leap_steady.Goals as goal
 use Rattle.segment_engine.proofs.steady.leap_steady.Goals.{After-state-6-1}
 
@@ -37,7 +42,7 @@ classes_ahead-steady-requires-clause-reach c =
     let g = c.args.of.now in
     let x = sender_at g.plan.value 0 a.t in
     let is = c.deref-lines.ensures.value ∙ with_items_is a.lines c.emit_ahead-ahead.new.lines (search rules) in
-    let before = subst (IsReachOf a.far g.lookahead) (sym c.deref_mut.ensures.value) (subst (λ y. IsReachOf a.far y a.lines.items) (sym g.window_length) c.requires.at.reach) in
+    let before = subst (IsReachOf a.far g.lookahead) (sym c.deref_mut.ensures.value) (subst (λ y. IsReachOf a.far y a.lines.items) (sym g.window_length) c.requires.stands.at.reach) in
     subst (IsReachOf a.far g.lookahead) (sym is)
     (reach_ahead a.far g.lookahead (length c.deref.result.now) c.emit_ahead-ahead.result c.args.count c.deref_mut.result.now c.emit_ahead-ahead.new.lines c.deref.result.now x c.emit_ahead-ahead.auto.lines
     (λ r h. c.emit_ahead-ahead.ensures.told r no_line x h) (λ r h. c.emit_ahead-ahead.ensures.others r no_line h) before)
@@ -47,7 +52,7 @@ find-requires c =
     let a = c.args.state.now in
     let len = ap length (c.deref-lines.ensures.value ∙ with_items_is a.lines c.emit_ahead-ahead.new.lines (search rules)) in
     let told = c.emit_ahead-ahead.auto.lines ∙ ap length c.deref_mut.ensures.value in
-    let room = c.requires.at.listing in
+    let room = c.requires.stands.at.listing in
     omega (arith, len, told, room)
 
 pub slice_bounds-part-end : goal.slice_bounds-part-end
@@ -60,7 +65,7 @@ slice_bounds-part-end c =
 
 pub take_all-requires-clause-receivers_len : goal.take_all-requires-clause-receivers_len
 take_all-requires-clause-receivers_len c =
-    let st = c.requires.at.stations in
+    let st = c.requires.stands.at.stations in
     let plan = c.args.of.now.plan.value in
     let ks = (wiring plan.layout c.args.of.now.number).stations in
     let t = c.args.state.now.t in
@@ -75,25 +80,45 @@ take_all-requires-clause-reach c =
     let g = c.args.of.now in
     let x = sender_at g.plan.value 0 a.t in
     let is = c.deref-lines.ensures.value ∙ with_items_is a.lines c.emit_ahead-ahead.new.lines (search rules) in
-    let before = subst (IsReachOf a.far g.lookahead) (sym c.deref_mut.ensures.value) (subst (λ y. IsReachOf a.far y a.lines.items) (sym g.window_length) c.requires.at.reach) in
+    let before = subst (IsReachOf a.far g.lookahead) (sym c.deref_mut.ensures.value) (subst (λ y. IsReachOf a.far y a.lines.items) (sym g.window_length) c.requires.stands.at.reach) in
     subst (IsReachOf a.far g.lookahead) (sym is)
     (reach_ahead a.far g.lookahead (length c.deref.result.now) c.emit_ahead-ahead.result c.args.count c.deref_mut.result.now c.emit_ahead-ahead.new.lines c.deref.result.now x c.emit_ahead-ahead.auto.lines
     (λ r h. c.emit_ahead-ahead.ensures.told r no_line x h) (λ r h. c.emit_ahead-ahead.ensures.others r no_line h) before)
 
-pub take_all-requires-clause-ready : goal.take_all-requires-clause-ready
-take_all-requires-clause-ready c = λ r d k h rests silent.
+pub take_all-requires-clause-hear : goal.take_all-requires-clause-hear
+take_all-requires-clause-hear c =
+    let st = c.requires.stands.at.stations in
+    let plan = c.args.of.now.plan.value in
+    let ks = (wiring plan.layout c.args.of.now.number).stations in
+    let rs = map (λ k. receiver_at plan k c.args.state.now.t) ks in
+    let dr : Receiving = new_receiving 0 0 in
+    subst (All IsReceiver) (sym c.deref_mut-receivers.ensures.value) (λ k d l. (get_or rs k dr, AllHear-at rs c.args.state.now.receivers.items k dr d st.receivers l))
+
+pub take_all-requires-clause-room : goal.take_all-requires-clause-room
+take_all-requires-clause-room c =
     let a = c.args.state.now in
-    let size = ap length c.deref-senders.ensures.value in
-    let is = c.requires.calm r d k (omega (arith, h, size)) in
-    ap (λ (xs : List Kept). (get_or xs r k).halves) c.deref_mut-receivers.ensures.value
-    ∙ is.at_rest (ap (λ (xs : List Sender). is_sending (get_or xs r d).phase) (sym c.deref-senders.ensures.value) ∙ rests) (ap (λ xs. is_signal (get_or xs r Idle)) (sym c.deref-heard.ensures.value) ∙ silent)
+    let st = c.requires.stands.at.stations in
+    let plan = c.args.of.now.plan.value in
+    let ks = (wiring plan.layout c.args.of.now.number).stations in
+    let items = c.emit_ahead-ahead.auto.piece ∙ ap length c.deref_mut-piece.ensures.value in
+    let few = c.requires.piece in
+    let ahead = c.emit_ahead-ahead.ensures.within in
+    let steady = c.classes_ahead-steady.ensures.within in
+    let m = c.classes_ahead-steady.result in
+    let size : length (take m c.emit_ahead-ahead.new.piece) ≡ m = length-take-le m c.emit_ahead-ahead.new.piece (omega (arith, items, few, ahead, steady)) in
+    let same : length a.senders.items ≡ length a.receivers.items =
+    ap length st.senders ∙ length-map ks (λ k. sender_at plan k a.t)
+    ∙ sym (sym (length-AllHear (map (λ k. receiver_at plan k a.t) ks) a.receivers.items st.receivers) ∙ length-map ks (λ k. receiver_at plan k a.t)) in
+    let one = piece_covered m c.args.count a.senders.items a.receivers.items a.room (omega (arith, ahead, steady)) same c.requires.room in
+    let P : List Kept → Type 0 = λ xs. Covers (receivers_demand (length (take m c.emit_ahead-ahead.new.piece)) xs) a.room in
+    subst P (sym c.deref_mut-receivers.ensures.value) (subst (λ x. Covers (receivers_demand x a.receivers.items) a.room) (sym size) one)
 
 pub take_all-requires-clause-steady : goal.take_all-requires-clause-steady
 take_all-requires-clause-steady c = λ r j h l.
     let a = c.args.state.now in
     let g = c.args.of.now in
     let ks = (wiring g.plan.value.layout g.number).stations in
-    let size = ap length c.deref-senders.ensures.value ∙ ap length c.requires.at.stations.senders ∙ length-map ks (λ k. sender_at g.plan.value k a.t) in
+    let size = ap length c.deref-senders.ensures.value ∙ ap length c.requires.stands.at.stations.senders ∙ length-map ks (λ k. sender_at g.plan.value k a.t) in
     let numbers = ap length g.station_numbers in
     let count = c.len-stations.ensures in
     let inside : r < c.len-stations.result = omega (arith, h, size, numbers, count) in
@@ -111,7 +136,7 @@ put_all-requires-clause-reach c =
     let g = c.args.of.now in
     let x = sender_at g.plan.value 0 a.t in
     let is = c.deref-lines.ensures.value ∙ with_items_is a.lines c.emit_ahead-ahead.new.lines (search rules) in
-    let before = subst (IsReachOf a.far g.lookahead) (sym c.deref_mut.ensures.value) (subst (λ y. IsReachOf a.far y a.lines.items) (sym g.window_length) c.requires.at.reach) in
+    let before = subst (IsReachOf a.far g.lookahead) (sym c.deref_mut.ensures.value) (subst (λ y. IsReachOf a.far y a.lines.items) (sym g.window_length) c.requires.stands.at.reach) in
     subst (IsReachOf a.far g.lookahead) (sym is)
     (reach_ahead a.far g.lookahead (length c.deref.result.now) c.emit_ahead-ahead.result c.args.count c.deref_mut.result.now c.emit_ahead-ahead.new.lines c.deref.result.now x c.emit_ahead-ahead.auto.lines
     (λ r h. c.emit_ahead-ahead.ensures.told r no_line x h) (λ r h. c.emit_ahead-ahead.ensures.others r no_line h) before)
@@ -125,10 +150,10 @@ put_all-requires-clause-long c =
     let ahead = c.emit_ahead-ahead.ensures.within in
     let steady = c.classes_ahead-steady.ensures.within in
     let many = c.take_all.auto.piece ∙ length-take-le c.classes_ahead-steady.result c.emit_ahead-ahead.new.piece (omega (arith, items, few, ahead, steady)) in
-    let within = c.requires.within in
+    let within = c.requires.stands.within in
     let enough = c.classes_ahead-steady.ensures.within in
     parcels_long_for plan c.args.of.now.lookahead c.args.window c.args.k (length c.take_all.new.piece) es c.args.parcels.now
-    (let fits : c.args.k + length c.take_all.new.piece ≤ c.args.of.now.lookahead = omega (arith, many, within, enough, ahead) in fits) c.requires.parcels
+    (let fits : c.args.k + length c.take_all.new.piece ≤ c.args.of.now.lookahead = omega (arith, many, within, enough, ahead) in fits) c.requires.stands.parcels
 
 pub classes_ahead-steady-requires-clause-loud : goal.classes_ahead-steady-requires-clause-loud
 classes_ahead-steady-requires-clause-loud c =
@@ -146,7 +171,7 @@ pub leap_all-requires-clause-calm : goal.leap_all-requires-clause-calm
 leap_all-requires-clause-calm c = λ r d h.
     let a = c.args.state.now in
     let size = ap length c.deref_mut-2.ensures.value in
-    let is = (c.requires.calm r d a_kept (omega (arith, h, size))).number in
+    let is = (c.requires.calm r d (omega (arith, h, size))).number in
     let few = c.classes_ahead-steady.ensures.within in
     let ahead = c.emit_ahead-ahead.ensures.within in
     let fewer : c.classes_ahead-steady.result ≤ calm_of (get_or a.senders.items r d) (is_signal (get_or a.heard.items r Idle)) = omega (arith, is, few, ahead) in
@@ -203,15 +228,15 @@ module _ (c : After-state-6-1) where
   stations_are = let is = c.args.of.now.station_numbers in let n = c.len-stations.ensures in let size = ap length is in omega (arith, size, n)
 
   senders_are : length ss ≡ length w.stations
-  senders_are = ap length c.requires.at.stations.senders ∙ length-map w.stations (λ k. sender_at plan k t)
+  senders_are = ap length c.requires.stands.at.stations.senders ∙ length-map w.stations (λ k. sender_at plan k t)
 
   m_few : m ≤ least
   m_few = let few = c.classes_ahead-steady.ensures.within in omega (arith, few)
 
   ahead_of : t + m ≤ front
   ahead_of =
-      let at = c.requires.time in
-      let within = c.requires.within in
+      let at = c.requires.stands.time in
+      let within = c.requires.stands.within in
       let more : front ≡ c.args.window * c.args.of.now.lookahead + c.args.of.now.lookahead = omega arith in
       let few = m_few in
       let ahead = c.emit_ahead-ahead.ensures.within in
@@ -247,13 +272,13 @@ module _ (c : After-state-6-1) where
       ∙ c.classes_ahead-steady.ensures.steady r j (omega (arith, h, count)) l
       ∙ ap (λ xs. is_signal (get_or xs r Idle)) c.deref-heard.ensures.value
 
-  going : GoesAhead plan s t front m least most ls ls' ss ks carrier a_sender a_kept
+  going : GoesAhead plan s t front m least most ls ls' ss carrier a_sender
   going =
       record {
-        are = c.requires.at.lines;
+        are = c.requires.stands.at.lines;
         ahead = ahead_of;
         few = m_few;
-        stand = c.requires.at.stations.senders;
+        stand = c.requires.stands.at.stations.senders;
         len = lines_len;
         told = told;
         others = others;
@@ -262,7 +287,7 @@ module _ (c : After-state-6-1) where
             let few = m_few in
             let ahead = c.emit_ahead-ahead.ensures.within in
             let many = senders_are in
-            fewer_calm most m (carrier r) (get_or ss r a_sender) (get_or ks r a_kept) (omega (arith, few, ahead)) (c.requires.calm r a_sender a_kept (omega (arith, h, many)));
+            fewer_calm most m (carrier r) (get_or ss r a_sender) (omega (arith, few, ahead)) (c.requires.calm r a_sender (omega (arith, h, many)));
       }
 
   -- what the receivers and the ports heard
@@ -308,23 +333,59 @@ module _ (c : After-state-6-1) where
       subst (λ b. Hears (receiver_after r (heard_for L t m ls' i) b) (get_or c.take_all.new.receivers i d)) (sends_now i)
       (subst (λ xs. Hears (receiver_after r xs (is_sending (get_or c.deref-senders.result.now i a_sender).phase)) (get_or c.take_all.new.receivers i d)) (hears_now i) one)
 
-  bodies : (i : ℕ) (r : Receiving) → i < length w.stations → Hears r (get_or ks i a_kept) → receiver_bodies r (heard_for L t m ls' i) (sends i) ≡ []
-  bodies i r h kept =
-      let many = rs_many plan s t front m least most ls ls' ss ks carrier a_sender a_kept going c.args.state.now.room.rows c.args.state.now.room.captures c.requires.at.stations in
+  later : (i : ℕ) (r : Receiving) → i < length w.stations → Hears r (get_or ks i a_kept) → later_bodies r (heard_for L t m ls' i) (sends i) ≡ []
+  later i r h kept =
+      let many = rs_many plan s t front m least most ls ls' ss ks carrier a_sender a_kept going c.args.state.now.room.rows c.args.state.now.room.captures c.requires.stands.at.stations in
       let len = ks_len in
-      let one = c.take_all.ensures.bodies i a_kept a_sender r (omega (arith, h, many, len)) (subst (λ (xs : List Kept). Hears r (get_or xs i a_kept)) (sym c.deref_mut-receivers.ensures.value) kept) in
-      sym (ap₂ (receiver_bodies r) (hears_now i) (sends_now i)) ∙ one
+      let one = c.take_all.ensures.later i a_kept a_sender r (omega (arith, h, many, len)) (subst (λ (xs : List Kept). Hears r (get_or xs i a_kept)) (sym c.deref_mut-receivers.ensures.value) kept) in
+      sym (ap₂ (later_bodies r) (hears_now i) (sends_now i)) ∙ one
+
+  abbrev firsts : ℕ → Reception
+  firsts i = first plan s t front m least most ls ls' ss ks carrier a_sender a_kept going c.args.state.now.room.rows c.args.state.now.room.captures c.requires.stands.at.stations i
 
   states : (i : ℕ) (d : Sender) (hs : List Sym) → i < length c.leap_all.new.senders → AllHeardAs (carrier i) hs → length hs ≡ m → get_or c.leap_all.new.senders i d ≡ after_all (get_or ss i d) hs
   states i d hs h so size =
       let at : AllHeardAs (is_signal (get_or c.deref-heard.result.now i Idle)) hs = subst (λ (xs : List Sym). AllHeardAs (is_signal (get_or xs i Idle)) hs) (sym c.deref-heard.ensures.value) so in
       c.leap_all.ensures.states i d hs h at size ∙ ap (λ (xs : List Sender). after_all (get_or xs i d) hs) c.deref_mut-2.ensures.value
 
-  stations_after : AreStationsAt plan w.stations (t + m) c.leap_all.new.senders c.take_all.new.receivers c.args.state.now.room.rows c.args.state.now.room.captures
+  -- what the stations logged and captured
+  devices : c.deref-2.result.now ≡ w.stations
+  devices = c.deref-2.ensures.value ∙ c.args.of.now.station_numbers
+
+  first_now : (i : ℕ) (r : Receiving) →
+      first_reception r (heard_for c.args.of.now.lookahead t (length (take m now)) c.deref-lines.result.now i) (is_sending (get_or c.deref-senders.result.now i a_sender).phase) ≡ first_reception r (heard_for L t m ls' i) (sends i)
+  first_now i r = ap₂ (first_reception r) (hears_now i) (sends_now i)
+
+  hears_then : (i : ℕ) (d : Kept) → i < length c.take_all.new.receivers → Hears (receiver_at plan (get_or w.stations i 0) t) (get_or c.deref_mut-receivers.result.now i d)
+  hears_then i d h =
+      let many = rs_many plan s t front m least most ls ls' ss ks carrier a_sender a_kept going c.args.state.now.room.rows c.args.state.now.room.captures c.requires.stands.at.stations in
+      let len = ks_len in
+      subst (λ (xs : List Kept). Hears (receiver_at plan (get_or w.stations i 0) t) (get_or xs i d)) (sym c.deref_mut-receivers.ensures.value)
+      (hears_at plan s t front m least most ls ls' ss ks carrier a_sender a_kept going c.args.state.now.room.rows c.args.state.now.room.captures c.requires.stands.at.stations i d (omega (arith, h, many, len)))
+
+  logged : c.take_all.new.room.rows ≡ c.args.state.now.room.rows ++ rows_of_first t w.stations (λ i. (firsts i).event) (length w.stations)
+  logged =
+      let number = λ (i : ℕ). receiver_at plan (get_or w.stations i 0) t in
+      let count : length c.deref-senders.result.now ≡ length w.stations = ap length c.deref-senders.ensures.value ∙ senders_are in
+      let event = λ (i : ℕ). (first_reception (number i) (heard_for c.args.of.now.lookahead t (length (take m now)) c.deref-lines.result.now i) (is_sending (get_or c.deref-senders.result.now i a_sender).phase)).event in
+      c.take_all.ensures.rows number a_sender hears_then
+      ∙ ap₂ (λ ds k. c.args.state.now.room.rows ++ rows_of_first t ds event k) devices count
+      ∙ ap (λ xs. c.args.state.now.room.rows ++ xs) (rows_alike t w.stations event (λ i. (firsts i).event) (length w.stations) (λ i h. ap (λ (x : Reception). x.event) (first_now i (number i))))
+
+  captured : (i : ℕ) → i < length w.stations → get_or c.take_all.new.room.captures i [] ≡ get_or c.args.state.now.room.captures i [] ++ taken_by t (firsts i).event (firsts i).octets
+  captured i h =
+      let many = rs_many plan s t front m least most ls ls' ss ks carrier a_sender a_kept going c.args.state.now.room.rows c.args.state.now.room.captures c.requires.stands.at.stations in
+      let len = ks_len in
+      let in_it : i < length c.take_all.new.receivers = omega (arith, h, many, len) in
+      let r = receiver_at plan (get_or w.stations i 0) t in
+      c.take_all.ensures.captures i a_kept a_sender r in_it (hears_then i a_kept in_it)
+      ∙ ap (λ (x : Reception). get_or c.args.state.now.room.captures i [] ++ taken_by t x.event x.octets) (first_now i r)
+
+  stations_after : AreStationsAt plan w.stations (t + m) c.leap_all.new.senders c.take_all.new.receivers c.take_all.new.room.rows c.take_all.new.room.captures
   stations_after =
       let steps : All (λ (x : Kept). x.steps ≡ t + m) c.take_all.new.receivers = λ i d l. c.take_all.ensures.steps i d l ∙ ap (λ x. t + x) piece_size in
-      steady_stations plan s t front m least most ls ls' ss ks carrier a_sender a_kept going c.args.state.now.room.rows c.args.state.now.room.captures c.requires.at.stations bodies
-      c.leap_all.new.senders c.take_all.new.receivers ss_len ks_len states hear c.leap_all.ensures.times steps
+      steady_stations plan s t front m least most ls ls' ss ks carrier a_sender a_kept going c.args.state.now.room.rows c.args.state.now.room.captures c.requires.stands.at.stations later
+      c.leap_all.new.senders c.take_all.new.receivers c.take_all.new.room.rows c.take_all.new.room.captures ss_len ks_len states hear c.leap_all.ensures.times steps logged c.take_all.ensures.stations captured
 
   cut_len : length c.cut_all.new.lines ≡ length ls'
   cut_len = c.cut_all.auto.lines ∙ ap length lines_left
@@ -341,76 +402,64 @@ module _ (c : After-state-6-1) where
 
   lines_after : AreLinesAt plan w L (t + m) front c.cut_all.new.lines
   lines_after =
-      steady_lines plan s t front m least most ls ls' ss ks carrier a_sender a_kept going c.args.state.now.room.rows c.args.state.now.room.captures c.requires.at.stations
-      c.cut_all.new.lines cut_len c.requires.lines is_cut uncut
-
-  goes_on : (i : ℕ) (d : Kept) → i < length c.take_all.new.receivers → GoesOn (heard_for L t m ls' i) (sends i) (get_or ks i d) (get_or c.take_all.new.receivers i d)
-  goes_on i d h =
-      let st = c.requires.at.stations in
-      let rs = map (λ k. receiver_at plan k t) w.stations in
-      let d0 : Receiving = new_receiving 0 0 in
-      let len = ks_len in
-      let kept = AllHear-at rs ks i d0 d st.receivers (omega (arith, h, len)) in
-      record { receiver = get_or rs i d0; before = kept; after = hear i d (get_or rs i d0) h kept }
+      steady_lines plan s t front m least most ls ls' ss ks carrier a_sender a_kept going c.args.state.now.room.rows c.args.state.now.room.captures c.requires.stands.at.stations
+      c.cut_all.new.lines cut_len c.requires.stands.lines is_cut uncut
 
   new_lines : (with_items (with_items c.args.state.now.lines ls') c.cut_all.new.lines).items ≡ c.cut_all.new.lines
   new_lines = with_items_is (with_items c.args.state.now.lines ls') c.cut_all.new.lines (search rules)
 
-pub returns-clause-at : goal.returns-clause-at
-returns-clause-at c =
+  parcels_after : c.put_all.new.parcels ≡ parcels_at c.args.of.now c.args.window (c.args.k + m)
+  parcels_after =
+      let long = c.args.of.now.window_length in
+      let begins : t ≡ c.args.window * L + c.args.k = c.requires.stands.time ∙ ap (λ x. c.args.window * x + c.args.k) long in
+      let within = c.requires.stands.within in
+      let few = m_few in
+      let ahead = c.emit_ahead-ahead.ensures.within in
+      let fits : c.args.k + m ≤ L = omega (arith, within, few, ahead, long) in
+      let were : c.args.parcels.now ≡ map (half_filled plan L c.args.window c.args.k) w.edges = c.requires.stands.parcels ∙ ap (λ x. map (half_filled plan x c.args.window c.args.k) w.edges) long in
+      let filled : (p : ℕ) (d : Parcel) → p < length c.put_all.new.parcels → get_or c.put_all.new.parcels p d ≡ with_piece_at c.args.k (heard_for L t m ls' (length w.stations + p)) (get_or c.args.parcels.now p d) =
+      λ p d l. c.put_all.ensures p d l ∙ ap (λ xs. with_piece_at c.args.k xs (get_or c.args.parcels.now p d)) (ports_hear_now (c.len-stations.result + p) ∙ ap (λ i. heard_for L t m ls' (i + p)) stations_are) in
+      steady_parcels plan s t front m least most ls ls' ss ks carrier a_sender a_kept going c.args.state.now.room.rows c.args.state.now.room.captures c.requires.stands.at.stations
+      c.args.window c.args.k c.args.parcels.now c.put_all.new.parcels begins fits were c.put_all.auto.parcels filled
+      ∙ ap (λ x. map (half_filled plan x c.args.window (c.args.k + m)) w.edges) (sym long)
+
+  room_after : (n : ℕ) → Covers (stations_demand (n + m) ss ks) c.args.state.now.room → Covers (stations_demand n c.leap_all.new.senders c.take_all.new.receivers) c.take_all.new.room
+  room_after n covers =
+      let same : length ss ≡ length ks = ss_many plan s t front m least most ls ls' ss ks carrier a_sender a_kept going c.args.state.now.room.rows c.args.state.now.room.captures c.requires.stands.at.stations ∙ sym (rs_many plan s t front m least most ls ls' ss ks carrier a_sender a_kept going c.args.state.now.room.rows c.args.state.now.room.captures c.requires.stands.at.stations) in
+      let size = λ (i : ℕ). heard_size plan s t front m least most ls ls' ss carrier a_sender going i m in
+      let len = ss_len in
+      let many = senders_are in
+      let later : (i : ℕ) (d : Sender) → i < length c.leap_all.new.senders → get_or c.leap_all.new.senders i d ≡ after_all (get_or ss i d) (heard_for L t m ls' i) =
+      λ i d h. states i d (heard_for L t m ls' i) h
+      (heard_as plan s t front m least most ls ls' ss carrier a_sender going i m (omega (arith, h, len, many)) (omega arith)) (size i) in
+      let left : (other : Demand) → Covers (both_demands other (receivers_demand (n + m) ks)) c.args.state.now.room → Covers (both_demands other (receivers_demand n c.take_all.new.receivers)) c.take_all.new.room =
+      λ other h.
+      let P : List Kept → Type 0 = λ xs. Covers (both_demands other (receivers_demand (n + length (take m now)) xs)) c.args.state.now.room in
+      c.take_all.ensures.left n other (subst P (sym c.deref_mut-receivers.ensures.value) (subst (λ x. Covers (both_demands other (receivers_demand (n + x) ks)) c.args.state.now.room) (sym piece_size) h)) in
+      room_after_piece (λ i. heard_for L t m ls' i) m n ss c.leap_all.new.senders ks c.take_all.new.receivers c.args.state.now.room c.take_all.new.room size ss_len same ks_len later left covers
+
+pub returns-clause-gone : goal.returns-clause-gone
+returns-clause-gone c =
     let a = c.args.state.now in
     let senders = with_items_is a.senders c.leap_all.new.senders (search rules) in
     let receivers = with_items_is a.receivers c.take_all.new.receivers (search rules) in
     let lines = new_lines c in
-    let P : List Sender → Type 0 = λ xs. AreStationsAt (plan c) (w c).stations (t c + m c) xs c.take_all.new.receivers a.room.rows a.room.captures in
-    let Q : List Kept → Type 0 = λ xs. AreStationsAt (plan c) (w c).stations (t c + m c) (with_items a.senders c.leap_all.new.senders).items xs a.room.rows a.room.captures in
+    let P : List Sender → Type 0 = λ xs. AreStationsAt (plan c) (w c).stations (t c + m c) xs c.take_all.new.receivers c.take_all.new.room.rows c.take_all.new.room.captures in
+    let Q : List Kept → Type 0 = λ xs. AreStationsAt (plan c) (w c).stations (t c + m c) (with_items a.senders c.leap_all.new.senders).items xs c.take_all.new.room.rows c.take_all.new.room.captures in
     record {
-      stations = subst Q (sym receivers) (subst P (sym senders) (stations_after c));
-      lines = subst (AreLinesAt (plan c) (w c) (L c) (t c + m c) (front c)) (sym lines) (lines_after c);
-      reach = subst (IsReachOf a.far (L c)) (sym lines) (same_reach (plan c) (w c) (L c) (t c) (front c) (t c + m c) (front c) a.far (ls c) c.cut_all.new.lines c.requires.at.lines (lines_after c) c.requires.at.reach);
-      hearing = c.requires.at.hearing ∙ sym (ap length lines ∙ cut_len c ∙ lines_len c);
-      listing = c.find.ensures.room ∙ c.requires.at.listing ∙ sym (ap length lines ∙ cut_len c ∙ lines_len c);
-      emitting = c.requires.at.emitting;
+      at = record {
+        stations = subst Q (sym receivers) (subst P (sym senders) (stations_after c));
+        lines = subst (AreLinesAt (plan c) (w c) (L c) (t c + m c) (front c)) (sym lines) (lines_after c);
+        reach = subst (IsReachOf a.far (L c)) (sym lines) (same_reach (plan c) (w c) (L c) (t c) (front c) (t c + m c) (front c) a.far (ls c) c.cut_all.new.lines c.requires.stands.at.lines (lines_after c) c.requires.stands.at.reach);
+        hearing = c.requires.stands.at.hearing ∙ sym (ap length lines ∙ cut_len c ∙ lines_len c);
+        listing = c.find.ensures.room ∙ c.requires.stands.at.listing ∙ sym (ap length lines ∙ cut_len c ∙ lines_len c);
+        emitting = c.requires.stands.at.emitting;
+      };
+      time = search rules;
+      parcels = parcels_after c;
+      room = λ n covers. rw (senders, receivers) (room_after c n covers);
+      lines = λ n enough r h.
+          subst (λ (xs : List TapLine). n ≤ (get_or xs r no_line).room) (sym lines)
+          (steady_room (plan c) (s c) (t c) (front c) (m c) (least c) (most c) (ls c) (ls' c) (ss c) (ks c) (carrier c) (a_sender c) a_kept (going c) a.room.rows a.room.captures c.requires.stands.at.stations
+          c.cut_all.new.lines (cut_len c) c.requires.stands.lines (is_cut c) (uncut c) n r h (enough r h));
     }
-
-pub returns-clause-parcels : goal.returns-clause-parcels
-returns-clause-parcels c =
-    let g = c.args.of.now in
-    let begins : t c ≡ c.args.window * L c + c.args.k = c.requires.time ∙ ap (λ x. c.args.window * x + c.args.k) g.window_length in
-    let within = c.requires.within in
-    let few = m_few c in
-    let ahead = c.emit_ahead-ahead.ensures.within in
-    let window = g.window_length in
-    let fits : c.args.k + m c ≤ L c = omega (arith, within, few, ahead, window) in
-    let were : c.args.parcels.now ≡ map (half_filled (plan c) (L c) c.args.window c.args.k) (w c).edges = c.requires.parcels ∙ ap (λ x. map (half_filled (plan c) x c.args.window c.args.k) (w c).edges) window in
-    let filled : (p : ℕ) (d : Parcel) → p < length c.put_all.new.parcels → get_or c.put_all.new.parcels p d ≡ with_piece_at c.args.k (heard_for (L c) (t c) (m c) (ls' c) (length (w c).stations + p)) (get_or c.args.parcels.now p d) =
-    λ p d l. c.put_all.ensures p d l ∙ ap (λ xs. with_piece_at c.args.k xs (get_or c.args.parcels.now p d)) (ports_hear_now c (c.len-stations.result + p) ∙ ap (λ i. heard_for (L c) (t c) (m c) (ls' c) (i + p)) (stations_are c)) in
-    steady_parcels (plan c) (s c) (t c) (front c) (m c) (least c) (most c) (ls c) (ls' c) (ss c) (ks c) (carrier c) (a_sender c) a_kept (going c) c.args.state.now.room.rows c.args.state.now.room.captures c.requires.at.stations
-    c.args.window c.args.k c.args.parcels.now c.put_all.new.parcels begins fits were c.put_all.auto.parcels filled
-    ∙ ap (λ x. map (half_filled (plan c) x c.args.window (c.args.k + m c)) (w c).edges) (sym window)
-
-pub returns-clause-room : goal.returns-clause-room
-returns-clause-room c = λ n covers.
-    let a = c.args.state.now in
-    let senders = with_items_is a.senders c.leap_all.new.senders (search rules) in
-    let receivers = with_items_is a.receivers c.take_all.new.receivers (search rules) in
-    let rows = a.room.rows in
-    let caps = a.room.captures in
-    let same : length (ss c) ≡ length (ks c) =
-    ss_many (plan c) (s c) (t c) (front c) (m c) (least c) (most c) (ls c) (ls' c) (ss c) (ks c) (carrier c) (a_sender c) a_kept (going c) rows caps c.requires.at.stations
-    ∙ sym (rs_many (plan c) (s c) (t c) (front c) (m c) (least c) (most c) (ls c) (ls' c) (ss c) (ks c) (carrier c) (a_sender c) a_kept (going c) rows caps c.requires.at.stations) in
-    let size = λ (i : ℕ). heard_size (plan c) (s c) (t c) (front c) (m c) (least c) (most c) (ls c) (ls' c) (ss c) (ks c) (carrier c) (a_sender c) a_kept (going c) i (m c) in
-    let len = ss_len c in
-    let many = senders_are c in
-    let later : (i : ℕ) (d : Sender) → i < length c.leap_all.new.senders → get_or c.leap_all.new.senders i d ≡ after_all (get_or (ss c) i d) (heard_for (L c) (t c) (m c) (ls' c) i) =
-    λ i d h. states c i d (heard_for (L c) (t c) (m c) (ls' c) i) h
-    (heard_as (plan c) (s c) (t c) (front c) (m c) (least c) (most c) (ls c) (ls' c) (ss c) (ks c) (carrier c) (a_sender c) a_kept (going c) i (m c) (omega (arith, h, len, many)) (omega arith)) (size i) in
-    rw (senders, receivers)
-    (room_later_each (λ i. heard_for (L c) (t c) (m c) (ls' c) i) (sends c) (m c) n (ss c) c.leap_all.new.senders (ks c) c.take_all.new.receivers a.room size (ss_len c) (ks_len c) same later (goes_on c) covers)
-
-pub returns-clause-lines : goal.returns-clause-lines
-returns-clause-lines c = λ n enough r h.
-    let a = c.args.state.now in
-    subst (λ (xs : List TapLine). n ≤ (get_or xs r no_line).room) (sym (new_lines c))
-    (steady_room (plan c) (s c) (t c) (front c) (m c) (least c) (most c) (ls c) (ls' c) (ss c) (ks c) (carrier c) (a_sender c) a_kept (going c) a.room.rows a.room.captures c.requires.at.stations
-    c.cut_all.new.lines (cut_len c) c.requires.lines (is_cut c) (uncut c) n r h (enough r h))

@@ -1,23 +1,21 @@
 use Rattle.std.proofs.Common.{◌≡◌, ◌+◌, subst, arith, rules}
 use Rattle.window_room.specs.NeededRoom.{Covers, stations_demand}
-use Rattle.segment_engine.specs.RunningStates.{HaveLinesRoom}
+use Rattle.segment_engine.proofs.Strides.{may_still, gone_in_all}
 use Rattle.segment_engine.proofs.window.go_steadily.Goals as goal
 
-pub returns-clause-room : goal.returns-clause-room
-returns-clause-room c = λ n covers.
-    let a = c.args.state.now in
-    let r = c.hear_and_go-2.result in
+pub hear_and_go-requires-2-clause-stands : goal.hear_and_go-requires-2-clause-stands
+hear_and_go-requires-2-clause-stands c =
     let none : c.go_as_heard-steady.result ≡ 0 = search rules in
-    let more : n + r ≡ n + r + c.go_as_heard-steady.result = omega (arith, none) in
-    c.hear_and_go-2.ensures.room n
-    (c.go_as_heard-steady.ensures.room (n + r) (subst (λ m. Covers (stations_demand m a.senders.items a.receivers.items) a.room) more covers))
+    may_still c.args.k c.args.most (omega (arith, none)) (omega (arith, none)) c.requires.stands c.go_as_heard-steady.ensures.gone
 
-pub returns-clause-lines : goal.returns-clause-lines
-returns-clause-lines c = λ n enough.
+pub hear_and_go-requires-2-clause-room : goal.hear_and_go-requires-2-clause-room
+hear_and_go-requires-2-clause-room c =
     let a = c.args.state.now in
-    let g = c.args.of.now in
-    let r = c.hear_and_go-2.result in
     let none : c.go_as_heard-steady.result ≡ 0 = search rules in
-    let more : n + r ≡ n + r + c.go_as_heard-steady.result = omega (arith, none) in
-    c.hear_and_go-2.ensures.lines n
-    (c.go_as_heard-steady.ensures.lines (n + r) (subst (λ m. HaveLinesRoom g.plan.value g.number m a.lines.items) more enough))
+    let all : c.args.most ≡ c.args.most + c.go_as_heard-steady.result = omega (arith, none) in
+    c.go_as_heard-steady.ensures.gone.room c.args.most (subst (λ n. Covers (stations_demand n a.senders.items a.receivers.items) a.room) all c.requires.room)
+
+pub returns-clause-gone : goal.returns-clause-gone
+returns-clause-gone c =
+    let none : c.go_as_heard-steady.result ≡ 0 = search rules in
+    gone_in_all c.hear_and_go-2.result (omega (arith, none)) (omega (arith, none)) c.go_as_heard-steady.ensures.gone c.hear_and_go-2.ensures.gone

@@ -1,7 +1,5 @@
-use Rattle.std.proofs.Common.{◌≡◌, ◌≤◌, ◌+◌, ◌-◌, ◌*◌, map}
-use Rattle.net_parts.specs.SegmentParts.{wiring}
-use Rattle.segment_engine.specs.PartStates.{half_filled}
-use Rattle.segment_engine.specs.RunningStates.{IsRunningAt, HaveLinesRoom}
+use Rattle.std.proofs.Common.{◌≤◌, ◌-◌}
+use Rattle.segment_engine.specs.Strides.{MayGoOnFor}
 use Rattle.window_room.specs.NeededRoom.{Covers, stations_demand}
 use Rattle.segment_engine.proofs.window.run.Given as goal
 
@@ -9,11 +7,8 @@ use Rattle.segment_engine.proofs.window.run.Given as goal
 abbrev pub invariant-loop-k : goal.invariant-loop-k
 invariant-loop-k l = record {
   within : l.k ≤ l.count;
-  at : IsRunningAt l.of.plan.value l.of.number ((l.window + 1) * l.of.lookahead) l.state;
-  time : l.state.t ≡ l.window * l.of.lookahead + l.k;
-  parcels : l.parcels ≡ map (half_filled l.of.plan.value l.of.lookahead l.window l.k) (wiring l.of.plan.value.layout l.of.number).edges;
-  room : Covers (stations_demand (l.of.lookahead - l.k) l.state.senders.items l.state.receivers.items) l.state.room;
-  lines : HaveLinesRoom l.of.plan.value l.of.number (l.of.lookahead - l.k) l.state.lines.items;
+  stands : MayGoOnFor l.of l.window l.k (l.count - l.k) l.state l.parcels;
+  room : Covers (stations_demand (l.count - l.k) l.state.senders.items l.state.receivers.items) l.state.room;
 }
 
 abbrev pub decreases-loop-k : goal.decreases-loop-k
