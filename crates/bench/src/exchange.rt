@@ -16,8 +16,8 @@ type Parts = Share<SegmentPart, RepeaterPart>;
 const LAYOUT: &str =
     "format = 1\nseed = 1\nuntil_bits = 8000000\n[[segment]]\nname = \"x\"\n[[segment]]\nname = \"y\"\n[[station]]\nname = \"a\"\nsegment = \"x\"\nat = 0\n[[station]]\nname = \"b\"\nsegment = \"y\"\nat = 5\n[[repeater]]\nname = \"r\"\ndelay = 16\n[[repeater.port]]\nsegment = \"x\"\nat = 20\n[[repeater.port]]\nsegment = \"y\"\nat = 0\n";
 
-/// How many windows the parts make. In each of them three parcels move: one from the segment to the repeater, one back, and
-/// one out of the share and in again.
+/// How many windows the parts make. In each of them three parcels move: one from the segment to the repeater, one back,
+/// and one out of the share and in again.
 const WINDOWS: u32 = 666_667;
 
 /// A share of the first segment and the repeater.

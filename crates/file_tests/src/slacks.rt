@@ -1,4 +1,5 @@
-//! Slacks of layouts that are read: worked examples, and small layouts that are lengthened by them and by one half bit more.
+//! Slacks of layouts that are read: worked examples, and small layouts that are lengthened by them and by one half bit
+//! more.
 ghost use Rattle.std.specs.Prelude.{◌≡◌, ◌<◌, IfOk, length};
 ghost use Rattle.layout.specs.Sound.{IsSound};
 
@@ -223,7 +224,8 @@ fn stop_of(verdict: Option<PathVerdict>) -> Option<Limit> {
     }
 }
 
-/// Whether a gap can grow by its slack, and its limit stops it one half bit later; where it has none the layout is over.
+/// Whether a gap can grow by its slack, and its limit stops it one half bit later; where it has none the layout is
+/// over.
 fn gap_is_right(alloc: Global, layout: &Layout, gap: GapSlack) -> Result<bool, Fail>
     requires { IsSound layout.now }
 {
@@ -236,7 +238,8 @@ fn gap_is_right(alloc: Global, layout: &Layout, gap: GapSlack) -> Result<bool, F
     Ok(stop_of(last).is_none() && stop_of(next) == Some(limit))
 }
 
-/// Whether a delay can grow by its slack, and its limit stops it one half bit later; where it has none the layout is over.
+/// Whether a delay can grow by its slack, and its limit stops it one half bit later; where it has none the layout is
+/// over.
 fn delay_is_right(
     alloc: Global,
     layout: &Layout,

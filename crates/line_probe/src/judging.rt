@@ -100,8 +100,8 @@ fn begins_at_zero(runs: &[Run]) -> bool
     run.start == 0
 }
 
-/// The bursts in these runs, in their order: each stretch of signals that Idle ends and that begins after an Idle half bit
-/// or in half bit 0.
+/// The bursts in these runs, in their order: each stretch of signals that Idle ends and that begins after an Idle half
+/// bit or in half bit 0.
 pub fn bursts(alloc: Global, runs: &Runs) -> Result<Bursts, OutOfMemory>
     requires { AreHeardRuns runs.now }
     ensures exact { (from : ℕ) (symbols : List Sym) → AreRunsOf from symbols runs.now →

@@ -47,8 +47,8 @@ fn stopped(alloc: Global, plan: &Plan, from: u64) -> Result<Option<(u64, Outputs
     Ok(Some((t, resume_run(alloc, plan, state)?)))
 }
 
-/// The half bit in which a run of this layout stops, from half bit `from` on, and whether it goes on from there as if it
-/// had never been stopped.
+/// The half bit in which a run of this layout stops, from half bit `from` on, and whether it goes on from there as if
+/// it had never been stopped.
 fn stop_of(alloc: Global, layout: &str, from: u64) -> Result<Option<(u64, bool)>, Fail> {
     let plan = plan_of(alloc, layout)?;
     let whole = run_plain(alloc, &plan)?;

@@ -151,8 +151,8 @@ fn layouts_are_judged(rt: HostRuntime) -> Result<(), Fail> {
     Ok(())
 }
 
-/// Stations a and b as far apart as may be in a layout that is within, and c beside b. All three send: b and c collide, and b
-/// starts again on top of a, to which it is deaf.
+/// Stations a and b as far apart as may be in a layout that is within, and c beside b. All three send: b and c collide,
+/// and b starts again on top of a, to which it is deaf.
 const FAR: &str = "\
 format = 1
 seed = 1
@@ -170,8 +170,8 @@ send = [
 ]
 ";
 
-/// The plan of a layout that is within: its verdict promises that any two attempts of different stations that overlap over an
-/// open path are both hit in time, whatever a third one sends.
+/// The plan of a layout that is within: its verdict promises that any two attempts of different stations that overlap
+/// over an open path are both hit in time, whatever a third one sends.
 fn plan_within(alloc: Global, text: &str) -> Result<Plan, Fail>
     ensures { IfOk result CollisionsAreDetected }
 {

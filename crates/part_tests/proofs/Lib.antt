@@ -1,1 +1,2 @@
 pub mod NoEdges
+pub mod WithinExample

@@ -1,4 +1,5 @@
-//! A part in memory for tests. Where it has no edges it makes its windows; where it has some, its room is always refused.
+//! A part in memory for tests. Where it has no edges it makes its windows; where it has some, its room is always
+//! refused.
 ghost use Rattle.std.specs.Prelude.{◌≡◌, ◌<◌, ◌≤◌, ◌+◌, All, IfOk, [], true, length};
 ghost use Rattle.net_parts.specs.Parts.{edges_of_part, parts};
 ghost use Rattle.net_parts.specs.Windows.{windows};

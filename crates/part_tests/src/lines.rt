@@ -4,8 +4,8 @@ use lists::OutOfMemory;
 use manchester_line::Sym;
 use tap_lines::{Line, LoudTaps, classes_ahead, farthest, hear_all, hear_listed, piece_of};
 
-/// Two taps 10 half bits apart: from half bit 0 on the first emits Idle, three signals and Idle, the other Idle, five times. A
-/// window has 4 half bits.
+/// Two taps 10 half bits apart: from half bit 0 on the first emits Idle, three signals and Idle, the other Idle, five
+/// times. A window has 4 half bits.
 #[test]
 fn one_line_is_heard_by_the_other_tap(rt: HostRuntime) -> Result<(), OutOfMemory> {
     let mut first = Line::new(rt.alloc(), 0, 4, 20, 8)?;
@@ -33,7 +33,8 @@ fn one_line_is_heard_by_the_other_tap(rt: HostRuntime) -> Result<(), OutOfMemory
     Ok(())
 }
 
-/// Two taps, the second of which emits a signal in half bit 2, which is cut again, and with it the Idle behind its first.
+/// Two taps, the second of which emits a signal in half bit 2, which is cut again, and with it the Idle behind its
+/// first.
 #[test]
 fn a_line_that_is_cut_is_no_source(rt: HostRuntime) -> Result<(), OutOfMemory> {
     let mut first = Line::new(rt.alloc(), 0, 4, 20, 8)?;

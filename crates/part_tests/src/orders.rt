@@ -19,7 +19,8 @@ use std::test::Fail;
 
 type Parts = Share<SegmentPart, RepeaterPart>;
 
-/// Two stations that collide over a repeater. The segments are parts 0 and 1, the repeater is part 2, and its edges are 0 and 1.
+/// Two stations that collide over a repeater. The segments are parts 0 and 1, the repeater is part 2, and its edges are
+/// 0 and 1.
 const TWO_HOPS: &str = r#"format = 1
 seed = 1
 until_bits = 130
@@ -145,8 +146,8 @@ fn waits<S: Part, R: Part>(share: &Share<S, R>, part: u32) -> bool {
     share.owns(part) && !share.ready(part)
 }
 
-/// Makes so many windows of each part. Of the edges `first` and `second` the parcel of the first is carried first, to the repeater
-/// and back, and the repeater waits for the second.
+/// Makes so many windows of each part. Of the edges `first` and `second` the parcel of the first is carried first, to
+/// the repeater and back, and the repeater waits for the second.
 fn run<S: Part, R: Part>(
     segments: &mut Share<S, R>,
     repeater: &mut Share<S, R>,

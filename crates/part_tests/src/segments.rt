@@ -168,7 +168,8 @@ fn same_captures(a: &Captures, b: &Captures) -> bool {
     true
 }
 
-/// Whether the part of a layout's one segment gives the rows and captures of a run half bit by half bit, and at least so many rows.
+/// Whether the part of a layout's one segment gives the rows and captures of a run half bit by half bit, and at least
+/// so many rows.
 fn agrees(alloc: Global, layout: &str, rows: usize) -> Result<bool, Fail> {
     let plan = plan_of(alloc, layout)?;
     let whole = run_plain(alloc, &plan)?;

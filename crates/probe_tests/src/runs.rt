@@ -117,8 +117,8 @@ fn a_line_that_is_cut_is_none(rt: HostRuntime) {
     }
 }
 
-/// Octets that are no line of a run, before a line feed: no count, numbers past their range, leading zeros, other words,
-/// other blanks, a carriage return.
+/// Octets that are no line of a run, before a line feed: no count, numbers past their range, leading zeros, other
+/// words, other blanks, a carriage return.
 const BAD_LINES: [&[u8]; 24] = [
     b"",
     b"0 0 idle",
@@ -253,8 +253,8 @@ const fn spoiled(start: u64, halves: u64) -> Burst {
 
 #[test]
 fn bursts_are_judged(rt: HostRuntime) -> Result<(), RunsFault> {
-    // Without a delimiter, of an odd number of half bits, with a clash, with two half bits alike; with a delimiter and the
-    // bits 0, 1 and 0 after it; and where signals begin before the first half bit or don't end.
+    // Without a delimiter, of an odd number of half bits, with a clash, with two half bits alike; with a delimiter and
+    // the bits 0, 1 and 0 after it; and where signals begin before the first half bit or don't end.
     let texts: [(&[u8], Option<Burst>, usize); 10] = [
         (
             b"0 5 idle\n5 1 lo\n6 1 hi\n7 1 idle\n",

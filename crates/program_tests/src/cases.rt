@@ -107,7 +107,8 @@ pub fn holds(store: &MemoryStore, name: &str, text: Option<&str>) -> bool {
     }
 }
 
-/// The same words for a run by half bits, and for runs by windows on so many workers; the network has at most three parts.
+/// The same words for a run by half bits, and for runs by windows on so many workers; the network has at most three
+/// parts.
 pub const RUNS: [&[&str]; 5] = [
     &["plain", "l.toml", "out"],
     &["run", "l.toml", "out", "1"],

@@ -69,7 +69,8 @@ fn octets_of<R: AllocGlobal>(rt: &R, load: &Load<'_>) -> Result<Vec<u8>, OutOfMe
     Ok(octets)
 }
 
-/// A run of stations a and b at 0 and 10 of one segment, whose loads have these names; p.pcap and out.a.pcap are the load.
+/// A run of stations a and b at 0 and 10 of one segment, whose loads have these names; p.pcap and out.a.pcap are the
+/// load.
 #[derive(Clone, Copy)]
 struct Case<'a> {
     format: u32,
@@ -161,8 +162,8 @@ fn is_right_by<R: Threads + Wait + Sync + AllocGlobal>(
     Ok(status == case.status && sink.bytes() == case.said.as_bytes() && logged)
 }
 
-/// A short record is padded; one with octets that weren't kept and one that is too long are skipped; what is written may be what
-/// was read.
+/// A short record is padded; one with octets that weren't kept and one that is too long are skipped; what is written
+/// may be what was read.
 #[test]
 fn loads_are_sent(rt: HostRuntime) -> Result<(), OutOfMemory> {
     let one = [at_100(42)];

@@ -1,5 +1,5 @@
-//! The figures of logs, as they are said, over stores and sinks in memory, some of whose calls fail. Figures are worked out by
-//! hand.
+//! The figures of logs, as they are said, over stores and sinks in memory, some of whose calls fail. Figures are worked
+//! out by hand.
 use crate::cases::{Case, RUN, is_right, store_of};
 use lists::OutOfMemory;
 use std::sync::Wait;

@@ -1,5 +1,5 @@
-//! Calls over stores and sinks in memory, some of whose calls fail. Logs, summaries and octets are worked out by hand or by
-//! another program.
+//! Calls over stores and sinks in memory, some of whose calls fail. Logs, summaries and octets are worked out by hand
+//! or by another program.
 use crate::cases::{
     BLOCK, Case, HOP, ONE_FRAME, RUN, SEND_A, SEND_B_LATER, TWO, holds, is_log, is_refusal,
     is_right, store_of,
@@ -251,9 +251,9 @@ fn collisions(rt: HostRuntime) -> Result<(), OutOfMemory> {
     Ok(())
 }
 
-/// The path of a and b is 415 half bits long. The latest start of b before it hears a, at 414, gives the hits 414 + 415 and 1.
-/// The latest of all, at 415 + 191, comes where b is deaf to a in its gap, which began in half bit 414: its hit is 0, and a
-/// hears what c sent at 221 after 414 half bits.
+/// The path of a and b is 415 half bits long. The latest start of b before it hears a, at 414, gives the hits 414 + 415
+/// and 1. The latest of all, at 415 + 191, comes where b is deaf to a in its gap, which began in half bit 414: its hit
+/// is 0, and a hears what c sent at 221 after 414 half bits.
 #[test]
 fn starts_at_the_limit(rt: HostRuntime) -> Result<(), OutOfMemory> {
     let early = Case {

@@ -1,5 +1,5 @@
-//! What taps hear, as it is said, over stores and sinks in memory, some of whose calls fail. Runs and bursts are worked out by
-//! hand.
+//! What taps hear, as it is said, over stores and sinks in memory, some of whose calls fail. Runs and bursts are worked
+//! out by hand.
 use crate::cases::{Case, HOP, RUN, SEND_A, TWO, is_refusal, is_right, store_of, words_of};
 use lists::OutOfMemory;
 use netsim::netsim;

@@ -1,5 +1,5 @@
-//! Runs by half bits and by windows: their files, and what they leave where a call of the store or of the sink fails; and demo,
-//! whose lines another program wrote too.
+//! Runs by half bits and by windows: their files, and what they leave where a call of the store or of the sink fails;
+//! and demo, whose lines another program wrote too.
 use crate::cases::{
     CAPTURE_HEADER, Case, HOP, ONE_FRAME, ONE_FRAME_COUNTERS, RECORD_HEADER, RUN, RUNS, SEND_A,
     SEND_B_LATER, SHORT_HOP, holds, is_log, is_refusal, is_right, store_of,
@@ -66,7 +66,8 @@ fn is_alike<R: Threads + Wait + Sync + AllocGlobal>(
     Ok(true)
 }
 
-/// Two segments of 2 and 2, with the least delay: a window has three half bits, and the last one of a run of 1,400 has two.
+/// Two segments of 2 and 2, with the least delay: a window has three half bits, and the last one of a run of 1,400 has
+/// two.
 const UNEVEN_HOP: &str =
     "format = 1\nseed = 1\n[[segment]]\nname = \"x\"\n[[segment]]\nname = \"y\"\n[[station]]\nname = \"a\"\nsegment = \"x\"\nat = 0\n[[station]]\nname = \"b\"\nsegment = \"y\"\nat = 2\n[[repeater]]\nname = \"r\"\ndelay = 1\n[[repeater.port]]\nsegment = \"x\"\nat = 2\n[[repeater.port]]\nsegment = \"y\"\nat = 0\n";
 
@@ -115,7 +116,8 @@ fn any_workers(rt: HostRuntime) -> Result<(), OutOfMemory> {
     Ok(())
 }
 
-/// Whether a run whose k-th append fails, of the four that it makes, leaves the files before whole and later ones untouched.
+/// Whether a run whose k-th append fails, of the four that it makes, leaves the files before whole and later ones
+/// untouched.
 fn is_broken_at<R: Threads + Wait + Sync + AllocGlobal>(
     rt: &R,
     words: &'static [&'static str],
@@ -233,8 +235,8 @@ fn reads_that_fail(rt: HostRuntime) -> Result<(), OutOfMemory> {
 const SMALLEST_DEMO: &str =
     "demo 1 segments 2 repeaters 1 stations 8\nwithin 408 s0 s7\nhalf_bits 400000\nsent 30 collided 105 late 0 given_up 0 cut 1 left 130 received 210 dropped 167 clash 30 closed 0 opened 0\n";
 
-/// Demo says the same on any number of workers, and begins no file. It reads none, so that a store of which each read fails
-/// changes nothing.
+/// Demo says the same on any number of workers, and begins no file. It reads none, so that a store of which each read
+/// fails changes nothing.
 #[test]
 fn demos(rt: HostRuntime) -> Result<(), OutOfMemory> {
     let one = Case {

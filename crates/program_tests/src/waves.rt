@@ -1,5 +1,5 @@
-//! The waves of what taps hear, as they are written, over stores and sinks in memory, some of whose calls fail. They are
-//! worked out by hand.
+//! The waves of what taps hear, as they are written, over stores and sinks in memory, some of whose calls fail. They
+//! are worked out by hand.
 use crate::cases::{Case, HOP, RUN, SEND_A, TWO, is_refusal, is_right, store_of};
 use lists::OutOfMemory;
 

@@ -15,8 +15,8 @@ pub fn resumed_frames_are_left(plan: &Plan, state: &NetState)
     ensures { AreLeft (counts_of plan.now (rows_from plan.now state.now)) }
 {}
 
-/// What the stations capture in such a run can be written: each frame has at most the octets of the longest tagged frame
-/// before its check sequence (3.2.7).
+/// What the stations capture in such a run can be written: each frame has at most the octets of the longest tagged
+/// frame before its check sequence (3.2.7).
 pub fn resumed_captures_are_short(plan: &Plan, state: &NetState)
     requires { IsStateOfPlan plan.now state.now }
     ensures { All AreShort (captures_from plan.now state.now) }

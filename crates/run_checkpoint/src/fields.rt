@@ -8,7 +8,8 @@ ghost use Rattle.run_checkpoint.specs.Fields.{any_number_at, begins_number, figu
 
 use text_fields::{after_word, number};
 
-/// The least number of more than 32 bits, as which each longer one is told: it is beyond all ranges of a state's numbers.
+/// The least number of more than 32 bits, as which each longer one is told: it is beyond all ranges of a state's
+/// numbers.
 pub const BEYOND_RANGES: u64 = 4_294_967_296;
 
 /// How many digits stand in front.

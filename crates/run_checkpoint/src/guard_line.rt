@@ -12,8 +12,9 @@ use lists::{List, OutOfMemory};
 use port_partition::PortGuard;
 use text_fields::after_word;
 
-/// What the line of a port says: whether it is closed, whether it opens once nothing is heard, whether the activity under
-/// way had a collision, the guard's counts, and for how many half bits the port rests. The numbers may have any value.
+/// What the line of a port says: whether it is closed, whether it opens once nothing is heard, whether the activity
+/// under way had a collision, the guard's counts, and for how many half bits the port rests. The numbers may have any
+/// value.
 #[derive(Clone, Copy)]
 pub struct GuardLine {
     pub closed: bool,

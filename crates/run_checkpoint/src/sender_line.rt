@@ -19,8 +19,8 @@ pub enum DeferLine {
     Gap { k: u64, was: bool },
 }
 
-/// What the line of a sender says: what the sender is doing and how it waits, its attempt, its place in its queue and its
-/// number of draws. The numbers may have any value.
+/// What the line of a sender says: what the sender is doing and how it waits, its attempt, its place in its queue and
+/// its number of draws. The numbers may have any value.
 #[derive(Clone, Copy)]
 pub struct SenderLine {
     pub phase: Phase,

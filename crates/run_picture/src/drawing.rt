@@ -19,10 +19,10 @@ use lists::{List, OutOfMemory};
 use log_meter::LogLines;
 use std::alloc::Global;
 
-/// A space-time diagram, as SVG 1.1, of what the lines of a log tell of the half bits from `from` to below `to`, from 0:
-/// each segment has a band with a lane for each tap, and each line that meets the window has a mark, whose title is the
-/// line. A sending is a bar on its station's lane, with the fronts of its waves over the lanes of its segment; what else
-/// happens is a sign on a lane. The one refusal is want of memory.
+/// A space-time diagram, as SVG 1.1, of what the lines of a log tell of the half bits from `from` to below `to`, from
+/// 0: each segment has a band with a lane for each tap, and each line that meets the window has a mark, whose title is
+/// the line. A sending is a bar on its station's lane, with the fronts of its waves over the lanes of its segment; what
+/// else happens is a sign on a lane. The one refusal is want of memory.
 pub fn picture(
     alloc: Global,
     layout: &Layout,

@@ -1,15 +1,15 @@
 //! Laws of pictures: calls without a body, whose contracts are the laws.
 ghost use Rattle.run_picture.specs.PictureLaws.{LinesAreFew, LinesAreTitles, PicturesAreClosed, TitlesAreLines};
 
-/// The titles of a picture are the lines of the log that meet its window, without their line feeds, in their order, each
-/// once.
+/// The titles of a picture are the lines of the log that meet its window, without their line feeds, in their order,
+/// each once.
 pub fn titles_are_lines()
     ensures titles { TitlesAreLines }
     ensures lines { LinesAreTitles }
 {}
 
-/// A picture is closed: each element that is opened is closed, in order. Nothing that means something in XML stands in it
-/// unescaped.
+/// A picture is closed: each element that is opened is closed, in order. Nothing that means something in XML stands in
+/// it unescaped.
 pub fn pictures_are_closed()
     ensures { PicturesAreClosed }
 {}

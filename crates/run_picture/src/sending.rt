@@ -11,8 +11,8 @@ use collision_log::Body;
 use lists::{List, OutOfMemory};
 use log_meter::LogLine;
 
-/// A sending: the half bits from `start` to below `end`, how it ended, and how many half bits after its start a collision
-/// was heard.
+/// A sending: the half bits from `start` to below `end`, how it ended, and how many half bits after its start a
+/// collision was heard.
 #[derive(Clone, Copy, Debug, PartialEq, Eq)]
 pub struct Sending {
     pub outcome: Outcome,

@@ -43,12 +43,12 @@ fn tell(text: &mut List<u8>, waiting: &mut [&[Run]], t: u64) -> Result<(), OutOf
     Ok(())
 }
 
-/// The value change dump (IEEE 1364 clause 18, the four-state form) of what 1 to 16 taps hear from half bit `from` on and
-/// before half bit `to`. It takes the names of the taps and, in the same order, the runs of what each hears, as `probe`
-/// answers them; of other runs nothing is said. The text has the head; the values of all taps in the first half bit; each
-/// later half bit in which a tap hears another symbol than before, with the values that changed, in the order of the taps;
-/// the time of `to`. Half bits count from 0, and times are nanoseconds. The code of the k-th tap, from 0, is the character
-/// 33 + k. The one refusal is want of memory. It takes one look at each tap a half bit.
+/// The value change dump (IEEE 1364 clause 18, the four-state form) of what 1 to 16 taps hear from half bit `from` on
+/// and before half bit `to`. It takes the names of the taps and, in the same order, the runs of what each hears, as
+/// `probe` answers them; of other runs nothing is said. The text has the head; the values of all taps in the first half
+/// bit; each later half bit in which a tap hears another symbol than before, with the values that changed, in the order
+/// of the taps; the time of `to`. Half bits count from 0, and times are nanoseconds. The code of the k-th tap, from 0,
+/// is the character 33 + k. The one refusal is want of memory. It takes one look at each tap a half bit.
 pub fn waves_text(
     alloc: Global,
     names: &[Text],

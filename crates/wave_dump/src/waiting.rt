@@ -43,7 +43,8 @@ fn add_begun(text: &mut List<u8>, k: usize, runs: &[Run], t: u64) -> Result<(), 
     Ok(())
 }
 
-/// Puts the values of the taps that have a run that begins in half bit t at the end of a text, in the order of the taps.
+/// Puts the values of the taps that have a run that begins in half bit t at the end of a text, in the order of the
+/// taps.
 pub fn add_all_begun(text: &mut List<u8>, waiting: &[&[Run]], t: u64) -> Result<(), OutOfMemory>
     requires { length waiting.now ≤ MOST_TAPS }
     ensures { OnOk result (text.new ≡ text.old ++ begun_values t 0 (map (λ runs. runs.now) waiting.now)) }

@@ -18,8 +18,8 @@ use std::sync::Wait;
 use std::thread::Threads;
 use worker_gate::{Gated, run_planned};
 
-/// Runs a plan to its end by 1 to 64 workers, the caller being one of them. Each part passes the gate at the beginning of each
-/// of its windows. It may wait.
+/// Runs a plan to its end by 1 to 64 workers, the caller being one of them. Each part passes the gate at the beginning
+/// of each of its windows. It may wait.
 pub fn run_by_windows<G: Gate, X: Threads + Wait + Sync>(
     rt: &X,
     alloc: Global,

@@ -96,8 +96,8 @@ fn marks(outputs: &Outputs, place: usize) -> Option<(u64, u32)> {
     None
 }
 
-/// Station b receives in half bit 1155 and, where all ways and the run are longer, 1157. The last window of the second run is
-/// shorter than the others.
+/// Station b receives in half bit 1155 and, where all ways and the run are longer, 1157. The last window of the second
+/// run is shorter than the others.
 #[test]
 fn the_shortest_windows_are_run(rt: HostRuntime) -> Result<(), Fail> {
     let plan = plan_of(rt.alloc(), SHORT)?;

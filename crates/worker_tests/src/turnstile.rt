@@ -49,7 +49,8 @@ impl Visits {
     }
 }
 
-/// A gate that holds part 0 at each window until part 1 has begun it too, and the other way round, and writes down who enters.
+/// A gate that holds part 0 at each window until part 1 has begun it too, and the other way round, and writes down who
+/// enters.
 #[derive(Drop)]
 struct Turnstile {
     first: Visits,
@@ -84,7 +85,8 @@ impl Turnstile {
         }
     }
 
-    /// Whether the run began once, with three parts, 8 windows and 260 half bits, and each part entered each window once, in time.
+    /// Whether the run began once, with three parts, 8 windows and 260 half bits, and each part entered each window
+    /// once, in time.
     fn is_content(&self) -> bool {
         self.begins.load(Ordering::SeqCst) == 1
             && self.strays.load(Ordering::SeqCst) == 0
