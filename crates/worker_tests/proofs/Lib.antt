@@ -1,1 +1,2 @@
 pub mod TurnExample
+pub mod FirstRowsExample
