@@ -49,8 +49,8 @@ impl Draws {
         Draws { rng, seed, station }
     }
 
-    /// The station's next draw, a number of slot times below 2^min(n, 10), after its attempt `n`, counted from 1 and not the
-    /// last (4.2.3.2.5).
+    /// The station's next draw, a number of slot times below 2^min(n, 10), after its attempt `n`, counted from 1 and
+    /// not the last (4.2.3.2.5).
     #[tactic(auto, unfolding(crate::specs::Draws::word))]
     pub fn draw(&mut self, n: u32) -> u32
         requires first { 1 ≤ n }

@@ -19,9 +19,9 @@ use std::marker::Model;
 /// The rows of the present half bit and of those before it, back to what the farthest tap of the longest cable emitted.
 const ROWS_BACK: u32 = GREATEST_PLACE + 1;
 
-/// A segment of cable. It keeps what each tap emitted in the last half bits, as many as a signal takes along the longest
-/// cable: a window of rows, one symbol a tap, that slides down a buffer of twice its size, with `ahead` rows of half bits
-/// to come before it. `next` skips taps that were silent all the time.
+/// A segment of cable. It keeps what each tap emitted in the last half bits, as many as a signal takes along the
+/// longest cable: a window of rows, one symbol a tap, that slides down a buffer of twice its size, with `ahead` rows of
+/// half bits to come before it. `next` skips taps that were silent all the time.
 #[derive(Drop)]
 pub struct Cable {
     positions: Vec<u32>,

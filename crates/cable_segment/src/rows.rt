@@ -27,8 +27,8 @@ fn heard_of(positions: &[u32], rows: &[Sym], ahead: u32, tap: u32, q: usize) -> 
     rows[row * taps + q]
 }
 
-/// What a tap hears, where `rows` has a row for each half bit, the latest first, and `next` tells which taps to skip. A clash
-/// stays one, whatever comes to it.
+/// What a tap hears, where `rows` has a row for each half bit, the latest first, and `next` tells which taps to skip. A
+/// clash stays one, whatever comes to it.
 pub fn heard_in(positions: &[u32], rows: &[Sym], ahead: u32, tap: u32, next: &[usize]) -> Sym
     requires near { All (λ p. p ≤ greatest_place) positions.now }
     requires window { ahead ≤ most_ahead }

@@ -60,8 +60,8 @@ impl Counters {
         }
     }
 
-    /// Counts one more row, where no count of rows stands at the type's end. A collision and a frame that is given up for
-    /// excessive collisions both count as collided (profile).
+    /// Counts one more row, where no count of rows stands at the type's end. A collision and a frame that is given up
+    /// for excessive collisions both count as collided (profile).
     pub fn count(&mut self, body: &Body)
         requires { RowsAtMost self.old (2 ^ 64 - 2) }
         ensures counts { self.new ≡ with_row self.old body.now }

@@ -1,5 +1,5 @@
-//! The text of the layout without what is sent, as a layout file says it. No clause speaks of it: what is read from it is
-//! compared with what it is to be.
+//! The text of the layout without what is sent, as a layout file says it. No clause speaks of it: what is read from it
+//! is compared with what it is to be.
 ghost use Rattle.std.specs.Prelude.{◌≤◌};
 ghost use Rattle.layout.specs.Limits.{most_repeaters};
 

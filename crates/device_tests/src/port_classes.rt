@@ -231,8 +231,8 @@ const S: Sym = Sym::Hi;
 
 const C: Sym = Sym::Clash;
 
-/// A frame and its extension, one while the closed port hears levels and clashes, a frame that ends in a clash, a collision
-/// that ends with one port, a closed port that opens, a port that closes by a long collision, and a jabber.
+/// A frame and its extension, one while the closed port hears levels and clashes, a frame that ends in a clash, a
+/// collision that ends with one port, a closed port that opens, a port that closes by a long collision, and a jabber.
 #[test]
 fn leaps_by_classes_leave_what_steps_leave(rt: HostRuntime) -> Result<(), OutOfMemory> {
     let stretches = [

@@ -302,8 +302,8 @@ fn a_leap_leaves_what_steps_leave(rt: HostRuntime) -> Result<(), OutOfMemory> {
     Ok(())
 }
 
-/// So many half bits in which two ports hear these symbols, in leaps over steady ones where there are some; the half bits
-/// that were leapt over.
+/// So many half bits in which two ports hear these symbols, in leaps over steady ones where there are some; the half
+/// bits that were leapt over.
 fn pass_leaping(repeater: &mut Repeater, hears: &[Sym; 2], times: u32) -> u32
     requires { length repeater.old.guards ≡ 2 }
     ensures { length repeater.new.guards ≡ 2 }
@@ -350,8 +350,8 @@ fn first_wrong_stretch(
     None
 }
 
-/// A reception and its extension, a collision that ends with one port, one heard, one that closes the ports, a clean run
-/// that lets them open, and a jabber.
+/// A reception and its extension, a collision that ends with one port, one heard, one that closes the ports, a clean
+/// run that lets them open, and a jabber.
 #[test]
 fn leaps_over_steady_half_bits_leave_what_steps_leave(rt: HostRuntime) -> Result<(), OutOfMemory> {
     let stretches = [

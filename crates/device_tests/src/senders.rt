@@ -270,8 +270,8 @@ fn a_sender_goes_on_from_its_state(rt: HostRuntime) -> Result<(), OutOfMemory> {
     Ok(())
 }
 
-/// The half bits that are calm from `t` on, where the station hears this symbol in each of them, and in how many of these,
-/// up to the first other one, a step emits what the piece of them has.
+/// The half bits that are calm from `t` on, where the station hears this symbol in each of them, and in how many of
+/// these, up to the first other one, a step emits what the piece of them has.
 fn emitted_as_told(sender: &mut Transmitter, t: u64, heard: Sym) -> Option<(usize, usize)>
     requires start { sender.old.t ≡ t }
     requires end { t ≤ 1000000000 }

@@ -55,8 +55,9 @@ fn take_piece<S: Store, T: Taker>(
     }
 }
 
-/// Gives a file to a taker, to the file's end or to one octet past a limit, by pieces that fit the room, and answers how many
-/// octets that were. Missing comes only where the store tells its files and has no such one, Failed only of a failed read.
+/// Gives a file to a taker, to the file's end or to one octet past a limit, by pieces that fit the room, and answers
+/// how many octets that were. Missing comes only where the store tells its files and has no such one, Failed only of a
+/// failed read.
 pub fn read_pieces<S: Store, T: Taker>(
     store: &mut S,
     name: &str,

@@ -84,9 +84,9 @@ fn pad(octets: &mut List<u8>) -> Result<(), OutOfMemory>
     Ok(())
 }
 
-/// The frame (clause 3) of these octets, counted without pad and check sequence. `TooShort` comes exactly below the octets
-/// of addresses and type, and `TooLong` exactly above `most`; `OutOfMemory` is free. Received without
-/// spare bits, the frame is good.
+/// The frame (clause 3) of these octets, counted without pad and check sequence. `TooShort` comes exactly below the
+/// octets of addresses and type, and `TooLong` exactly above `most`; `OutOfMemory` is free. Received without spare
+/// bits, the frame is good.
 #[tactic(auto, unfolding(crate::specs::Frame::frame_of, crate::specs::Frame::fcs_octets))]
 pub fn build_up_to(alloc: Global, octets: &[u8], most: u32) -> Result<Frame, FrameFault>
     requires { IsMost most }

@@ -7,14 +7,14 @@ ghost use Rattle.layout.specs.EdgePaths.{ColoursTellPaths, HaveEndsBelow};
 ghost use Rattle.layout.specs.Paths.{HasOneDistance, HasOnePath, IsDistance, PathsFollowEdges, StandsOnSegments};
 ghost use Rattle.layout.specs.Sound.{IsSound};
 
-/// Two of n parts have one colour exactly where a path of edges leads from the one to the other, for all edges whose ends
-/// are such parts. The tests for loops and for segments apart compare these colours.
+/// Two of n parts have one colour exactly where a path of edges leads from the one to the other, for all edges whose
+/// ends are such parts. The tests for loops and for segments apart compare these colours.
 pub fn colours_tell_paths()
     ensures { (n : ℕ) (edges : List Edge) → HaveEndsBelow n edges → ColoursTellPaths n edges }
 {}
 
-/// From a tap a path over segments and repeaters leads to another one exactly where a path of edges joins their segments,
-/// in each layout whose taps stand on its segments.
+/// From a tap a path over segments and repeaters leads to another one exactly where a path of edges joins their
+/// segments, in each layout whose taps stand on its segments.
 pub fn paths_follow_edges()
     ensures { (l : Layout) → StandsOnSegments l → PathsFollowEdges l }
 {}

@@ -1,4 +1,5 @@
-//! Reads a layout file: a TOML document that says which stations and repeaters stand on which segments, and who sends what.
+//! Reads a layout file: a TOML document that says which stations and repeaters stand on which segments, and who sends
+//! what.
 #![tactic(auto)]
 
 mod fault;

@@ -53,12 +53,12 @@ fn file_fault(code: LayoutCode) -> LayoutFault
     LayoutFault::of_row(code, Table::File, 0, Key::None)
 }
 
-/// The layout that the octets spell, or its first fault: TooMany exactly above 1,048,576 octets, then NotToml exactly where
-/// the octets are no TOML document, both with the file as their place. After them every code from UnknownKey to BadFrame is
-/// tried in the order of their numbers, at every place before the next code: the file's keys, the segments, the stations,
-/// the repeaters with their ports and the sends, each row's keys in their order. Want of memory alone is free.
-/// A layout that is answered is sound: its numbers are in their ranges, its names are different, what its rows name is
-/// there, no two taps share a place, and its network is a tree.
+/// The layout that the octets spell, or its first fault: TooMany exactly above 1,048,576 octets, then NotToml exactly
+/// where the octets are no TOML document, both with the file as their place. After them every code from UnknownKey to
+/// BadFrame is tried in the order of their numbers, at every place before the next code: the file's keys, the segments,
+/// the stations, the repeaters with their ports and the sends, each row's keys in their order. Want of memory alone is
+/// free. A layout that is answered is sound: its numbers are in their ranges, its names are different, what its rows
+/// name is there, no two taps share a place, and its network is a tree.
 #[tactic(auto, unfolding(crate::specs::Faults::judged), using(crate::proofs::SoundLayouts::sound))]
 pub fn read_layout(alloc: Global, bytes: &[u8]) -> Result<Layout, LayoutFault>
     ensures layout { IfOk result (λ layout. judged bytes.now ≡ Ok layout) }

@@ -104,11 +104,11 @@ fn read_all<S: Store>(
     Ok(loads)
 }
 
-/// Reads the loads of stations in their order: the records of each, and none where a station has no load. A load that two
-/// stations name is read for each. The first load with a fault, of more than 67,108,864 octets, or with which all
+/// Reads the loads of stations in their order: the records of each, and none where a station has no load. A load that
+/// two stations name is read for each. The first load with a fault, of more than 67,108,864 octets, or with which all
 /// loads so far have more than 268,435,456, stops it, and so does the first that isn't held or can't be read; a load is
-/// read to its end or one octet past its limit, by pieces of at most 65,536 octets (profile). Want of memory
-/// alone is free.
+/// read to its end or one octet past its limit, by pieces of at most 65,536 octets (profile). Want of memory alone is
+/// free.
 pub fn read_loads<S: Store>(
     alloc: Global,
     store: &mut S,

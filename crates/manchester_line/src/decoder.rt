@@ -102,8 +102,8 @@ fn shift(rest: u8, bit: bool) -> u8
     if bit { rest / 2 + TOP_BIT } else { rest / 2 }
 }
 
-/// The octet whose bits these half bits are, the first one the least; none where a pair is no bit (3.3, clause 7). All pairs
-/// are looked at, so that no branch goes by what is heard.
+/// The octet whose bits these half bits are, the first one the least; none where a pair is no bit (3.3, clause 7). All
+/// pairs are looked at, so that no branch goes by what is heard.
 fn octet_of(halves: &[Sym]) -> Option<u8>
     requires { length halves.now ≡ half_bits_an_octet }
     ensures { result ≡ option_map (all_shifted 0) (bits_of halves.now) }
@@ -333,8 +333,8 @@ impl Decoder {
         self.push_pairs(halves);
     }
 
-    /// Takes half bits, where no first half is left over: eight bits at a time, then the pairs that are left, and then a last
-    /// half.
+    /// Takes half bits, where no first half is left over: eight bits at a time, then the pairs that are left, and then
+    /// a last half.
     fn push_whole(&mut self, halves: &[Sym])
         requires half { self.old.half ≡ None }
         requires count { self.old.halves + length halves.now ≤ 2000000000 }
@@ -364,8 +364,8 @@ impl Decoder {
         self.push_half(s);
     }
 
-    /// Takes more half bits of the reception, in this order, each as `push` does. Once the delimiter is found, eight bits are
-    /// taken at once.
+    /// Takes more half bits of the reception, in this order, each as `push` does. Once the delimiter is found, eight
+    /// bits are taken at once.
     pub fn push_all(&mut self, piece: &[Sym])
         requires signal { All (λ s. s ≢ Idle) piece.now }
         requires count { self.old.halves + length piece.now ≤ 2000000000 }

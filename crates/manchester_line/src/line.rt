@@ -25,8 +25,8 @@ pub fn jam_sym(i: u32) -> Sym
     }
 }
 
-/// Half bit `i`, from 0, of the preamble with its start frame delimiter: 62 alternating bits that begin with 1, and then
-/// 1, 1 (3.2.1, 3.2.2).
+/// Half bit `i`, from 0, of the preamble with its start frame delimiter: 62 alternating bits that begin with 1, and
+/// then 1, 1 (3.2.1, 3.2.2).
 pub fn header_sym(i: u32) -> Sym
     requires { i < preamble_length }
     ensures { result ≡ preamble_at i }

@@ -29,14 +29,14 @@ pub fn ports_emit_late()
         emitted plan (length plan.layout.stations + e) t ≡ earlier (decided plan e) t (slice_index (port_delays plan.layout) e) }
 {}
 
-/// What a tap emits, each other tap of its segment hears as many half bits later as it is away (clause 8, in the profile's
-/// half bits).
+/// What a tap emits, each other tap of its segment hears as many half bits later as it is away (clause 8, in the
+/// profile's half bits).
 pub fn cables_carry()
     ensures { CablesCarry }
 {}
 
-/// What an open port of a repeater hears, each of its other ports that doesn't rest then emits, after the repeater's delay: a
-/// signal, though not that symbol (clause 9).
+/// What an open port of a repeater hears, each of its other ports that doesn't rest then emits, after the repeater's
+/// delay: a signal, though not that symbol (clause 9).
 pub fn repeaters_repeat()
     ensures { RepeatersRepeat }
 {}

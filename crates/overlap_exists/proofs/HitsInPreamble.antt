@@ -1,5 +1,5 @@
--- A sender that starts in half bit 0 and hears Idle before half bit d and a signal in it has its hit at position d. Where
--- that is in its preamble or start frame delimiter, the jam behind these ends the shortest sending there is.
+-- A sender that starts in half bit 0 and hears Idle before half bit d and a signal in it has its hit at position d.
+-- Where that is in its preamble or start frame delimiter, the jam behind these ends the shortest sending there is.
 use Rattle.std.proofs.Common.{◌≡◌, ◌≢◌, ℕ, zero, suc, ◌+◌, ◌-◌, ◌*◌, ◌/◌, ◌<◌, ◌≤◌, Bool, true, false, ltb, leb, ◌&&◌, Option, Some, None, List, ◌∷◌, length, refl, sym, ap, ap₂, subst, ◌∙◌, arith}
 use Rattle.std.proofs.lemmas.Bool.{cond-true, cond-false}
 use Rattle.std.proofs.lemmas.Bool.Decides.{nat_tests}

@@ -47,8 +47,8 @@ still_sending : (d : ℕ) (x y : Attempt) → Overlap d x y → (t : ℕ) → t 
 still_sending d x y (inl (u, h)) t l = omega (arith, h.0.1, h.1.0)
 still_sending d x y (inr (u, h)) t l = omega (arith, h.0.0, h.1.1)
 
--- two attempts, d half bits apart, of which x does not start after y; the waves of x between the two starts come to y, and
--- the wave of y's start comes to x
+-- two attempts, d half bits apart, of which x does not start after y; the waves of x between the two starts come to y,
+-- and the wave of y's start comes to x
 module _
     (ex hx ey hy : ℕ → Sym) (d : ℕ) (x y : Attempt) (sx : IsLawful ex hx x) (sy : IsLawful ey hy y) (short : 2 * d + interframe_gap < slot_time) (first : x.start ≤ y.start)
     (there : (t : ℕ) → x.start ≤ t → t ≤ y.start → ex t ≢ Idle → hy (t + d) ≢ Idle) (back : ey y.start ≢ Idle → hx (y.start + d) ≢ Idle) where

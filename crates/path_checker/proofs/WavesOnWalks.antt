@@ -16,8 +16,8 @@ use Rattle.network.specs.Signals.{CablesCarry, RepeatersRepeat}
 use Rattle.network.specs.Times.{heard, emitted}
 use Rattle.path_checker.specs.Propagation.{IsClear, WavesArrive}
 
--- A signal is at tap a in half bit t and about to go on by this way: the tap emits it along its cable, or hears it and its
--- repeater takes it.
+-- A signal is at tap a in half bit t and about to go on by this way: the tap emits it along its cable, or hears it and
+-- its repeater takes it.
 unfoldable pub IsSignal : Plan → Way → Tap → ℕ → Type 0
 IsSignal plan way.Cable a t = emitted plan (tap_number plan.layout a) t ≢ Idle
 IsSignal plan way.Repeater a t = heard plan (tap_number plan.layout a) t ≢ Idle

@@ -112,8 +112,8 @@ pub fn lengthened(by: u32, far: Option<Far>) -> Option<Far>
 }
 
 /// The station that is farthest from a tap over walks of one step or more, the first of which is by this way, and of
-/// equally far ones the first. The table has what is known of the ports, and gets what is found. `room` bounds the steps
-/// of any walk from there.
+/// equally far ones the first. The table has what is known of the ports, and gets what is found. `room` bounds the
+/// steps of any walk from there.
 pub fn farthest(
     layout: &Layout,
     network: &Network,

@@ -113,8 +113,8 @@ pub fn check_paths(alloc: Global, layout: &Layout) -> Result<PathVerdict, OutOfM
     ensures no_pair { IfOk result (λ v. (v ≡ PathVerdict.NoPair) ↔ (length layout.now.stations < 2)) }
     ensures verdict { IfOk result (IsVerdict layout.now) }
 
-    // Where the verdict is Within, any two attempts of different stations that overlap over an open path are both hit before
-    // the 512th bit of their sendings begins, in every plan with this network (4.1.2.2).
+    // Where the verdict is Within, any two attempts of different stations that overlap over an open path are both hit
+    // before the 512th bit of their sendings begins, in every plan with this network (4.1.2.2).
     ensures detected { IfOk result (IsKept layout.now) }
 {
     let network = network_of(alloc, layout)?;

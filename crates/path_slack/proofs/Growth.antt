@@ -1,5 +1,5 @@
--- Where the steps of one part of a sound layout that C names grow by x, the distance of two stations grows by x if their
--- path has such a step, and stays if not: a path has at most one step in a part.
+-- Where the steps of one part of a sound layout that C names grow by x, the distance of two stations grows by x if
+-- their path has such a step, and stays if not: a path has at most one step in a part.
 use Rattle.std.proofs.Common.{◌≡◌, ◌≢◌, ◌⊎◌, refl, sym, ◌∙◌, ap, subst, inl, inr, ℕ, ◌+◌, List, [], ◌∷◌, Some, arith}
 use Rattle.layout.specs.declared.lines.Layout.{Layout}
 use Rattle.layout.specs.declared.ways.Tap.{Tap}

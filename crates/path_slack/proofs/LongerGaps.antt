@@ -1,5 +1,5 @@
--- A layout with a longer piece of cable: its taps have the same segments and repeaters, and where it keeps the bounds it
--- is sound.
+-- A layout with a longer piece of cable: its taps have the same segments and repeaters, and where it keeps the bounds
+-- it is sound.
 use Rattle.std.proofs.Common.{◌≡◌, ◌≢◌, refl, sym, ◌∙◌, ap, subst, ℕ, suc, ◌+◌, ◌<◌, ◌≤◌, Bool, true, false, eqb, leb, cond, List, [], ◌∷◌, ◌++◌, map, length, get_or, Option, None, Some, slice_get, All, arith}
 use Rattle.std.specs.Option.{option_map, option_and_then, unwrap_or}
 use Rattle.std.specs.List.{flat_map}

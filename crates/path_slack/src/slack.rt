@@ -268,8 +268,8 @@ fn delay_slacks(
 /// How far each gap between neighbouring taps of a segment and each repeater's delay can grow, so that all places and
 /// delays keep their bounds and the worst round trip stays below the slot time, and what stops it one half bit later:
 /// the first pair of stations that then has the worst round trip, or a bound. A slack is None exactly where the layout
-/// itself is over. Gaps come in order of segments and then of places, delays in the file's order. The only error is want
-/// of memory.
+/// itself is over. Gaps come in order of segments and then of places, delays in the file's order. The only error is
+/// want of memory.
 pub fn path_slack(alloc: Global, layout: &Layout) -> Result<Slacks, OutOfMemory>
     requires { IsSound layout.now }
     ensures gaps { IfOk result (λ s. AreGaps layout.now s.gaps) }

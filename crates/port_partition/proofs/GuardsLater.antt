@@ -1,4 +1,5 @@
--- A guard after half bits alike, in a form that needs no iteration, and the exact number of them before something happens.
+-- A guard after half bits alike, in a form that needs no iteration, and the exact number of them before something
+-- happens.
 use Rattle.std.proofs.Common.{◌≡◌, ◌≢◌, ℕ, zero, suc, ◌+◌, ◌-◌, ◌<◌, ◌≤◌, min, Bool, true, false, cond, eqb, leb, ◌||◌, refl, sym, ◌∙◌, arith}
 use Rattle.std.proofs.lemmas.Bool.Decides.{nat_tests}
 use Rattle.mac_parameters.specs.Parameters.{partition_in_a_row, partition_collision, reconnection}

@@ -18,10 +18,10 @@ pub enum GuardEvent {
     Opened,
 }
 
-/// The guard of a port: whether it is closed (partitioned), whether it opens (is connected again) once nothing is heard,
-/// whether the activity under way had a collision, the collisions in a row, and the half bits of the collision and of
-/// the clean run under way. Each is counted as far as it takes to partition the port or to connect it again, and only
-/// a closed port may open.
+/// The guard of a port: whether it is closed (partitioned), whether it opens (is connected again) once nothing is
+/// heard, whether the activity under way had a collision, the collisions in a row, and the half bits of the collision
+/// and of the clean run under way. Each is counted as far as it takes to partition the port or to connect it again, and
+/// only a closed port may open.
 #[derive(Clone, Copy, Debug, PartialEq, Eq)]
 pub struct PortGuard {
     pub closed: bool,

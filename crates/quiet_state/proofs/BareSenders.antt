@@ -1,5 +1,5 @@
--- What a sender keeps for its laws alone, when its last sending ended and since when it had carrier, bears on nothing that
--- it does.
+-- What a sender keeps for its laws alone, when its last sending ended and since when it had carrier, bears on nothing
+-- that it does.
 use Rattle.std.proofs.Common.{◌≡◌, ℕ, ◌+◌, ◌*◌, ◌&&◌, Bool, true, false, cond, eqb, ltb, leb, Option, Some, None, List, [], ◌∷◌, ◌++◌, map, length, refl, sym, ap, ap₂, ◌∙◌}
 use Rattle.mac_parameters.specs.Parameters.{attempt_limit, slot_time}
 use Rattle.manchester_line.specs.declared.Sym.{Sym}

@@ -1,5 +1,5 @@
--- A network that went on from a quiet half bit is stopped in the same half bits, with the same states, as if it had never
--- been stopped.
+-- A network that went on from a quiet half bit is stopped in the same half bits, with the same states, as if it had
+-- never been stopped.
 use Rattle.std.proofs.Common.{◌≡◌, ℕ, zero, suc, ◌+◌, ◌<◌, ◌≤◌, false, All, List, [], ◌∷◌, ◌++◌, map, replicate, length, get_or, refl, sym, subst, ap, ap₂, ◌∙◌, arith}
 use Rattle.std.specs.List.{flat_map, AllByRecursion}
 use Rattle.std.proofs.lemmas.List.Elements.{All-from_recursion, recursion_from_All}

@@ -43,8 +43,8 @@ pub fn states_are_kept()
     ensures { StatesAreKept }
 {}
 
-/// A network that went on from a quiet half bit can be stopped again in the same half bits, with the same states, as the
-/// network that never stopped.
+/// A network that went on from a quiet half bit can be stopped again in the same half bits, with the same states, as
+/// the network that never stopped.
 pub fn resumed_runs_stop_alike()
     ensures states { ResumedStatesAreTheSame }
     ensures quiet { ResumedQuietIsTheSame }

@@ -36,7 +36,8 @@ pub record Holds (frames : List Ready) (many : ℕ) (s : Sender) : Type 0 where
 within : (queue : List Ready) (ended : ℕ) (s : Sender) → Holds queue ended s → ended ≤ length queue
 within queue ended s h = omega (arith, place_within s.place (length s.queue) s.phase h.stands, h.ended, ap length h.queue)
 
--- what stays so in a network: of no device more frames ended than its queue has, and of a station no more than its sender's place
+-- what stays so in a network: of no device more frames ended than its queue has, and of a station no more than its
+-- sender's place
 pub record AllHold (queues : List (List Ready)) (n : Net) : Type 0 where
   pub few : (i : ℕ) → ends i n.rows ≤ length (get_or queues i [])
   pub stand : (i : ℕ) (d : Sender) → i < length n.senders → Holds (get_or queues i []) (ends i n.rows) (get_or n.senders i d)

@@ -32,8 +32,8 @@ fn add_taken(capture: &mut CaptureWriter, taken: &Taken) -> Result<(), OutOfMemo
 }
 
 /// The capture of the frames that a station received, in their order, whose octets are its `bytes`. Each frame has at
-/// most the octets of the longest tagged frame before its check sequence (3.2.7) and came at half bit 2,000,000,000 at the
-/// latest (profile).
+/// most the octets of the longest tagged frame before its check sequence (3.2.7) and came at half bit 2,000,000,000 at
+/// the latest (profile).
 #[tactic(auto, unfolding(crate::specs::Captures::pcap_of_taken))]
 pub fn pcap_of(alloc: Global, taken: &TakenList) -> Result<CaptureWriter, OutOfMemory>
     requires { AreShort taken.now }

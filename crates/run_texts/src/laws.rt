@@ -6,8 +6,8 @@ ghost use Rattle.run_texts.specs.Counts.{AreLeft, counts_of};
 
 use load_plan::Plan;
 
-/// In the run of a plan the frames that a station sends, with those that it gives up for excessive collisions, are no more
-/// than its queue has (4.2.3.2.5).
+/// In the run of a plan the frames that a station sends, with those that it gives up for excessive collisions, are no
+/// more than its queue has (4.2.3.2.5).
 pub fn frames_are_left(plan: &Plan)
     ensures { AreLeft (counts_of plan.now (rows plan.now)) }
 {}

@@ -9,8 +9,8 @@ use crate::rule::MailRule;
 use crate::{Lists, Mail, Named, Planned};
 use crossbeam_queue::protocol::Protocol;
 
-/// Wherever a box stands by its rule, no name was taken more often than it was put, and what is taken next was put and is
-/// honest.
+/// Wherever a box stands by its rule, no name was taken more often than it was put, and what is taken next was put and
+/// is honest.
 pub fn what_is_taken_was_put<P: Planned, U: Named>()
     ensures { (items : List (Mail U)) (views : List Lists) → ⟦<MailRule<P, U> as Protocol<Mail<U>, Lists>>⟧.holds items views → IsFair U.plan U.name P.plan items views }
 {}

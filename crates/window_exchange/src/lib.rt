@@ -1,5 +1,5 @@
-//! Mailboxes, through which workers hand parts and parcels to each other. What comes out of a box was put into it, no more
-//! often than it was put, and it is true for the plan that the box's type carries, or spoiled.
+//! Mailboxes, through which workers hand parts and parcels to each other. What comes out of a box was put into it, no
+//! more often than it was put, and it is true for the plan that the box's type carries, or spoiled.
 #![tactic(auto)]
 
 pub mod laws;

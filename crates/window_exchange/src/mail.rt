@@ -25,8 +25,8 @@ pub enum Mail<U> {
     Parcel(Parcel),
 }
 
-/// The name of a mail: a kit's number; or a parcel's edge, window, way, which is true to its repeater, and whether it is
-/// spoiled. No code makes one.
+/// The name of a mail: a kit's number; or a parcel's edge, window, way, which is true to its repeater, and whether it
+/// is spoiled. No code makes one.
 pub enum Name {
     OfKit(u32),
     OfParcel(u32, u64, bool, bool),

@@ -78,8 +78,8 @@ impl<P: Planned, U: Named> Mailbox<P, U> {
         unreachable!()
     }
 
-    /// Takes the mail out of the box that was put there first. While the box is empty it tries again, and yields the processor
-    /// after a few tries.
+    /// Takes the mail out of the box that was put there first. While the box is empty it tries again, and yields the
+    /// processor after a few tries.
     pub fn receive<R: Wait>(&self, rt: &R, pass: &mut MailPass<P, U>) -> Mail<U>
         requires of { IsPassOf self.now.queue pass.old.pass }
         ensures of { IsPassOf self.now.queue pass.new.pass }

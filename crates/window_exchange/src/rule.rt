@@ -1,6 +1,6 @@
-//! The rule of a box, and what its steps change: a box is made with a pass, which has seen nothing; a new pass of it, which has
-//! seen nothing either, may be made; a push puts one mail at the back, and a pop takes one from the front, or each finds the
-//! box full or empty and changes nothing.
+//! The rule of a box, and what its steps change: a box is made with a pass, which has seen nothing; a new pass of it,
+//! which has seen nothing either, may be made; a push puts one mail at the back, and a pop takes one from the front, or
+//! each finds the box full or empty and changes nothing.
 use crate::{Lists, Mail, Named, Planned};
 use crossbeam_queue::protocol::{Outcome, Protocol, Split};
 use std::marker::PhantomData;
