@@ -15,8 +15,8 @@ use Rattle.mac_transmit.specs.Calm.{after_all, AllHeardAs, gets_hit, change_from
 use Rattle.mac_transmit.specs.Emissions.{emission_by, IsSendingFor, CalmSendersEmit, CalmSendingsLast}
 use Rattle.mac_transmit.proofs.CalmHalfBits.{pred_of, awaits, gap_on, same_hit, sends_on, sender, Fits, not_now, fits_down, uncapped, heard_first, heard_rest, state_is}
 
--- Nothing happens in a half bit: no sending ends, no frame or backoff is awaited to it, the phase stays, and what is emitted
--- is what the phase says.
+-- Nothing happens in a half bit: no sending ends, no frame or backoff is awaited to it, the phase stays, and what is
+-- emitted is what the phase says.
 record IsQuiet (s : Sender) (c : Bool) : Type 0 where
   settled : promoted (finished s) ≡ s
   same_phase : (emitting (after_turn s c) c).phase ≡ s.phase

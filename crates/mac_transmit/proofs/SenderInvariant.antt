@@ -61,7 +61,8 @@ defer_next t last from (Gap k was) c x w h =
     later t from k true h = omega arith
     later t from k false h = omega arith
 
--- What a turn in half bit t keeps, where p and d are the phase and the state of deference before it and p' and d' those after.
+-- What a turn in half bit t keeps, where p and d are the phase and the state of deference before it and p' and d' those
+-- after.
 pub record Keeps (t made : ℕ) (more : Bool) (last : Option ℕ) (from : ℕ) (c : Bool) (p' : Phase) (d' : Defer) : Type 0 where
   pub gap : gap_of d' ≤ interframe_gap
   pub phase_sound : PhaseIsSound (t + 1) made more d' (phase_after t p' c)

@@ -57,7 +57,7 @@ fn line_symbol(octets: &[u8], p: u64) -> Sym
     line_sym(octets, p as u32)
 }
 
-/// The symbol at position `p` of a sending.
+/// The symbol at position `p`, from 0, of a sending of these octets with this hit (4.2.3.2.4).
 pub fn symbol_at(octets: &[u8], hit: Option<u32>, p: u64) -> Sym
     requires length { length octets.now ≤ 1600 }
     requires place { p < 2 ^ 32 }

@@ -8,19 +8,20 @@ pub fn gaps_are_kept()
     ensures { GapsAreKept }
 {}
 
-/// A station that hears something in each half bit from one on up to its start starts less than 192 half bits after that one.
+/// A station that hears something in each half bit from one on up to its start starts less than 192 half bits after
+/// that one.
 pub fn deaf_gaps_are_kept()
     ensures { DeafGapsAreKept }
 {}
 
-/// Over half bits without an end: each attempt has at least 192 half bits, and 1,152 without a hit; it emits something in each
-/// of them; it has a hit by each of them in which the station hears something; and it keeps the deaf gap.
+/// Over half bits without an end: each attempt has at least 192 half bits, and 1,152 without a hit; it emits something
+/// in each of them; it has a hit by each of them in which the station hears something; and it keeps the deaf gap.
 pub fn attempts_are_lawful()
     ensures { AttemptsAreLawful }
 {}
 
-/// A sender that is calm emits in each half bit what it would if nothing happened to it: its sending goes on, or it emits
-/// Idle.
+/// A sender that is calm emits in each half bit what it would if nothing happened to it: its sending goes on, or it
+/// emits Idle.
 pub fn calm_senders_emit()
     ensures { CalmSendersEmit }
 {}

@@ -10,6 +10,7 @@ mod state;
 mod transmitter;
 mod turn;
 
+pub use cases::symbol_at;
 pub use deference::Defer;
 pub use laws::{
     attempts_are_lawful, calm_senders_emit, calm_sendings_last, deaf_gaps_are_kept, gaps_are_kept,

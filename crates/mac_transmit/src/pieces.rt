@@ -9,8 +9,8 @@ ghost use Rattle.mac_transmit.specs.Sender.{jam_start, symbol_of};
 use crate::cases::start_of_jam;
 use manchester_line::Sym;
 
-/// The half bits of the jam (IEEE 802.3, 4.2.3.2.4; its bits are 1, 0, 1, 0 and so on, profile), and four more, so that a
-/// whole jam begins at each of the first four places.
+/// The half bits of the jam (IEEE 802.3, 4.2.3.2.4; its bits are 1, 0, 1, 0 and so on, profile), and four more, so that
+/// a whole jam begins at each of the first four places.
 const JAM: [[Sym; 4]; 17] = [[Sym::Lo, Sym::Hi, Sym::Hi, Sym::Lo]; 17];
 
 /// Writes half bit `p` and those after it of a line text, and Idle behind its end.

@@ -144,8 +144,8 @@ impl Transmitter {
         }
     }
 
-    /// The sender of a queue before half bit `t` that goes on from this state, with draws whose next is the one that the
-    /// state numbers. What its laws say of earlier sendings and of what was heard begins anew.
+    /// The sender of a queue before half bit `t` that goes on from this state, with draws whose next is the one that
+    /// the state numbers. What its laws say of earlier sendings and of what was heard begins anew.
     pub fn resume(queue: Queue, draws: Draws, t: u64, state: SenderState) -> Transmitter
         requires in_time { t ≤ 2000000000 }
         requires next_draw { draws.made ≡ state.drawn }
@@ -318,8 +318,8 @@ impl Transmitter {
     }
 
     /// The greatest number up to 4,096 of half bits from `t` on, the one after the last that was stepped or leapt, that
-    /// give no event, no change of phase and no new hit, where the station hears something in each, as `carrier` says, or
-    /// Idle in each. A sending that goes on is calm, though it emits.
+    /// give no event, no change of phase and no new hit, where the station hears something in each, as `carrier` says,
+    /// or Idle in each. A sending that goes on is calm, though it emits.
     pub fn calm(&self, t: u64, carrier: bool) -> u64
         requires time { t ≡ self.now.t }
         requires in_time { t < 2000000000 }
@@ -362,9 +362,9 @@ impl Transmitter {
         self.leap_over(t, n, carrier);
     }
 
-    /// Writes what is emitted in as many half bits from `t` on, the one after the last that was stepped or leapt, as `out`
-    /// has places, given the line text of the frame that is being sent, whose sending is to last for all of them. The
-    /// steps emit this where the half bits are calm: a hit may stand already, but none of them brings a new one.
+    /// Writes what is emitted in as many half bits from `t` on, the one after the last that was stepped or leapt, as
+    /// `out` has places, given the line text of the frame that is being sent, whose sending is to last for all of them.
+    /// The steps emit this where the half bits are calm: a hit may stand already, but none of them brings a new one.
     pub fn piece(&self, t: u64, text: &[Sym], out: &mut [Sym])
         requires time { t ≡ self.now.t }
         requires text { text.now ≡ line (frame_at self.now.queue self.now.place) }

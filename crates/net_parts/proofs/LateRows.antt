@@ -72,7 +72,8 @@ early_too f t back delay early = elim (cases_lt t back) [
   | inr within ↦ if_true {m = back} {n = t} _ _ (omega arith) ∙ if_false {m = delay} {n = t - back} _ _ (omega arith)
 ]
 
--- What comes in L half bits late and is emitted `delay` half bits after it was decided is that which was decided so long ago.
+-- What comes in L half bits late and is emitted `delay` half bits after it was decided is that which was decided so
+-- long ago.
 pub arrived_is : (f : ℕ → Sym) (L t back delay : ℕ) → L ≤ back + delay →
     earlier (λ u. cond (ltb u L) Idle (f (u - L))) (suc t) (back + delay + 1 - L) ≡ earlier (λ v. earlier f v delay) t back
 arrived_is f L t back delay h = elim (cases_lt t (back + delay)) [

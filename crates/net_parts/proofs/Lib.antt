@@ -17,3 +17,4 @@ pub mod EdgeNumbers
 pub mod GatheredRows
 pub mod RowsHandedOut
 pub mod GatheredCaptures
+pub mod NoEdges

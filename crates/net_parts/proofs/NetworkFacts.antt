@@ -1,5 +1,5 @@
--- What the network has for the proofs on parts: each station is a sender that hears what its tap hears, and each repeater has its
--- ports.
+-- What the network has for the proofs on parts: each station is a sender that hears what its tap hears, and each
+-- repeater has its ports.
 use Rattle.std.proofs.Common.{◌≡◌, ℕ, zero, suc, ◌+◌, ◌-◌, ◌<◌, ◌≤◌, All, List, [], ◌∷◌, ◌++◌, map, drop, replicate, length, length-append, length-take-le, get_or, inl, inr, refl, sym, subst, ap, ◌∙◌, arith}
 use Rattle.std.specs.List.{flat_map}
 use Rattle.std.proofs.lemmas.List.{length-replicate, get_or_append_left, get_or-append_right, get_or-replicate}

@@ -49,7 +49,8 @@ fn edges_on_segment(
     Ok(edges)
 }
 
-/// Puts the edges of those of these ports that are on a segment behind the others; the first of the ports is edge `first`.
+/// Puts the edges of those of these ports that are on a segment behind the others; the first of the ports is edge
+/// `first`.
 fn push_edges(
     edges: &mut List<u32>,
     segment: usize,

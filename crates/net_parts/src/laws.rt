@@ -2,8 +2,8 @@
 ghost use Rattle.net_parts.specs.CalmPieces.{PiecesComeTrue};
 ghost use Rattle.net_parts.specs.PartLaws.{LookaheadLeads, SegmentsGoOn, RepeatersGoOn, PartsGoOn, EverySchedule, PartsHandOut, RowsAreGathered, CapturesAreGathered};
 
-/// Nothing that is decided for a port comes to another tap of its segment in fewer half bits than a window has, and a window
-/// has 1 to 4,096.
+/// Nothing that is decided for a port comes to another tap of its segment in fewer half bits than a window has, and a
+/// window has 1 to 4,096.
 pub fn lookahead_leads()
     ensures { LookaheadLeads }
 {}
@@ -23,8 +23,8 @@ pub fn parts_go_on()
     ensures { PartsGoOn }
 {}
 
-/// Over every list of events from the opening board on, each of which can happen where it stands: every part that isn't lost
-/// stands at its window's time, and every unspoiled parcel is true for the plan.
+/// Over every list of events from the opening board on, each of which can happen where it stands: every part that isn't
+/// lost stands at its window's time, and every unspoiled parcel is true for the plan.
 pub fn every_schedule()
     ensures { EverySchedule }
 {}
@@ -44,9 +44,9 @@ pub fn captures_are_gathered()
     ensures { CapturesAreGathered }
 {}
 
-/// Many half bits at once: where every sending of a segment goes on, and each of its stations hears something in each half bit
-/// or Idle in each, for no more half bits than it is calm, what is told ahead in this way comes true, and so does what stations
-/// and ports hear by it.
+/// Many half bits at once: where every sending of a segment goes on, and each of its stations hears something in each
+/// half bit or Idle in each, for no more half bits than it is calm, what is told ahead in this way comes true, and so
+/// does what stations and ports hear by it.
 pub fn pieces_come_true()
     ensures { PiecesComeTrue }
 {}

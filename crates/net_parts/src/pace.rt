@@ -7,7 +7,8 @@ use crate::timing::{count_windows, lookahead};
 use load_plan::Plan;
 use std::snapshot::Snapshot;
 
-/// The half bits of a window of a plan's run, and how many windows that has: they are the same for all parts, and reckoned once.
+/// The half bits of a window of a plan's run, and how many windows that has: they are the same for all parts, and
+/// reckoned once.
 #[derive(Drop)]
 pub struct Pace {
     pub plan: Snapshot<Plan>,

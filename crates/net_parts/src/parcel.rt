@@ -79,8 +79,9 @@ impl Symbols {
     }
 }
 
-/// The one parcel of an edge: the symbols for a window; that window, which is its stamp; its way, to its repeater or else to its
-/// segment; and whether it is spoiled, which follows want of memory. The widest fields come first, so that it is short.
+/// The one parcel of an edge: the symbols for a window; that window, which is its stamp; its way, to its repeater or
+/// else to its segment; and whether it is spoiled, which follows want of memory. The widest fields come first, so that
+/// it is short.
 #[derive(Debug, Drop)]
 pub struct Parcel {
     pub symbols: Symbols,

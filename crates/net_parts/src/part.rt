@@ -50,8 +50,8 @@ pub trait Part: Send + Drop {
         ensures at { at self.new ≡ at self.old }
         ensures room { OnOk result (reserved self.new ≡ true) };
 
-    /// Makes its present window. The parcels are those of its edges, in their order, unspoiled, with the window's stamp and the
-    /// network's symbols; it refills, turns and stamps them. It takes no memory.
+    /// Makes its present window. The parcels are those of its edges, in their order, unspoiled, with the window's stamp
+    /// and the network's symbols; it refills, turns and stamps them. It takes no memory.
     fn run_window(&mut self, parcels: &mut [Parcel])
         requires room { reserved self.old ≡ true }
         requires window { at self.old < windows (plan self.old) }

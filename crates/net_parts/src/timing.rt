@@ -12,8 +12,8 @@ use mac_parameters::HALF_BITS_A_BIT;
 /// The most half bits of a window.
 const MOST_LOOKAHEAD: u32 = 4_096;
 
-/// The half bits of a window: the least, over all ports, of the repeater's delay and the way to the nearest other tap of the
-/// port's segment, at most 4,096. A port that is alone on its segment counts as 4,096.
+/// The half bits of a window: the least, over all ports, of the repeater's delay and the way to the nearest other tap
+/// of the port's segment, at most 4,096. A port that is alone on its segment counts as 4,096.
 pub fn lookahead(layout: &Layout) -> u32
     requires { IsSound layout.now }
     ensures value { result ≡ lookahead layout.now }
@@ -31,8 +31,8 @@ pub fn lookahead(layout: &Layout) -> u32
     least
 }
 
-/// The least, over ports of a repeater with this delay, of the delay and the way to the nearest other tap; the first of the
-/// ports is tap `first`, from 0.
+/// The least, over ports of a repeater with this delay, of the delay and the way to the nearest other tap; the first of
+/// the ports is tap `first`, from 0.
 fn least_of_ports(layout: &Layout, delay: u32, first: usize, ports: &[PortLine]) -> u32
     requires sound { IsSound layout.now }
     requires delay { delay ≤ 200 }

@@ -1,1 +1,2 @@
 pub mod PlannedTapsStand
+pub mod ToldBodiesExample

@@ -1,6 +1,5 @@
 //! Runs of networks with many stations, ports and repeaters; the sums are those of another program over the same
 //! layouts.
-ghost use Rattle.std.specs.Prelude.{◌≡◌};
 
 use crate::reading::plan_of;
 use net_step::run_plain;

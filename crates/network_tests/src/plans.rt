@@ -1,5 +1,5 @@
 //! Queues that layouts and loads give.
-ghost use Rattle.std.specs.Prelude.{◌≡◌, ◌≤◌, All, IfOk, length};
+ghost use Rattle.std.specs.Prelude.{◌≤◌, IfOk, length};
 
 use crate::reading::read;
 use capture_file::{Octets, Record, Records};

@@ -1,2 +1,1 @@
-pub mod NoEdges
 pub mod WithinExample

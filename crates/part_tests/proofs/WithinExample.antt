@@ -1,7 +1,5 @@
 -- An example of how far places are from each other: no two of 10, 30 and 0 are more than 30 half bits apart.
 use Rattle.std.proofs.Common.{ℕ, zero, suc, ◌≤◌, List, [], ◌∷◌, arith}
-use Rattle.std.specs.Prelude.{slice_index}
-use Rattle.mac_parameters.specs.Distances.{distance}
 use Rattle.segment_engine.specs.NewLines.{AreWithin}
 
 abbrev three_places : List ℕ

@@ -10,6 +10,8 @@ mod orders;
 #[cfg(test)]
 mod parcels;
 #[cfg(test)]
+mod repeaters;
+#[cfg(test)]
 mod rooms;
 #[cfg(test)]
 mod segments;

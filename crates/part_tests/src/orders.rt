@@ -1,5 +1,5 @@
 //! The three parts of a network in two shares, between which parcels are moved in two orders.
-ghost use Rattle.std.specs.Prelude.{◌≡◌, ◌<◌, ◌≤◌, [], All, IfOk, IfSome, OnOk, Some, length};
+ghost use Rattle.std.specs.Prelude.{◌≡◌, ◌<◌, ◌≤◌, [], All, IfOk, OnOk, Some, length};
 ghost use Rattle.exchange_core.specs.Shares.{rack};
 ghost use Rattle.worker_gate.specs.PlannedShares.{IsPlannedShare};
 

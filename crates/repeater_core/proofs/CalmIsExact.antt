@@ -235,7 +235,8 @@ leapt n r mode guards counts line h c l m g k e =
     same_state (record { mode = mode; guards = guards; counts = counts; line = line }) parts m (g ∙ sym (guards_leap n r.guards l)) (k ∙ sym (counts_leap n r.counts)) e
     ∙ sym (leaps n r h (calm_within n r h c))
 
--- what a repeater's calls give of it, told of the same repeater s as the contract names it: its calm where a port opens ..
+-- what a repeater's calls give of it, told of the same repeater s as the contract names it: its calm where a port opens
+-- ..
 pub calm_where_open : (r s : State) (gs : List Guard) (b : Bool) → r ≡ s → IsState r → b ≡ any_opens gs → gs ≡ r.guards → b ≡ true
     → IsCalm s 0 × (0 < most_calm → ¬ IsUneventful (iterate silent_step 0 s))
 calm_where_open r s gs b same h opens guards e = calm_told 0 r s same h (calm_opens r (ap any_opens (sym guards) ∙ sym opens ∙ e))

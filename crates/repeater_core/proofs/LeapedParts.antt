@@ -1,5 +1,5 @@
--- What a leap over steady half bits makes of a repeater, told by what its calls give. r is the repeater as it is kept, and
--- s the same one as the contract names it.
+-- What a leap over steady half bits makes of a repeater, told by what its calls give. r is the repeater as it is kept,
+-- and s the same one as the contract names it.
 use Rattle.std.proofs.Common.{◌≡◌, ℕ, ◌-◌, ◌<◌, List, length, map, get_or, sym, ap, ap₂, subst, ◌∙◌}
 use Rattle.std.specs.Fn.{iterate}
 use Rattle.manchester_line.specs.declared.Sym.{Sym}
@@ -72,7 +72,8 @@ counts_told : (n : ℕ) (hears ds : List Sym) (cs cs' : List Count) (r : State) 
 counts_told n hears ds cs cs' r decided counts later =
     later ∙ ap₂ (λ ds cs. at_each (λ x c. iterate (count_by x) n c) (map is_signal ds) cs) decided counts
 
--- the repeater after the leap is one, and the one that the contract names: its half bits emit es and decide ds as the first
+-- the repeater after the leap is one, and the one that the contract names: its half bits emit es and decide ds as the
+-- first
 pub steady_leap : (n : ℕ) (hears es ds : List Sym) (r s : State) (m : Mode) (gs gs' : List Guard) (cs cs' : List Count) (line : Delayed) → r ≡ s → MayLeap n hears r
     → es ≡ emitted_by r → ds ≡ decided_by hears r → gs ≡ r.guards → cs ≡ r.counts
     → m ≡ iterate mode_on n r.mode → gs' ≡ at_each (λ x g. iterate (guard_by x) n g) (kinds_of hears (map is_signal es)) gs

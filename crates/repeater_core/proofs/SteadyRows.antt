@@ -1,5 +1,5 @@
--- Half bits that are steady by the classes of what is heard: rows of the same classes do the same, but for the text that
--- is sent.
+-- Half bits that are steady by the classes of what is heard: rows of the same classes do the same, but for the text
+-- that is sent.
 use Rattle.std.proofs.Common.{◌≡◌, ℕ, zero, suc, ◌+◌, ◌*◌, ◌<◌, ◌≤◌, Bool, true, false, not, cond, ltb, eqb, ◌&&◌, List, [], ◌∷◌, ◌++◌, length, map, take, drop, set, get_or, refl, sym, ap, ap₂, subst, ◌∙◌, arith, inl, inr}
 use Rattle.std.proofs.lemmas.Bool.{cases_lt}
 use Rattle.std.proofs.lemmas.Bool.Decides.{nat_tests}

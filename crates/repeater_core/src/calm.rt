@@ -1,5 +1,5 @@
-//! Silent half bits, in which no port hears anything: for how many of them nothing happens, the calm, and what becomes of
-//! guards and counts.
+//! Silent half bits, in which no port hears anything: for how many of them nothing happens, the calm, and what becomes
+//! of guards and counts.
 ghost use Rattle.std.specs.Prelude.{◌≡◌, ◌≤◌, ◌<◌, length, map, replicate, IsTrue, true};
 ghost use Rattle.std.specs.List.{All};
 ghost use Rattle.manchester_line.specs.declared.Sym.TheVariants as sym;

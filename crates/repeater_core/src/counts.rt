@@ -16,8 +16,8 @@ use std::marker::Model;
 /// The half bits of rest that follow the one in which a port is halted (profile, jabber lockup protection).
 const REST_LEFT: u32 = JABBER_REST - 1;
 
-/// A port's counts: the half bits of its unbroken output, as far as the limit at which it is halted, the half bits of rest
-/// that are left, 0 to 191, and whether the output comes right after a rest.
+/// A port's counts: the half bits of its unbroken output, as far as the limit at which it is halted, the half bits of
+/// rest that are left, 0 to 191, and whether the output comes right after a rest.
 #[derive(Clone, Copy)]
 pub struct PortCount {
     pub run: u32,

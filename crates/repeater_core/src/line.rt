@@ -19,9 +19,8 @@ use manchester_line::{Sym, is_signal};
 use std::alloc::Global;
 use std::marker::Model;
 
-/// What was decided and not yet emitted: a ring of `delay` rows of one symbol a port. `turn` is the row
-/// that is emitted next, all but the oldest `filled` rows are Idle, and the newest `alike` rows have signals at the same
-/// places.
+/// What was decided and not yet emitted: a ring of `delay` rows of one symbol a port. `turn` is the row that is emitted
+/// next, all but the oldest `filled` rows are Idle, and the newest `alike` rows have signals at the same places.
 #[derive(Drop)]
 pub struct DelayLine {
     ports: usize,
@@ -164,7 +163,8 @@ fn last_turn(turn: usize, delay: usize) -> usize
     if turn == 0 { delay - 1 } else { turn - 1 }
 }
 
-/// How many of the oldest rows may have a signal after so many half bits; if `idle`, all that was decided in them is Idle.
+/// How many of the oldest rows may have a signal after so many half bits; if `idle`, all that was decided in them is
+/// Idle.
 fn filled_after(idle: bool, filled: usize, delay: usize, half_bits: usize) -> usize
     ensures { result ≡ (if idle then filled - half_bits else delay) }
 {
@@ -255,9 +255,9 @@ impl DelayLine {
         }
     }
 
-    /// Half bits in each of which its text is decided for the ports that have a signal in `flags`, and Idle for the others,
-    /// so that each is sent a signal or not as there. Only where all texts are Idle may `idle` be set. A row that goes out
-    /// again in the same half bits isn't written.
+    /// Half bits in each of which its text is decided for the ports that have a signal in `flags`, and Idle for the
+    /// others, so that each is sent a signal or not as there. Only where all texts are Idle may `idle` be set. A row
+    /// that goes out again in the same half bits isn't written.
     pub fn send(&mut self, idle: bool, flags: &[Sym], texts: &[Sym])
         requires flags_len { length flags.now ≡ self.old.ports }
         requires few { length texts.now ≤ most_calm }
@@ -291,8 +291,8 @@ impl DelayLine {
         copy_row(&self.slots, self.turn * self.ports, emits);
     }
 
-    /// How many of the oldest rows have signals at the places of the first, which is `front`. Those that are known to aren't
-    /// looked at.
+    /// How many of the oldest rows have signals at the places of the first, which is `front`. Those that are known to
+    /// aren't looked at.
     pub fn alike(&self, front: &[Sym]) -> u32
         requires front { front.now ≡ oldest self.now }
         requires front_len { length front.now ≡ self.now.ports }

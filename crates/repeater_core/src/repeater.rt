@@ -252,8 +252,8 @@ impl Repeater {
         self.line.leap(n);
     }
 
-    /// The greatest n up to 4,096 such that n half bits in which the ports hear these symbols are steady: nothing happens in
-    /// them but counts. What is emitted in the first of them is written.
+    /// The greatest n up to 4,096 such that n half bits in which the ports hear these symbols are steady: nothing
+    /// happens in them but counts. What is emitted in the first of them is written.
     pub fn steady(&self, hears: &[Sym], emits: &mut [Sym]) -> u32
         requires hears_len { length hears.now ≡ length self.now.guards }
         requires emits_len { length emits.old ≡ length self.now.guards }
@@ -270,9 +270,9 @@ impl Repeater {
             .min(rows_steady(&self.line, self.mode, &self.counts, emits))
     }
 
-    /// The state after `n` half bits in which the ports hear these symbols, and which are steady: nothing happens in them but
-    /// counts. What is emitted and decided in the last of them is written. Only the rows of the delay line are written one
-    /// by one.
+    /// The state after `n` half bits in which the ports hear these symbols, and which are steady: nothing happens in
+    /// them but counts. What is emitted and decided in the last of them is written. Only the rows of the delay line are
+    /// written one by one.
     pub fn leap_steady(&mut self, n: u32, hears: &[Sym], emits: &mut [Sym], decided: &mut [Sym])
         requires hears_len { length hears.now ≡ length self.old.guards }
         requires emits_len { length emits.old ≡ length self.old.guards }
@@ -295,11 +295,11 @@ impl Repeater {
         self.mode = leap_line(&mut self.line, self.mode, hears, n, decided, emits);
     }
 
-    /// The state after as many half bits as `heard` has symbols, at most 4,096, which are steady by their classes: in each of
-    /// them each port hears Idle, a signal or Clash as it does in the row `hears`, and nothing happens but counts. `heard` is
-    /// what the port that the mode repeats hears in them, and any symbols in the other modes. Written are what is emitted and
-    /// decided in the first of them, and what is sent in each: it is decided for the ports that get a signal in the first,
-    /// and Idle for the others.
+    /// The state after as many half bits as `heard` has symbols, at most 4,096, which are steady by their classes: in
+    /// each of them each port hears Idle, a signal or Clash as it does in the row `hears`, and nothing happens but
+    /// counts. `heard` is what the port that the mode repeats hears in them, and any symbols in the other modes.
+    /// Written are what is emitted and decided in the first of them, and what is sent in each: it is decided for the
+    /// ports that get a signal in the first, and Idle for the others.
     pub fn leap_classes(
         &mut self,
         hears: &[Sym],

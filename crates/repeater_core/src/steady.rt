@@ -94,9 +94,9 @@ fn sends_as(mode: Mode, counts: &[PortCount], row: &[Sym]) -> bool
     true
 }
 
-/// For how many half bits the ports emit signals as in the first, in which they emit this row and are sent signals as the
-/// mode and the counts tell: as far as the delay, or all that are told where all that is not yet emitted has signals at the
-/// places of what is sent.
+/// For how many half bits the ports emit signals as in the first, in which they emit this row and are sent signals as
+/// the mode and the counts tell: as far as the delay, or all that are told where all that is not yet emitted has
+/// signals at the places of what is sent.
 pub fn rows_steady(line: &DelayLine, mode: Mode, counts: &[PortCount], emits: &[Sym]) -> u32
     requires front { emits.now ≡ oldest line.now }
     requires emits_len { length emits.now ≡ line.now.ports }
@@ -157,8 +157,8 @@ fn set_text(decided: &mut [Sym], text: Sym)
     }
 }
 
-/// The delay line after n half bits in which the mode changes by its counts alone and sends its text to the ports that are
-/// sent a signal in this row, and the mode after them.
+/// The delay line after n half bits in which the mode changes by its counts alone and sends its text to the ports that
+/// are sent a signal in this row, and the mode after them.
 pub fn leap_line(
     line: &mut DelayLine,
     mode: Mode,
@@ -187,8 +187,9 @@ pub fn leap_line(
     mode
 }
 
-/// The delay line after half bits in which the mode changes by its counts alone and sends its text to the ports that have a
-/// signal in this row, while the port that it repeats hears `heard`; the mode after them. What it sends is written.
+/// The delay line after half bits in which the mode changes by its counts alone and sends its text to the ports that
+/// have a signal in this row, while the port that it repeats hears `heard`; the mode after them. What it sends is
+/// written.
 pub fn leap_texts(
     line: &mut DelayLine,
     mode: Mode,

@@ -40,8 +40,8 @@ fn write_each(mode: Mode, heard: &[Sym], sent: &mut [Sym]) -> Mode
     mode
 }
 
-/// Writes what a mode sends while the port that it repeats hears `heard`; the mode after that. Past the preamble and start
-/// frame delimiter what is sent is what is heard.
+/// Writes what a mode sends while the port that it repeats hears `heard`; the mode after that. Past the preamble and
+/// start frame delimiter what is sent is what is heard.
 pub fn write_texts(mode: Mode, heard: &[Sym], sent: &mut [Sym]) -> Mode
     requires sent_len { length sent.old ≡ length heard.now }
     requires some { 0 < length heard.now }

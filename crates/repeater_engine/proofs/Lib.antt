@@ -5,3 +5,4 @@ pub mod RepeatersAsParts
 pub mod SteadyRuns
 pub mod ClassesOfRows
 pub mod LeapedHalfBits
+pub mod SteadyExample

@@ -1,4 +1,5 @@
--- Rows of one kind at a place of a repeater are apart: each half bit that has one pays for it with the waits that follow.
+-- Rows of one kind at a place of a repeater are apart: each half bit that has one pays for it with the waits that
+-- follow.
 use Rattle.std.proofs.Common.{◌≡◌, ℕ, suc, ◌+◌, ◌-◌, ◌*◌, ◌<◌, ◌≤◌, sum_by, Bool, true, false, not, ◌&&◌, List, [], ◌∷◌, ◌++◌, map, length, length-append, refl, sym, subst, ap, ◌∙◌, arith}
 use Rattle.std.proofs.lemmas.Bool.{false≢true}
 use Rattle.std.proofs.lemmas.Bool.Decides.{nat_tests}

@@ -1,5 +1,5 @@
--- Runs of a repeater over half bits in which nothing happens but counts: its state, what is decided in them, its rows and
--- the room for more of them.
+-- Runs of a repeater over half bits in which nothing happens but counts: its state, what is decided in them, its rows
+-- and the room for more of them.
 use Rattle.std.proofs.Common.{◌≡◌, ℕ, zero, suc, ◌+◌, ◌-◌, ◌*◌, ◌<◌, ◌≤◌, Bool, true, false, not, cond, ◌&&◌, List, [], ◌∷◌, ◌++◌, map, length, get_or, replicate, refl, sym, ap, ap₂, ◌∙◌, arith, append-nil}
 use Rattle.std.specs.List.{AllByRecursion}
 use Rattle.std.proofs.lemmas.List.{length-map}

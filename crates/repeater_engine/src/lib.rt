@@ -8,6 +8,3 @@ mod part;
 mod rows;
 
 pub use part::RepeaterPart;
-
-#[cfg(test)]
-mod tests;

@@ -1,7 +1,7 @@
 //! The rows of a repeater's half bit, in room that was taken before.
-ghost use Rattle.std.specs.Prelude.{◌≡◌, ◌≤◌, ◌<◌, ◌^◌, ◌++◌, length};
+ghost use Rattle.std.specs.Prelude.{◌≡◌, ◌≤◌, ◌<◌, ◌^◌, length};
 ghost use Rattle.mac_parameters.specs.Parameters.{most_ports};
-ghost use Rattle.network.specs.Rows.{bits_bodies, happened, rows_of_bodies, told_bodies};
+ghost use Rattle.network.specs.Rows.{bits_bodies, happened, told_bodies};
 ghost use Rattle.repeater_engine.specs.Logging.{Logs};
 ghost use Rattle.repeater_engine.specs.RowWaits.{most_rows};
 

@@ -1,0 +1,37 @@
+//! A repeater as a part of a plan.
+
+use crate::fake_part::plan_of;
+use net_parts::Part;
+use repeater_engine::RepeaterPart;
+use std::test::Fail;
+
+/// Two segments with a station each, and a repeater between them. Its port on segment x is 30 half bits from the other
+/// tap there, and its delay is 8, so that a window has 38.
+const TWO_SEGMENTS: &str = r#"format = 1
+seed = 1
+until_bits = 6000
+segment = [{ name = "x" }, { name = "y" }]
+station = [{ name = "a", segment = "x", at = 0 }, { name = "b", segment = "y", at = 0 }]
+repeater = [{ name = "r", delay = 8, port = [{ segment = "x", at = 30 }, { segment = "y", at = 40 }] }]
+"#;
+
+/// The part of the repeater stands behind the two segments, has its two edges, and hands out what there is before the
+/// first window, which is nothing.
+#[test]
+fn a_repeater_is_a_part_of_its_plan(rt: HostRuntime) -> Result<(), Fail> {
+    let plan = plan_of(rt.alloc(), TWO_SEGMENTS)?;
+    if plan.layout.repeaters.len() != 1 {
+        return Err(Fail::from("another layout"));
+    }
+    let mut part = RepeaterPart::new(rt.alloc(), &plan, 0)?;
+    part.reserve_window()?;
+    assert_eq!(rt; part.part(), 2);
+    assert_eq!(rt; part.window(), 0);
+    assert_eq!(rt; part.windows(), 12_000u64.div_ceil(38));
+    assert_eq!(rt; part.edges(), [0, 1].as_slice());
+    let outputs = part.take_out()?;
+    assert_eq!(rt; outputs.part, 2);
+    assert_eq!(rt; outputs.rows.len(), 0);
+    assert_eq!(rt; outputs.captures.len(), 0);
+    Ok(())
+}
