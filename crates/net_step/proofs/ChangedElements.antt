@@ -19,11 +19,13 @@ All-drop-first P xs k d h later =
     let first = later 0 d (omega (arith, length-drop k xs)) in
     subst P (get_or-drop k xs 0 d ∙ (let e : k + 0 ≡ k = omega arith in ap (λ i. get_or xs i d) e)) first
 
--- one element more that was changed, by what held of it before
-pub changed_one : {X : Type 0} (Before After : X → Type 0) (xs : List X) (k : ℕ) (y d : X) → k < length xs → All After (take k xs) → All Before (drop k xs) → (Before (get_or xs k d) → After y)
-    → All After (take (k + 1) (set xs k y)) × All Before (drop (k + 1) (set xs k y))
-changed_one Before After xs k y d h done later now =
-    (All-take-set After xs k y h done (now (All-drop-first Before xs k d h later)), All-drop-set Before xs k y later)
+-- one element more that is at the next time, where the rest are still at this one
+pub one_later : {X : Type 0} (time : X → ℕ) (t : ℕ) (xs : List X) (k : ℕ) (y d : X) → k < length xs → All (λ x. time x ≡ t + 1) (take k xs) → All (λ x. time x ≡ t) (drop k xs) →
+    time y ≡ time (get_or xs k d) + 1 → All (λ x. time x ≡ t + 1) (take (k + 1) (set xs k y)) × All (λ x. time x ≡ t) (drop (k + 1) (set xs k y))
+one_later {X = X} time t xs k y d h done later step =
+    let Now : X → Type 0 = λ x. time x ≡ t in
+    let Later : X → Type 0 = λ x. time x ≡ t + 1 in
+    (All-take-set Later xs k y h done (step ∙ ap (λ n. n + 1) (All-drop-first Now xs k d h later)), All-drop-set Now xs k y later)
 
 -- what stands at the front of two rests that are the same
 pub get_or-rest : {X : Type 0} (xs ys : List X) (k : ℕ) (d : X) → drop k xs ≡ drop k ys → get_or xs k d ≡ get_or ys k d

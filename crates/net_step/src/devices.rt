@@ -1,6 +1,6 @@
 //! The devices of a plan before half bit 0, and those that go on from a state.
 ghost use Rattle.std.specs.Prelude.{◌≡◌, ◌<◌, ◌≤◌, ◌^◌, [], All, length, map, sum_by, IfOk};
-ghost use Rattle.mac_parameters.specs.Parameters.{IsMost, greatest_place, jabber_rest, most_octets};
+ghost use Rattle.mac_parameters.specs.Parameters.{IsMost, greatest_place, jabber_rest};
 ghost use Rattle.network.specs.Net.{new_receiver, new_repeater, new_senders};
 ghost use Rattle.net_step.specs.KeptNet.{AllHear};
 ghost use Rattle.std.specs.List.{range_with_len};

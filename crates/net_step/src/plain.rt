@@ -1,5 +1,5 @@
 //! The network on one thread.
-ghost use Rattle.std.specs.Prelude.{◌≡◌, ◌<◌, ◌≤◌, ◌+◌, ◌-◌, ◌*◌, ◌^◌, ◌++◌, [], All, List, length, map, take, IfOk, OnOk};
+ghost use Rattle.std.specs.Prelude.{◌≡◌, ◌<◌, ◌≤◌, ◌+◌, ◌-◌, ◌*◌, ◌^◌, ◌++◌, All, length, map, take, IfOk, OnOk};
 ghost use Rattle.network.specs.Outputs.{cut_rows, half_bits, rows, captures};
 ghost use Rattle.net_step.specs.KeptNet.{kept_tap_number, Stands};
 ghost use Rattle.network.specs.Net.{ports_of, Net};

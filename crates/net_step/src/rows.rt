@@ -1,5 +1,5 @@
 //! The rows of a half bit.
-ghost use Rattle.std.specs.Prelude.{◌≡◌, ◌<◌, ◌≤◌, ◌+◌, ◌^◌, ◌++◌, length, map, OnOk};
+ghost use Rattle.std.specs.Prelude.{◌≡◌, ◌<◌, ◌≤◌, ◌+◌, ◌^◌, ◌++◌, length, OnOk};
 ghost use Rattle.network.specs.Rows.{repeater_rows, rows_of_bodies, happened, rows_of, row_of, told_bodies, bits_bodies};
 ghost use Rattle.network.specs.Outputs.{cut_rows};
 ghost use Rattle.net_step.specs.KeptNet.{all_told};

@@ -10,7 +10,10 @@ use Rattle.mac_parameters.specs.Parameters.{most_octets}
 use Rattle.layout.specs.declared.lines.StationLine.{StationLine}
 use Rattle.load_plan.specs.declared.plan.Plan.{Plan}
 use Rattle.mac_receive.specs.Receiver.{Receiving, Reception, new_receiving, receiver_step, quiet, reception_ended, extended}
-use Rattle.mac_receive.specs.KeptReceiver.{Kept, Hears}
+use Rattle.mac_receive.specs.KeptReceiver.{Kept, Hears, IsReceiver}
+use Rattle.collision_log.specs.declared.row.Row.{Row}
+use Rattle.network.specs.declared.outputs.Taken.{Taken}
+use Rattle.network.specs.Attempts.{sender_at}
 use Rattle.network.specs.Times.{heard, emitted}
 use Rattle.net_step.specs.KeptNet.{AllHear}
 use Rattle.net_step.proofs.KeptReceivers.{length-AllHear, AllHear-at}
@@ -26,6 +29,7 @@ use Rattle.window_room.specs.NeededRoom.{Demand, Covers, IsDemandWithin, station
 use Rattle.window_room.proofs.PaidRoom.{any_stations}
 use Rattle.mac_transmit.specs.Sender.{Sender}
 use Rattle.segment_engine.specs.declared.running.Running.{Running}
+use Rattle.segment_engine.specs.PartStates.{AreStationsAt}
 use Rattle.segment_engine.specs.RunningStates.{IsRunningAt}
 use Rattle.segment_engine.specs.KeptParts.{KeepsSegment, StandsInNetwork, is_segment_state, segment_state}
 use Rattle.segment_engine.proofs.Beginnings.{receiver_new, stations_within}
@@ -57,6 +61,24 @@ hear_each f [] (r ∷ rs) l h = absurd (omega (arith, l))
 hear_each f (k ∷ ks) [] l h = absurd (omega (arith, l))
 hear_each f (k ∷ ks) (r ∷ rs) l h = (h 0 r (omega arith), hear_each f ks rs (omega (arith, l)) (λ i d m. h (suc i) d (omega (arith, m))))
 
+-- stations that stand in the network, one by one
+pub senders_many : {plan : Plan} {ks : List ℕ} {t : ℕ} {ss : List Sender} {rs : List Kept} {rows : List Row} {captures : List (List Taken)} → AreStationsAt plan ks t ss rs rows captures → length ss ≡ length ks
+senders_many {plan = plan} {ks = ks} {t = t} stand = ap length stand.senders ∙ length-map ks (λ k. sender_at plan k t)
+
+pub receivers_many : {plan : Plan} {ks : List ℕ} {t : ℕ} {ss : List Sender} {rs : List Kept} {rows : List Row} {captures : List (List Taken)} → AreStationsAt plan ks t ss rs rows captures → length rs ≡ length ks
+receivers_many {plan = plan} {ks = ks} {t = t} {rs = rs} stand = sym (length-AllHear (map (λ k. receiver_at plan k t) ks) rs stand.receivers) ∙ length-map ks (λ k. receiver_at plan k t)
+
+pub receiver_stands : {plan : Plan} {ks : List ℕ} {t : ℕ} {ss : List Sender} {rs : List Kept} {rows : List Row} {captures : List (List Taken)} → AreStationsAt plan ks t ss rs rows captures →
+    (i : ℕ) (d : Kept) → i < length rs → Hears (receiver_at plan (get_or ks i 0) t) (get_or rs i d)
+receiver_stands {plan = plan} {ks = ks} {t = t} {rs = rs} stand i d h =
+    let f = λ (k : ℕ). receiver_at plan k t in
+    let r = f (get_or ks i 0) in
+    let many = receivers_many stand in
+    subst (λ (x : Receiving). Hears x (get_or rs i d)) (get_or-map f ks i 0 r (omega (arith, h, many))) (AllHear-at (map f ks) rs i r d stand.receivers h)
+
+pub all_receivers : {plan : Plan} {ks : List ℕ} {t : ℕ} {ss : List Sender} {rs : List Kept} {rows : List Row} {captures : List (List Taken)} → AreStationsAt plan ks t ss rs rows captures → All IsReceiver rs
+all_receivers {plan = plan} {ks = ks} {t = t} stand = λ i d h. (receiver_at plan (get_or ks i 0) t, receiver_stands stand i d h)
+
 pub running_of : (plan : Plan) (s front : ℕ) (a : Running) → StandsInNetwork plan s front a → IsRunningAt plan s front a
 running_of plan s front a is = record {
   stations = record {
@@ -77,15 +99,10 @@ running_of plan s front a is = record {
 pub standing_of : (plan : Plan) (s front : ℕ) (a : Running) → IsRunningAt plan s front a → StandsInNetwork plan s front a
 standing_of plan s front a is =
     let st = is.stations in
-    let ks = (wiring plan.layout s).stations in
-    let f = λ (k : ℕ). receiver_at plan k a.t in
-    let many = sym (length-AllHear (map f ks) a.receivers.items st.receivers) ∙ length-map ks f in
     record {
       senders = st.senders;
-      as_many = many;
-      receivers = λ i d h.
-          let dr : Receiving = new_receiving 0 0 in
-          subst (λ (r : Receiving). Hears r (get_or a.receivers.items i d)) (get_or-map f ks i 0 dr (omega (arith, h, many))) (AllHear-at (map f ks) a.receivers.items i dr d st.receivers h);
+      as_many = receivers_many st;
+      receivers = receiver_stands st;
       times = st.times;
       steps = st.steps;
       logged = st.logged;

@@ -20,6 +20,7 @@ pub mod SteadyStations
 pub mod SteadyReceivers
 pub mod SteadyCalm
 pub mod NearExample
+pub mod TakenExample
 pub mod FirstRows
 pub mod FirstReceptions
 pub mod PieceRoom

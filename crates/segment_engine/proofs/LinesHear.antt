@@ -48,7 +48,8 @@ mixed_alike L t p at q told (l ∷ ls) same =
     (ap (λ s. cond (eqb q p) Idle s) (same 0 q (omega arith) (omega arith)))
     (mixed_alike L t p at (q + 1) told ls (λ i r h e. same (suc i) r (omega arith) (omega (arith, e))))
 
--- the lines of a segment in half bit t say what each station emitted below it, and what comes in for each port below `front`
+-- the lines of a segment in half bit t say what each station emitted below it, and what comes in for each port below
+-- `front`
 pub record KnowLines (plan : Plan) (w : Wiring) (L t front : ℕ) (ls : List TapLine) : Type 0 where
   pub many : length ls ≡ length w.stations + length w.edges
   pub places : map (λ l. l.at) ls ≡ w.positions

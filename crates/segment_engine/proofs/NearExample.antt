@@ -1,5 +1,5 @@
--- An example of how far back lines keep what stands on them, where a window has 20 half bits: of a station at a cable's end,
--- and of a port 30 half bits away whose repeater has a delay of 25.
+-- An example of how far back lines keep what stands on them, where a window has 20 half bits: of a station at a cable's
+-- end, and of a port 30 half bits away whose repeater has a delay of 25.
 use Rattle.std.proofs.Common.{◌≡◌, ℕ, zero, suc, ◌+◌, ◌-◌, ◌<◌, ◌≤◌, List, [], ◌∷◌, length, get_or, refl, arith}
 use Rattle.std.specs.Prelude.{slice_index}
 use Rattle.manchester_line.specs.declared.Sym.{Sym}
@@ -56,7 +56,8 @@ both_near (suc zero) (suc zero) h l = omega arith
 both_near (suc (suc p)) r h l = absurd (omega (arith, h))
 both_near p (suc (suc r)) h l = absurd (omega (arith, l))
 
--- 30 half bits and the delay of 25, less a window's 20, are 35: the station hears what stands that far back on the port's line
+-- 30 half bits and the delay of 25, less a window's 20, are 35: the station hears what stands that far back on the
+-- port's line
 pub near_enough : (plan : Plan) → AreLinesAt plan wired 20 0 0 (lines_with 35)
 near_enough plan = record {
   many = refl;

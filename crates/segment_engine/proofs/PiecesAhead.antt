@@ -1,5 +1,5 @@
--- Lines that go on as the sendings do are right, and so is what is heard by them, for as long as no tap's class changes and
--- every sender is calm.
+-- Lines that go on as the sendings do are right, and so is what is heard by them, for as long as no tap's class changes
+-- and every sender is calm.
 use Rattle.std.proofs.Common.{◌≡◌, ℕ, zero, suc, ◌+◌, ◌-◌, ◌<◌, ◌≤◌, Bool, inl, inr, List, length, get_or, sym, subst, ap, ◌∙◌, arith}
 use Rattle.std.proofs.lemmas.Bool.{cases_lt}
 use Rattle.manchester_line.specs.Line.{is_signal}

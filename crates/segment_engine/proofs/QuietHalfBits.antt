@@ -1,4 +1,5 @@
--- Where nothing happens on a segment, all taps hear Idle, and all stations stand in the network several half bits later.
+-- Where nothing happens on a segment, all taps hear Idle, and all stations stand in the network several half bits
+-- later.
 use Rattle.std.proofs.Common.{◌≡◌, ℕ, zero, suc, ◌+◌, ◌-◌, ◌<◌, ◌≤◌, All, Bool, true, false, cond, eqb, inl, inr, List, [], ◌∷◌, ◌++◌, map, length, replicate, get_or, None, refl, sym, subst, ap, ap₂, ◌∙◌, arith}
 use Rattle.std.specs.Prelude.{◌↔◌}
 use Rattle.std.proofs.lemmas.List.{get_or-map, length-map, replicate_more, length-replicate, get_or-replicate}

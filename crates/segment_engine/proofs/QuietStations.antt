@@ -8,12 +8,11 @@ use Rattle.collision_log.specs.declared.row.Row.{Row}
 use Rattle.load_plan.specs.declared.plan.Plan.{Plan}
 use Rattle.mac_transmit.specs.Sender.{Sender, sender_step}
 use Rattle.mac_transmit.specs.Calm.{after_all}
-use Rattle.mac_receive.specs.Receiver.{Receiving, receiver_step, receiver_after, receiver_bodies, new_receiving}
+use Rattle.mac_receive.specs.Receiver.{Receiving, receiver_step, receiver_after, receiver_bodies}
 use Rattle.mac_receive.specs.KeptReceiver.{Kept, Hears}
 use Rattle.network.specs.declared.outputs.Taken.{Taken}
 use Rattle.network.specs.Attempts.{sender_at}
 use Rattle.network.specs.Times.{heard, emitted}
-use Rattle.net_step.proofs.KeptReceivers.{length-AllHear, AllHear-at}
 use Rattle.net_parts.specs.Windows.{lookahead}
 use Rattle.net_parts.specs.Machines.{span}
 use Rattle.net_parts.specs.SegmentParts.{Wiring, wiring}
@@ -24,7 +23,7 @@ use Rattle.tap_lines.specs.TapLines.{TapLine, no_line, line_extended, IsReachOf,
 use Rattle.segment_engine.specs.PartStates.{AreLinesAt, AreStationsAt, half_filled}
 use Rattle.segment_engine.specs.QuietHalfBits.{IsCalmFor, AreAtRest}
 use Rattle.segment_engine.proofs.HalfBits.{lines_later}
-use Rattle.segment_engine.proofs.KeptParts.{hear_each}
+use Rattle.segment_engine.proofs.KeptParts.{hear_each, receiver_stands, receivers_many, senders_many}
 use Rattle.tap_lines.proofs.Spans.{span_two}
 use Rattle.segment_engine.proofs.StationsLater.{receiver_runs, station, no_bodies, no_halves, last_still, rows_stay, captures_stay}
 use Rattle.segment_engine.proofs.QuietHalfBits.{all_emit, all_hear, ports_hear_idle, arrive_idle, hears_all, senders_later, no_sending, span_same}
@@ -44,16 +43,11 @@ module _ (plan : Plan) (s t front far m : ℕ) (ls : List TapLine) (ss : List Se
   abbrev number : ℕ → ℕ
   number r = get_or w.stations r 0
 
-  new_receiver : Receiving
-  new_receiver = new_receiving 0 0
-
   rs_many : length ks ≡ n
-  rs_many = sym (length-AllHear (map (λ k. receiver_at plan k t) w.stations) ks stand.receivers) ∙ length-map w.stations (λ k. receiver_at plan k t)
+  rs_many = receivers_many stand
 
   hears_at : (r : ℕ) (d : Kept) → r < n → Hears (receiver_at plan (number r) t) (get_or ks r d)
-  hears_at r d h =
-      subst (λ x. Hears x (get_or ks r d)) (get_or-map (λ k. receiver_at plan k t) w.stations r 0 new_receiver h)
-      (AllHear-at (map (λ k. receiver_at plan k t) w.stations) ks r new_receiver d stand.receivers (omega (arith, h, rs_many)))
+  hears_at r d h = receiver_stands stand r d (omega (arith, h, rs_many))
 
   receivers_later : (r j : ℕ) → r < n → j ≤ m → receiver_at plan (number r) (t + j) ≡ receiver_after (receiver_at plan (number r) t) (replicate j Idle) false
   receivers_later r j h l =
@@ -86,7 +80,7 @@ module _ (plan : Plan) (s t front far m : ℕ) (ls : List TapLine) (ss : List Se
       All (λ x. x.t ≡ t + m) ss' → All (λ x. x.steps ≡ t + m) ks' → AreStationsAt plan w.stations (t + m) ss' ks' rows caps
   quiet_stations ss' ks' ss_len ks_len states hear times steps =
       let f = λ (k : ℕ). sender_at plan k (t + m) in
-      let ss_many = ap length stand.senders ∙ length-map w.stations (λ k. sender_at plan k t) in
+      let ss_many = senders_many stand in
       record {
         senders = same_lists ss' (map f w.stations) (ss_len ∙ ss_many ∙ sym (length-map w.stations f)) (λ i d h.
             let in_it : i < n = omega (arith, h, ss_len, ss_many) in

@@ -1,5 +1,5 @@
--- Where each station of a segment hears a signal all the time, or Idle all the time, and goes on, what its line tells ahead
--- comes true, and so does what the taps hear by it.
+-- Where each station of a segment hears a signal all the time, or Idle all the time, and goes on, what its line tells
+-- ahead comes true, and so does what the taps hear by it.
 use Rattle.std.proofs.Common.{◌≡◌, ℕ, ◌+◌, ◌<◌, ◌≤◌, Bool, inl, inr, List, [], ◌∷◌, ◌++◌, map, length, get_or, None, refl, sym, subst, ap, ap₂, ◌∙◌, arith}
 use Rattle.std.proofs.lemmas.Bool.{cases_lt}
 use Rattle.std.proofs.lemmas.List.{get_or-map}
@@ -27,7 +27,8 @@ use Rattle.segment_engine.proofs.PiecesAhead.{ahead_emitted, ahead_heard, ahead_
 use Rattle.tap_lines.proofs.Spans.{span_more}
 use Rattle.segment_engine.proofs.StationsLater.{sender_runs, station, last_calm}
 
--- each station hears a signal all the time, or Idle all the time, for m half bits, and its line tells ahead what it emits
+-- each station hears a signal all the time, or Idle all the time, for m half bits, and its line tells ahead what it
+-- emits
 pub record GoesAhead (plan : Plan) (s t front m least most : ℕ) (ls ls' : List TapLine) (ss : List Sender) (carrier : ℕ → Bool) (a_sender : Sender) : Type 0 where
   pub are : AreLinesAt plan (wiring plan.layout s) (lookahead plan.layout) t front ls
   pub ahead : t + m ≤ front

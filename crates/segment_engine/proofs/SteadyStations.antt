@@ -16,7 +16,6 @@ use Rattle.network.specs.declared.outputs.Taken.{Taken}
 use Rattle.network.specs.Attempts.{sender_at}
 use Rattle.network.specs.Captures.{taken_by}
 use Rattle.network.specs.Times.{heard, emitted}
-use Rattle.net_step.proofs.KeptReceivers.{length-AllHear, AllHear-at}
 use Rattle.net_parts.specs.Windows.{lookahead}
 use Rattle.net_parts.specs.Machines.{span}
 use Rattle.net_parts.specs.SegmentParts.{Wiring, wiring}
@@ -32,7 +31,7 @@ use Rattle.segment_engine.specs.FirstReceptions.{first_reception, later_bodies, 
 use Rattle.segment_engine.specs.SteadyPieces.{sent_ahead, with_piece_at, IsToldAhead}
 use Rattle.segment_engine.proofs.HalfBits.{lines_later, lines_room_later}
 use Rattle.segment_engine.proofs.HeldLines.{line_size}
-use Rattle.segment_engine.proofs.KeptParts.{hear_each}
+use Rattle.segment_engine.proofs.KeptParts.{hear_each, receiver_stands, receivers_many, senders_many}
 use Rattle.tap_lines.proofs.LinesAhead.{span_alike, cut_ahead}
 use Rattle.tap_lines.proofs.Spans.{span_two, span_more, drop-span}
 use Rattle.segment_engine.proofs.StationsLater.{receiver_runs, station, with_none, last_still, row_later, rows_stay, captures_to}
@@ -92,17 +91,14 @@ module _ (plan : Plan) (s t front m least most : ℕ) (ls ls' : List TapLine) (s
   abbrev sends : ℕ → Bool
   sends r = is_sending (get_or ss r a_sender).phase
 
-  pub rs_many : length ks ≡ n
-  rs_many = sym (length-AllHear (map (λ k. receiver_at plan k t) w.stations) ks stand.receivers) ∙ length-map w.stations (λ k. receiver_at plan k t)
+  rs_many : length ks ≡ n
+  rs_many = receivers_many stand
 
-  pub ss_many : length ss ≡ n
-  ss_many = ap length stand.senders ∙ length-map w.stations (λ k. sender_at plan k t)
+  ss_many : length ss ≡ n
+  ss_many = senders_many stand
 
-  pub hears_at : (r : ℕ) (d : Kept) → r < n → Hears (receiver_at plan (number r) t) (get_or ks r d)
-  hears_at r d h =
-      let x = receiver_at plan (number r) t in
-      subst (λ x. Hears x (get_or ks r d)) (get_or-map (λ k. receiver_at plan k t) w.stations r 0 x h)
-      (AllHear-at (map (λ k. receiver_at plan k t) w.stations) ks r x d stand.receivers (omega (arith, h, rs_many)))
+  hears_at : (r : ℕ) (d : Kept) → r < n → Hears (receiver_at plan (number r) t) (get_or ks r d)
+  hears_at r d h = receiver_stands stand r d (omega (arith, h, rs_many))
 
   receivers_later : (r j : ℕ) → r < n → j ≤ m → receiver_at plan (number r) (t + j) ≡ receiver_after (receiver_at plan (number r) t) (heard_for L t j ls' r) (sends r)
   receivers_later r j h l =

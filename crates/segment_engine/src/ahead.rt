@@ -2,58 +2,15 @@
 ghost use Rattle.std.specs.Prelude.{◌≡◌, ◌≤◌, ◌<◌, ◌+◌, ◌^◌, ℕ, true, All, length, take, slice_index_or};
 ghost use Rattle.manchester_line.specs.Line.{is_signal as is_signal_of};
 ghost use Rattle.mac_transmit.specs.Emissions.{emission_by};
-ghost use Rattle.mac_transmit.specs.Sender.{Sender, jam_start, line_at, symbol_of, is_sending as is_sending_in};
+ghost use Rattle.mac_transmit.specs.Sender.{Sender, symbol_of, is_sending as is_sending_in};
 ghost use Rattle.net_parts.specs.Machines.{span};
 ghost use Rattle.segment_engine.specs.SteadyPieces.{IsToldAhead, sent_ahead};
-ghost use Rattle.tap_lines.specs.TapLines.{line_cut, TapLine, line_extended};
+ghost use Rattle.tap_lines.specs.TapLines.{TapLine, line_extended};
 
 use crate::quiet::is_sending;
-use mac_parameters::{HALF_BITS_A_BIT, PREAMBLE};
-use mac_transmit::{Phase, Transmitter};
-use manchester_line::{Sym, is_signal, jam_sym, line_sym};
+use mac_transmit::{Phase, Transmitter, symbol_at};
+use manchester_line::{Sym, is_signal};
 use tap_lines::Line;
-
-/// The position, from 0, at which the jam of a sending with this hit begins.
-fn start_of_jam(hit: u32) -> u64
-    ensures start { result ≡ jam_start hit }
-    ensures small { result < 2 ^ 33 }
-{
-    if hit < PREAMBLE {
-        u64::from(PREAMBLE)
-    } else {
-        let bit = u64::from(HALF_BITS_A_BIT);
-        bit * (u64::from(hit) / bit + 1)
-    }
-}
-
-/// Half bit `p` of a frame's line text.
-#[tactic(auto, unfolding(mac_transmit::specs::Sender::line_at))]
-fn text_symbol(octets: &[u8], p: u64) -> Sym
-    requires length { length octets.now ≤ 1600 }
-    requires place { p < 2 ^ 32 }
-    ensures { result ≡ line_at octets.now p }
-{
-    line_sym(octets, p as u32)
-}
-
-/// The symbol at position `p` of a sending.
-fn sending_symbol(octets: &[u8], hit: Option<u32>, p: u64) -> Sym
-    requires length { length octets.now ≤ 1600 }
-    requires place { p < 2 ^ 32 }
-    ensures { result ≡ symbol_of octets.now hit p }
-{
-    match hit {
-        None => text_symbol(octets, p),
-        Some(hit) => {
-            let jam = start_of_jam(hit);
-            if p < jam {
-                text_symbol(octets, p)
-            } else {
-                jam_sym((p - jam) as u32)
-            }
-        }
-    }
-}
 
 /// Writes the symbols of a sending from position `p` on into a piece, as long as they are a signal. It answers how
 /// many.
@@ -65,7 +22,7 @@ fn write_ahead(octets: &[u8], hit: Option<u32>, p: u64, piece: &mut [Sym]) -> us
     ensures signal { (j : ℕ) → j < result → is_signal_of (symbol_of octets.now hit (p + j)) ≡ true }
 {
     for j in 0..piece.len() {
-        let s = sending_symbol(octets, hit, p + j as u64);
+        let s = symbol_at(octets, hit, p + j as u64);
         if !is_signal(s) {
             return j;
         }

@@ -1,5 +1,5 @@
 //! A segment as a part.
-ghost use Rattle.std.specs.Prelude.{◌≡◌, ◌<◌, ◌≤◌, ◌+◌, ◌*◌, ◌++◌, ◌==◌, true, length, IfOk, OnOk};
+ghost use Rattle.std.specs.Prelude.{◌≡◌, ◌<◌, ◌+◌, ◌*◌, ◌++◌, ◌==◌, true, length, IfOk, OnOk};
 ghost use Rattle.mac_parameters.specs.Parameters.{most_octets as most_octets_of};
 ghost use Rattle.net_parts.specs.OutputsOfParts.{cut_rows_on, rows_of_part, captures_of_part};
 ghost use Rattle.net_parts.specs.Parts.{part_at};

@@ -3,7 +3,7 @@ ghost use Rattle.std.specs.Prelude.{◌≡◌, ◌≤◌, ◌<◌, ◌+◌, ◌*
 ghost use Rattle.manchester_line.specs.declared.Sym.TheVariants.{Idle};
 ghost use Rattle.mac_receive.specs.KeptReceiver.{Kept, Hears};
 ghost use Rattle.mac_receive.specs.Receiver.{Receiving, receiver_after};
-ghost use Rattle.mac_transmit.specs.Calm.{after_all, calm_of};
+ghost use Rattle.mac_transmit.specs.Calm.{after_all};
 ghost use Rattle.mac_transmit.specs.Sender.{Sender, is_sending as is_sending_in};
 ghost use Rattle.net_parts.specs.SegmentParts.{wiring};
 ghost use Rattle.segment_engine.specs.PartStates.{half_filled};

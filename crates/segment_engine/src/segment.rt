@@ -1,12 +1,9 @@
 //! A segment of a plan: its stations, its edges, and the windows of the run.
-ghost use Rattle.std.specs.Prelude.{◌≡◌, ◌<◌, ◌≤◌, ◌+◌, ◌*◌, length, map, IfOk};
-ghost use Rattle.layout.specs.Sound.{IsSound};
-ghost use Rattle.layout.specs.Taps.{tap_of, taps_of as all_taps};
+ghost use Rattle.std.specs.Prelude.{◌≡◌, ◌<◌, ◌*◌, length, map, IfOk};
+ghost use Rattle.layout.specs.Taps.{tap_of};
 ghost use Rattle.load_plan.specs.declared.plan.Plan.{Plan};
-ghost use Rattle.mac_parameters.specs.Parameters.{half_bits_a_bit};
 ghost use Rattle.network.specs.Outputs.{half_bits as half_bits_of};
-ghost use Rattle.network.specs.Times.{port_delays as delays_of_ports};
-ghost use Rattle.network.specs.TapsOnSegments.{numbers_on, positions_on as places_on};
+ghost use Rattle.network.specs.TapsOnSegments.{numbers_on};
 ghost use Rattle.net_parts.specs.Windows.{lookahead as lookahead_of, windows as windows_of};
 ghost use Rattle.net_parts.specs.Parts.{parts};
 ghost use Rattle.net_parts.specs.SegmentParts.{wiring};

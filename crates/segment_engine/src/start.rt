@@ -1,9 +1,9 @@
 //! A segment before half bit 0.
-ghost use Rattle.std.specs.Prelude.{◌≡◌, ◌<◌, ◌≤◌, ◌+◌, ◌*◌, if◌then◌else◌, nat_lt, All, length, map, slice_index, IfOk};
+ghost use Rattle.std.specs.Prelude.{◌≡◌, ◌<◌, ◌≤◌, ◌+◌, ◌*◌, All, length, map, IfOk};
 ghost use Rattle.network.specs.Attempts.{sender_at};
 ghost use Rattle.net_parts.specs.Standing.{receiver_at};
 ghost use Rattle.net_step.specs.KeptNet.{AllHear};
-ghost use Rattle.segment_engine.specs.NewLines.{AreNewLines, AreWithin, IsNewLine, new_delay};
+ghost use Rattle.segment_engine.specs.NewLines.{AreNewLines, AreWithin, new_delay};
 ghost use Rattle.segment_engine.specs.RunningStates.{IsRunningAt};
 
 use crate::running::Running;

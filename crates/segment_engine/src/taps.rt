@@ -1,6 +1,5 @@
 //! The lines of a segment's taps before half bit 0.
-ghost use Rattle.std.specs.Prelude.{◌≡◌, ◌<◌, ◌≤◌, ◌+◌, ◌++◌, length, map, replicate, flat_map, slice_index, IfOk, OnOk};
-ghost use Rattle.network.specs.Times.{port_delays as delays_of_ports};
+ghost use Rattle.std.specs.Prelude.{◌≡◌, ◌<◌, ◌+◌, ◌++◌, length, replicate, flat_map, IfOk, OnOk};
 ghost use Rattle.network.specs.TapsOnSegments.{positions_on as places_on};
 
 use layout::{PortLine, RepeaterLine};

@@ -55,15 +55,16 @@ quiet_from l xs q u is early v late = elim (cases_lt v l.base) [
 pub no_signal : true ≡ false → {A : Type 0} → A
 no_signal e = absurd (search rules)
 
--- a line on which a signal is later
-pub loud_from : (l : TapLine) (xs : List Sym) (q u n : ℕ) → l.symbols ≡ xs ++ replicate q Idle → EndsInSignals n xs → 0 < length xs → u < l.base + length xs → ¬ IsIdleFrom u l
-loud_from l xs q u n is ends more late idle =
-    let one = ends.some more in
-    let v = l.base + length xs - 1 in
-    let place : v - l.base ≡ length xs - 1 = omega (arith, more) in
-    let quiet = idle v (omega (arith, late, more)) in
-    let signal = ends.signals (length xs - 1) (omega (arith, one)) (omega (arith, more)) in
-    no_signal (sym signal ∙ ap (λ i. is_signal (get_or xs i Idle)) (sym place) ∙ ap is_signal (sym (symbol_at l xs q v is (omega (arith, more))) ∙ quiet))
+-- a line on which a signal is later, of which so many symbols are written
+pub loud_from : (l : TapLine) (items : List Sym) (w q n u : ℕ) → l.symbols ≡ take w items ++ replicate q Idle → w + q ≤ length items → EndsInSignals n (take w items) → 0 < w → u < l.base + w → ¬ IsIdleFrom u l
+loud_from l items w q n u is within ends some late idle =
+    let text = take w items in
+    let size = length-take-le w items (omega (arith, within)) in
+    let one = ends.some (omega (arith, size, some)) in
+    let v = l.base + w - 1 in
+    let place : v - l.base ≡ w - 1 = omega (arith, some) in
+    let signal = ends.signals (w - 1) (omega (arith, one, size)) (omega (arith, size, some)) in
+    no_signal (sym signal ∙ ap (λ i. is_signal (get_or text i Idle)) (sym place) ∙ ap is_signal (sym (symbol_at l text q v is (omega (arith, some))) ∙ idle v (omega (arith, late, some))))
 
 -- symbols behind which all is Idle
 pub idle_rest : (xs : List Sym) (k m : ℕ) → k + m ≡ length xs → ((i : ℕ) → k ≤ i → i < length xs → get_or xs i Idle ≡ Idle) →

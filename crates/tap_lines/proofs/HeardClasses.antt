@@ -1,16 +1,17 @@
 -- Whether a tap hears a signal or Idle, by the lines of listed taps.
-use Rattle.std.proofs.Common.{◌≡◌, ◌≢◌, ℕ, zero, suc, ◌+◌, ◌-◌, ◌<◌, ◌≤◌, Bool, true, false, cond, eqb, inl, inr, List, [], ◌∷◌, length, get_or, refl, sym, subst, ap, ap₂, ◌∙◌, arith}
+use Rattle.std.proofs.Common.{◌≡◌, ◌≢◌, ℕ, zero, suc, ◌+◌, ◌-◌, ◌<◌, ◌≤◌, Bool, true, false, cond, eqb, inl, inr, List, [], ◌∷◌, length, get_or, refl, sym, subst, ap, ◌∙◌, arith}
 use Rattle.std.proofs.lemmas.Bool.{cases_lt, cases_eq, ne_eqb}
 use Rattle.std.proofs.lemmas.Bool.Decides.{nat_tests}
+use Rattle.std.proofs.lemmas.List.{get_or_read}
 use Rattle.manchester_line.specs.declared.Sym.{Sym}
 use Rattle.manchester_line.specs.declared.Sym.TheVariants.{Idle, Hi, Lo, Clash}
 use Rattle.manchester_line.specs.Line.{mix_of, is_signal}
 use Rattle.network.specs.Times.{earlier}
 use Rattle.tap_lines.specs.TapLines.{TapLine, no_line, symbol_on, half_bits_back, heard_of_line, heard_of_lines, heard_by_lines, IsOnlySource, IsReachOf, IsSignalOver}
-use Rattle.tap_lines.specs.TapLists.{AreIdleButFor}
+use Rattle.tap_lines.specs.TapLists.{AreIdleButFor, HearsListed}
 use Rattle.tap_lines.proofs.EndsOfSignals.{no_signal}
 use Rattle.net_parts.proofs.LateRows.{if_true}
-use Rattle.tap_lines.proofs.HeardLines.{none_heard, other_heard, own_heard, silent_line}
+use Rattle.tap_lines.proofs.HeardLines.{none_heard, other_heard, other_line, own_heard, silent_line}
 
 -- a mix of which one part is a signal
 mix_first : (a b : Sym) → is_signal a ≡ true → is_signal (mix_of a b) ≡ true
@@ -61,7 +62,7 @@ signal_of_lines L t p at k (suc i) (l ∷ ls) h signal =
     mix_second _ (heard_of_lines L t p at (k + 1) ls) (signal_of_lines L t p at (k + 1) i ls (omega (arith, h))
     (ap (λ n. is_signal (cond (eqb n p) Idle (earlier (symbol_on (get_or ls i no_line)) t (half_bits_back L at (get_or ls i no_line))))) next ∙ signal))
 
-pub by_signal : (L u p q : ℕ) (ls : List TapLine) → q < length ls → is_signal (heard_of_line L u ls p q) ≡ true → is_signal (heard_by_lines L u ls p) ≡ true
+by_signal : (L u p q : ℕ) (ls : List TapLine) → q < length ls → is_signal (heard_of_line L u ls p q) ≡ true → is_signal (heard_by_lines L u ls p) ≡ true
 by_signal L u p q ls h signal =
     let none : 0 + q ≡ q = omega arith in
     let at = (get_or ls p no_line).at in
@@ -93,21 +94,21 @@ all_idle L t far u p ls ns within hp idle late none =
     (λ out. silent_line L u far p q ls within hp h (λ v after. idle.others q h out v (omega (arith, late, after))))
     (λ i m is. subst (λ z. heard_of_line L u ls p z ≡ Idle) is (idle_symbol (heard_of_line L u ls p (get_or ns i 0)) (none i m)))))
 
--- a tap doesn't hear itself
-pub own_line : (L u p q : ℕ) (ls : List TapLine) → q ≡ p → heard_of_line L u ls p q ≡ Idle
-own_line L u p q ls own =
-    let same : eqb q p ≡ true = grind (arith, nat_tests, own) in
-    ap (λ b. cond b Idle (earlier (symbol_on (get_or ls q no_line)) u (half_bits_back L (get_or ls p no_line).at (get_or ls q no_line)))) same
-
--- what a tap hears of another's line, as it is read from the line
-pub other_line : (L u p q at back : ℕ) (ls : List TapLine) (tap line : TapLine) → q ≢ p →
-    tap ≡ get_or ls p no_line → line ≡ get_or ls q no_line → at ≡ tap.at → back ≡ half_bits_back L at line →
+-- what a tap hears of another that is listed, as it is read from the line
+pub listed_line : (L far t n u p q i at back : ℕ) (ls : List TapLine) (ns : List ℕ) (tap line : TapLine) → HearsListed p L far t n ls ns → i < length ns → q ≡ get_or ns i 0 → q ≢ p →
+    tap ≡ get_or ls p tap → line ≡ get_or ls q line → at ≡ tap.at → back ≡ half_bits_back L at line →
     heard_of_line L u ls p q ≡ earlier (symbol_on line) u back
-other_line L u p q at back ls tap line differs tap_is line_is at_is back_is =
-    let there : at ≡ (get_or ls p no_line).at = at_is ∙ ap (λ (l : TapLine). l.at) tap_is in
-    let way : back ≡ half_bits_back L (get_or ls p no_line).at (get_or ls q no_line) = back_is ∙ ap₂ (λ x l. half_bits_back L x l) there line_is in
-    ap (λ b. cond b Idle (earlier (symbol_on (get_or ls q no_line)) u (half_bits_back L (get_or ls p no_line).at (get_or ls q no_line)))) (ne_eqb q p differs)
-    ∙ sym (ap₂ (λ l b. earlier (symbol_on l) u b) line_is way)
+listed_line L far t n u p q i at back ls ns tap line listed h which differs tap_is line_is at_is back_is =
+    let below = listed.loud.within i h in
+    other_line L u p q at back ls tap line differs
+    (get_or_read ls p tap listed.tap tap_is no_line) (get_or_read ls q line (omega (arith, which, below)) line_is no_line) at_is back_is
+
+-- a listed tap that lets another hear a signal
+pub by_listed : (L far t n u p q i : ℕ) (ls : List TapLine) (ns : List ℕ) → HearsListed p L far t n ls ns → i < length ns → q ≡ get_or ns i 0 →
+    is_signal (heard_of_line L u ls p q) ≡ true → is_signal (heard_by_lines L u ls p) ≡ true
+by_listed L far t n u p q i ls ns listed h which signal =
+    let below = listed.loud.within i h in
+    by_signal L u p q ls (omega (arith, which, below)) signal
 
 -- what a tap hears where on the only line nothing but signals stand
 alone_other : (L t far n u p q : ℕ) (ls : List TapLine) → IsReachOf far L ls → p < length ls → IsOnlySource (t - far) ls q → far ≤ t →

@@ -123,6 +123,22 @@ one_heard L t p at k (suc q) (l ∷ ls) h others =
     ap (λ n. cond (eqb n p) Idle (earlier (symbol_on (get_or ls i no_line)) t (half_bits_back L at (get_or ls i no_line)))) next ∙ others (suc i) (omega (arith, m)) (λ e. other (omega (arith, e))))
     ∙ ap (λ n. cond (eqb n p) Idle (earlier (symbol_on (get_or ls q no_line)) t (half_bits_back L at (get_or ls q no_line)))) there
 
+-- a tap doesn't hear itself
+pub own_line : (L u p q : ℕ) (ls : List TapLine) → q ≡ p → heard_of_line L u ls p q ≡ Idle
+own_line L u p q ls own =
+    let same : eqb q p ≡ true = grind (arith, nat_tests, own) in
+    ap (λ b. cond b Idle (earlier (symbol_on (get_or ls q no_line)) u (half_bits_back L (get_or ls p no_line).at (get_or ls q no_line)))) same
+
+-- what a tap hears of another's line, as it is read from the line
+pub other_line : (L u p q at back : ℕ) (ls : List TapLine) (tap line : TapLine) → q ≢ p →
+    tap ≡ get_or ls p no_line → line ≡ get_or ls q no_line → at ≡ tap.at → back ≡ half_bits_back L at line →
+    heard_of_line L u ls p q ≡ earlier (symbol_on line) u back
+other_line L u p q at back ls tap line differs tap_is line_is at_is back_is =
+    let there : at ≡ (get_or ls p no_line).at = at_is ∙ ap (λ (l : TapLine). l.at) tap_is in
+    let way : back ≡ half_bits_back L (get_or ls p no_line).at (get_or ls q no_line) = back_is ∙ ap₂ (λ x l. half_bits_back L x l) there line_is in
+    ap (λ b. cond b Idle (earlier (symbol_on (get_or ls q no_line)) u (half_bits_back L (get_or ls p no_line).at (get_or ls q no_line)))) (ne_eqb q p differs)
+    ∙ sym (ap₂ (λ l b. earlier (symbol_on l) u b) line_is way)
+
 -- a tap hears the only line on which anything stands
 pub only_heard : (L t far u p q : ℕ) (ls : List TapLine) → IsReachOf far L ls → p < length ls → IsOnlySource (t - far) ls q → t ≤ u →
     heard_by_lines L u ls p ≡ heard_of_line L u ls p q
@@ -144,17 +160,11 @@ other_heard L t far u p q ls within hp only late differs =
 
 pub own_heard : (L t far u p q : ℕ) (ls : List TapLine) → IsReachOf far L ls → p < length ls → IsOnlySource (t - far) ls q → t ≤ u → q ≡ p →
     heard_by_lines L u ls p ≡ Idle
-own_heard L t far u p q ls within hp only late own =
-    let same : eqb q p ≡ true = grind (arith, nat_tests, own) in
-    only_heard L t far u p q ls within hp only late
-    ∙ ap (λ b. cond b Idle (earlier (symbol_on (get_or ls q no_line)) u (half_bits_back L (get_or ls p no_line).at (get_or ls q no_line)))) same
+own_heard L t far u p q ls within hp only late own = only_heard L t far u p q ls within hp only late ∙ own_line L u p q ls own
 
--- the same, as it is read from a line
+-- the same, where it isn't the tap's own and is read from the line
 pub heard_back : (L t far u p q at back : ℕ) (ls : List TapLine) (tap line : TapLine) → IsReachOf far L ls → p < length ls → IsOnlySource (t - far) ls q → t ≤ u → q ≢ p →
     tap ≡ get_or ls p no_line → line ≡ get_or ls q no_line → at ≡ tap.at → back ≡ half_bits_back L at line →
     heard_by_lines L u ls p ≡ earlier (symbol_on line) u back
 heard_back L t far u p q at back ls tap line within hp only late differs tap_is line_is at_is back_is =
-    let there : at ≡ (get_or ls p no_line).at = at_is ∙ ap (λ (l : TapLine). l.at) tap_is in
-    let way : back ≡ half_bits_back L (get_or ls p no_line).at (get_or ls q no_line) = back_is ∙ ap₂ (λ x l. half_bits_back L x l) there line_is in
-    other_heard L t far u p q ls within hp only late differs
-    ∙ sym (ap₂ (λ l b. earlier (symbol_on l) u b) line_is way)
+    only_heard L t far u p q ls within hp only late ∙ other_line L u p q at back ls tap line differs tap_is line_is at_is back_is

@@ -6,4 +6,6 @@ pub mod EndsOfSignals
 pub mod LoudLists
 pub mod HeardLists
 pub mod HeardClasses
+pub mod Mixes
 pub mod LoudExample
+pub mod ListedExample

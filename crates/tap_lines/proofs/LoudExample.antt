@@ -8,10 +8,10 @@ use Rattle.tap_lines.specs.TapLines.{TapLine, no_line, IsIdleFrom}
 use Rattle.tap_lines.specs.TapLists.{AreLoudTaps, IsLeftOut}
 use Rattle.tap_lines.proofs.EndsOfSignals.{symbol_at}
 
-abbrev one_signal : TapLine
+abbrev pub one_signal : TapLine
 one_signal = record { at = 0; delay = 4; backlog = 10; base = 0; symbols = Idle ∷ Hi ∷ Idle ∷ []; room = 0 }
 
-abbrev two_lines : List TapLine
+abbrev pub two_lines : List TapLine
 two_lines = one_signal ∷ no_line ∷ []
 
 nothing_emitted : (u : ℕ) → IsIdleFrom u no_line
@@ -20,10 +20,10 @@ nothing_emitted u v h = symbol_at no_line [] 0 v refl (omega arith) ∙ get_or_p
 idle_behind : IsIdleFrom 2 one_signal
 idle_behind v h = symbol_at one_signal (Idle ∷ Hi ∷ []) 1 v refl (omega arith) ∙ get_or_past (Idle ∷ Hi ∷ []) (v - 0) Idle (omega (arith, h))
 
-loud_at_one : ¬ IsIdleFrom 1 one_signal
+pub loud_at_one : ¬ IsIdleFrom 1 one_signal
 loud_at_one idle = false≢true (sym (ap is_signal (idle 1 (omega arith))))
 
-abbrev first_alone : List ℕ
+abbrev pub first_alone : List ℕ
 first_alone = 0 ∷ []
 
 first_within : (i : ℕ) → i < 1 → get_or first_alone i 0 < 2

@@ -1,12 +1,12 @@
 //! Passes over the lines of a segment's taps.
-ghost use Rattle.std.specs.Prelude.{◌≡◌, ◌<◌, ◌≤◌, ◌+◌, ◌^◌, ◌==◌, ℕ, if◌then◌else◌, true, [], ◌∷◌, All, length, replicate, slice_index_or};
+ghost use Rattle.std.specs.Prelude.{◌≡◌, ◌<◌, ◌≤◌, ◌+◌, ◌^◌, ◌==◌, ℕ, if◌then◌else◌, false, true, [], ◌∷◌, length, replicate, slice_index_or};
 ghost use Rattle.manchester_line.specs.declared.Sym.{Sym};
 ghost use Rattle.manchester_line.specs.declared.Sym.TheVariants.{Idle};
 ghost use Rattle.manchester_line.specs.Line.{mix_of};
 ghost use Rattle.net_parts.specs.Machines.{span};
 ghost use Rattle.net_parts.specs.declared.parcel.Parcel.{Parcel};
 ghost use Rattle.network.specs.Times.{earlier};
-ghost use Rattle.tap_lines.specs.TapLines.{AreIdleFrom, TapLine, heard_by_lines, heard_of_line, no_line, symbol_on, half_bits_back, IsReachOf, line_extended, slid, line_cut};
+ghost use Rattle.tap_lines.specs.TapLines.{AreIdleFrom, TapLine, heard_by_lines, heard_of_line, symbol_on, half_bits_back, IsReachOf, line_extended, slid, line_cut};
 
 use crate::line::Line;
 use manchester_line::{Sym, mix};
@@ -100,7 +100,8 @@ pub fn rest_all(lines: &mut [Line], stations: usize, count: usize)
 
 /// Whether nothing but Idle stands on any line from half bit `u` on.
 pub fn are_idle_from(lines: &[Line], u: u64) -> bool
-    ensures { result ≡ true → AreIdleFrom u lines.now }
+    ensures idle { result ≡ true → AreIdleFrom u lines.now }
+    ensures loud { result ≡ false → ¬ AreIdleFrom u lines.now }
 {
     for r in 0..lines.len() {
         if !lines[r].is_quiet_from(u) {

@@ -1,7 +1,7 @@
 //! The one line that taps hear, where nothing but Idle stands on the others.
 ghost use Rattle.std.specs.Prelude.{◌≡◌, ◌≢◌, ◌≤◌, ◌<◌, ◌+◌, ◌-◌, ◌^◌, ℕ, length, Some, slice_index_or, IfSome, IfNone};
 ghost use Rattle.manchester_line.specs.Line.{is_signal as is_signal_of};
-ghost use Rattle.tap_lines.specs.TapLines.{AreIdleFrom, IsIdleFrom, IsWithinSignals, half_bits_back, heard_by_lines, heard_for, no_line, IsOnlySource, IsReachOf};
+ghost use Rattle.tap_lines.specs.TapLines.{IsWithinSignals, half_bits_back, heard_by_lines, heard_for, no_line, IsOnlySource, IsReachOf};
 
 use crate::line::Line;
 use manchester_line::Sym;

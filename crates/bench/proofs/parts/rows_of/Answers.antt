@@ -1,6 +1,6 @@
 use Rattle.std.proofs.Common.{◌≡◌, length, sym, ap, ap₂, ◌∙◌, rules}
 use Rattle.net_parts.specs.Parts.{edges_of_part}
-use Rattle.bench.proofs.NoEdges.{none_arrive}
+use Rattle.net_parts.proofs.NoEdges.{none_arrive}
 use Rattle.bench.proofs.parts.rows_of.Goals as goal
 
 pub run_window-requires-clause-parcels : goal.run_window-requires-clause-parcels

@@ -1,23 +1,22 @@
-use Rattle.std.proofs.Common.{◌≡◌, ◌+◌, length, get_or, subst, sym, ap, ◌∙◌, arith, rules}
+use Rattle.std.proofs.Common.{◌≡◌, length, get_or, subst, sym, ◌∙◌, arith, rules}
 use Rattle.std.proofs.lemmas.List.{take_all}
 use Rattle.manchester_line.specs.declared.Sym.TheVariants.{Idle}
 use Rattle.manchester_line.specs.Line.{is_signal}
 use Rattle.mac_receive.specs.Receiver.{Receiving, new_receiving, receiver_step}
 use Rattle.mac_receive.specs.KeptReceiver.{Kept, Hears}
 use Rattle.net_step.specs.KeptNet.{Gives}
-use Rattle.net_step.proofs.ChangedElements.{changed_one, get_or-rest, rest-set}
+use Rattle.net_step.proofs.ChangedElements.{one_later, get_or-rest, rest-set}
 use Rattle.net_step.proofs.KeptReceivers.{length-AllHear, AllHear-at, AllGive-next, Lends-from}
 use Rattle.net_step.proofs.passes.receive_all.Goals as goal
 
 pub loop-k-preserved : goal.loop-k-preserved
 loop-k-preserved c =
     let k = c.loop-k.k in
-    let t = c.args.t in
     let e = c.index-receivers-k.result in
     let d : Receiving = new_receiving 0 0 in
     let all =
-    changed_one (λ (s : Kept). s.steps ≡ t) (λ (s : Kept). s.steps ≡ t + 1) c.loop-k.receivers k c.step.new.self e (omega arith)
-    c.loop-k.invariant.stepped c.loop-k.invariant.waiting (λ now. c.step.ensures.steps ∙ ap (λ n. n + 1) now) in
+    one_later (λ (r : Kept). r.steps) c.args.t c.loop-k.receivers k c.step.new.self e (omega arith)
+    c.loop-k.invariant.stepped c.loop-k.invariant.waiting c.step.ensures.steps in
     let same : get_or c.loop-k.receivers k e ≡ get_or c.args.receivers.now k e = get_or-rest c.loop-k.receivers c.args.receivers.now k e c.loop-k.invariant.rest in
     record {
       len = search rules;

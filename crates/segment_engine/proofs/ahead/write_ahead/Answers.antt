@@ -25,12 +25,12 @@ pub loop-j-preserved : goal.loop-j-preserved
 loop-j-preserved c =
     let j = c.loop-j.j in
     let xs = c.loop-j.piece in
-    let s = c.sending_symbol-s.result in
+    let s = c.symbol_at-s.result in
     let inv = c.loop-j.invariant in
     let test = c.loop-j-test.true in
     let len = inv.len in
     let h : j < length xs = omega (arith, test, len) in
-    let is : s ≡ symbol_of c.args.octets.now c.args.hit (c.args.p + j) = c.sending_symbol-s.ensures in
+    let is : s ≡ symbol_of c.args.octets.now c.args.hit (c.args.p + j) = c.symbol_at-s.ensures.symbol in
     let signal : c.is_signal.result ≡ true = search rules in
     record {
       len = length-set xs j s ∙ inv.len;

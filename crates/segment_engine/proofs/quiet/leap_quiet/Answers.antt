@@ -1,14 +1,12 @@
 use Rattle.std.proofs.Common.{◌≡◌, ℕ, ◌+◌, ◌*◌, ◌<◌, ◌≤◌, All, false, List, map, length, replicate, get_or, sym, subst, ap, ◌∙◌, arith, rules}
 use Rattle.std.specs.Vec.{with_items}
-use Rattle.std.proofs.lemmas.List.{with_items_is, length-map, length-replicate, get_or_default}
+use Rattle.std.proofs.lemmas.List.{with_items_is, length-replicate, get_or_default}
 use Rattle.manchester_line.specs.declared.Sym.TheVariants.{Idle}
 use Rattle.load_plan.specs.declared.plan.Plan.{Plan}
 use Rattle.mac_transmit.specs.Sender.{Sender}
 use Rattle.mac_receive.specs.KeptReceiver.{Kept, Hears}
-use Rattle.mac_receive.specs.Receiver.{Receiving, receiver_after, new_receiving}
+use Rattle.mac_receive.specs.Receiver.{Receiving, receiver_after}
 use Rattle.mac_transmit.specs.Calm.{after_all}
-use Rattle.network.specs.Attempts.{sender_at}
-use Rattle.net_step.proofs.KeptReceivers.{length-AllHear, AllHear-at}
 use Rattle.net_parts.specs.Windows.{lookahead}
 use Rattle.net_parts.specs.SegmentParts.{Wiring, wiring}
 use Rattle.net_parts.specs.Standing.{receiver_at}
@@ -16,6 +14,7 @@ use Rattle.tap_lines.specs.TapLines.{TapLine, no_line, line_extended, IsReachOf}
 use Rattle.segment_engine.specs.PartStates.{AreLinesAt, AreStationsAt, half_filled}
 use Rattle.segment_engine.proofs.LinesHear.{same_reach}
 use Rattle.segment_engine.proofs.QuietRoom.{GoesOn, room_later}
+use Rattle.segment_engine.proofs.KeptParts.{receiver_stands, receivers_many, senders_many}
 use Rattle.segment_engine.proofs.QuietStations.{quiet_stations, quiet_lines, quiet_room, quiet_parcels}
 use Rattle.segment_engine.proofs.quiet.leap_quiet.Goals as goal
 use Rattle.segment_engine.proofs.quiet.leap_quiet.Goals.{After-state-4-1}
@@ -101,11 +100,9 @@ module _ (c : After-state-4-1) where
 
   goes_on : (i : ℕ) (d : Kept) → i < length c.leap_receivers.new.receivers → GoesOn (replicate m Idle) false (get_or ks i d) (get_or c.leap_receivers.new.receivers i d)
   goes_on i d h =
-      let st = c.requires.at.stations in
-      let rs = map (λ k. receiver_at plan k t) w.stations in
-      let d0 : Receiving = new_receiving 0 0 in
-      let now = AllHear-at rs ks i d0 d st.receivers (omega (arith, h, ks_len)) in
-      record { receiver = get_or rs i d0; before = now; after = hear i d (get_or rs i d0) h now }
+      let r = receiver_at plan (get_or w.stations i 0) t in
+      let now = receiver_stands c.requires.at.stations i d (omega (arith, h, ks_len)) in
+      record { receiver = r; before = now; after = hear i d r h now }
 
 pub returns-clause-at : goal.returns-clause-at
 returns-clause-at c =
@@ -145,9 +142,7 @@ returns-clause-room c = λ n covers.
     let st = c.requires.at.stations in
     let senders = with_items_is a.senders c.leap_senders.new.senders (search rules) in
     let receivers = with_items_is a.receivers c.leap_receivers.new.receivers (search rules) in
-    let rs = map (λ k. receiver_at (plan c) k (t c)) (w c).stations in
-    let same : length (ss c) ≡ length (ks c) =
-    ap length st.senders ∙ length-map (w c).stations (λ k. sender_at (plan c) k (t c)) ∙ sym (length-map (w c).stations (λ k. receiver_at (plan c) k (t c))) ∙ length-AllHear rs (ks c) st.receivers in
+    let same : length (ss c) ≡ length (ks c) = senders_many st ∙ sym (receivers_many st) in
     rw (senders, receivers)
     (room_later (m c) n (replicate (m c) Idle) (ss c) c.leap_senders.new.senders (ks c) c.leap_receivers.new.receivers a.room (length-replicate (m c) Idle) (ss_len c) (ks_len c) same (states c) (goes_on c) covers)
 

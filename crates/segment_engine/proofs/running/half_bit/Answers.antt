@@ -2,24 +2,23 @@ use Rattle.std.proofs.Common.{◌≡◌, ◌<◌, ◌≤◌, ◌+◌, ◌*◌, �
 use Rattle.std.proofs.lemmas.List.{with_items_is, length-map, get_or_default}
 use Rattle.load_plan.specs.declared.plan.Plan.{Plan}
 use Rattle.mac_transmit.specs.Sender.{Sender}
-use Rattle.mac_receive.specs.Receiver.{Receiving, new_receiving}
 use Rattle.mac_receive.specs.KeptReceiver.{Kept, IsReceiver}
 use Rattle.network.specs.Attempts.{sender_at}
 use Rattle.network.specs.Times.{heard, emitted}
 use Rattle.network.specs.Times.{emitted as emitted_at}
 use Rattle.std.specs.Vec.{with_items}
 use Rattle.segment_engine.proofs.running.half_bit.Goals.{After-state-6-1}
-use Rattle.net_step.proofs.KeptReceivers.{length-AllHear, AllHear-at}
 use Rattle.net_parts.specs.Windows.{lookahead}
 use Rattle.net_parts.specs.Machines.{span}
 use Rattle.net_parts.specs.SegmentParts.{Wiring, wiring}
-use Rattle.net_parts.specs.Standing.{port_hears, receiver_at}
+use Rattle.net_parts.specs.Standing.{port_hears}
 use Rattle.net_parts.proofs.NetworkFacts.{station_facts}
 use Rattle.net_parts.proofs.LookaheadLeads.{leads}
 use Rattle.tap_lines.specs.TapLines.{TapLine, no_line, heard_by_lines, IsReachOf}
 use Rattle.window_room.specs.NeededRoom.{Covers, stations_demand}
 use Rattle.segment_engine.specs.StationPasses.{rows_heard}
 use Rattle.segment_engine.specs.PartStates.{AreLinesAt, AreStationsAt}
+use Rattle.segment_engine.proofs.KeptParts.{all_receivers, receivers_many, senders_many}
 use Rattle.segment_engine.proofs.LinesHear.{known, same_reach, stations_by_lines, ports_by_lines}
 use Rattle.segment_engine.proofs.HalfBits.{emissions_next, stations_next, lines_next, lines_room_next, parcels_next, parcels_long}
 use Rattle.segment_engine.proofs.running.half_bit.Goals as goal
@@ -27,22 +26,10 @@ use Rattle.segment_engine.proofs.running.half_bit.Goals as goal
 pub step_stations-requires-clause-receivers_len : goal.step_stations-requires-clause-receivers_len
 step_stations-requires-clause-receivers_len c =
     let st = c.requires.stands.at.stations in
-    let ks = (wiring c.args.of.now.plan.value.layout c.args.of.now.number).stations in
-    let t = c.args.state.now.t in
-    let plan = c.args.of.now.plan.value in
-    ap length c.deref_mut-3.ensures.value
-    ∙ sym (length-AllHear (map (λ k. receiver_at plan k t) ks) c.args.state.now.receivers.items st.receivers)
-    ∙ length-map ks (λ k. receiver_at plan k t)
-    ∙ sym (ap length c.deref_mut-2.ensures.value ∙ ap length st.senders ∙ length-map ks (λ k. sender_at plan k t))
+    ap length c.deref_mut-3.ensures.value ∙ receivers_many st ∙ sym (ap length c.deref_mut-2.ensures.value ∙ senders_many st)
 
 pub step_stations-requires-clause-hear : goal.step_stations-requires-clause-hear
-step_stations-requires-clause-hear c =
-    let st = c.requires.stands.at.stations in
-    let plan = c.args.of.now.plan.value in
-    let ks = (wiring plan.layout c.args.of.now.number).stations in
-    let rs = map (λ k. receiver_at plan k c.args.state.now.t) ks in
-    let dr : Receiving = new_receiving 0 0 in
-    subst (All IsReceiver) (sym c.deref_mut-3.ensures.value) (λ k d l. (get_or rs k dr, AllHear-at rs c.args.state.now.receivers.items k dr d st.receivers l))
+step_stations-requires-clause-hear c = subst (All IsReceiver) (sym c.deref_mut-3.ensures.value) (all_receivers c.requires.stands.at.stations)
 
 pub fill-requires-clause-long : goal.fill-requires-clause-long
 fill-requires-clause-long c =

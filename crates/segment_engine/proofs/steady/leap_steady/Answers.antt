@@ -1,6 +1,6 @@
-use Rattle.std.proofs.Common.{◌≡◌, ℕ, ◌+◌, ◌*◌, ◌<◌, ◌≤◌, All, Bool, [], ◌++◌, false, List, map, take, length, length-take-le, get_or, sym, subst, ap, ap₂, ◌∙◌, arith, rules}
+use Rattle.std.proofs.Common.{◌≡◌, ℕ, ◌+◌, ◌-◌, ◌*◌, ◌<◌, ◌≤◌, All, Bool, [], ◌++◌, false, List, map, take, length, length-take-le, get_or, sym, subst, ap, ap₂, ◌∙◌, arith, rules}
 use Rattle.std.specs.Vec.{with_items}
-use Rattle.std.proofs.lemmas.List.{with_items_is, length-map}
+use Rattle.std.proofs.lemmas.List.{with_items_is}
 use Rattle.manchester_line.specs.declared.Sym.{Sym}
 use Rattle.manchester_line.specs.declared.Sym.TheVariants.{Idle}
 use Rattle.manchester_line.specs.Line.{is_signal}
@@ -9,10 +9,9 @@ use Rattle.load_plan.specs.declared.plan.Plan.{Plan}
 use Rattle.mac_transmit.specs.Sender.{Sender, is_sending}
 use Rattle.mac_transmit.specs.Calm.{AllHeardAs, after_all, calm_of}
 use Rattle.mac_receive.specs.KeptReceiver.{Kept, Hears, IsReceiver}
-use Rattle.mac_receive.specs.Receiver.{Receiving, Reception, receiver_after, new_receiving}
+use Rattle.mac_receive.specs.Receiver.{Receiving, Reception, receiver_after}
 use Rattle.network.specs.Attempts.{sender_at}
 use Rattle.network.specs.Captures.{taken_by}
-use Rattle.net_step.proofs.KeptReceivers.{length-AllHear, AllHear-at}
 use Rattle.net_parts.specs.Windows.{lookahead}
 use Rattle.net_parts.specs.SegmentParts.{Wiring, wiring}
 use Rattle.net_parts.specs.Standing.{receiver_at}
@@ -25,19 +24,21 @@ use Rattle.window_room.specs.NeededRoom.{Demand, Covers, both_demands, stations_
 use Rattle.segment_engine.specs.FirstReceptions.{first_reception, later_bodies, rows_of_first, receivers_demand}
 use Rattle.segment_engine.specs.SteadyPieces.{IsToldAhead, with_piece_at}
 use Rattle.segment_engine.proofs.FirstRows.{rows_alike}
+use Rattle.segment_engine.proofs.KeptParts.{all_receivers, receiver_stands, receivers_many, senders_many}
 use Rattle.segment_engine.proofs.LinesHear.{same_reach}
 use Rattle.segment_engine.proofs.PieceRoom.{piece_covered, room_after_piece}
 use Rattle.segment_engine.proofs.SteadyCalm.{fewer_calm}
 use Rattle.segment_engine.proofs.SteadyHalfBits.{GoesAhead, heard_as, heard_size}
-use Rattle.segment_engine.proofs.SteadyStations.{ss_many, rs_many, first, hears_at, steady_stations, steady_lines, steady_room, steady_parcels, reach_ahead, parcels_long_for}
+use Rattle.segment_engine.proofs.SteadyStations.{first, steady_stations, steady_lines, steady_room, steady_parcels, reach_ahead, parcels_long_for}
 use Rattle.segment_engine.proofs.steady.leap_steady.Goals as goal
-use Rattle.segment_engine.proofs.steady.leap_steady.Goals.{After-state-6-1}
+use Rattle.segment_engine.proofs.steady.leap_steady.Goals.{After-find, After-classes_ahead-steady, After-state-6-1}
 
 a_kept : Kept
 a_kept = record { lose = 0; most = 0; deaf = false; halves = 0; decoder = new_decoding; steps = 0 }
 
-pub classes_ahead-steady-requires-clause-reach : goal.classes_ahead-steady-requires-clause-reach
-classes_ahead-steady-requires-clause-reach c =
+-- nothing reaches a tap from further back on the lines either, once they have what is told ahead
+lines_reach : (c : After-find) → IsReachOf c.args.state.now.far c.args.of.now.lookahead c.deref-lines.result.now
+lines_reach c =
     let a = c.args.state.now in
     let g = c.args.of.now in
     let x = sender_at g.plan.value 0 a.t in
@@ -46,6 +47,20 @@ classes_ahead-steady-requires-clause-reach c =
     subst (IsReachOf a.far g.lookahead) (sym is)
     (reach_ahead a.far g.lookahead (length c.deref.result.now) c.emit_ahead-ahead.result c.args.count c.deref_mut.result.now c.emit_ahead-ahead.new.lines c.deref.result.now x c.emit_ahead-ahead.auto.lines
     (λ r h. c.emit_ahead-ahead.ensures.told r no_line x h) (λ r h. c.emit_ahead-ahead.ensures.others r no_line h) before)
+
+lines_loud : (c : After-find) → AreIdleButFor (c.args.state.now.t - c.args.state.now.far) c.deref-lines.result.now c.find.new.self.taps
+lines_loud c = subst (λ u. AreIdleButFor u c.deref-lines.result.now c.find.new.self.taps) c.saturating_sub.ensures c.find.ensures.loud.idle
+
+part_size : (c : After-classes_ahead-steady) → length (take c.classes_ahead-steady.result c.emit_ahead-ahead.new.piece) ≡ c.classes_ahead-steady.result
+part_size c =
+    let items = c.emit_ahead-ahead.auto.piece ∙ ap length c.deref_mut-piece.ensures.value in
+    let few = c.requires.piece in
+    let ahead = c.emit_ahead-ahead.ensures.within in
+    let steady = c.classes_ahead-steady.ensures.within in
+    length-take-le c.classes_ahead-steady.result c.emit_ahead-ahead.new.piece (omega (arith, items, few, ahead, steady))
+
+pub classes_ahead-steady-requires-clause-reach : goal.classes_ahead-steady-requires-clause-reach
+classes_ahead-steady-requires-clause-reach c = lines_reach (goal.at.classes_ahead-steady-requires-clause-reach c).After-find
 
 pub find-requires : goal.find-requires
 find-requires c =
@@ -56,116 +71,64 @@ find-requires c =
     omega (arith, len, told, room)
 
 pub slice_bounds-part-end : goal.slice_bounds-part-end
-slice_bounds-part-end c =
-    let items = c.emit_ahead-ahead.auto.piece ∙ ap length c.deref_mut-piece.ensures.value in
-    let few = c.requires.piece in
-    let ahead = c.emit_ahead-ahead.ensures.within in
-    let steady = c.classes_ahead-steady.ensures.within in
-    sym (length-take-le c.classes_ahead-steady.result c.emit_ahead-ahead.new.piece (omega (arith, items, few, ahead, steady)))
+slice_bounds-part-end c = sym (part_size (goal.at.slice_bounds-part-end c).After-classes_ahead-steady)
 
 pub take_all-requires-clause-receivers_len : goal.take_all-requires-clause-receivers_len
 take_all-requires-clause-receivers_len c =
     let st = c.requires.stands.at.stations in
-    let plan = c.args.of.now.plan.value in
-    let ks = (wiring plan.layout c.args.of.now.number).stations in
-    let t = c.args.state.now.t in
-    ap length c.deref_mut-receivers.ensures.value
-    ∙ sym (length-AllHear (map (λ k. receiver_at plan k t) ks) c.args.state.now.receivers.items st.receivers)
-    ∙ length-map ks (λ k. receiver_at plan k t)
-    ∙ sym (ap length c.deref-senders.ensures.value ∙ ap length st.senders ∙ length-map ks (λ k. sender_at plan k t))
+    ap length c.deref_mut-receivers.ensures.value ∙ receivers_many st ∙ sym (ap length c.deref-senders.ensures.value ∙ senders_many st)
 
 pub take_all-requires-clause-reach : goal.take_all-requires-clause-reach
-take_all-requires-clause-reach c =
-    let a = c.args.state.now in
-    let g = c.args.of.now in
-    let x = sender_at g.plan.value 0 a.t in
-    let is = c.deref-lines.ensures.value ∙ with_items_is a.lines c.emit_ahead-ahead.new.lines (search rules) in
-    let before = subst (IsReachOf a.far g.lookahead) (sym c.deref_mut.ensures.value) (subst (λ y. IsReachOf a.far y a.lines.items) (sym g.window_length) c.requires.stands.at.reach) in
-    subst (IsReachOf a.far g.lookahead) (sym is)
-    (reach_ahead a.far g.lookahead (length c.deref.result.now) c.emit_ahead-ahead.result c.args.count c.deref_mut.result.now c.emit_ahead-ahead.new.lines c.deref.result.now x c.emit_ahead-ahead.auto.lines
-    (λ r h. c.emit_ahead-ahead.ensures.told r no_line x h) (λ r h. c.emit_ahead-ahead.ensures.others r no_line h) before)
+take_all-requires-clause-reach c = lines_reach (goal.at.take_all-requires-clause-reach c).After-find
 
 pub take_all-requires-clause-hear : goal.take_all-requires-clause-hear
-take_all-requires-clause-hear c =
-    let st = c.requires.stands.at.stations in
-    let plan = c.args.of.now.plan.value in
-    let ks = (wiring plan.layout c.args.of.now.number).stations in
-    let rs = map (λ k. receiver_at plan k c.args.state.now.t) ks in
-    let dr : Receiving = new_receiving 0 0 in
-    subst (All IsReceiver) (sym c.deref_mut-receivers.ensures.value) (λ k d l. (get_or rs k dr, AllHear-at rs c.args.state.now.receivers.items k dr d st.receivers l))
+take_all-requires-clause-hear c = subst (All IsReceiver) (sym c.deref_mut-receivers.ensures.value) (all_receivers c.requires.stands.at.stations)
 
 pub take_all-requires-clause-room : goal.take_all-requires-clause-room
 take_all-requires-clause-room c =
     let a = c.args.state.now in
     let st = c.requires.stands.at.stations in
-    let plan = c.args.of.now.plan.value in
-    let ks = (wiring plan.layout c.args.of.now.number).stations in
-    let items = c.emit_ahead-ahead.auto.piece ∙ ap length c.deref_mut-piece.ensures.value in
-    let few = c.requires.piece in
     let ahead = c.emit_ahead-ahead.ensures.within in
     let steady = c.classes_ahead-steady.ensures.within in
     let m = c.classes_ahead-steady.result in
-    let size : length (take m c.emit_ahead-ahead.new.piece) ≡ m = length-take-le m c.emit_ahead-ahead.new.piece (omega (arith, items, few, ahead, steady)) in
-    let same : length a.senders.items ≡ length a.receivers.items =
-    ap length st.senders ∙ length-map ks (λ k. sender_at plan k a.t)
-    ∙ sym (sym (length-AllHear (map (λ k. receiver_at plan k a.t) ks) a.receivers.items st.receivers) ∙ length-map ks (λ k. receiver_at plan k a.t)) in
+    let size = part_size (goal.at.take_all-requires-clause-room c).After-classes_ahead-steady in
+    let same : length a.senders.items ≡ length a.receivers.items = senders_many st ∙ sym (receivers_many st) in
     let one = piece_covered m c.args.count a.senders.items a.receivers.items a.room (omega (arith, ahead, steady)) same c.requires.room in
     let P : List Kept → Type 0 = λ xs. Covers (receivers_demand (length (take m c.emit_ahead-ahead.new.piece)) xs) a.room in
     subst P (sym c.deref_mut-receivers.ensures.value) (subst (λ x. Covers (receivers_demand x a.receivers.items) a.room) (sym size) one)
 
 pub take_all-requires-clause-steady : goal.take_all-requires-clause-steady
 take_all-requires-clause-steady c = λ r j h l.
-    let a = c.args.state.now in
-    let g = c.args.of.now in
-    let ks = (wiring g.plan.value.layout g.number).stations in
-    let size = ap length c.deref-senders.ensures.value ∙ ap length c.requires.stands.at.stations.senders ∙ length-map ks (λ k. sender_at g.plan.value k a.t) in
-    let numbers = ap length g.station_numbers in
+    let size = ap length c.deref-senders.ensures.value ∙ senders_many c.requires.stands.at.stations in
+    let numbers = ap length c.args.of.now.station_numbers in
     let count = c.len-stations.ensures in
     let inside : r < c.len-stations.result = omega (arith, h, size, numbers, count) in
-    let items = c.emit_ahead-ahead.auto.piece ∙ ap length c.deref_mut-piece.ensures.value in
-    let few = c.requires.piece in
-    let ahead = c.emit_ahead-ahead.ensures.within in
-    let steady = c.classes_ahead-steady.ensures.within in
-    let many = length-take-le c.classes_ahead-steady.result c.emit_ahead-ahead.new.piece (omega (arith, items, few, ahead, steady)) in
+    let many = part_size (goal.at.take_all-requires-clause-steady c).After-classes_ahead-steady in
     let few : j < c.classes_ahead-steady.result = omega (arith, l, many) in
     c.classes_ahead-steady.ensures.steady r j inside few
 
 pub put_all-requires-clause-reach : goal.put_all-requires-clause-reach
-put_all-requires-clause-reach c =
-    let a = c.args.state.now in
-    let g = c.args.of.now in
-    let x = sender_at g.plan.value 0 a.t in
-    let is = c.deref-lines.ensures.value ∙ with_items_is a.lines c.emit_ahead-ahead.new.lines (search rules) in
-    let before = subst (IsReachOf a.far g.lookahead) (sym c.deref_mut.ensures.value) (subst (λ y. IsReachOf a.far y a.lines.items) (sym g.window_length) c.requires.stands.at.reach) in
-    subst (IsReachOf a.far g.lookahead) (sym is)
-    (reach_ahead a.far g.lookahead (length c.deref.result.now) c.emit_ahead-ahead.result c.args.count c.deref_mut.result.now c.emit_ahead-ahead.new.lines c.deref.result.now x c.emit_ahead-ahead.auto.lines
-    (λ r h. c.emit_ahead-ahead.ensures.told r no_line x h) (λ r h. c.emit_ahead-ahead.ensures.others r no_line h) before)
+put_all-requires-clause-reach c = lines_reach (goal.at.put_all-requires-clause-reach c).After-find
 
 pub put_all-requires-clause-long : goal.put_all-requires-clause-long
 put_all-requires-clause-long c =
     let plan = c.args.of.now.plan.value in
     let es = (wiring plan.layout c.args.of.now.number).edges in
-    let items = c.emit_ahead-ahead.auto.piece ∙ ap length c.deref_mut-piece.ensures.value in
-    let few = c.requires.piece in
     let ahead = c.emit_ahead-ahead.ensures.within in
-    let steady = c.classes_ahead-steady.ensures.within in
-    let many = c.take_all.auto.piece ∙ length-take-le c.classes_ahead-steady.result c.emit_ahead-ahead.new.piece (omega (arith, items, few, ahead, steady)) in
+    let many = c.take_all.auto.piece ∙ part_size (goal.at.put_all-requires-clause-long c).After-classes_ahead-steady in
     let within = c.requires.stands.within in
     let enough = c.classes_ahead-steady.ensures.within in
     parcels_long_for plan c.args.of.now.lookahead c.args.window c.args.k (length c.take_all.new.piece) es c.args.parcels.now
     (let fits : c.args.k + length c.take_all.new.piece ≤ c.args.of.now.lookahead = omega (arith, many, within, enough, ahead) in fits) c.requires.stands.parcels
 
 pub classes_ahead-steady-requires-clause-loud : goal.classes_ahead-steady-requires-clause-loud
-classes_ahead-steady-requires-clause-loud c =
-    subst (λ u. AreIdleButFor u c.deref-lines.result.now c.find.new.self.taps) c.saturating_sub.ensures c.find.ensures.loud.idle
+classes_ahead-steady-requires-clause-loud c = lines_loud (goal.at.classes_ahead-steady-requires-clause-loud c).After-find
 
 pub take_all-requires-clause-loud : goal.take_all-requires-clause-loud
-take_all-requires-clause-loud c =
-    subst (λ u. AreIdleButFor u c.deref-lines.result.now c.find.new.self.taps) c.saturating_sub.ensures c.find.ensures.loud.idle
+take_all-requires-clause-loud c = lines_loud (goal.at.take_all-requires-clause-loud c).After-find
 
 pub put_all-requires-clause-loud : goal.put_all-requires-clause-loud
-put_all-requires-clause-loud c =
-    subst (λ u. AreIdleButFor u c.deref-lines.result.now c.find.new.self.taps) c.saturating_sub.ensures c.find.ensures.loud.idle
+put_all-requires-clause-loud c = lines_loud (goal.at.put_all-requires-clause-loud c).After-find
 
 pub leap_all-requires-clause-calm : goal.leap_all-requires-clause-calm
 leap_all-requires-clause-calm c = λ r d h.
@@ -228,7 +191,7 @@ module _ (c : After-state-6-1) where
   stations_are = let is = c.args.of.now.station_numbers in let n = c.len-stations.ensures in let size = ap length is in omega (arith, size, n)
 
   senders_are : length ss ≡ length w.stations
-  senders_are = ap length c.requires.stands.at.stations.senders ∙ length-map w.stations (λ k. sender_at plan k t)
+  senders_are = senders_many c.requires.stands.at.stations
 
   m_few : m ≤ least
   m_few = let few = c.classes_ahead-steady.ensures.within in omega (arith, few)
@@ -335,7 +298,7 @@ module _ (c : After-state-6-1) where
 
   later : (i : ℕ) (r : Receiving) → i < length w.stations → Hears r (get_or ks i a_kept) → later_bodies r (heard_for L t m ls' i) (sends i) ≡ []
   later i r h kept =
-      let many = rs_many plan s t front m least most ls ls' ss ks carrier a_sender a_kept going c.args.state.now.room.rows c.args.state.now.room.captures c.requires.stands.at.stations in
+      let many = receivers_many c.requires.stands.at.stations in
       let len = ks_len in
       let one = c.take_all.ensures.later i a_kept a_sender r (omega (arith, h, many, len)) (subst (λ (xs : List Kept). Hears r (get_or xs i a_kept)) (sym c.deref_mut-receivers.ensures.value) kept) in
       sym (ap₂ (later_bodies r) (hears_now i) (sends_now i)) ∙ one
@@ -358,10 +321,9 @@ module _ (c : After-state-6-1) where
 
   hears_then : (i : ℕ) (d : Kept) → i < length c.take_all.new.receivers → Hears (receiver_at plan (get_or w.stations i 0) t) (get_or c.deref_mut-receivers.result.now i d)
   hears_then i d h =
-      let many = rs_many plan s t front m least most ls ls' ss ks carrier a_sender a_kept going c.args.state.now.room.rows c.args.state.now.room.captures c.requires.stands.at.stations in
       let len = ks_len in
       subst (λ (xs : List Kept). Hears (receiver_at plan (get_or w.stations i 0) t) (get_or xs i d)) (sym c.deref_mut-receivers.ensures.value)
-      (hears_at plan s t front m least most ls ls' ss ks carrier a_sender a_kept going c.args.state.now.room.rows c.args.state.now.room.captures c.requires.stands.at.stations i d (omega (arith, h, many, len)))
+      (receiver_stands c.requires.stands.at.stations i d (omega (arith, h, len)))
 
   logged : c.take_all.new.room.rows ≡ c.args.state.now.room.rows ++ rows_of_first t w.stations (λ i. (firsts i).event) (length w.stations)
   logged =
@@ -374,7 +336,7 @@ module _ (c : After-state-6-1) where
 
   captured : (i : ℕ) → i < length w.stations → get_or c.take_all.new.room.captures i [] ≡ get_or c.args.state.now.room.captures i [] ++ taken_by t (firsts i).event (firsts i).octets
   captured i h =
-      let many = rs_many plan s t front m least most ls ls' ss ks carrier a_sender a_kept going c.args.state.now.room.rows c.args.state.now.room.captures c.requires.stands.at.stations in
+      let many = receivers_many c.requires.stands.at.stations in
       let len = ks_len in
       let in_it : i < length c.take_all.new.receivers = omega (arith, h, many, len) in
       let r = receiver_at plan (get_or w.stations i 0) t in
@@ -425,7 +387,7 @@ module _ (c : After-state-6-1) where
 
   room_after : (n : ℕ) → Covers (stations_demand (n + m) ss ks) c.args.state.now.room → Covers (stations_demand n c.leap_all.new.senders c.take_all.new.receivers) c.take_all.new.room
   room_after n covers =
-      let same : length ss ≡ length ks = ss_many plan s t front m least most ls ls' ss ks carrier a_sender a_kept going c.args.state.now.room.rows c.args.state.now.room.captures c.requires.stands.at.stations ∙ sym (rs_many plan s t front m least most ls ls' ss ks carrier a_sender a_kept going c.args.state.now.room.rows c.args.state.now.room.captures c.requires.stands.at.stations) in
+      let same : length ss ≡ length ks = senders_many c.requires.stands.at.stations ∙ sym (receivers_many c.requires.stands.at.stations) in
       let size = λ (i : ℕ). heard_size plan s t front m least most ls ls' ss carrier a_sender going i m in
       let len = ss_len in
       let many = senders_are in

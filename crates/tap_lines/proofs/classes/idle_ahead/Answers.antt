@@ -1,10 +1,9 @@
 use Rattle.std.proofs.Common.{◌≡◌, ◌<◌, ◌+◌, ℕ, inl, inr, length, get_or, sym, ap, ◌∙◌, arith}
 use Rattle.std.proofs.lemmas.Bool.{cases_lt}
-use Rattle.std.proofs.lemmas.List.{get_or_read}
 use Rattle.manchester_line.specs.Line.{is_signal}
 use Rattle.network.specs.Times.{earlier}
-use Rattle.tap_lines.specs.TapLines.{no_line, symbol_on, heard_of_line, heard_by_lines}
-use Rattle.tap_lines.proofs.HeardClasses.{all_idle, by_signal, not_false, other_line}
+use Rattle.tap_lines.specs.TapLines.{symbol_on, heard_of_line, heard_by_lines}
+use Rattle.tap_lines.proofs.HeardClasses.{all_idle, by_listed, listed_line, not_false}
 use Rattle.tap_lines.proofs.classes.idle_ahead.Goals as goal
 
 pub loop-i-preserved : goal.loop-i-preserved
@@ -22,14 +21,11 @@ loop-i-preserved c =
     let test = c.loop-i-test.true in
     let many = c.len-i-end.ensures in
     let which = c.tap-q.ensures in
-    let below = c.requires.listed.loud.within i (omega (arith, test, many)) in
-    let in_it : q < length ls = omega (arith, which, below) in
-    let line : c.index-lines-q.result ≡ get_or ls q no_line = get_or_read ls q c.index-lines-q.result in_it c.index-lines-q.is no_line in
-    let tap : c.index-lines-p.result ≡ get_or ls p no_line = get_or_read ls p c.index-lines-p.result c.requires.listed.tap c.index-lines-p.is no_line in
+    let in_it : i < length ns = omega (arith, test, many) in
     let fewer = c.steady_back-idle.ensures.within in
     let within = inv.within in
     let back = c.back.result in
-    let heard = λ (u : ℕ). other_line L u p q c.place-at.result back ls c.index-lines-p.result c.index-lines-q.result c.if-q-p.false tap line c.place-at.ensures c.back.ensures in
+    let heard = λ (u : ℕ). listed_line L c.args.far t c.args.most u p q i c.place-at.result back ls ns c.index-lines-p.result c.index-lines-q.result c.requires.listed in_it which c.if-q-p.false c.index-lines-p.is c.index-lines-q.is c.place-at.ensures c.back.ensures in
     record {
       within = omega (arith, fewer, within);
       so_far = λ k j h m. elim (cases_lt k i) [
@@ -40,7 +36,7 @@ loop-i-preserved c =
             ∙ ap is_signal (heard (t + j)) ∙ c.steady_back-idle.ensures.steady j m
       ];
       longest = λ less. elim (cases_lt new old) [
-        | inl shorter ↦ by_signal L (t + new) p q ls in_it
+        | inl shorter ↦ by_listed L c.args.far t c.args.most (t + new) p q i ls ns c.requires.listed in_it which
             (ap is_signal (heard (t + new)) ∙ not_false (is_signal (earlier (symbol_on c.index-lines-q.result) (t + new) back)) (c.steady_back-idle.ensures.longest shorter))
         | inr same ↦
             let e : old ≡ new = omega (arith, same, fewer) in

@@ -1,74 +1,56 @@
-use Rattle.std.proofs.Common.{◌≡◌, ◌≢◌, ◌<◌, ◌+◌, ℕ, inl, inr, true, length, get_or, sym, ap, ◌∙◌, arith}
+use Rattle.std.proofs.Common.{◌≡◌, ◌≢◌, ◌<◌, ◌+◌, ℕ, inl, inr, true, get_or, sym, ap, ◌∙◌, arith}
 use Rattle.std.proofs.lemmas.Bool.{cases_lt}
-use Rattle.std.proofs.lemmas.List.{get_or_read}
 use Rattle.manchester_line.specs.Line.{is_signal}
 use Rattle.network.specs.Times.{earlier}
-use Rattle.tap_lines.specs.TapLines.{no_line, symbol_on, heard_of_line}
-use Rattle.tap_lines.proofs.HeardClasses.{all_idle, by_signal, not_true, other_line}
+use Rattle.tap_lines.specs.TapLines.{symbol_on, heard_of_line, heard_by_lines}
+use Rattle.tap_lines.proofs.HeardClasses.{all_idle, by_listed, listed_line, not_true}
 use Rattle.tap_lines.proofs.classes.one_signal_ahead.Goals as goal
+use Rattle.tap_lines.proofs.classes.one_signal_ahead.Goals.{After-max-longest}
 
-pub returns-then-longest-most-clause-signals : goal.returns-then-longest-most-clause-signals
-returns-then-longest-most-clause-signals c = λ j h.
-    let ls = c.args.lines.now in
-    let i = c.loop-i.i in
-    let p = c.args.p in
-    let q = c.tap-q.result in
-    let L = c.args.lookahead in
-    let u = c.args.t + j in
+-- what the tap hears of the one whose turn it is
+heard : (c : After-max-longest) (u : ℕ) → heard_of_line c.args.lookahead u c.args.lines.now c.args.p c.tap-q.result ≡ earlier (symbol_on c.index-lines-q.result) u c.back.result
+heard c u =
     let test = c.loop-i-test.true in
     let many = c.len-i-end.ensures in
-    let which = c.tap-q.ensures in
-    let below = c.requires.listed.loud.within i (omega (arith, test, many)) in
-    let in_it : q < length ls = omega (arith, which, below) in
-    let line : c.index-lines-q.result ≡ get_or ls q no_line = get_or_read ls q c.index-lines-q.result in_it c.index-lines-q.is no_line in
-    let tap : c.index-lines-p.result ≡ get_or ls p no_line = get_or_read ls p c.index-lines-p.result c.requires.listed.tap c.index-lines-p.is no_line in
+    listed_line c.args.lookahead c.args.far c.args.t c.args.most u c.args.p c.tap-q.result c.loop-i.i c.place-at.result c.back.result c.args.lines.now c.args.loud.now.taps c.index-lines-p.result c.index-lines-q.result
+    c.requires.listed (omega (arith, test, many)) c.tap-q.ensures c.if-q-p.false c.index-lines-p.is c.index-lines-q.is c.place-at.ensures c.back.ensures
+
+signals : (c : After-max-longest) (j : ℕ) → j < c.max-longest.result → is_signal (heard_by_lines c.args.lookahead (c.args.t + j) c.args.lines.now c.args.p) ≡ true
+signals c j h =
+    let test = c.loop-i-test.true in
+    let many = c.len-i-end.ensures in
     let greater = c.max-longest.ensures in
     elim (cases_lt j c.steady_back.result) [
-      | inl before ↦ by_signal L u p q ls in_it
-          (ap is_signal (other_line L u p q c.place-at.result c.back.result ls c.index-lines-p.result c.index-lines-q.result c.if-q-p.false tap line c.place-at.ensures c.back.ensures)
-          ∙ c.steady_back.ensures.steady j before)
+      | inl before ↦ by_listed c.args.lookahead c.args.far c.args.t c.args.most (c.args.t + j) c.args.p c.tap-q.result c.loop-i.i c.args.lines.now c.args.loud.now.taps c.requires.listed (omega (arith, test, many)) c.tap-q.ensures
+          (ap is_signal (heard c (c.args.t + j)) ∙ c.steady_back.ensures.steady j before)
       | inr behind ↦ c.loop-i.invariant.signals j (omega (arith, h, greater, behind))
     ]
 
+pub returns-then-longest-most-clause-signals : goal.returns-then-longest-most-clause-signals
+returns-then-longest-most-clause-signals c = signals (goal.at.returns-then-longest-most-clause-signals c).After-max-longest
+
 pub loop-i-preserved : goal.loop-i-preserved
 loop-i-preserved c =
-    let ls = c.args.lines.now in
-    let ns = c.args.loud.now.taps in
-    let i = c.loop-i.i in
-    let p = c.args.p in
-    let q = c.tap-q.result in
-    let L = c.args.lookahead in
+    let at = (goal.at.loop-i-preserved c).After-max-longest in
     let t = c.args.t in
+    let i = c.loop-i.i in
     let inv = c.loop-i.invariant in
-    let test = c.loop-i-test.true in
-    let many = c.len-i-end.ensures in
-    let which = c.tap-q.ensures in
-    let below = c.requires.listed.loud.within i (omega (arith, test, many)) in
-    let in_it : q < length ls = omega (arith, which, below) in
-    let line : c.index-lines-q.result ≡ get_or ls q no_line = get_or_read ls q c.index-lines-q.result in_it c.index-lines-q.is no_line in
-    let tap : c.index-lines-p.result ≡ get_or ls p no_line = get_or_read ls p c.index-lines-p.result c.requires.listed.tap c.index-lines-p.is no_line in
-    let greater = c.max-longest.ensures in
     let few = c.steady_back.ensures.within in
     let within = inv.within in
-    let back = c.back.result in
-    let steady = c.steady_back.result in
-    let heard = λ (u : ℕ). other_line L u p q c.place-at.result back ls c.index-lines-p.result c.index-lines-q.result c.if-q-p.false tap line c.place-at.ensures c.back.ensures in
+    let greater = c.max-longest.ensures in
     record {
       within = omega (arith, few, within, greater);
-      signals = λ j h. elim (cases_lt j steady) [
-        | inl before ↦ by_signal L (t + j) p q ls in_it (ap is_signal (heard (t + j)) ∙ c.steady_back.ensures.steady j before)
-        | inr behind ↦ inv.signals j (omega (arith, h, greater, behind))
-      ];
+      signals = signals at;
       none = λ zero some k h. elim (cases_lt k i) [
         | inl before ↦ inv.none (omega (arith, zero, greater)) some k before
         | inr now ↦
             let e : i ≡ k = omega (arith, h, now) in
-            let at_once : steady ≡ 0 = omega (arith, zero, greater) in
-            let place : t + steady ≡ t = omega (arith, at_once) in
-            let other : is_signal (earlier (symbol_on c.index-lines-q.result) t back) ≢ true = λ same.
-            c.steady_back.ensures.longest (omega (arith, at_once, some)) (ap (λ u. is_signal (earlier (symbol_on c.index-lines-q.result) u back)) place ∙ same) in
-            ap (λ x. is_signal (heard_of_line L t ls p x)) (sym (which ∙ ap (λ x. get_or ns x 0) e))
-            ∙ ap is_signal (heard t) ∙ not_true (is_signal (earlier (symbol_on c.index-lines-q.result) t back)) other
+            let at_once : c.steady_back.result ≡ 0 = omega (arith, zero, greater) in
+            let place : t + c.steady_back.result ≡ t = omega (arith, at_once) in
+            let other : is_signal (earlier (symbol_on c.index-lines-q.result) t c.back.result) ≢ true = λ same.
+            c.steady_back.ensures.longest (omega (arith, at_once, some)) (ap (λ u. is_signal (earlier (symbol_on c.index-lines-q.result) u c.back.result)) place ∙ same) in
+            ap (λ x. is_signal (heard_of_line c.args.lookahead t c.args.lines.now c.args.p x)) (sym (c.tap-q.ensures ∙ ap (λ x. get_or c.args.loud.now.taps x 0) e))
+            ∙ ap is_signal (heard at t) ∙ not_true (is_signal (earlier (symbol_on c.index-lines-q.result) t c.back.result)) other
       ];
     }
 

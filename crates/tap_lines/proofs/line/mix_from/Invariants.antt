@@ -1,13 +1,8 @@
-use Rattle.std.proofs.Common.{◌≡◌, ℕ, ◌+◌, ◌<◌, ◌≤◌, length, slice_index_or}
-use Rattle.manchester_line.specs.declared.Sym.{Sym}
+use Rattle.std.proofs.Common.{◌+◌, slice_index_or}
 use Rattle.manchester_line.specs.declared.Sym.TheVariants.{Idle}
-use Rattle.manchester_line.specs.Line.{mix_of}
+use Rattle.tap_lines.proofs.Mixes.{AreMixed}
 use Rattle.tap_lines.proofs.line.mix_from.Given as goal
 
 -- the symbols below j are mixed, and the others are not
 abbrev pub invariant-loop-j : goal.invariant-loop-j
-invariant-loop-j l = record {
-  len : length l.piece ≡ length l.fn.piece;
-  done : (i : ℕ) (d : Sym) → i < l.j → slice_index_or l.piece i d ≡ mix_of (slice_index_or l.fn.piece i d) (slice_index_or l.symbols (l.first + i) Idle);
-  left : (i : ℕ) (d : Sym) → l.j ≤ i → slice_index_or l.piece i d ≡ slice_index_or l.fn.piece i d;
-}
+invariant-loop-j l = AreMixed (λ i. slice_index_or l.symbols (l.first + i) Idle) l.fn.piece l.piece l.j

@@ -1,11 +1,10 @@
 use Rattle.std.proofs.Common.{◌≡◌, ◌<◌, ◌+◌, ◌-◌, refl, true, false, length, get_or, sym, ap, ◌∙◌, arith, rules}
-use Rattle.std.proofs.lemmas.List.{get_or_read}
 use Rattle.manchester_line.specs.declared.Sym.TheVariants.{Idle}
 use Rattle.manchester_line.specs.Line.{mix_of}
-use Rattle.tap_lines.specs.TapLines.{no_line, heard_of_line}
-use Rattle.tap_lines.proofs.HeardLines.{heard_piece, mix_idle}
+use Rattle.tap_lines.specs.TapLines.{heard_of_line}
+use Rattle.tap_lines.proofs.HeardLines.{heard_piece, mix_idle, own_line}
 use Rattle.tap_lines.proofs.HeardLists.{all_listed, listed_first, listed_next}
-use Rattle.tap_lines.proofs.HeardClasses.{other_line, own_line}
+use Rattle.tap_lines.proofs.HeardClasses.{listed_line}
 use Rattle.tap_lines.proofs.LoudLists.{later_idle}
 use Rattle.tap_lines.proofs.listed.hear_listed.Goals as goal
 
@@ -60,10 +59,7 @@ loop-i-preserved c =
     let many = c.len-i-end.ensures in
     let len = c.mix_over.auto.piece ∙ c.loop-i.invariant.len in
     let which = c.tap-q.ensures in
-    let below = c.requires.listed.loud.within i (omega (arith, test, many)) in
-    let in_it : q < length ls = omega (arith, which, below) in
-    let line : c.index-lines-q.result ≡ get_or ls q no_line = get_or_read ls q c.index-lines-q.result in_it c.index-lines-q.is no_line in
-    let tap : c.index-lines-p.result ≡ get_or ls p no_line = get_or_read ls p c.index-lines-p.result c.requires.listed.tap c.index-lines-p.is no_line in
+    let in_it : i < length ns = omega (arith, test, many) in
     record {
       len = len;
       fresh = λ (e : false ≡ true). absurd (search rules);
@@ -71,9 +67,9 @@ loop-i-preserved c =
           let s = get_or c.loop-i.piece j Idle in
           let u = c.args.t + j in
           let idle = later_idle _ (u - c.args.far) ls ns (omega arith) c.requires.listed.loud in
-          listed_next L u c.args.far p i ls ns s (get_or c.mix_over.new.piece j Idle) c.requires.listed.reach c.requires.listed.tap idle (omega (arith, test, many))
+          listed_next L u c.args.far p i ls ns s (get_or c.mix_over.new.piece j Idle) c.requires.listed.reach c.requires.listed.tap idle in_it
           (c.mix_over.ensures j Idle (omega (arith, h, len))
-          ∙ ap (mix_of s) (sym (other_line L u p q c.place-at.result _ ls c.index-lines-p.result c.index-lines-q.result c.if-q-p.false tap line c.place-at.ensures refl)
+          ∙ ap (mix_of s) (sym (listed_line L c.args.far c.args.t (length c.args.piece.now) u p q i c.place-at.result _ ls ns c.index-lines-p.result c.index-lines-q.result c.requires.listed in_it which c.if-q-p.false c.index-lines-p.is c.index-lines-q.is c.place-at.ensures refl)
           ∙ ap (λ k. heard_of_line L u ls p k) which))
           (c.loop-i.invariant.heard j h);
     }

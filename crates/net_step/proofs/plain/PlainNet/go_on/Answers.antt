@@ -10,27 +10,53 @@ use Rattle.mac_transmit.specs.Sender.{Sender, SendOutcome}
 use Rattle.mac_receive.specs.KeptReceiver.{Kept, kept_octets}
 use Rattle.repeater_core.specs.Step.{State, after, decided_by, emitted_by}
 use Rattle.net_step.specs.declared.places.Place.{Place}
+use Rattle.network.specs.declared.outputs.Taken.{Taken}
 use Rattle.network.specs.Net.{sendings, each_repeater}
 use Rattle.network.specs.Captures.{captured}
 use Rattle.network.specs.Rows.{repeater_rows, repeater_bodies, rows_of}
 use Rattle.net_step.specs.Wires.{Wire, heard_at_place, carried}
-use Rattle.net_step.specs.KeptNet.{KeptNet, stations_hear_kept, ports_hear_kept, all_told, over_from, IsNextKept}
+use Rattle.net_step.specs.KeptNet.{KeptNet, stations_hear_kept, ports_hear_kept, all_told, over_from, IsNextKept, IsWhole}
 use Rattle.net_step.proofs.KeptReceivers.{given-alike}
 use Rattle.net_step.proofs.StandsForNet.{goes_on}
 use Rattle.net_step.proofs.WholeNet.{kept_of, whole_next}
 use Rattle.net_step.proofs.plain.PlainNet.go_on.Goals as goal
+use Rattle.net_step.proofs.plain.PlainNet.go_on.Goals.{After-log_all}
 
-pub invariant_of-self : goal.invariant_of-self
-invariant_of-self c =
+-- what is kept after the half bit, with these captures
+abbrev kept_later : (c : After-log_all) → List (List Taken) → KeptNet
+kept_later c captures =
+    let q = c.self.inside in
+    record {
+      t = q.t + 1;
+      senders = (with_items q.senders c.step_stations.new.senders).items;
+      receivers = (with_items q.receivers c.step_stations.new.receivers).items;
+      repeaters = (with_items q.relays c.relay_all.new.relays).items;
+      wires = (with_items q.segments c.carry_all.new.segments).items;
+      places = q.places.items;
+      rows = c.log_all.new.rows;
+      captures = captures;
+      reaches = c.pass.new.self.reaches.items;
+      delays = c.pass.new.self.delays.items;
+      settled = c.pass.new.self.settled;
+    }
+
+guards_kept : (c : After-log_all) → map (λ (x : State). length x.guards) (with_items c.self.inside.relays c.relay_all.new.relays).items ≡ map (λ (x : State). length x.guards) c.self.inside.relays.items
+guards_kept c = kept_of (map (λ (x : State). length x.guards)) (with_items_is c.self.inside.relays c.relay_all.new.relays (search rules)) c.relay_all.ensures.ports c.deref_mut-7.ensures.value
+
+-- it is whole, where there are as many captures as before
+whole_later : (c : After-log_all) (captures : List (List Taken)) → length captures ≡ length c.self.inside.captures.items →
+    IsWhole (kept_later c captures) (length (with_items c.self.inside.heard c.hear_all.new.heard).items) (length (with_items c.self.inside.emitted c.step_stations.new.emitted).items)
+    (length (with_items c.self.inside.port_emitted c.relay_all.new.emitted).items) (length (with_items c.self.inside.decided c.relay_all.new.decided).items)
+    (length (with_items c.self.inside.row c.join.new.row).items) (length (with_items c.self.inside.sent c.step_stations.new.sent).items)
+    (length (with_items c.self.inside.received c.step_stations.new.received).items) (length (with_items c.self.inside.events c.relay_all.new.events).items)
+whole_later c captures as_many =
     let q = c.self.inside in
     let wires : (with_items q.segments c.carry_all.new.segments).items ≡ map (carried c.deref-6.result.now) q.segments.items =
     with_items_is q.segments c.carry_all.new.segments (search rules) ∙ c.carry_all.ensures ∙ ap (map (carried c.deref-6.result.now)) c.deref_mut-12.ensures.value in
-    let guards : map (λ (x : State). length x.guards) (with_items q.relays c.relay_all.new.relays).items ≡ map (λ (x : State). length x.guards) q.relays.items =
-    kept_of (map (λ (x : State). length x.guards)) (with_items_is q.relays c.relay_all.new.relays (search rules)) c.relay_all.ensures.ports c.deref_mut-7.ensures.value in
     whole_next _ _ c.deref-6.result.now _ _ _ _ _ _ _ _ _ _ _ _ _ _ _ _ c.self.invariant refl wires
     (kept_of length (with_items_is q.senders c.step_stations.new.senders (search rules)) c.step_stations.auto.senders c.deref_mut-2.ensures.value)
     (kept_of length (with_items_is q.receivers c.step_stations.new.receivers (search rules)) c.step_stations.auto.receivers c.deref_mut-3.ensures.value)
-    refl guards
+    as_many (guards_kept c)
     (kept_of length (with_items_is q.heard c.hear_all.new.heard (search rules)) c.hear_all.auto.heard c.deref_mut.ensures.value)
     (kept_of length (with_items_is q.emitted c.step_stations.new.emitted (search rules)) c.step_stations.auto.emitted c.deref_mut-4.ensures.value)
     (kept_of length (with_items_is q.port_emitted c.relay_all.new.emitted (search rules)) c.relay_all.auto.emitted c.deref_mut-8.ensures.value)
@@ -41,28 +67,15 @@ invariant_of-self c =
     (kept_of length (with_items_is q.events c.relay_all.new.events (search rules)) c.relay_all.auto.events c.deref_mut-10.ensures.value)
     (subst (All (λ (s : Sender). s.t ≡ q.t + 1)) (sym (with_items_is q.senders c.step_stations.new.senders (search rules))) c.step_stations.ensures.times)
     (subst (All (λ (r : Kept). r.steps ≡ q.t + 1)) (sym (with_items_is q.receivers c.step_stations.new.receivers (search rules))) c.step_stations.ensures.steps)
+
+pub invariant_of-self : goal.invariant_of-self
+invariant_of-self c = whole_later (goal.at.invariant_of-self c).After-log_all c.self.inside.captures.items refl
 
 pub invariant_of-self-2 : goal.invariant_of-self-2
 invariant_of-self-2 c =
-    let q = c.self.inside in
-    let wires : (with_items q.segments c.carry_all.new.segments).items ≡ map (carried c.deref-6.result.now) q.segments.items =
-    with_items_is q.segments c.carry_all.new.segments (search rules) ∙ c.carry_all.ensures ∙ ap (map (carried c.deref-6.result.now)) c.deref_mut-12.ensures.value in
-    let guards : map (λ (x : State). length x.guards) (with_items q.relays c.relay_all.new.relays).items ≡ map (λ (x : State). length x.guards) q.relays.items =
-    kept_of (map (λ (x : State). length x.guards)) (with_items_is q.relays c.relay_all.new.relays (search rules)) c.relay_all.ensures.ports c.deref_mut-7.ensures.value in
-    whole_next _ _ c.deref-6.result.now _ _ _ _ _ _ _ _ _ _ _ _ _ _ _ _ c.self.invariant refl wires
-    (kept_of length (with_items_is q.senders c.step_stations.new.senders (search rules)) c.step_stations.auto.senders c.deref_mut-2.ensures.value)
-    (kept_of length (with_items_is q.receivers c.step_stations.new.receivers (search rules)) c.step_stations.auto.receivers c.deref_mut-3.ensures.value)
-    (kept_of length (with_items_is q.captures c.capture_all.new.captures (search rules)) c.capture_all.auto.captures c.deref_mut-13.ensures.value) guards
-    (kept_of length (with_items_is q.heard c.hear_all.new.heard (search rules)) c.hear_all.auto.heard c.deref_mut.ensures.value)
-    (kept_of length (with_items_is q.emitted c.step_stations.new.emitted (search rules)) c.step_stations.auto.emitted c.deref_mut-4.ensures.value)
-    (kept_of length (with_items_is q.port_emitted c.relay_all.new.emitted (search rules)) c.relay_all.auto.emitted c.deref_mut-8.ensures.value)
-    (kept_of length (with_items_is q.decided c.relay_all.new.decided (search rules)) c.relay_all.auto.decided c.deref_mut-9.ensures.value)
-    (kept_of length (with_items_is q.row c.join.new.row (search rules)) c.join.auto.row c.deref_mut-11.ensures.value)
-    (kept_of length (with_items_is q.sent c.step_stations.new.sent (search rules)) c.step_stations.auto.sent c.deref_mut-5.ensures.value)
-    (kept_of length (with_items_is q.received c.step_stations.new.received (search rules)) c.step_stations.auto.received c.deref_mut-6.ensures.value)
-    (kept_of length (with_items_is q.events c.relay_all.new.events (search rules)) c.relay_all.auto.events c.deref_mut-10.ensures.value)
-    (subst (All (λ (s : Sender). s.t ≡ q.t + 1)) (sym (with_items_is q.senders c.step_stations.new.senders (search rules))) c.step_stations.ensures.times)
-    (subst (All (λ (r : Kept). r.steps ≡ q.t + 1)) (sym (with_items_is q.receivers c.step_stations.new.receivers (search rules))) c.step_stations.ensures.steps)
+    let captures = c.self.inside.captures in
+    whole_later (goal.at.invariant_of-self-2 c).After-log_all (with_items captures c.capture_all.new.captures).items
+    (kept_of length (with_items_is captures c.capture_all.new.captures (search rules)) c.capture_all.auto.captures c.deref_mut-13.ensures.value)
 
 pub returns : goal.returns
 returns c =
@@ -86,19 +99,8 @@ returns c =
     let segments = with_items_is q.segments c.carry_all.new.segments (search rules) in
     let captures = with_items_is q.captures c.capture_all.new.captures (search rules) in
     let first : KeptNet = record { t = q.t; senders = q.senders.items; receivers = q.receivers.items; repeaters = q.relays.items; wires = q.segments.items; places = q.places.items; rows = q.rows; captures = q.captures.items; reaches = q.settling.reaches.items; delays = q.settling.delays.items; settled = q.settling.settled } in
-    let last : KeptNet = record {
-      t = q.t + 1;
-      senders = (with_items q.senders c.step_stations.new.senders).items;
-      receivers = (with_items q.receivers c.step_stations.new.receivers).items;
-      repeaters = (with_items q.relays c.relay_all.new.relays).items;
-      wires = (with_items q.segments c.carry_all.new.segments).items;
-      places = q.places.items;
-      rows = c.log_all.new.rows;
-      captures = (with_items q.captures c.capture_all.new.captures).items;
-      reaches = c.pass.new.self.reaches.items;
-      delays = c.pass.new.self.delays.items;
-      settled = c.pass.new.self.settled;
-    } in
+    let at = (goal.at.returns c).After-log_all in
+    let last = kept_later at (with_items q.captures c.capture_all.new.captures).items in
     let stations : c.len.result ≡ length q.senders.items = search rules in
     let all : c.deref-3.result.now ≡ map (heard_at_place q.segments.items) q.places.items =
     c.deref-3.ensures.value ∙ heard ∙ c.hear_all.ensures ∙ ap₂ (λ (ws : List Wire) (at : List Place). map (heard_at_place ws) at) c.deref.ensures.value c.deref-2.ensures.value in
@@ -113,8 +115,6 @@ returns c =
     (ap (over_from q.t q.settling.delays.items) (c.deref-8.ensures.value ∙ decided)) in
     let reaches : c.pass.new.self.reaches.items ≡ q.settling.reaches.items = search rules in
     let delays : c.pass.new.self.delays.items ≡ q.settling.delays.items = search rules in
-    let counts : map (λ (x : State). length x.guards) last.repeaters ≡ map (λ (x : State). length x.guards) q.relays.items =
-    kept_of (map (λ (x : State). length x.guards)) relays c.relay_all.ensures.ports c.deref_mut-7.ensures.value in
     let bodies = all_told c.relay_all.new.relays c.relay_all.new.events in
     let goes : (c.capture_all.new.captures ≡ captured q.t c.deref-13.result.now (map kept_octets c.deref-14.result.now) c.deref_mut-13.result.now) → IsNextKept first last = λ kept.
     goes_on first last hs ps es pes c.step_stations.new.sent os bodies stations_hear ports_hear refl
@@ -126,7 +126,7 @@ returns c =
     (relays ∙ c.relay_all.ensures.states ∙ ap (each_repeater after ps) c.deref_mut-7.ensures.value)
     (c.relay_all.ensures.emitted ∙ ap (flat_map emitted_by) c.deref_mut-7.ensures.value)
     (segments ∙ c.carry_all.ensures ∙ ap₂ (λ (xs : List Sym) (ws : List Wire). map (carried xs) ws) (c.deref-6.ensures.value ∙ row ∙ c.join.ensures ∙ ap₂ (λ (xs ys : List Sym). xs ++ ys) (c.deref-4.ensures.value ∙ emitted) (c.deref-5.ensures.value ∙ port_emitted)) c.deref_mut-12.ensures.value)
-    refl counts reaches delays c.relay_all.new.decided
+    refl (guards_kept at) reaches delays c.relay_all.new.decided
     (c.relay_all.ensures.decided ∙ ap (λ (rs : List State). flat_map (λ (symbols : List Sym). symbols) (each_repeater decided_by ps rs)) c.deref_mut-7.ensures.value)
     settled
     (c.relay_all.ensures.bodies ∙ ap (each_repeater repeater_bodies ps) c.deref_mut-7.ensures.value)

@@ -1,12 +1,15 @@
-use Rattle.std.proofs.Common.{◌≡◌, ◌≤◌, ◌+◌, ◌-◌, ◌++◌, take, replicate, get_or, sym, ap, ◌∙◌, arith}
+use Rattle.std.proofs.Common.{◌≡◌, ℕ, ◌≤◌, ◌+◌, ◌-◌, ◌++◌, take, replicate, get_or, sym, ap, ◌∙◌, arith}
 use Rattle.manchester_line.specs.declared.Sym.TheVariants.{Idle}
 use Rattle.manchester_line.specs.Line.{is_signal}
-use Rattle.tap_lines.specs.TapLines.{TapLine}
+use Rattle.network.specs.Times.{earlier}
+use Rattle.tap_lines.specs.TapLines.{TapLine, symbol_on}
 use Rattle.tap_lines.proofs.LinesAhead.{back_is}
 use Rattle.tap_lines.proofs.line.Line.steady_back.Goals as goal
+use Rattle.tap_lines.proofs.line.Line.steady_back.Goals.{After-steady_from}
 
-pub returns-clause-steady : goal.returns-clause-steady
-returns-clause-steady c = λ j h.
+-- what is written at a place behind that of t stands on the line so many half bits before
+text_back : (c : After-steady_from) (j : ℕ) → get_or (take c.self.inside.written c.deref.result.now) (c.args.t - c.args.back - c.self.inside.base + j) Idle ≡ earlier (symbol_on c.args.self.now) (c.args.t + j) c.args.back
+text_back c j =
     let x = c.self.inside in
     let l = c.args.self.now in
     let t = c.args.t in
@@ -16,18 +19,11 @@ returns-clause-steady c = λ j h.
     let is : l.symbols ≡ text ++ replicate x.quiet Idle = sym (ap (λ (k : TapLine). k.symbols) c.self.view_is) ∙ ap (λ ys. take x.written ys ++ replicate x.quiet Idle) (sym c.deref.ensures.value) in
     let low = c.if-t-back.false in
     let high : l.base ≤ t - back = let z = c.if-t-back-2.false in omega (arith, z, base) in
-    ap is_signal (sym (back_is l text x.quiet t back j is low high) ∙ ap (λ b. get_or text (t - back - b + j) Idle) (sym base)) ∙ c.steady_from.ensures.steady j h
+    ap (λ b. get_or text (t - back - b + j) Idle) base ∙ back_is l text x.quiet t back j is low high
+
+pub returns-clause-steady : goal.returns-clause-steady
+returns-clause-steady c = λ j h. ap is_signal (sym (text_back (goal.at.returns-clause-steady c).After-steady_from j)) ∙ c.steady_from.ensures.steady j h
 
 pub returns-clause-longest : goal.returns-clause-longest
 returns-clause-longest c = λ less same.
-    let j = c.steady_from.result in
-    let x = c.self.inside in
-    let l = c.args.self.now in
-    let t = c.args.t in
-    let back = c.args.back in
-    let text = take x.written c.deref.result.now in
-    let base : x.base ≡ l.base = ap (λ (k : TapLine). k.base) c.self.view_is in
-    let is : l.symbols ≡ text ++ replicate x.quiet Idle = sym (ap (λ (k : TapLine). k.symbols) c.self.view_is) ∙ ap (λ ys. take x.written ys ++ replicate x.quiet Idle) (sym c.deref.ensures.value) in
-    let low = c.if-t-back.false in
-    let high : l.base ≤ t - back = let z = c.if-t-back-2.false in omega (arith, z, base) in
-    c.steady_from.ensures.longest less (ap is_signal (ap (λ b. get_or text (t - back - b + j) Idle) base ∙ back_is l text x.quiet t back j is low high) ∙ same)
+    c.steady_from.ensures.longest less (ap is_signal (text_back (goal.at.returns-clause-longest c).After-steady_from c.steady_from.result) ∙ same)
