@@ -1,6 +1,6 @@
 -- A share that gets one more part stays sound.
 use Rattle.std.proofs.Common.{◌≡◌, ◌≢◌, ℕ, zero, suc, ◌+◌, ◌-◌, ◌<◌, ◌≤◌, Bool, true, false, not, cond, inl, inr, List, [], ◌∷◌, ◌++◌, length, replicate, get_or, refl, sym, ap, ◌∙◌, arith, subst, true≢false}
-use Rattle.std.specs.Prelude.{Option, Some, None, if◌then◌else◌}
+use Rattle.std.specs.Prelude.{Option, Some, None, Result, OnOk, OnErr, if◌then◌else◌}
 use Rattle.std.proofs.lemmas.Bool.{cases_eq, cases_lt}
 use Rattle.std.proofs.lemmas.List.{length-append, length-replicate, get_or_append_left, get_or-set_same, get_or-set_other}
 use Rattle.std.proofs.Math.Seq.{get_or-append_seam}
@@ -9,6 +9,7 @@ use Rattle.net_parts.specs.Parts.{is_segment_part, edges_of_part}
 use Rattle.net_parts.specs.Boards.{has_edge, place_in}
 use Rattle.exchange_core.specs.Holdings.{Holding, IsSoundHolding, edges_of_parcels, place_of_edge, is_here, added_repeater}
 use Rattle.exchange_core.specs.Shares.{Rack, Held, share_of, nothing_held, part_on, owns, is_owned, has_place, part_of_kind_on, widened, add_on, IsOfPlan, HasNoneOf, IsInPlace, IsWholeShare, AreOwners, IsAddedInOrder}
+use Rattle.exchange_core.proofs.EitherAnswer.{on_either}
 use Rattle.exchange_core.proofs.EdgesOfParts.{at_its_place, place_within, has_each, one_part}
 use Rattle.exchange_core.proofs.ChangedRacks.{some_same, none_not_some, some_part, without_place}
 use Rattle.exchange_core.proofs.SoundShares.{not_here}
@@ -229,3 +230,14 @@ module _ (kind : Bool) (so ro : List ℕ) (a b : Rack) (w : IsWholeShare so ro (
     known = owners_added h.plan h.number es (cond kind so ro) new edges others h (cond kind a b) refl may.sound.edges mine fresh_here was.known;
     known_other = was.known_other;
   })))
+
+  -- there is room for it or not
+  pub grown_whole : {X Y : Type 0} (answer : Result X Y) (holder : Holding) (r : Rack) → holder ≡ h
+      → ((k : ℕ) → k < length es → get_or new (get_or es k 0) 0 ≡ h.number)
+      → ((e v : ℕ) (g : Holding) → is_here e h ≡ true → part_on v (cond kind b a) ≡ Some g → is_here e g ≡ true → ⊥)
+      → OnOk answer (r ≡ add_on holder (cond kind a b)) → OnErr answer (r ≡ cond kind a b)
+      → IsWholeShare (cond kind new so) (cond kind ro new) (share_of (cond kind r a) (cond kind b r))
+  grown_whole answer holder r is mine none ok err =
+      on_either answer (r ≡ add_on holder (cond kind a b)) (r ≡ cond kind a b) (IsWholeShare (cond kind new so) (cond kind ro new) (share_of (cond kind r a) (cond kind b r))) ok err
+      (λ q. added_whole mine none r (q ∙ ap (λ x. add_on x (cond kind a b)) is))
+      (λ q. subst (IsWholeShare (cond kind new so) (cond kind ro new)) (sym (ap (λ x. share_of (cond kind x a) (cond kind b x)) q ∙ same_racks kind)) learnt_whole)

@@ -1,5 +1,5 @@
--- What a share that takes a parcel is, and what one that posts a parcel is. A kind is true for segments, whose racks and
--- owners come first.
+-- What a share that takes a parcel is, and what one that posts a parcel is. A kind is true for segments, whose racks
+-- and owners come first.
 use Rattle.std.proofs.Common.{◌≡◌, ℕ, Bool, true, false, not, cond, List, get_or, refl, sym, ap, ◌∙◌, subst, true≢false}
 use Rattle.std.specs.Prelude.{Option, Some, None, IfSome, ◌&&◌, ◌||◌, if◌then◌else◌}
 use Rattle.load_plan.specs.declared.plan.Plan.{Plan}
@@ -17,6 +17,9 @@ pub record IsEdgeOf (so ro : List ℕ) (a b : Rack) (e s r : ℕ) : Type 0 where
   pub whole : IsWholeShare so ro (share_of a b)
   pub segment : s ≡ get_or so e 0
   pub repeater : r ≡ get_or ro e 0
+
+pub edge_kept : {so ro : List ℕ} {a b : Rack} {e s r : ℕ} → IsWholeShare so ro (share_of a b) → s ≡ get_or so e 0 → r ≡ get_or ro e 0 → IsEdgeOf so ro a b e s r
+edge_kept w segment repeater = record { whole = w; segment = segment; repeater = repeater }
 
 at_kind : (kind : Bool) (so ro : List ℕ) (a b : Rack) (e s r : ℕ) → IsEdgeOf so ro a b e s r → cond kind s r ≡ get_or (cond kind so ro) e 0
 at_kind true so ro a b e s r f = f.segment

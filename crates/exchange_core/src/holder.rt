@@ -1,11 +1,11 @@
 //! One part and the places of its parcels.
-ghost use Rattle.std.specs.Prelude.{◌≡◌, ◌<◌, ◌+◌, ℕ, false, true, not, length, map, All, replicate, IfOk, OnOk, OnErr, IsTrue, ◌↔◌, Some, None, IfSome, if◌then◌else◌, slice_index_or, slice_set};
+ghost use Rattle.std.specs.Prelude.{◌≡◌, ◌<◌, ◌+◌, false, true, length, map, All, IfOk, OnOk, OnErr, IsTrue, ◌↔◌, Some, IfSome, if◌then◌else◌};
 ghost use Rattle.net_parts.specs.declared.parcel.Parcel.{Parcel};
 ghost use Rattle.net_parts.specs.Windows.{windows};
-ghost use Rattle.net_parts.specs.Parts.{is_segment_part, edges_of_part};
+ghost use Rattle.net_parts.specs.Parts.{is_segment_part};
 ghost use Rattle.net_parts.specs.Parcels.{IsTrueParcel};
 ghost use Rattle.net_parts.specs.Boards.{place_in, has_edge};
-ghost use Rattle.exchange_core.specs.Holdings.{Holding, IsHoldingReady, IsHoldingClean, IsSoundHolding, IsOnWay, edges_of_parcels, place_of_edge, new_holding, absent_parcel, emptied_parcel, parcel_of_edge, is_here, added_segment, added_repeater, reserved_holding, refused_holding, run_holding, spoil_holding, vacate_holding, take_holding};
+ghost use Rattle.exchange_core.specs.Holdings.{Holding, IsHoldingReady, IsHoldingClean, IsSoundHolding, IsOnWay, edges_of_parcels, place_of_edge, new_holding, absent_parcel, emptied_parcel, parcel_of_edge, added_segment, added_repeater, reserved_holding, refused_holding, run_holding, spoil_holding, vacate_holding, take_holding};
 ghost use Rattle.exchange_core.specs.Shares.{AreParcelsFor, part_on, has_place, leaves, received_on};
 
 use crate::lane::Lane;

@@ -1,22 +1,16 @@
 //! Parts of one kind.
-ghost use Rattle.std.specs.Prelude.{◌≡◌, ◌<◌, ◌≤◌, ◌+◌, ◌++◌, [], ℕ, false, true, length, map, if◌then◌else◌, OnOk, OnErr, IfSome, None, Some, slice_index_or, slice_set, vec_len, vec_capacity};
+ghost use Rattle.std.specs.Prelude.{◌≡◌, ◌<◌, ◌≤◌, ◌+◌, [], false, true, map, if◌then◌else◌, OnOk, OnErr, IfSome, None, Some, slice_index_or, slice_set, vec_len, vec_capacity};
 ghost use Rattle.net_parts.specs.declared.parcel.Parcel.{Parcel};
 ghost use Rattle.net_parts.specs.Parcels.{IsTrueParcel};
-ghost use Rattle.exchange_core.specs.Holdings.{Holding, IsHoldingReady, IsHoldingClean, reserved_holding, refused_holding, run_holding, spoil_holding, vacate_holding, take_holding};
+ghost use Rattle.exchange_core.specs.Holdings.{IsHoldingReady, IsHoldingClean, reserved_holding, refused_holding, run_holding, spoil_holding, vacate_holding, take_holding};
 ghost use Rattle.exchange_core.specs.Shares.{Rack, part_on, is_owned, changed, change_on, has_place, leaves, parcel_in, received_on, widened, add_on, handed, handed_as, handed_out, IsAddedInOrder};
 
 use crate::holder::Holder;
+use crate::spots::Spot;
 use lists::OutOfMemory;
 use net_parts::{Parcel, Part};
 use std::alloc::Global;
 use std::marker::Model;
-
-/// Where the parcel of an edge belongs: a part's number, and the place there where it is looked for first.
-#[derive(Clone, Copy)]
-pub struct Spot {
-    pub part: u32,
-    pub place: u32,
-}
 
 /// Parts of one kind, each at the place of its number, and room to hand them out in the order in which they were added.
 #[derive(Drop)]

@@ -5,6 +5,7 @@ mod holder;
 mod lane;
 pub mod laws;
 mod share;
+mod spots;
 
 pub use holder::Holder;
 pub use share::{PartList, Share};

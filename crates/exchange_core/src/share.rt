@@ -1,15 +1,15 @@
 //! What one worker owns.
-ghost use Rattle.std.specs.Prelude.{◌≡◌, ◌≢◌, ◌<◌, ◌+◌, ◌++◌, ◌∷◌, [], ℕ, false, true, length, map, if◌then◌else◌, OnOk, OnErr, IfSome, IsTrue, ◌↔◌, None, Some, slice_index_or};
+ghost use Rattle.std.specs.Prelude.{◌≡◌, ◌<◌, false, true, map, if◌then◌else◌, OnOk, OnErr, IfSome, IsTrue, ◌↔◌};
 ghost use Rattle.load_plan.specs.declared.plan.Plan.{Plan};
 ghost use Rattle.net_parts.specs.declared.parcel.Parcel.{Parcel};
 ghost use Rattle.net_parts.specs.Parts.{is_segment_part, edges_of_part};
 ghost use Rattle.net_parts.specs.Parcels.{IsTrueParcel};
-ghost use Rattle.net_parts.specs.Boards.{has_edge};
-ghost use Rattle.exchange_core.specs.Holdings.{Holding, IsHoldingReady, IsHoldingClean, MayBeSpoiled, added_segment, added_repeater, reserved_holding, refused_holding, run_holding, spoil_holding};
-ghost use Rattle.exchange_core.specs.Shares.{Held, nothing_held, part_of, owns, is_owned, change, is_refilled, posted_parcel, post_held, has_place_for, take_held, may_post, first_with_edge, carry_held, with_segment, with_repeater, handed_as, handed_out, IsOfPlan, HasNoneOf, AreParcelsFor, IsSoundShare};
+ghost use Rattle.exchange_core.specs.Holdings.{IsHoldingReady, IsHoldingClean, MayBeSpoiled, added_segment, added_repeater, reserved_holding, refused_holding, run_holding, spoil_holding};
+ghost use Rattle.exchange_core.specs.Shares.{Held, nothing_held, part_of, owns, change, is_refilled, posted_parcel, post_held, has_place_for, take_held, may_post, first_with_edge, carry_held, with_segment, with_repeater, handed_as, handed_out, IsOfPlan, HasNoneOf, AreParcelsFor, IsSoundShare};
 
 use crate::holder::{Holder, absent_parcel};
-use crate::lane::{Lane, Spot};
+use crate::lane::Lane;
+use crate::spots::Spots;
 use lists::OutOfMemory;
 use net_parts::{Parcel, ParcelList, Part};
 use std::alloc::Global;
@@ -25,10 +25,8 @@ pub struct Share<S: Part, R: Part> {
     alloc: Global,
     segments: Lane<S>,
     repeaters: Lane<R>,
-    segment_of: Vec<u32>,
-    repeater_of: Vec<u32>,
-    segment_place: Vec<u32>,
-    repeater_place: Vec<u32>,
+    segment_spots: Spots,
+    repeater_spots: Spots,
 }
 
 impl<S: Part, R: Part> Model for Share<S, R> {
@@ -38,7 +36,7 @@ impl<S: Part, R: Part> Model for Share<S, R> {
 
     ghost view = { λ s. share_of s.segments s.repeaters };
 
-    ghost invariant = { λ s. IsWholeShare s.segment_of.items s.repeater_of.items (share_of s.segments s.repeaters) };
+    ghost invariant = { λ s. IsWholeShare s.segment_spots.parts.items s.repeater_spots.parts.items (share_of s.segments s.repeaters) };
 }
 
 impl<S: Part, R: Part> Share<S, R> {
@@ -50,10 +48,8 @@ impl<S: Part, R: Part> Share<S, R> {
             alloc,
             segments: Lane::new(alloc),
             repeaters: Lane::new(alloc),
-            segment_of: Vec::new(alloc),
-            repeater_of: Vec::new(alloc),
-            segment_place: Vec::new(alloc),
-            repeater_place: Vec::new(alloc),
+            segment_spots: Spots::new(alloc),
+            repeater_spots: Spots::new(alloc),
         }
     }
 
@@ -74,12 +70,7 @@ impl<S: Part, R: Part> Share<S, R> {
         ensures ok { OnOk result (self.new ≡ with_segment (added_segment (S.plan part) (S.number part) (S.at part) parcels) self.old) }
         ensures err { OnErr result (self.new ≡ self.old) }
     {
-        learn(
-            &mut self.segment_of,
-            &mut self.segment_place,
-            part.edges(),
-            part.part(),
-        )?;
+        self.segment_spots.learn(part.edges(), part.part())?;
         let holder = Holder::segment(self.alloc, part, parcels)?;
         self.segments.add(holder)
     }
@@ -92,12 +83,7 @@ impl<S: Part, R: Part> Share<S, R> {
         ensures ok { OnOk result (self.new ≡ with_repeater (added_repeater (R.plan part) (R.number part) (R.at part)) self.old) }
         ensures err { OnErr result (self.new ≡ self.old) }
     {
-        learn(
-            &mut self.repeater_of,
-            &mut self.repeater_place,
-            part.edges(),
-            part.part(),
-        )?;
+        self.repeater_spots.learn(part.edges(), part.part())?;
         let holder = Holder::repeater(self.alloc, part)?;
         self.repeaters.add(holder)
     }
@@ -205,19 +191,11 @@ impl<S: Part, R: Part> Share<S, R> {
     pub fn refilled(&self, edge: u32) -> bool
         ensures { result ≡ is_refilled edge self.now }
     {
-        let segment = spot(
-            self.segment_of.as_slice(),
-            self.segment_place.as_slice(),
-            edge,
-        );
+        let segment = self.segment_spots.spot(edge);
         if self.segments.may_post(segment, edge) {
             return true;
         }
-        let repeater = spot(
-            self.repeater_of.as_slice(),
-            self.repeater_place.as_slice(),
-            edge,
-        );
+        let repeater = self.repeater_spots.spot(edge);
         self.repeaters.may_post(repeater, edge)
     }
 
@@ -227,18 +205,10 @@ impl<S: Part, R: Part> Share<S, R> {
     {
         let edge = parcel.edge;
         if parcel.to_repeater {
-            let repeater = spot(
-                self.repeater_of.as_slice(),
-                self.repeater_place.as_slice(),
-                edge,
-            );
+            let repeater = self.repeater_spots.spot(edge);
             return self.repeaters.has(repeater, edge);
         }
-        let segment = spot(
-            self.segment_of.as_slice(),
-            self.segment_place.as_slice(),
-            edge,
-        );
+        let segment = self.segment_spots.spot(edge);
         self.segments.has(segment, edge)
     }
 
@@ -251,19 +221,11 @@ impl<S: Part, R: Part> Share<S, R> {
         ensures new { self.new ≡ post_held edge self.old }
     {
         let mut parcel = absent_parcel(self.alloc, edge, true);
-        let segment = spot(
-            self.segment_of.as_slice(),
-            self.segment_place.as_slice(),
-            edge,
-        );
+        let segment = self.segment_spots.spot(edge);
         if self.segments.post(segment, edge, &mut parcel) {
             return parcel;
         }
-        let repeater = spot(
-            self.repeater_of.as_slice(),
-            self.repeater_place.as_slice(),
-            edge,
-        );
+        let repeater = self.repeater_spots.spot(edge);
         self.repeaters.post(repeater, edge, &mut parcel);
         parcel
     }
@@ -276,16 +238,8 @@ impl<S: Part, R: Part> Share<S, R> {
     {
         let mut parcel = parcel;
         let edge = parcel.edge;
-        let segment = spot(
-            self.segment_of.as_slice(),
-            self.segment_place.as_slice(),
-            edge,
-        );
-        let repeater = spot(
-            self.repeater_of.as_slice(),
-            self.repeater_place.as_slice(),
-            edge,
-        );
+        let segment = self.segment_spots.spot(edge);
+        let repeater = self.repeater_spots.spot(edge);
         if parcel.to_repeater {
             self.segments.empty(segment, edge);
             self.repeaters
@@ -318,16 +272,8 @@ impl<S: Part, R: Part> Share<S, R> {
         ensures when { result ≡ may_post edge (first_with_edge edge self.old.segments.places) }
         ensures new { self.new ≡ (if may_post edge (first_with_edge edge self.old.segments.places) then carry_held edge self.old else self.old) }
     {
-        let segment = spot(
-            self.segment_of.as_slice(),
-            self.segment_place.as_slice(),
-            edge,
-        );
-        let repeater = spot(
-            self.repeater_of.as_slice(),
-            self.repeater_place.as_slice(),
-            edge,
-        );
+        let segment = self.segment_spots.spot(edge);
+        let repeater = self.repeater_spots.spot(edge);
         self.segments
             .bring(segment, edge, &mut self.repeaters, repeater)
     }
@@ -338,16 +284,8 @@ impl<S: Part, R: Part> Share<S, R> {
         ensures when { result ≡ may_post edge (first_with_edge edge self.old.repeaters.places) }
         ensures new { self.new ≡ (if may_post edge (first_with_edge edge self.old.repeaters.places) then carry_held edge self.old else self.old) }
     {
-        let segment = spot(
-            self.segment_of.as_slice(),
-            self.segment_place.as_slice(),
-            edge,
-        );
-        let repeater = spot(
-            self.repeater_of.as_slice(),
-            self.repeater_place.as_slice(),
-            edge,
-        );
+        let segment = self.segment_spots.spot(edge);
+        let repeater = self.repeater_spots.spot(edge);
         self.repeaters
             .bring(repeater, edge, &mut self.segments, segment)
     }
@@ -361,60 +299,9 @@ impl<S: Part, R: Part> Share<S, R> {
             alloc: _,
             segments,
             repeaters,
-            segment_of: _,
-            repeater_of: _,
-            segment_place: _,
-            repeater_place: _,
+            segment_spots: _,
+            repeater_spots: _,
         } = self;
         (segments.into_parts(), repeaters.into_parts())
     }
-}
-
-/// What is kept of this edge, or 0.
-fn owner(owners: &[u32], edge: u32) -> u32
-    ensures { result ≡ slice_index_or owners.now edge 0 }
-{
-    let edge = edge as usize;
-    if edge < owners.len() { owners[edge] } else { 0 }
-}
-
-/// Where the parcel of this edge belongs, as is kept, or the first place of part 0.
-fn spot(owners: &[u32], places: &[u32], edge: u32) -> Spot
-    ensures { result.part ≡ slice_index_or owners.now edge 0 }
-{
-    Spot {
-        part: owner(owners, edge),
-        place: owner(places, edge),
-    }
-}
-
-/// Keeps the number of the part that has these edges, and the place of each among them. On refusal what is kept of
-/// other edges stays.
-fn learn(
-    owners: &mut Vec<u32>,
-    places: &mut Vec<u32>,
-    edges: &[u32],
-    part: u32,
-) -> Result<(), OutOfMemory>
-    ensures mine { OnOk result ((k : ℕ) → k < length edges.now → slice_index_or owners.new.items (slice_index_or edges.now k 0) 0 ≡ part) }
-    ensures others { (e : ℕ) → ((k : ℕ) → k < length edges.now → slice_index_or edges.now k 0 ≢ e) → slice_index_or owners.new.items e 0 ≡ slice_index_or owners.old.items e 0 }
-{
-    for k in 0..edges.len() {
-        learn_one(owners, edges[k], part)?;
-        learn_one(places, edges[k], u32::try_from(k).unwrap_or(0))?;
-    }
-    Ok(())
-}
-
-/// Keeps a number of this edge. On refusal what is kept of other edges stays.
-fn learn_one(owners: &mut Vec<u32>, edge: u32, part: u32) -> Result<(), OutOfMemory>
-    ensures mine { OnOk result (slice_index_or owners.new.items edge 0 ≡ part) }
-    ensures others { (e : ℕ) → e ≢ edge → slice_index_or owners.new.items e 0 ≡ slice_index_or owners.old.items e 0 }
-{
-    let edge = edge as usize;
-    while owners.len() <= edge {
-        owners.push(0)?;
-    }
-    owners[edge] = part;
-    Ok(())
 }

@@ -1,5 +1,5 @@
 //! The kits of a run.
-ghost use Rattle.std.specs.Prelude.{◌≡◌, ◌<◌, ◌+◌, ◌≤◌, IfOk, Some, length};
+ghost use Rattle.std.specs.Prelude.{◌≡◌, ◌<◌, ◌+◌, IfOk, Some, length};
 ghost use Rattle.worker_gate.specs.PartMakers.{MakesSegments, MakesRepeaters};
 
 use crate::desk::{Desk, Segments};

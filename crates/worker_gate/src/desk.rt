@@ -1,5 +1,5 @@
 //! What a worker owns of the plan that a type carries.
-ghost use Rattle.std.specs.Prelude.{◌≡◌, ◌<◌, ◌≤◌, ◌+◌, ◌↔◌, [], true, false, All, IfSome, IsTrue, None, OnErr, OnOk, Some, if◌then◌else◌, length};
+ghost use Rattle.std.specs.Prelude.{◌≡◌, ◌<◌, ◌≤◌, ◌↔◌, [], true, false, All, IfSome, IsTrue, None, OnErr, OnOk, Some, if◌then◌else◌, length};
 ghost use Rattle.net_parts.specs.Parcels.{IsTrueParcel, arrived};
 ghost use Rattle.exchange_core.specs.Holdings.{IsHoldingReady, IsHoldingClean, added_repeater, added_segment};
 ghost use Rattle.exchange_core.specs.Shares.{carry_held, has_place_for, is_refilled, nothing_held, owns, part_of, post_held, posted_parcel, rack, take_held, with_repeater, with_segment};

@@ -1,7 +1,7 @@
 //! Parts in order of their numbers.
-ghost use Rattle.std.specs.Prelude.{◌≡◌, ◌<◌, ◌≤◌, ◌+◌, ◌++◌, ◌^◌, All, IfOk, IfSome, OnOk, Some, map, reverse};
+ghost use Rattle.std.specs.Prelude.{◌≡◌, ◌<◌, ◌+◌, ◌++◌, ◌^◌, ◌∷◌, All, IfNone, IfOk, IfSome, IsPermutation, OnOk, Some, map, reverse};
 ghost use Rattle.net_parts.specs.Windows.{windows};
-ghost use Rattle.worker_gate.specs.FinishedParts.{AreFinished};
+ghost use Rattle.worker_gate.specs.FinishedParts.{AreFinished, HaveFinished};
 
 use lists::OutOfMemory;
 use load_plan::Plan;
@@ -39,7 +39,9 @@ pub fn put_parts<P: Planned, S: Part>(
 
 /// Takes the part of this number out, if it is there and has made all windows.
 fn pick<P: Planned, S: Part>(owns: &mut Vec<Own<P, S>>, number: u32) -> Option<S>
-    ensures { IfSome result (λ s. (Some (S.plan s) ≡ P.plan) × (S.number s ≡ number) × (S.at s ≡ windows (S.plan s))) }
+    ensures some { IfSome result (λ s. (Some (S.plan s) ≡ P.plan) × (S.number s ≡ number) × (S.at s ≡ windows (S.plan s))) }
+    ensures left { IfSome result (λ s. IsPermutation (map (λ own. own.part) owns.old.items) (s ∷ map (λ own. own.part) owns.new.items)) }
+    ensures none { IfNone result (HaveFinished S.plan S.number S.at number 1 (map (λ own. own.part) owns.old.items) → ⊥) }
 {
     for i in 0..owns.len() {
         if owns[i].part.part() == number {
@@ -63,7 +65,8 @@ pub fn gather<P: Planned, S: Part>(
 ) -> Result<Option<Vec<S>>, OutOfMemory>
     requires boxed { Some plan.now ≡ P.plan }
     requires numbers { first + count < 2 ^ 32 }
-    ensures { IfOk result (λ o. IfSome o (λ v. AreFinished S.plan S.number S.at plan.now first count v.items)) }
+    ensures some { IfOk result (λ o. IfSome o (λ v. AreFinished S.plan S.number S.at plan.now first count v.items)) }
+    ensures none { IfOk result (λ o. IfNone o (HaveFinished S.plan S.number S.at first count (map (λ own. own.part) owns.items) → ⊥)) }
 {
     let mut owns = owns;
     let mut parts = Vec::new(alloc);

@@ -1,6 +1,5 @@
 //! What a worker works on.
 ghost use Rattle.std.specs.Prelude.{◌≡◌, ◌↔◌, false, true, All, IfSome, IsTrue, Some, [], if◌then◌else◌};
-ghost use Rattle.load_plan.specs.declared.plan.Plan.{Plan};
 ghost use Rattle.net_parts.specs.Parcels.{IsTrueParcel};
 ghost use Rattle.net_parts.specs.Windows.{windows};
 ghost use Rattle.exchange_core.specs.Shares.{has_place_for, nothing_held, part_of, take_held};
@@ -88,6 +87,7 @@ impl<P: Planned + Send, S: Part, R: Part> Kit<P, S, R> {
     /// Puts a parcel to its part, if that is here, and drops it otherwise.
     pub fn take(&mut self, parcel: Parcel)
         requires { IfSome P.plan (λ plan. IsTrueParcel plan parcel) }
+        ensures number { self.new.number ≡ self.old.number }
         ensures share { self.new.desk.share ≡ (if has_place_for parcel self.old.desk.share then take_held parcel self.old.desk.share else self.old.desk.share) }
         ensures windows { self.new.windows ≡ self.old.windows }
         ensures duties { self.new.duties ≡ self.old.duties }

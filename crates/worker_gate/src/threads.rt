@@ -1,5 +1,5 @@
 //! Workers in threads of their own, and the caller among them.
-ghost use Rattle.std.specs.Prelude.{◌≡◌, ◌<◌, ◌+◌, Some, length};
+ghost use Rattle.std.specs.Prelude.{◌≡◌, ◌<◌, ◌+◌, Some};
 ghost use denote.Param.Send.{IsSend};
 ghost use Rattle.worker_gate.specs.PartMakers.{MakesSegments, MakesRepeaters};
 

@@ -1,5 +1,6 @@
--- An example of rows of one half bit: of stations 2 and 5 the second alone ends a reception, of 64 octets, in half bit 7.
-use Rattle.std.proofs.Common.{◌≡◌, ℕ, List, [], ◌∷◌, Bool, zero, suc, Option, Some, None, refl}
+-- An example of rows of one half bit: of stations 2 and 5 the second alone ends a reception, of 64 octets, in half bit
+-- 7.
+use Rattle.std.proofs.Common.{◌≡◌, ℕ, [], ◌∷◌, Bool, zero, suc, Option, Some, None, refl}
 use Rattle.collision_log.specs.declared.row.Body.{Body}
 use Rattle.collision_log.specs.declared.row.Body.TheVariants.{Received}
 use Rattle.mac_receive.specs.Receiver.{Receiving}

@@ -1,2 +1,3 @@
 pub mod TurnExample
 pub mod FirstRowsExample
+pub mod PastExample

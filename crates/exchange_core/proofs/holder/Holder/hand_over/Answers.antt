@@ -1,56 +1,35 @@
-use Rattle.std.proofs.Common.{◌≡◌, ap, sym, subst, ◌∙◌, true, arith}
+use Rattle.std.proofs.Common.{◌≡◌, ap, sym, subst, ◌∙◌, arith}
 use Rattle.std.specs.Prelude.{IfSome}
 use Rattle.net_parts.specs.declared.parcel.Parcel.{Parcel}
 use Rattle.net_parts.specs.Parcels.{IsTrueParcel}
-use Rattle.net_parts.specs.Boards.{has_edge}
-use Rattle.exchange_core.specs.Holdings.{Holding, edges_of_parcels, place_of_edge, absent_parcel}
-use Rattle.exchange_core.specs.Holders.{held_as}
+use Rattle.exchange_core.specs.Holdings.{Holding, absent_parcel}
 use Rattle.exchange_core.specs.Shares.{part_on, received_on}
-use Rattle.exchange_core.proofs.HolderFields.{holder_vacate, vacated_is}
-use Rattle.exchange_core.proofs.EdgePlaces.{within_parcels, parcel_at_place, edge_at_place}
+use Rattle.exchange_core.proofs.HolderFields.{in_parcels, in_away, holder_vacate, vacated_is}
+use Rattle.exchange_core.proofs.EdgePlaces.{parcel_at_place, edge_at_place}
+use Rattle.exchange_core.proofs.holder.Holder.hand_over.Given.{Over}
+use Rattle.exchange_core.proofs.holder.Holder.hand_over.Goals.{After-empty}
 use Rattle.exchange_core.proofs.holder.Holder.hand_over.Goals as goal
 
 pub index_mut-parcel-requires : goal.index_mut-parcel-requires
-index_mut-parcel-requires g c =
-    let s = c.self.inside in
-    let h = held_as (g.P.Part.plan s.part) (g.P.Part.number s.part) (g.P.Part.at s.part) s.window s.lost s.refused s.reserved s.parcels.items s.away.items in
-    let l = within_parcels h c.args.self.now c.args.edge c.args.here c.self.view_is c.requires.edge c.requires.place in
-    omega (arith, l)
+index_mut-parcel-requires g c = let l = in_parcels _ _ _ _ _ c.self.invariant c.args.self.now c.args.edge c.args.here c.self.view_is c.requires.edge c.requires.place in omega (arith, l)
 
 pub receive-requires-after_bounds : goal.receive-requires-after_bounds
 receive-requires-after_bounds g c κs within =
-    let s = c.self.inside in
-    let h = held_as (g.P.Part.plan s.part) (g.P.Part.number s.part) (g.P.Part.at s.part) s.window s.lost s.refused s.reserved s.parcels.items s.away.items in
     subst (λ (p : Parcel). IfSome (part_on c.args.part c.args.to.now) (λ (x : Holding). IsTrueParcel x.plan p))
-    (sym (parcel_at_place h c.args.self.now c.args.edge c.args.here c.self.view_is c.index_mut-parcel.result.now c.requires.edge c.requires.place c.index_mut-parcel.ensures.value)) c.requires.honest
+    (sym (parcel_at_place _ c.args.self.now c.args.edge c.args.here c.self.view_is c.index_mut-parcel.result.now c.requires.edge c.requires.place c.index_mut-parcel.ensures.value)) c.requires.honest
 
 pub index_mut-requires : goal.index_mut-requires
-index_mut-requires g c =
-    let s = c.self.inside in
-    let h = held_as (g.P.Part.plan s.part) (g.P.Part.number s.part) (g.P.Part.at s.part) s.window s.lost s.refused s.reserved s.parcels.items s.away.items in
-    let l = within_parcels h c.args.self.now c.args.edge c.args.here c.self.view_is c.requires.edge c.requires.place in
-    let m = c.self.invariant.sound.places in
-    omega (arith, l, m)
+index_mut-requires g c = let l = in_away _ _ _ _ _ c.self.invariant c.args.self.now c.args.edge c.args.here c.self.view_is c.requires.edge c.requires.place in omega (arith, l)
+
+gone : (g : Over) (c : After-empty g) → c.empty.new.parcel ≡ absent_parcel c.self.inside.segment c.args.edge
+gone g c = c.empty.ensures ∙ ap (absent_parcel c.self.inside.segment) (c.receive.ensures.edge ∙ edge_at_place _ c.args.self.now c.args.edge c.args.here c.self.view_is c.index_mut-parcel.result.now c.requires.edge c.requires.place c.index_mut-parcel.ensures.value)
 
 pub invariant_of-self : goal.invariant_of-self
-invariant_of-self g c =
-    let s = c.self.inside in
-    let h = held_as (g.P.Part.plan s.part) (g.P.Part.number s.part) (g.P.Part.at s.part) s.window s.lost s.refused s.reserved s.parcels.items s.away.items in
-    holder_vacate s.number s.windows s.segment (g.P.Part.reserved s.part) h c.self.invariant c.args.edge c.args.here c.empty.new.parcel
-    (subst (λ (v : Holding). has_edge (edges_of_parcels v.parcels) c.args.edge ≡ true) (sym c.self.view_is) c.requires.edge)
-    (c.requires.place ∙ ap (place_of_edge c.args.edge) (sym c.self.view_is))
-    (c.empty.ensures ∙ ap (absent_parcel s.segment) (c.receive.ensures.edge ∙ edge_at_place h c.args.self.now c.args.edge c.args.here c.self.view_is c.index_mut-parcel.result.now c.requires.edge c.requires.place c.index_mut-parcel.ensures.value))
+invariant_of-self g c = holder_vacate _ _ _ _ _ c.self.invariant c.args.self.now c.args.edge c.args.here c.self.view_is c.requires.edge c.requires.place c.empty.new.parcel (gone g (goal.at.invariant_of-self g c).After-empty)
 
 pub returns-clause-come : goal.returns-clause-come
 returns-clause-come g c =
-    let s = c.self.inside in
-    let h = held_as (g.P.Part.plan s.part) (g.P.Part.number s.part) (g.P.Part.at s.part) s.window s.lost s.refused s.reserved s.parcels.items s.away.items in
-    c.receive.ensures.new ∙ ap (λ (p : Parcel). received_on p c.args.part c.args.to.now) (parcel_at_place h c.args.self.now c.args.edge c.args.here c.self.view_is c.index_mut-parcel.result.now c.requires.edge c.requires.place c.index_mut-parcel.ensures.value)
+    c.receive.ensures.new ∙ ap (λ (p : Parcel). received_on p c.args.part c.args.to.now) (parcel_at_place _ c.args.self.now c.args.edge c.args.here c.self.view_is c.index_mut-parcel.result.now c.requires.edge c.requires.place c.index_mut-parcel.ensures.value)
 
 pub returns-clause-left : goal.returns-clause-left
-returns-clause-left g c =
-    let s = c.self.inside in
-    let h = held_as (g.P.Part.plan s.part) (g.P.Part.number s.part) (g.P.Part.at s.part) s.window s.lost s.refused s.reserved s.parcels.items s.away.items in
-    vacated_is s.number s.windows s.segment (g.P.Part.reserved s.part) h c.self.invariant c.args.self.now c.args.edge c.args.here c.empty.new.parcel c.self.view_is
-    (c.requires.place ∙ ap (place_of_edge c.args.edge) (sym c.self.view_is))
-    (c.empty.ensures ∙ ap (absent_parcel s.segment) (c.receive.ensures.edge ∙ edge_at_place h c.args.self.now c.args.edge c.args.here c.self.view_is c.index_mut-parcel.result.now c.requires.edge c.requires.place c.index_mut-parcel.ensures.value))
+returns-clause-left g c = vacated_is _ _ _ _ _ c.self.invariant c.args.self.now c.args.edge c.args.here c.self.view_is c.requires.edge c.requires.place c.empty.new.parcel (gone g (goal.at.returns-clause-left g c).After-empty)

@@ -14,6 +14,6 @@ fields a b s r = record { segment_of = a; repeater_of = b; segments = s; repeate
 
 pub invariant_of-result : goal.invariant_of-result
 invariant_of-result g c =
-    let same : fields [] [] (rack [] []) (rack [] []) ≡ fields c.new-3.result.items c.new-4.result.items c.new.result c.new-2.result =
-    sym (λ i. fields (c.new-3.ensures.items i) (c.new-4.ensures.items i) (rack (c.new.ensures.places i) (c.new.ensures.order i)) (rack (c.new-2.ensures.places i) (c.new-2.ensures.order i))) in
+    let same : fields [] [] (rack [] []) (rack [] []) ≡ fields c.new-3.result.parts.items c.new-4.result.parts.items c.new.result c.new-2.result =
+    sym (λ i. fields (c.new-3.ensures.parts i) (c.new-4.ensures.parts i) (rack (c.new.ensures.places i) (c.new.ensures.order i)) (rack (c.new-2.ensures.places i) (c.new-2.ensures.order i))) in
     subst (λ (f : Fields). IsWholeShare f.segment_of f.repeater_of (share_of f.segments f.repeaters)) same nothing_whole

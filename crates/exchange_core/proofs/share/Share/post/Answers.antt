@@ -3,17 +3,14 @@ use Rattle.net_parts.specs.declared.parcel.Parcel.{Parcel}
 use Rattle.net_parts.specs.Parcels.{IsTrueParcel}
 use Rattle.exchange_core.specs.Holdings.{vacate_holding}
 use Rattle.exchange_core.specs.Shares.{Rack, Held, share_of, part_on, change_on, leaves, parcel_in, is_refilled, posted_parcel, post_held, IsOfPlan, IsWholeShare}
-use Rattle.exchange_core.proofs.TakenParcels.{IsEdgeOf, MayPost, may_at_segment, may_at_repeater, leaves_repeater, chosen_first, chosen_second, posted_edge, posted_true, posted_is, posted_whole, posted_new}
+use Rattle.exchange_core.proofs.TakenParcels.{IsEdgeOf, edge_kept, MayPost, may_at_segment, may_at_repeater, leaves_repeater, chosen_first, chosen_second, posted_edge, posted_true, posted_is, posted_whole, posted_new}
 use Rattle.exchange_core.proofs.share.Share.post.Given.{Over}
 use Rattle.exchange_core.proofs.share.Share.post.Goals.{After-post, After-post-2}
 use Rattle.exchange_core.proofs.share.Share.post.Goals as goal
 
 -- at a segment
-at_segment : (g : Over) (c : After-post g) → c.post.result ≡ true → MayPost true c.self.inside.segment_of.items c.self.inside.repeater_of.items c.self.inside.segments c.self.inside.repeaters c.args.edge c.spot-segment.result.part (get_or c.self.inside.repeater_of.items c.args.edge 0)
-at_segment g c may =
-    let found : IsEdgeOf c.self.inside.segment_of.items c.self.inside.repeater_of.items c.self.inside.segments c.self.inside.repeaters c.args.edge c.spot-segment.result.part (get_or c.self.inside.repeater_of.items c.args.edge 0) =
-    record { whole = c.self.invariant; segment = c.spot-segment.ensures ∙ ap (λ xs. get_or xs c.args.edge 0) c.as_slice.ensures.value; repeater = refl } in
-    may_at_segment _ _ _ _ _ _ _ found (sym c.post.ensures.value ∙ may)
+at_segment : (g : Over) (c : After-post g) → c.post.result ≡ true → MayPost true c.self.inside.segment_spots.parts.items c.self.inside.repeater_spots.parts.items c.self.inside.segments c.self.inside.repeaters c.args.edge c.spot-segment.result.part (get_or c.self.inside.repeater_spots.parts.items c.args.edge 0)
+at_segment g c may = may_at_segment _ _ _ _ _ _ _ (edge_kept c.self.invariant c.spot-segment.ensures.part refl) (sym c.post.ensures.value ∙ may)
 
 segment_left : (g : Over) (c : After-post g) → c.post.result ≡ true → c.post.new.self ≡ change_on (vacate_holding c.args.edge) c.spot-segment.result.part c.self.inside.segments
 segment_left g c may = chosen_first _ _ _ _ c.post.ensures.left (sym c.post.ensures.value ∙ may)
@@ -22,8 +19,8 @@ segment_out : (g : Over) (c : After-post g) → c.post.result ≡ true → c.pos
 segment_out g c may = chosen_first _ _ _ _ c.post.ensures.out (sym c.post.ensures.value ∙ may)
 
 -- at a repeater
-found : (g : Over) (c : After-post-2 g) → IsEdgeOf c.self.inside.segment_of.items c.self.inside.repeater_of.items c.self.inside.segments c.self.inside.repeaters c.args.edge c.spot-segment.result.part c.spot-repeater.result.part
-found g c = record { whole = c.self.invariant; segment = c.spot-segment.ensures ∙ ap (λ xs. get_or xs c.args.edge 0) c.as_slice.ensures.value; repeater = c.spot-repeater.ensures ∙ ap (λ xs. get_or xs c.args.edge 0) c.as_slice-3.ensures.value }
+found : (g : Over) (c : After-post-2 g) → IsEdgeOf c.self.inside.segment_spots.parts.items c.self.inside.repeater_spots.parts.items c.self.inside.segments c.self.inside.repeaters c.args.edge c.spot-segment.result.part c.spot-repeater.result.part
+found g c = edge_kept c.self.invariant c.spot-segment.ensures.part c.spot-repeater.ensures.part
 
 stays : (g : Over) (c : After-post-2 g) → leaves c.args.edge (part_on c.spot-segment.result.part c.self.inside.segments) ≡ false
 stays g c = sym c.post.ensures.value ∙ c.if-post.false
@@ -31,7 +28,7 @@ stays g c = sym c.post.ensures.value ∙ c.if-post.false
 refilled : (g : Over) (c : After-post-2 g) → is_refilled c.args.edge (share_of c.self.inside.segments c.self.inside.repeaters) ≡ true
 refilled g c = subst (λ (x : Held). is_refilled c.args.edge x ≡ true) (sym c.self.view_is) c.requires
 
-at_repeater : (g : Over) (c : After-post-2 g) → MayPost false c.self.inside.segment_of.items c.self.inside.repeater_of.items c.self.inside.segments c.self.inside.repeaters c.args.edge c.spot-segment.result.part c.spot-repeater.result.part
+at_repeater : (g : Over) (c : After-post-2 g) → MayPost false c.self.inside.segment_spots.parts.items c.self.inside.repeater_spots.parts.items c.self.inside.segments c.self.inside.repeaters c.args.edge c.spot-segment.result.part c.spot-repeater.result.part
 at_repeater g c = may_at_repeater _ _ _ _ _ _ _ (found g c) (stays g c) (refilled g c)
 
 segments_stay : (g : Over) (c : After-post-2 g) → c.post.new.self ≡ c.self.inside.segments
@@ -74,7 +71,7 @@ returns-then-post-clause-new g c =
 pub invariant_of-self-2 : goal.invariant_of-self-2
 invariant_of-self-2 g c =
     let at = (goal.at.invariant_of-self-2 g c).After-post-2 in
-    subst (λ (x : Rack). IsWholeShare c.self.inside.segment_of.items c.self.inside.repeater_of.items (share_of x c.post-2.new.self)) (sym (segments_stay g at)) (posted_whole _ _ _ _ _ _ _ _ (at_repeater g at) c.post-2.new.self (repeater_left g at))
+    subst (λ (x : Rack). IsWholeShare c.self.inside.segment_spots.parts.items c.self.inside.repeater_spots.parts.items (share_of x c.post-2.new.self)) (sym (segments_stay g at)) (posted_whole _ _ _ _ _ _ _ _ (at_repeater g at) c.post-2.new.self (repeater_left g at))
 
 pub returns-clause-value : goal.returns-clause-value
 returns-clause-value g c =

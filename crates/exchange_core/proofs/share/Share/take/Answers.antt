@@ -1,19 +1,15 @@
-use Rattle.std.proofs.Common.{◌≡◌, true, false, get_or, ap, sym, subst, ◌∙◌}
+use Rattle.std.proofs.Common.{◌≡◌, true, false, ap, sym, subst, ◌∙◌}
 use Rattle.load_plan.specs.declared.plan.Plan.{Plan}
 use Rattle.net_parts.specs.Parcels.{IsTrueParcel}
 use Rattle.exchange_core.specs.Shares.{Held, has_place_for, take_held, IsOfPlan}
-use Rattle.exchange_core.proofs.TakenParcels.{MayTake, if_honest, taken_on, whole_taken, new_taken}
+use Rattle.exchange_core.proofs.TakenParcels.{edge_kept, MayTake, if_honest, taken_on, whole_taken, new_taken}
 use Rattle.exchange_core.proofs.share.Share.take.Given.{Over}
 use Rattle.exchange_core.proofs.share.Share.take.Goals.{After-spot-repeater}
 use Rattle.exchange_core.proofs.share.Share.take.Goals as goal
 
-may : (g : Over) (c : After-spot-repeater g) → MayTake c.self.inside.segment_of.items c.self.inside.repeater_of.items c.self.inside.segments c.self.inside.repeaters c.args.parcel c.spot-segment.result.part c.spot-repeater.result.part
+may : (g : Over) (c : After-spot-repeater g) → MayTake c.self.inside.segment_spots.parts.items c.self.inside.repeater_spots.parts.items c.self.inside.segments c.self.inside.repeaters c.args.parcel c.spot-segment.result.part c.spot-repeater.result.part
 may g c = record {
-  edge = record {
-    whole = c.self.invariant;
-    segment = c.spot-segment.ensures ∙ ap (λ xs. get_or xs c.args.parcel.edge 0) c.as_slice.ensures.value;
-    repeater = c.spot-repeater.ensures ∙ ap (λ xs. get_or xs c.args.parcel.edge 0) c.as_slice-3.ensures.value;
-  };
+  edge = edge_kept c.self.invariant c.spot-segment.ensures.part c.spot-repeater.ensures.part;
   owned = subst (λ (v : Held). has_place_for c.args.parcel v ≡ true) (sym c.self.view_is) c.requires.owned;
   honest = subst (λ (v : Held). (plan : Plan) → IsOfPlan plan v → IsTrueParcel plan c.args.parcel) (sym c.self.view_is) c.requires.honest;
 }

@@ -1,8 +1,0 @@
-use Rattle.std.proofs.Common.{◌≡◌, ◌≢◌, ◌<◌, ℕ, get_or, length}
-use Rattle.exchange_core.proofs.share.learn.Given as goal
-
-abbrev pub invariant-loop-k : goal.invariant-loop-k
-invariant-loop-k l = record {
-  mine : (j : ℕ) → j < l.k → get_or l.owners.items (get_or l.edges j 0) 0 ≡ l.part;
-  others : (e : ℕ) → ((j : ℕ) → j < length l.edges → get_or l.edges j 0 ≢ e) → get_or l.owners.items e 0 ≡ get_or l.initial.owners.items e 0;
-}
