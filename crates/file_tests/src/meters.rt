@@ -244,7 +244,7 @@ fn figures_have_their_devices(rt: HostRuntime) -> Result<(), LogFault> {
     assert_eq!(rt; figures.stations.len(), 2);
     assert_eq!(rt; figures.stations.get(0).share, 1000);
     assert_eq!(rt; figures.repeaters.len(), 1);
-    assert_eq!(rt; figures.repeaters.get(0).clash, 1);
+    assert_eq!(rt; figures.repeaters.get(0).tally.clash, 1);
     Ok(())
 }
 

@@ -1,6 +1,6 @@
 //! Slacks of layouts that are read: worked examples, and small layouts that are lengthened by them and by one half bit
 //! more.
-ghost use Rattle.std.specs.Prelude.{◌≡◌, ◌<◌, IfOk, length};
+ghost use Rattle.std.specs.Prelude.{◌<◌, IfOk, length};
 ghost use Rattle.layout.specs.Sound.{IsSound};
 
 use layout::Layout;

@@ -9,14 +9,16 @@ use Rattle.std.proofs.lemmas.List.Elements.{All-from_recursion}
 use Rattle.std.specs.Ordering.{nat_cmp}
 use Rattle.std.specs.Prelude.{Some, unwrap_or}
 use Rattle.std.specs.Str.{bytes_eq}
-use Rattle.std.proofs.lemmas.Bool.{cases_Bool}
+use Rattle.std.proofs.lemmas.Bool.{cases_Bool, cond-false, cond-true}
 use Rattle.std.proofs.lemmas.Map.Text.{btree_map_updates_str}
 use Rattle.std.proofs.lemmas.Slice.Eq.{bytes_eq-Decides}
 use Rattle.collision_log.specs.declared.row.Body.{Body}
 use Rattle.collision_log.specs.declared.row.Body.TheVariants.{Sent, Collided, GivenUp, Cut, Received, Dropped, Clash, Closed, Opened, Halted}
-use Rattle.log_meter.specs.Figures.{is_of_repeater_named, is_of_station, is_sent_body, longest_row, senders}
+use Rattle.log_meter.specs.Figures.{is_of_repeater_named, is_of_station, is_sent_body, longest_row, repeater_tally, senders, station_tally}
 use Rattle.log_meter.specs.Lines.{IsLogLine, is_of_repeater}
-use Rattle.log_meter.specs.Tallies.{AreTalliesOf, IsRow, empty_tally, row_after, tally_at, tally_from, name_tally, with_body}
+use Rattle.log_meter.specs.Tallies.{AreTalliesOf, IsRow, empty_tally, row_after, tally_at, tally_from, name_tally, with_body, with_repeater_line, with_station_line}
+use Rattle.log_meter.specs.declared.device_figures.RepeaterTally.{RepeaterTally}
+use Rattle.log_meter.specs.declared.device_figures.StationTally.{StationTally}
 use Rattle.log_meter.specs.declared.line.LogLine.{LogLine}
 use Rattle.log_meter.specs.declared.tally.Tally.{Tally}
 
@@ -70,37 +72,51 @@ repeaters_send_nothing (Closed port) h = refl
 repeaters_send_nothing (Opened port) h = refl
 repeaters_send_nothing (Halted port) h = refl
 
--- two tallies with the same fields
-same_tally : (a b : Tally) → a.station ≡ b.station → a.repeater ≡ b.repeater → a.sent ≡ b.sent → a.collided ≡ b.collided → a.given_up ≡ b.given_up → a.cut ≡ b.cut → a.received ≡ b.received → a.dropped ≡ b.dropped → a.half_bits ≡ b.half_bits → a.longest ≡ b.longest → a.clash ≡ b.clash → a.closed ≡ b.closed → a.opened ≡ b.opened → a.halted ≡ b.halted → a ≡ b
-same_tally a b station repeater sent collided given_up cut received dropped half_bits longest clash closed opened halted =
-    λ i. record { station = station i; repeater = repeater i; sent = sent i; collided = collided i; given_up = given_up i; cut = cut i; received = received i; dropped = dropped i; half_bits = half_bits i; longest = longest i; clash = clash i; closed = closed i; opened = opened i; halted = halted i }
+-- counts with the same fields
+same_station : (a b : StationTally) → a.sent ≡ b.sent → a.collided ≡ b.collided → a.given_up ≡ b.given_up → a.cut ≡ b.cut → a.received ≡ b.received → a.dropped ≡ b.dropped → a.half_bits ≡ b.half_bits → a ≡ b
+same_station a b sent collided given_up cut received dropped half_bits =
+    λ i. record { sent = sent i; collided = collided i; given_up = given_up i; cut = cut i; received = received i; dropped = dropped i; half_bits = half_bits i }
+
+same_repeater : (a b : RepeaterTally) → a.clash ≡ b.clash → a.closed ≡ b.closed → a.opened ≡ b.opened → a.halted ≡ b.halted → a ≡ b
+same_repeater a b clash closed opened halted = λ i. record { clash = clash i; closed = closed i; opened = opened i; halted = halted i }
+
+-- what lines of a station count, with one more line in front, and what lines of a repeater count
+station_line : (t : ℕ) (name : List ℕ) (body : Body) (own : List LogLine) → station_tally (line_with t name body ∷ own) ≡ with_station_line (station_tally own) t body
+station_line t name (Sent frame start attempt) own = same_station _ _ (omega arith) (omega arith) (omega arith) (omega arith) (omega arith) (omega arith) (omega arith)
+station_line t name (Collided frame start attempt hit drawn) own = same_station _ _ (omega arith) (omega arith) (omega arith) (omega arith) (omega arith) (omega arith) (omega arith)
+station_line t name (GivenUp frame start hit) own = same_station _ _ (omega arith) (omega arith) (omega arith) (omega arith) (omega arith) (omega arith) (omega arith)
+station_line t name (Cut frame start attempt hit) own = same_station _ _ (omega arith) (omega arith) (omega arith) (omega arith) (omega arith) (omega arith) (omega arith)
+station_line t name (Received octets) own = same_station _ _ (omega arith) (omega arith) (omega arith) (omega arith) (omega arith) (omega arith) (omega arith)
+station_line t name (Dropped why halves) own = same_station _ _ (omega arith) (omega arith) (omega arith) (omega arith) (omega arith) (omega arith) (omega arith)
+station_line t name Clash own = same_station _ _ refl refl refl refl refl refl (omega arith)
+station_line t name (Closed port) own = same_station _ _ refl refl refl refl refl refl (omega arith)
+station_line t name (Opened port) own = same_station _ _ refl refl refl refl refl refl (omega arith)
+station_line t name (Halted port) own = same_station _ _ refl refl refl refl refl refl (omega arith)
+
+repeater_line : (t : ℕ) (name : List ℕ) (body : Body) (own : List LogLine) → repeater_tally (line_with t name body ∷ own) ≡ with_repeater_line (repeater_tally own) body
+repeater_line t name (Sent frame start attempt) own = refl
+repeater_line t name (Collided frame start attempt hit drawn) own = refl
+repeater_line t name (GivenUp frame start hit) own = refl
+repeater_line t name (Cut frame start attempt hit) own = refl
+repeater_line t name (Received octets) own = refl
+repeater_line t name (Dropped why halves) own = refl
+repeater_line t name Clash own = same_repeater _ _ (omega arith) (omega arith) (omega arith) (omega arith)
+repeater_line t name (Closed port) own = same_repeater _ _ (omega arith) (omega arith) (omega arith) (omega arith)
+repeater_line t name (Opened port) own = same_repeater _ _ (omega arith) (omega arith) (omega arith) (omega arith)
+repeater_line t name (Halted port) own = same_repeater _ _ (omega arith) (omega arith) (omega arith) (omega arith)
 
 -- one more line of a station, and one more of a repeater
 station_grows : (t : ℕ) (name : List ℕ) (body : Body) (any repeats : Bool) (own repeating : List LogLine) (longest row : ℕ) → is_of_repeater body ≡ false
     → tally_from true repeats (line_with t name body ∷ own) repeating (if is_sent_body body then max row longest else longest) ≡ with_body (tally_from any repeats own repeating longest) t body row
-station_grows t name (Sent frame start attempt) any repeats own repeating longest row h = same_tally _ _ refl refl (omega arith) (omega arith) (omega arith) (omega arith) (omega arith) (omega arith) (omega arith) refl (omega arith) (omega arith) (omega arith) (omega arith)
-station_grows t name (Collided frame start attempt hit drawn) any repeats own repeating longest row h = same_tally _ _ refl refl (omega arith) (omega arith) (omega arith) (omega arith) (omega arith) (omega arith) (omega arith) refl (omega arith) (omega arith) (omega arith) (omega arith)
-station_grows t name (GivenUp frame start hit) any repeats own repeating longest row h = same_tally _ _ refl refl (omega arith) (omega arith) (omega arith) (omega arith) (omega arith) (omega arith) (omega arith) refl (omega arith) (omega arith) (omega arith) (omega arith)
-station_grows t name (Cut frame start attempt hit) any repeats own repeating longest row h = same_tally _ _ refl refl (omega arith) (omega arith) (omega arith) (omega arith) (omega arith) (omega arith) (omega arith) refl (omega arith) (omega arith) (omega arith) (omega arith)
-station_grows t name (Received octets) any repeats own repeating longest row h = same_tally _ _ refl refl (omega arith) (omega arith) (omega arith) (omega arith) (omega arith) (omega arith) (omega arith) refl (omega arith) (omega arith) (omega arith) (omega arith)
-station_grows t name (Dropped why halves) any repeats own repeating longest row h = same_tally _ _ refl refl (omega arith) (omega arith) (omega arith) (omega arith) (omega arith) (omega arith) (omega arith) refl (omega arith) (omega arith) (omega arith) (omega arith)
-station_grows t name Clash any repeats own repeating longest row h = cc h
-station_grows t name (Closed port) any repeats own repeating longest row h = cc h
-station_grows t name (Opened port) any repeats own repeating longest row h = cc h
-station_grows t name (Halted port) any repeats own repeating longest row h = cc h
+station_grows t name body any repeats own repeating longest row h =
+    ap (λ (s : StationTally). let m : Tally = record { station = true; repeater = repeats; of_station = s; longest = if is_sent_body body then max row longest else longest; of_repeater = repeater_tally repeating } in m) (station_line t name body own)
+    ∙ sym (cond-false (is_of_repeater body) _ _ h)
 
 repeater_grows : (t : ℕ) (name : List ℕ) (body : Body) (sends any : Bool) (own repeating : List LogLine) (longest row : ℕ) → is_of_repeater body ≡ true
     → tally_from sends true own (line_with t name body ∷ repeating) longest ≡ with_body (tally_from sends any own repeating longest) t body row
-repeater_grows t name (Sent frame start attempt) sends any own repeating longest row h = cc h
-repeater_grows t name (Collided frame start attempt hit drawn) sends any own repeating longest row h = cc h
-repeater_grows t name (GivenUp frame start hit) sends any own repeating longest row h = cc h
-repeater_grows t name (Cut frame start attempt hit) sends any own repeating longest row h = cc h
-repeater_grows t name (Received octets) sends any own repeating longest row h = cc h
-repeater_grows t name (Dropped why halves) sends any own repeating longest row h = cc h
-repeater_grows t name Clash sends any own repeating longest row h = same_tally _ _ refl refl (omega arith) (omega arith) (omega arith) (omega arith) (omega arith) (omega arith) (omega arith) refl (omega arith) (omega arith) (omega arith) (omega arith)
-repeater_grows t name (Closed port) sends any own repeating longest row h = same_tally _ _ refl refl (omega arith) (omega arith) (omega arith) (omega arith) (omega arith) (omega arith) (omega arith) refl (omega arith) (omega arith) (omega arith) (omega arith)
-repeater_grows t name (Opened port) sends any own repeating longest row h = same_tally _ _ refl refl (omega arith) (omega arith) (omega arith) (omega arith) (omega arith) (omega arith) (omega arith) refl (omega arith) (omega arith) (omega arith) (omega arith)
-repeater_grows t name (Halted port) sends any own repeating longest row h = same_tally _ _ refl refl (omega arith) (omega arith) (omega arith) (omega arith) (omega arith) (omega arith) (omega arith) refl (omega arith) (omega arith) (omega arith) (omega arith)
+repeater_grows t name body sends any own repeating longest row h =
+    ap (λ (r : RepeaterTally). let m : Tally = record { station = sends; repeater = true; of_station = station_tally own; longest = longest; of_repeater = r } in m) (repeater_line t name body repeating)
+    ∙ sym (cond-true (is_of_repeater body) _ _ h)
 
 -- the longest row of the name, with one more line of it in front
 longest_grows : (t : ℕ) (name : List ℕ) (body : Body) (ls : List LogLine) (row : ℕ) → (is_sent_body body ≡ true → prefix_len (bytes_eq name) (senders (line_with t name body ∷ ls)) ≡ row)

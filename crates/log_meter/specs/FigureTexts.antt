@@ -12,14 +12,14 @@ use Rattle.log_meter.specs.declared.line.LogLine.{LogLine}
 -- the words of a station's frames
 unfoldable pub words_of_frames : StationFigures → List ℕ
 words_of_frames f =
-    codes " sent " ++ decimal f.sent ++ codes " collided " ++ decimal f.collided
-    ++ codes " given_up " ++ decimal f.given_up ++ codes " cut " ++ decimal f.cut
-    ++ codes " received " ++ decimal f.received ++ codes " dropped " ++ decimal f.dropped
+    codes " sent " ++ decimal f.tally.sent ++ codes " collided " ++ decimal f.tally.collided
+    ++ codes " given_up " ++ decimal f.tally.given_up ++ codes " cut " ++ decimal f.tally.cut
+    ++ codes " received " ++ decimal f.tally.received ++ codes " dropped " ++ decimal f.tally.dropped
 
 -- the words of how much of the channel a station got
 unfoldable pub words_of_channel : StationFigures → List ℕ
 words_of_channel f =
-    codes " half_bits " ++ decimal f.half_bits ++ codes " share " ++ decimal f.share
+    codes " half_bits " ++ decimal f.tally.half_bits ++ codes " share " ++ decimal f.share
     ++ codes " longest " ++ decimal f.longest
 
 -- the line of a station
@@ -29,13 +29,14 @@ line_of_station f = codes "station " ++ f.name ++ words_of_frames f ++ words_of_
 -- the line of a repeater
 unfoldable pub line_of_repeater : RepeaterFigures → List ℕ
 line_of_repeater f =
-    codes "repeater " ++ f.name ++ codes " clash " ++ decimal f.clash ++ codes " closed " ++ decimal f.closed
-    ++ codes " opened " ++ decimal f.opened ++ codes " halted " ++ decimal f.halted ++ codes "\n"
+    codes "repeater " ++ f.name ++ codes " clash " ++ decimal f.tally.clash
+    ++ codes " closed " ++ decimal f.tally.closed ++ codes " opened " ++ decimal f.tally.opened
+    ++ codes " halted " ++ decimal f.tally.halted ++ codes "\n"
 
 -- the line of the whole log: how many lines it has, and for how many half bits all stations together sent
 abbrev pub line_of_log : List LogLine → List StationFigures → List ℕ
 line_of_log lines stations =
-    codes "rows " ++ decimal (length lines) ++ codes " sending " ++ decimal (sum_by (λ f. f.half_bits) stations)
+    codes "rows " ++ decimal (length lines) ++ codes " sending " ++ decimal (sum_by (λ f. f.tally.half_bits) stations)
     ++ codes "\n"
 
 -- the lines of these stations

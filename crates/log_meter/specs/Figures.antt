@@ -9,7 +9,9 @@ use Rattle.collision_log.specs.declared.row.Body.{Body}
 use Rattle.collision_log.specs.declared.row.Body.TheVariants.{Sent, Collided, GivenUp, Cut, Received, Dropped, Clash, Closed, Opened, Halted}
 use Rattle.log_meter.specs.declared.device_figures.Figures.{Figures}
 use Rattle.log_meter.specs.declared.device_figures.RepeaterFigures.{RepeaterFigures}
+use Rattle.log_meter.specs.declared.device_figures.RepeaterTally.{RepeaterTally}
 use Rattle.log_meter.specs.declared.device_figures.StationFigures.{StationFigures}
+use Rattle.log_meter.specs.declared.device_figures.StationTally.{StationTally}
 use Rattle.log_meter.specs.declared.line.LogLine.{LogLine}
 
 -- whether what happened is a sending that succeeded
@@ -101,12 +103,10 @@ abbrev pub longest_row : List ℕ → List (List ℕ) → ℕ
 longest_row name [] = 0
 longest_row name (s ∷ ss) = max (prefix_len (bytes_eq name) (s ∷ ss)) (longest_row name ss)
 
--- the figures of a station
-abbrev pub station_figures : List LogLine → List ℕ → StationFigures
-station_figures lines name =
-    let own = filter (is_of_station name) lines in
+-- what these lines of a station count
+abbrev pub station_tally : List LogLine → StationTally
+station_tally own =
     record {
-      name = name;
       sent = kind_count is_sent_body own;
       collided = kind_count is_collided own;
       given_up = kind_count is_given_up own;
@@ -114,6 +114,25 @@ station_figures lines name =
       received = kind_count is_received own;
       dropped = kind_count is_dropped own;
       half_bits = sending_times own;
+    }
+
+-- what these lines of a repeater count
+abbrev pub repeater_tally : List LogLine → RepeaterTally
+repeater_tally own =
+    record {
+      clash = kind_count is_clash own;
+      closed = kind_count is_closed own;
+      opened = kind_count is_opened own;
+      halted = kind_count is_halted own;
+    }
+
+-- the figures of a station
+abbrev pub station_figures : List LogLine → List ℕ → StationFigures
+station_figures lines name =
+    let own = filter (is_of_station name) lines in
+    record {
+      name = name;
+      tally = station_tally own;
       share = collided_share (kind_count is_sent_body own) (kind_count is_collided own) (kind_count is_given_up own);
       longest = longest_row name (senders lines);
     }
@@ -121,14 +140,7 @@ station_figures lines name =
 -- the figures of a repeater
 abbrev pub repeater_figures : List LogLine → List ℕ → RepeaterFigures
 repeater_figures lines name =
-    let own = filter (is_of_repeater_named name) lines in
-    record {
-      name = name;
-      clash = kind_count is_clash own;
-      closed = kind_count is_closed own;
-      opened = kind_count is_opened own;
-      halted = kind_count is_halted own;
-    }
+    record { name = name; tally = repeater_tally (filter (is_of_repeater_named name) lines) }
 
 -- the names, in order of their octets, are those with which a line of the log passes the test
 pub record AreNamesOf (test : List ℕ → LogLine → Bool) (lines : List LogLine) (names : List (List ℕ)) : Type 0 where

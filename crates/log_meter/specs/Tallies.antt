@@ -1,5 +1,5 @@
 -- What the lines of one name say, station and repeater together, and how figures come from it (profile).
-use Rattle.std.specs.Prelude.{◌≡◌, ℕ, ◌+◌, max, Bool, true, false, not, ◌||◌, if◌then◌else◌, List, [], ◌∷◌, filter, flat_map, unwrap_or}
+use Rattle.std.specs.Prelude.{◌≡◌, ℕ, ◌+◌, max, Bool, true, false, if◌then◌else◌, List, [], ◌∷◌, filter, flat_map, unwrap_or}
 use Rattle.std.specs.Borrow.{Bor}
 use Rattle.std.specs.BTreeMap.{BTreeMap, get_by}
 use Rattle.std.specs.Cmp.Lexicographic.{slice_cmp}
@@ -8,31 +8,25 @@ use Rattle.std.specs.Ordering.{nat_cmp}
 use Rattle.std.specs.Str.{bytes_eq}
 use Rattle.collision_log.specs.declared.row.Body.{Body}
 use Rattle.collision_log.specs.declared.row.Body.TheVariants.{Sent, Collided, GivenUp, Cut, Received, Dropped, Clash, Closed, Opened, Halted}
-use Rattle.log_meter.specs.Figures.{collided_share, kind_count, is_clash, is_closed, is_collided, is_cut, is_dropped, is_given_up, is_halted, is_of_repeater_named, is_of_station, is_opened, is_received, is_sent_body, longest_row, senders, sending_time, sending_times}
+use Rattle.log_meter.specs.Figures.{collided_share, is_of_repeater_named, is_of_station, is_sent_body, longest_row, repeater_tally, senders, sending_time, station_tally}
 use Rattle.log_meter.specs.Lines.{is_of_repeater}
 use Rattle.log_meter.specs.declared.device_figures.RepeaterFigures.{RepeaterFigures}
+use Rattle.log_meter.specs.declared.device_figures.RepeaterTally.{RepeaterTally}
 use Rattle.log_meter.specs.declared.device_figures.StationFigures.{StationFigures}
+use Rattle.log_meter.specs.declared.device_figures.StationTally.{StationTally}
 use Rattle.log_meter.specs.declared.line.LogLine.{LogLine}
 use Rattle.log_meter.specs.declared.tally.Tally.{Tally}
 
 -- no line has the name
 abbrev pub empty_tally : Tally
-empty_tally = record {
-  station = false;
-  repeater = false;
-  sent = 0;
-  collided = 0;
-  given_up = 0;
-  cut = 0;
-  received = 0;
-  dropped = 0;
-  half_bits = 0;
-  longest = 0;
-  clash = 0;
-  closed = 0;
-  opened = 0;
-  halted = 0;
-}
+empty_tally =
+    record {
+      station = false;
+      repeater = false;
+      of_station = station_tally [];
+      longest = 0;
+      of_repeater = repeater_tally [];
+    }
 
 -- what these lines of a station and these of a repeater say, and the most frames in a row that the station sent
 abbrev pub tally_from : Bool → Bool → List LogLine → List LogLine → ℕ → Tally
@@ -40,18 +34,9 @@ tally_from station repeater own repeating longest =
     record {
       station = station;
       repeater = repeater;
-      sent = kind_count is_sent_body own;
-      collided = kind_count is_collided own;
-      given_up = kind_count is_given_up own;
-      cut = kind_count is_cut own;
-      received = kind_count is_received own;
-      dropped = kind_count is_dropped own;
-      half_bits = sending_times own;
+      of_station = station_tally own;
       longest = longest;
-      clash = kind_count is_clash repeating;
-      closed = kind_count is_closed repeating;
-      opened = kind_count is_opened repeating;
-      halted = kind_count is_halted repeating;
+      of_repeater = repeater_tally repeating;
     }
 
 -- what the lines of this name say
@@ -60,49 +45,41 @@ name_tally lines name =
     tally_from (list_any (is_of_station name) lines) (list_any (is_of_repeater_named name) lines)
     (filter (is_of_station name) lines) (filter (is_of_repeater_named name) lines) (longest_row name (senders lines))
 
--- a tally with one more line of this body at t, so far as it tells of the kind of the device and of the time for which
--- a sending went on
-abbrev pub with_device : Tally → ℕ → Body → Tally
-with_device tally t body =
-    record tally {
-      station = not (is_of_repeater body) || tally.station;
-      repeater = is_of_repeater body || tally.repeater;
-      half_bits = tally.half_bits + sending_time t body;
+-- what lines of a station count, with one more line of this body at t
+abbrev pub with_station_line : StationTally → ℕ → Body → StationTally
+with_station_line c t (Sent frame start attempt) =
+    record c { sent = c.sent + 1; half_bits = c.half_bits + sending_time t (Sent frame start attempt) }
+with_station_line c t (Collided frame start attempt hit drawn) =
+    record c {
+      collided = c.collided + 1;
+      half_bits = c.half_bits + sending_time t (Collided frame start attempt hit drawn);
     }
+with_station_line c t (GivenUp frame start hit) =
+    record c { given_up = c.given_up + 1; half_bits = c.half_bits + sending_time t (GivenUp frame start hit) }
+with_station_line c t (Cut frame start attempt hit) =
+    record c { cut = c.cut + 1; half_bits = c.half_bits + sending_time t (Cut frame start attempt hit) }
+with_station_line c t (Received octets) = record c { received = c.received + 1 }
+with_station_line c t (Dropped why halves) = record c { dropped = c.dropped + 1 }
+with_station_line c t _ = c
+
+-- what lines of a repeater count, with one more line of this body
+abbrev pub with_repeater_line : RepeaterTally → Body → RepeaterTally
+with_repeater_line c Clash = record c { clash = c.clash + 1 }
+with_repeater_line c (Closed port) = record c { closed = c.closed + 1 }
+with_repeater_line c (Opened port) = record c { opened = c.opened + 1 }
+with_repeater_line c (Halted port) = record c { halted = c.halted + 1 }
+with_repeater_line c _ = c
 
 -- a tally with one more line in front, at t, after which so many Sent lines in a row are of its name
 abbrev pub with_body : Tally → ℕ → Body → ℕ → Tally
-with_body tally t (Sent frame start attempt) row =
-    record tally {
+with_body tally t body row =
+    if is_of_repeater body
+    then record tally { repeater = true; of_repeater = with_repeater_line tally.of_repeater body }
+    else record tally {
       station = true;
-      sent = tally.sent + 1;
-      half_bits = tally.half_bits + sending_time t (Sent frame start attempt);
-      longest = max row tally.longest;
+      of_station = with_station_line tally.of_station t body;
+      longest = if is_sent_body body then max row tally.longest else tally.longest;
     }
-with_body tally t (Collided frame start attempt hit drawn) row =
-    record tally {
-      station = true;
-      collided = tally.collided + 1;
-      half_bits = tally.half_bits + sending_time t (Collided frame start attempt hit drawn);
-    }
-with_body tally t (GivenUp frame start hit) row =
-    record tally {
-      station = true;
-      given_up = tally.given_up + 1;
-      half_bits = tally.half_bits + sending_time t (GivenUp frame start hit);
-    }
-with_body tally t (Cut frame start attempt hit) row =
-    record tally {
-      station = true;
-      cut = tally.cut + 1;
-      half_bits = tally.half_bits + sending_time t (Cut frame start attempt hit);
-    }
-with_body tally t (Received octets) row = record tally { station = true; received = tally.received + 1 }
-with_body tally t (Dropped why halves) row = record tally { station = true; dropped = tally.dropped + 1 }
-with_body tally t Clash row = record tally { repeater = true; clash = tally.clash + 1 }
-with_body tally t (Closed port) row = record tally { repeater = true; closed = tally.closed + 1 }
-with_body tally t (Opened port) row = record tally { repeater = true; opened = tally.opened + 1 }
-with_body tally t (Halted port) row = record tally { repeater = true; halted = tally.halted + 1 }
 
 -- the tally of a name
 abbrev pub tally_at : BTreeMap (Bor (List ℕ)) Tally → List ℕ → Tally
@@ -126,27 +103,14 @@ abbrev pub figures_of_station : List ℕ → Tally → StationFigures
 figures_of_station name tally =
     record {
       name = name;
-      sent = tally.sent;
-      collided = tally.collided;
-      given_up = tally.given_up;
-      cut = tally.cut;
-      received = tally.received;
-      dropped = tally.dropped;
-      half_bits = tally.half_bits;
-      share = collided_share tally.sent tally.collided tally.given_up;
+      tally = tally.of_station;
+      share = collided_share tally.of_station.sent tally.of_station.collided tally.of_station.given_up;
       longest = tally.longest;
     }
 
 -- the figures of a repeater, from the tally of its name
 abbrev pub figures_of_repeater : List ℕ → Tally → RepeaterFigures
-figures_of_repeater name tally =
-    record {
-      name = name;
-      clash = tally.clash;
-      closed = tally.closed;
-      opened = tally.opened;
-      halted = tally.halted;
-    }
+figures_of_repeater name tally = record { name = name; tally = tally.of_repeater }
 
 -- the figures of the station with this name, where there is one
 abbrev pub station_named : Bor (List ℕ) × Tally → List StationFigures

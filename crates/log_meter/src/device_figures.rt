@@ -1,12 +1,10 @@
 //! What the figures of a log are.
 use lists::{List, Text};
 
-/// What a station did: how many of its frames were sent, met a collision, were given up or cut, how many it received
-/// and dropped, for how many half bits it sent, how many of each thousand sendings met a collision, and the most
-/// frames that it sent in a row while no other station sent one.
-#[derive(Debug, Drop)]
-pub struct StationFigures {
-    pub name: Text,
+/// What lines of a station count: how many of its frames were sent, met a collision, were given up or cut, how many it
+/// received and dropped, and for how many half bits it sent.
+#[derive(Clone, Copy, Debug, PartialEq, Eq)]
+pub struct StationTally {
     pub sent: u64,
     pub collided: u64,
     pub given_up: u64,
@@ -14,18 +12,32 @@ pub struct StationFigures {
     pub received: u64,
     pub dropped: u64,
     pub half_bits: u64,
-    pub share: u64,
-    pub longest: u64,
 }
 
-/// What a repeater did: collisions, and partitions, reconnections and halts of its ports.
-#[derive(Debug, Drop)]
-pub struct RepeaterFigures {
-    pub name: Text,
+/// What lines of a repeater count: collisions, and partitions, reconnections and halts of its ports.
+#[derive(Clone, Copy, Debug, PartialEq, Eq)]
+pub struct RepeaterTally {
     pub clash: u64,
     pub closed: u64,
     pub opened: u64,
     pub halted: u64,
+}
+
+/// What a station did, how many of each thousand of its sendings met a collision, and the most frames that it sent in a
+/// row while no other station sent one.
+#[derive(Debug, Drop)]
+pub struct StationFigures {
+    pub name: Text,
+    pub tally: StationTally,
+    pub share: u64,
+    pub longest: u64,
+}
+
+/// What a repeater did.
+#[derive(Debug, Drop)]
+pub struct RepeaterFigures {
+    pub name: Text,
+    pub tally: RepeaterTally,
 }
 
 /// The figures of stations, in order of their names by their octets.

@@ -12,7 +12,10 @@ mod tallies;
 mod tally;
 mod texts;
 
-pub use device_figures::{Figures, RepeaterFigures, RepeaterList, StationFigures, StationList};
+pub use device_figures::{
+    Figures, RepeaterFigures, RepeaterList, RepeaterTally, StationFigures, StationList,
+    StationTally,
+};
 pub use fault::{LineFault, LogFault};
 pub use line::{LogLine, LogLines, read_line};
 pub use lists::OutOfMemory;

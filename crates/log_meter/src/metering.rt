@@ -35,14 +35,12 @@ fn station(alloc: Global, name: &str, tally: &Tally) -> Result<StationFigures, O
 {
     Ok(StationFigures {
         name: Text::new(alloc, name)?,
-        sent: tally.sent,
-        collided: tally.collided,
-        given_up: tally.given_up,
-        cut: tally.cut,
-        received: tally.received,
-        dropped: tally.dropped,
-        half_bits: tally.half_bits,
-        share: collided_share(tally.sent, tally.collided, tally.given_up)?,
+        tally: tally.of_station,
+        share: collided_share(
+            tally.of_station.sent,
+            tally.of_station.collided,
+            tally.of_station.given_up,
+        )?,
         longest: tally.longest,
     })
 }
@@ -53,10 +51,7 @@ fn repeater(alloc: Global, name: &str, tally: &Tally) -> Result<RepeaterFigures,
 {
     Ok(RepeaterFigures {
         name: Text::new(alloc, name)?,
-        clash: tally.clash,
-        closed: tally.closed,
-        opened: tally.opened,
-        halted: tally.halted,
+        tally: tally.of_repeater,
     })
 }
 

@@ -1,5 +1,5 @@
 //! The tallies of all names of a log, by one pass from its last line to its first.
-ghost use Rattle.std.specs.Prelude.{◌≡◌, IfOk, ◌++◌};
+ghost use Rattle.std.specs.Prelude.{◌≡◌, IfOk};
 ghost use Rattle.std.specs.List.{AllByRecursion};
 ghost use Rattle.log_meter.specs.Lines.{IsLogLine};
 ghost use Rattle.log_meter.specs.Tallies.{AreTalliesOf, tally_at};
@@ -19,9 +19,8 @@ struct Row<'a> {
 }
 
 impl<'a> Row<'a> {
-    ghost use Rattle.std.specs.Prelude.{IfOk, ◌∷◌};
-    ghost use Rattle.log_meter.specs.Figures.{senders};
-    ghost use Rattle.log_meter.specs.Tallies.{IsRow, row_after};
+    ghost use Rattle.std.specs.Prelude.{IfOk};
+    ghost use Rattle.log_meter.specs.Tallies.{row_after};
 
     /// The row with one more line in front.
     fn with(self, line: &'a LogLine) -> Result<Row<'a>, OutOfMemory>

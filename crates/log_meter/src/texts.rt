@@ -1,6 +1,6 @@
 //! The texts of figures and of a log's fault.
 ghost use Rattle.std.specs.Prelude.{◌≡◌, ◌<◌, ◌↔◌, ◌++◌, ℕ, Err, IfOk, OnOk, decimal, length, sum_by};
-ghost use Rattle.log_meter.specs.FigureTexts.{AreFiguresIn, IsFiguresText, line_of_log, line_of_log_with, line_of_repeater, line_of_station, lines_of_repeaters, lines_of_stations, words_of_channel, words_of_frames};
+ghost use Rattle.log_meter.specs.FigureTexts.{AreFiguresIn, IsFiguresText, line_of_log_with, line_of_repeater, line_of_station, lines_of_repeaters, lines_of_stations, words_of_channel, words_of_frames};
 ghost use Rattle.std.specs.List.{AllByRecursion};
 ghost use Rattle.log_meter.specs.Lines.{IsLogLine};
 ghost use Rattle.log_meter.specs.Logs.{IsBadAt, IsFallingAt, most_log_octets};
@@ -26,12 +26,12 @@ fn add_field(line: &mut List<u8>, word: &[u8], number: u64) -> Result<(), OutOfM
 fn add_frames(text: &mut List<u8>, station: &StationFigures) -> Result<(), OutOfMemory>
     ensures { OnOk result (text.new ≡ text.old ++ words_of_frames station.now) }
 {
-    add_field(text, b" sent ", station.sent)?;
-    add_field(text, b" collided ", station.collided)?;
-    add_field(text, b" given_up ", station.given_up)?;
-    add_field(text, b" cut ", station.cut)?;
-    add_field(text, b" received ", station.received)?;
-    add_field(text, b" dropped ", station.dropped)
+    add_field(text, b" sent ", station.tally.sent)?;
+    add_field(text, b" collided ", station.tally.collided)?;
+    add_field(text, b" given_up ", station.tally.given_up)?;
+    add_field(text, b" cut ", station.tally.cut)?;
+    add_field(text, b" received ", station.tally.received)?;
+    add_field(text, b" dropped ", station.tally.dropped)
 }
 
 /// Puts the words of how much of the channel a station got at the end of a text.
@@ -39,7 +39,7 @@ fn add_frames(text: &mut List<u8>, station: &StationFigures) -> Result<(), OutOf
 fn add_channel(text: &mut List<u8>, station: &StationFigures) -> Result<(), OutOfMemory>
     ensures { OnOk result (text.new ≡ text.old ++ words_of_channel station.now) }
 {
-    add_field(text, b" half_bits ", station.half_bits)?;
+    add_field(text, b" half_bits ", station.tally.half_bits)?;
     add_field(text, b" share ", station.share)?;
     add_field(text, b" longest ", station.longest)
 }
@@ -63,10 +63,10 @@ fn add_repeater(text: &mut List<u8>, repeater: &RepeaterFigures) -> Result<(), O
 {
     text.extend(b"repeater ")?;
     text.extend(repeater.name.as_str().as_bytes())?;
-    add_field(text, b" clash ", repeater.clash)?;
-    add_field(text, b" closed ", repeater.closed)?;
-    add_field(text, b" opened ", repeater.opened)?;
-    add_field(text, b" halted ", repeater.halted)?;
+    add_field(text, b" clash ", repeater.tally.clash)?;
+    add_field(text, b" closed ", repeater.tally.closed)?;
+    add_field(text, b" opened ", repeater.tally.opened)?;
+    add_field(text, b" halted ", repeater.tally.halted)?;
     text.extend(b"\n")
 }
 
@@ -92,11 +92,11 @@ fn add_repeaters(text: &mut List<u8>, repeaters: &[RepeaterFigures]) -> Result<(
 
 /// For how many half bits these stations sent.
 fn sending(stations: &[StationFigures]) -> Result<u64, OutOfMemory>
-    ensures { IfOk result (λ all. all ≡ sum_by (λ f. f.half_bits) stations.now) }
+    ensures { IfOk result (λ all. all ≡ sum_by (λ f. f.tally.half_bits) stations.now) }
 {
     let mut all = 0;
     for station in stations {
-        all = sum(all, station.half_bits)?;
+        all = sum(all, station.tally.half_bits)?;
     }
     Ok(all)
 }

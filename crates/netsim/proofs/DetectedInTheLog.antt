@@ -1,4 +1,5 @@
--- Where a layout is within, of two attempts that overlap over an open path each that ends within the run has a line in the log.
+-- Where a layout is within, of two attempts that overlap over an open path each that ends within the run has a line in
+-- the log.
 use Rattle.std.proofs.Common.{◌≡◌, ℕ, zero, suc, ◌+◌, ◌<◌, ◌==◌, Bool, true, false, if◌then◌else◌, Contains, Option, Some, None, List, [], ◌∷◌, ◌++◌, length, slice_index_or, refl, sym, ap, ◌∙◌, inl, inr, append_assoc, append-nil, arith}
 use Rattle.std.specs.Prelude.{codes}
 use Rattle.collision_log.specs.declared.row.Body.TheVariants.{Collided, GivenUp}

@@ -1,19 +1,19 @@
 -- The line of a row is one line, and tells what happened.
-use Rattle.std.proofs.Common.{◌≡◌, ◌≢◌, ℕ, ◌^◌, ◌<◌, ◌≤◌, ◌==◌, Bool, true, false, if◌then◌else◌, List, [], ◌∷◌, ◌++◌, length, slice_get, Option, None, Some, refl, sym, ap, ◌∙◌, inl, inr, append_assoc, length-append, arith}
+use Rattle.std.proofs.Common.{◌≡◌, ◌≢◌, ℕ, ◌^◌, ◌<◌, ◌≤◌, ◌==◌, Bool, true, false, if◌then◌else◌, List, [], ◌∷◌, ◌++◌, length, slice_get, refl, sym, ap, ◌∙◌, inl, inr, append_assoc, length-append, arith}
 use Rattle.std.specs.Prelude.{codes, decimal, nat_le, unwrap_or}
 use Rattle.std.proofs.lemmas.Bool.{eqb-false, ne_eqb}
 use Rattle.std.proofs.lemmas.Fmt.{decimal_injective}
-use Rattle.collision_log.specs.Rows.{body_text, device_word, hit_text, why_text}
-use Rattle.collision_log.specs.declared.row.Body.{Body}
-use Rattle.collision_log.specs.declared.row.Body.TheVariants.{Sent, Collided, GivenUp, Cut, Received, Dropped, Clash, Closed, Opened, Halted}
+use Rattle.collision_log.specs.Rows.{body_text, device_word}
+use Rattle.collision_log.specs.declared.row.Body.TheVariants.{Collided, GivenUp}
 use Rattle.collision_log.specs.declared.row.Row.{Row}
-use Rattle.collision_log.specs.declared.row.Why.{Why}
-use Rattle.collision_log.specs.declared.row.Why.TheVariants.{Fragment, TooLong, FcsError, AlignError, Damaged}
 use Rattle.layout.specs.Sound.{device_names}
+use Rattle.load_plan.proofs.PlansAreSound.{sound_of_plan}
 use Rattle.load_plan.specs.declared.plan.Plan.{Plan}
 use Rattle.run_texts.specs.Texts.{line_of_row}
 use Rattle.netsim.specs.LoggedCollisions.{EndsLine, HasLine, IsOneLine, log_line}
-use Rattle.netsim.proofs.OctetsOfNames.{AreHigh, either, neither, holds, holds_append, all_other, high_none, decimal_high, decimal_long, device_lacks, no_feed_octet, no_space_octet}
+use Rattle.run_checkpoint.proofs.HeldOctets.{AreHigh, decimal_high, device_lacks, either, holds, neither, no_feed_octet, number_lacks}
+use Rattle.run_checkpoint.proofs.StateLines.{row_feed, row_text}
+use Rattle.netsim.proofs.OctetsOfNames.{all_other, decimal_long, no_space_octet}
 
 -- the first octet of these, and those after it
 abbrev pub head : List ℕ → ℕ
@@ -23,73 +23,6 @@ head (x ∷ xs) = x
 abbrev tail : List ℕ → List ℕ
 tail [] = []
 tail (x ∷ xs) = xs
-
-number : (n : ℕ) → holds 10 (decimal n) ≡ false
-number n = high_none 10 (decimal n) (omega arith) (decimal_high n)
-
--- a text and a number after it
-then_number : (text : List ℕ) (n : ℕ) → holds 10 text ≡ false → holds 10 (text ++ decimal n) ≡ false
-then_number text n none = holds_append 10 text (decimal n) none (number n)
-
--- a text, and a number after words
-then_words : (text words : List ℕ) (n : ℕ) → holds 10 text ≡ false → holds 10 words ≡ false → holds 10 (text ++ words ++ decimal n) ≡ false
-then_words text words n none word = then_number (text ++ words) n (holds_append 10 text words none word)
-
-hit_feed : (text words : List ℕ) (hit : Option ℕ) → holds 10 text ≡ false → holds 10 words ≡ false → holds 10 (text ++ words ++ hit_text hit) ≡ false
-hit_feed text words None none word = holds_append 10 (text ++ words) (codes "none") (holds_append 10 text words none word) refl
-hit_feed text words (Some hit) none word = then_words text words hit none word
-
-why_feed : (why : Why) → holds 10 (codes "dropped " ++ why_text why) ≡ false
-why_feed Fragment = refl
-why_feed TooLong = refl
-why_feed FcsError = refl
-why_feed AlignError = refl
-why_feed Damaged = refl
-
-body_feed : (b : Body) → holds 10 (body_text b) ≡ false
-body_feed (Sent frame start attempt) =
-    let one : List ℕ = codes "sent frame " ++ decimal frame in
-    let two : List ℕ = one ++ codes " start " ++ decimal start in
-    then_words two (codes " attempt ") attempt (then_words one (codes " start ") start (then_number (codes "sent frame ") frame refl) refl) refl
-body_feed (Collided frame start attempt hit drawn) =
-    let one : List ℕ = codes "collided frame " ++ decimal frame in
-    let two : List ℕ = one ++ codes " start " ++ decimal start in
-    let three : List ℕ = two ++ codes " attempt " ++ decimal attempt in
-    let four : List ℕ = three ++ codes " hit " ++ decimal hit in
-    then_words four (codes " draw ") drawn (then_words three (codes " hit ") hit (then_words two (codes " attempt ") attempt
-    (then_words one (codes " start ") start (then_number (codes "collided frame ") frame refl) refl) refl) refl) refl
-body_feed (GivenUp frame start hit) =
-    let one : List ℕ = codes "given_up frame " ++ decimal frame in
-    let two : List ℕ = one ++ codes " start " ++ decimal start in
-    then_words two (codes " hit ") hit (then_words one (codes " start ") start (then_number (codes "given_up frame ") frame refl) refl) refl
-body_feed (Cut frame start attempt hit) =
-    let one : List ℕ = codes "cut frame " ++ decimal frame in
-    let two : List ℕ = one ++ codes " start " ++ decimal start in
-    let three : List ℕ = two ++ codes " attempt " ++ decimal attempt in
-    hit_feed three (codes " hit ") hit (then_words two (codes " attempt ") attempt (then_words one (codes " start ") start (then_number (codes "cut frame ") frame refl) refl) refl) refl
-body_feed (Received octets) = then_number (codes "received octets ") octets refl
-body_feed (Dropped why halves) = then_words (codes "dropped " ++ why_text why) (codes " halves ") halves (why_feed why) refl
-body_feed Clash = refl
-body_feed (Closed port) = then_number (codes "closed port ") port refl
-body_feed (Opened port) = then_number (codes "opened port ") port refl
-body_feed (Halted port) = then_number (codes "halted port ") port refl
-
-word_feed : (repeater : Bool) → holds 10 (device_word repeater) ≡ false
-word_feed true = refl
-word_feed false = refl
-
--- the line of a row without its line feed
-abbrev pub row_text : Row → Bool → List ℕ → List ℕ
-row_text row repeater name = decimal row.t ++ codes " " ++ device_word repeater ++ name ++ codes " " ++ body_text row.body
-
-text_feed : (row : Row) (repeater : Bool) (name : List ℕ) → holds 10 name ≡ false → holds 10 (row_text row repeater name) ≡ false
-text_feed row repeater name none =
-    let one : List ℕ = decimal row.t ++ codes " " in
-    let two : List ℕ = one ++ device_word repeater in
-    let three : List ℕ = two ++ name in
-    let four : List ℕ = three ++ codes " " in
-    holds_append 10 four (body_text row.body) (holds_append 10 three (codes " ") (holds_append 10 two name
-    (holds_append 10 one (device_word repeater) (holds_append 10 (decimal row.t) (codes " ") (number row.t) refl) (word_feed repeater)) none) refl) (body_feed row.body)
 
 -- the line of a row, by the names of all devices, without its line feed
 abbrev pub text_among : List (List ℕ) → ℕ → Row → List ℕ
@@ -113,7 +46,7 @@ pub line_is : (plan : Plan) (row : Row) → log_line plan row ≡ text_of_row pl
 line_is plan row = line_among (device_names plan.layout) (length plan.layout.stations) row
 
 pub text_none : (plan : Plan) (row : Row) → holds 10 (text_of_row plan row) ≡ false
-text_none plan row = text_feed row (repeater_of_row plan row) (name_of_row plan row) (device_lacks 10 row.device plan no_feed_octet)
+text_none plan row = row_feed row (repeater_of_row plan row) (name_of_row plan row) (device_lacks 10 row.device plan.layout no_feed_octet (sound_of_plan plan))
 
 pub one_line : (plan : Plan) (row : Row) → IsOneLine (log_line plan row)
 one_line plan row = record { text = text_of_row plan row; is = line_is plan row; one = all_other 10 (text_of_row plan row) (text_none plan row) }
@@ -169,7 +102,7 @@ word_skip [] ys none = refl
 word_skip (x ∷ xs) ys none = let parts : ((x == 32) ≡ false) × (holds 32 xs ≡ false) = either (x == 32) (holds 32 xs) none in rw parts.0 (ap (λ zs. x ∷ zs) (word_skip xs ys parts.1))
 
 space : (n : ℕ) → holds 32 (decimal n) ≡ false
-space n = high_none 32 (decimal n) (omega arith) (decimal_high n)
+space n = number_lacks 32 n (omega arith)
 
 device_rest : (repeater : Bool) (ys : List ℕ) → rest_of (device_word repeater ++ ys) ≡ ys
 device_rest true ys = refl
@@ -184,7 +117,7 @@ body_of_text plan row =
     ap (λ xs. rest_of (rest_of (rest_of xs))) (text_split row word name)
     ∙ ap (λ xs. rest_of (rest_of xs)) (rest_skip (decimal row.t) (device_word word ++ (name ++ 32 ∷ body)) (space row.t))
     ∙ ap rest_of (device_rest word (name ++ 32 ∷ body))
-    ∙ rest_skip name body (device_lacks 32 row.device plan no_space_octet)
+    ∙ rest_skip name body (device_lacks 32 row.device plan.layout no_space_octet (sound_of_plan plan))
 
 -- a whole line of a row's line tells what that row does
 pub same_body : (plan : Plan) (row line : Row) → HasLine (log_line plan row) (log_line plan line) → body_text row.body ≡ body_text line.body

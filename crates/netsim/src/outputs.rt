@@ -1,5 +1,5 @@
 //! The files of a run.
-ghost use Rattle.std.specs.Prelude.{◌≡◌, ◌≤◌, All, OnOk, OnErr, IfErr, string_bytes};
+ghost use Rattle.std.specs.Prelude.{◌≡◌, ◌≤◌, All, OnOk, OnErr, IfErr};
 ghost use Rattle.layout.specs.Sound.{IsSound};
 ghost use Rattle.run_texts.specs.Captures.{AreShort, pcap_of_taken};
 ghost use Rattle.run_texts.specs.Counts.{AreLeft, counts_of};

@@ -1,6 +1,5 @@
 //! The form that says what taps of a layout file's network hear.
 ghost use Rattle.std.specs.Prelude.{◌≡◌, ◌≤◌, ◌<◌, ◌+◌, ◌^◌, ℕ, List, All, length};
-ghost use Rattle.layout.specs.Sound.{IsSound};
 ghost use Rattle.layout.specs.Limits.{most_half_bits};
 ghost use Rattle.line_probe.specs.Heard.{rows_of_taps};
 ghost use Rattle.line_probe.specs.Taps.{HasTap};
@@ -8,7 +7,6 @@ ghost use Rattle.line_probe.specs.declared.tap.Tap.{Tap};
 ghost use Rattle.load_plan.specs.declared.plan.Plan.{Plan};
 ghost use Rattle.network.specs.Outputs.{half_bits};
 ghost use Rattle.netsim.specs.Endings.{AreTapsTold, AreTextsTold, IsProbeEnd};
-ghost use Rattle.program_words.specs.declared.words.Hearing.TheVariants as hearing;
 ghost use Rattle.program_words.specs.WordLimits.{most_probed, most_taps};
 ghost use Rattle.netsim.specs.Moments.{moment};
 ghost use Rattle.program_texts.specs.HeardTexts.{AreHeard};
@@ -54,58 +52,8 @@ fn write_taps<K: Sink>(
     Ending::Done
 }
 
-/// Writes the runs and bursts of what these taps of a plan's network hear from half bit `from` on and before half bit
-/// `to`, tap by tap.
-fn tell_runs<K: Sink>(
-    alloc: Global,
-    plan: &Plan,
-    words: &[Text],
-    taps: &[Tap],
-    from: u32,
-    to: u32,
-    out: &mut K,
-) -> Ending
-    requires taps { All (HasTap plan.now.layout) taps.now }
-    requires named { length taps.now ≡ length words.now }
-    requires few { length taps.now ≤ most_taps }
-    requires order { from < to }
-    requires short { to ≤ from + most_probed }
-    requires end { to ≤ half_bits plan.now }
-    requires late { to ≤ most_half_bits }
-    ensures { AreTapsTold hearing.Runs plan.now from to words.now taps.now (K.written out.old) (K.written out.new) (K.faults out.old) (K.faults out.new) result }
-{
-    let from = u64::from(from);
-    match heard_at_taps(alloc, plan, taps, from, u64::from(to)) {
-        Ok(heard) => write_taps(alloc, &heard, words, from, out),
-        Err(OutOfMemory) => Ending::Memory,
-    }
-}
-
-/// Writes the waves of what these taps of a plan's network hear from half bit `from` on and before half bit `to`.
-fn tell_waves<K: Sink>(
-    alloc: Global,
-    plan: &Plan,
-    words: &[Text],
-    taps: &[Tap],
-    from: u32,
-    to: u32,
-    out: &mut K,
-) -> Ending
-    requires taps { All (HasTap plan.now.layout) taps.now }
-    requires named { length taps.now ≡ length words.now }
-    requires few { length taps.now ≤ most_taps }
-    requires order { from < to }
-    requires end { to ≤ half_bits plan.now }
-    requires late { to ≤ most_half_bits }
-    ensures { AreTapsTold hearing.Waves plan.now from to words.now taps.now (K.written out.old) (K.written out.new) (K.faults out.old) (K.faults out.new) result }
-{
-    match text_of_waves(alloc, plan, words, taps, u64::from(from), u64::from(to)) {
-        Ok(text) => write_line(out, text.as_slice()),
-        Err(OutOfMemory) => Ending::Memory,
-    }
-}
-
-/// Writes what these taps of a plan's network hear from half bit `from` on and before half bit `to`, told so.
+/// Writes what these taps of a plan's network hear from half bit `from` on and before half bit `to`, told so: the runs
+/// and bursts tap by tap, or the waves of all.
 fn tell_taps<K: Sink>(
     alloc: Global,
     hearing: Hearing,
@@ -125,9 +73,17 @@ fn tell_taps<K: Sink>(
     requires late { to ≤ most_half_bits }
     ensures { AreTapsTold hearing plan.now from to words.now taps.now (K.written out.old) (K.written out.new) (K.faults out.old) (K.faults out.new) result }
 {
+    let begin = u64::from(from);
+    let end = u64::from(to);
     match hearing {
-        Hearing::Runs => tell_runs(alloc, plan, words, taps, from, to, out),
-        Hearing::Waves => tell_waves(alloc, plan, words, taps, from, to, out),
+        Hearing::Runs => match heard_at_taps(alloc, plan, taps, begin, end) {
+            Ok(heard) => write_taps(alloc, &heard, words, begin, out),
+            Err(OutOfMemory) => Ending::Memory,
+        },
+        Hearing::Waves => match text_of_waves(alloc, plan, words, taps, begin, end) {
+            Ok(text) => write_line(out, text.as_slice()),
+            Err(OutOfMemory) => Ending::Memory,
+        },
     }
 }
 

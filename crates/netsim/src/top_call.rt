@@ -1,5 +1,5 @@
 //! The top call.
-ghost use Rattle.std.specs.Prelude.{◌≡◌, ◌⊎◌, ◌↔◌, ℕ, List, Option, None};
+ghost use Rattle.std.specs.Prelude.{◌≡◌, ◌⊎◌, ◌↔◌, None};
 ghost use Rattle.outside.specs.Files.{Rose};
 ghost use Rattle.netsim.specs.LoggedCollisions.{AreCollisionsLogged};
 ghost use Rattle.netsim.specs.Endings.{IsAnswer, IsEnd};

@@ -1,5 +1,5 @@
--- Texts without a line feed: words, numbers and names.
-use Rattle.std.proofs.Common.{◌≡◌, ℕ, zero, suc, ◌+◌, ◌≤◌, ◌==◌, ◌/◌, ◌%◌, Bool, true, false, ◌||◌, if◌then◌else◌, All, List, [], ◌∷◌, ◌++◌, map, slice_get, refl, sym, ap, ◌∙◌, arith}
+-- Octets that texts, numbers and names don't have: above all a line feed (10).
+use Rattle.std.proofs.Common.{◌≡◌, ℕ, zero, suc, ◌+◌, ◌<◌, ◌≤◌, ◌==◌, ◌/◌, ◌%◌, Bool, true, false, ◌||◌, if◌then◌else◌, All, List, [], ◌∷◌, ◌++◌, map, slice_get, refl, sym, ap, ◌∙◌, arith}
 use Rattle.std.specs.Prelude.{nat_lt, decimal, unwrap_or}
 use Rattle.std.specs.Fmt.{digits}
 use Rattle.std.specs.Fmt.{digits_onto, digit_glyph}
@@ -10,10 +10,10 @@ use Rattle.layout.specs.declared.lines.RepeaterLine.{RepeaterLine}
 use Rattle.layout.specs.declared.lines.StationLine.{StationLine}
 use Rattle.layout.specs.declared.lines.Layout.{Layout}
 
--- a line feed is among these octets
-abbrev pub has_feed : List ℕ → Bool
-has_feed [] = false
-has_feed (x ∷ xs) = (x == 10) || has_feed xs
+-- the octet c is among these
+abbrev pub holds : ℕ → List ℕ → Bool
+holds c [] = false
+holds c (x ∷ xs) = (x == c) || holds c xs
 
 pub either : (a b : Bool) → a || b ≡ false → (a ≡ false) × (b ≡ false)
 either true b e = absurd (false≢true (sym e))
@@ -22,20 +22,20 @@ either false b e = (refl, e)
 pub neither : (a b : Bool) → a ≡ false → b ≡ false → a || b ≡ false
 neither a b one two = rw (one, two) refl
 
-pub no_feed_append : (xs ys : List ℕ) → has_feed xs ≡ false → has_feed ys ≡ false → has_feed (xs ++ ys) ≡ false
-no_feed_append [] ys one two = two
-no_feed_append (x ∷ xs) ys one two =
-    let parts : ((x == 10) ≡ false) × (has_feed xs ≡ false) = either (x == 10) (has_feed xs) one in
-    neither (x == 10) (has_feed (xs ++ ys)) parts.0 (no_feed_append xs ys parts.1 two)
+pub holds_append : (c : ℕ) (xs ys : List ℕ) → holds c xs ≡ false → holds c ys ≡ false → holds c (xs ++ ys) ≡ false
+holds_append c [] ys one two = two
+holds_append c (x ∷ xs) ys one two =
+    let parts : ((x == c) ≡ false) × (holds c xs ≡ false) = either (x == c) (holds c xs) one in
+    neither (x == c) (holds c (xs ++ ys)) parts.0 (holds_append c xs ys parts.1 two)
 
 -- octets of 48 and more, as digits are
-abbrev AreHigh : List ℕ → Type 0
+abbrev pub AreHigh : List ℕ → Type 0
 AreHigh [] = Unit {0}
 AreHigh (x ∷ xs) = (48 ≤ x) × AreHigh xs
 
-high_none : (xs : List ℕ) → AreHigh xs → has_feed xs ≡ false
-high_none [] high = refl
-high_none (x ∷ xs) high = neither (x == 10) (has_feed xs) (ne_eqb x 10 (λ same. omega (arith, high.0, same))) (high_none xs high.1)
+high_none : (c : ℕ) (xs : List ℕ) → c < 48 → AreHigh xs → holds c xs ≡ false
+high_none c [] low high = refl
+high_none c (x ∷ xs) low high = neither (x == c) (holds c xs) (ne_eqb x c (λ same. omega (arith, low, high.0, same))) (high_none c xs low high.1)
 
 glyph_high : (b : Bool) (d : ℕ) → 48 ≤ (if b then 48 + d else (if false then 55 + d else 87 + d))
 glyph_high true d = omega arith
@@ -52,54 +52,54 @@ onto_high (suc k) n more high =
     pick_high (n / 10 == 0) (digit_glyph false (n % 10) ∷ more) (digits_onto k 10 false (n / 10) (digit_glyph false (n % 10) ∷ more)) next (onto_high k (n / 10) (digit_glyph false (n % 10) ∷ more) next)
 
 -- the digits of a number
-decimal_high : (n : ℕ) → AreHigh (decimal n)
+pub decimal_high : (n : ℕ) → AreHigh (decimal n)
 unfolding digits
 decimal_high n = onto_high 64 n [] tt
 
-pub number_feed : (n : ℕ) → has_feed (decimal n) ≡ false
-number_feed n = high_none (decimal n) (decimal_high n)
+pub number_lacks : (c n : ℕ) → c < 48 → holds c (decimal n) ≡ false
+number_lacks c n low = high_none c (decimal n) low (decimal_high n)
 
 -- a text and a number after it
-pub then_number : (text : List ℕ) (n : ℕ) → has_feed text ≡ false → has_feed (text ++ decimal n) ≡ false
-then_number text n none = no_feed_append text (decimal n) none (number_feed n)
+pub then_number : (text : List ℕ) (n : ℕ) → holds 10 text ≡ false → holds 10 (text ++ decimal n) ≡ false
+then_number text n none = holds_append 10 text (decimal n) none (number_lacks 10 n (omega arith))
 
 -- a text, and a number after words
-pub then_words : (text words : List ℕ) (n : ℕ) → has_feed text ≡ false → has_feed words ≡ false → has_feed (text ++ words ++ decimal n) ≡ false
-then_words text words n none word = then_number (text ++ words) n (no_feed_append text words none word)
+pub then_words : (text words : List ℕ) (n : ℕ) → holds 10 text ≡ false → holds 10 words ≡ false → holds 10 (text ++ words ++ decimal n) ≡ false
+then_words text words n none word = then_number (text ++ words) n (holds_append 10 text words none word)
 
-no_feed_octet : is_name_octet 10 ≡ false
+pub no_feed_octet : is_name_octet 10 ≡ false
 unfolding is_name_octet
 no_feed_octet = refl
 
-pub name_feed : (name : List ℕ) → All (λ x. is_name_octet x ≡ true) name → has_feed name ≡ false
-name_feed [] all = refl
-name_feed (x ∷ xs) all =
-    neither (x == 10) (has_feed xs) (ne_eqb x 10 (λ same. false≢true (sym no_feed_octet ∙ ap is_name_octet (sym same) ∙ all zero x (omega arith)))) (name_feed xs (λ k d l. all (suc k) d (omega (arith, l))))
+pub name_lacks : (c : ℕ) (name : List ℕ) → is_name_octet c ≡ false → All (λ x. is_name_octet x ≡ true) name → holds c name ≡ false
+name_lacks c [] apart all = refl
+name_lacks c (x ∷ xs) apart all =
+    neither (x == c) (holds c xs) (ne_eqb x c (λ same. false≢true (sym apart ∙ ap is_name_octet (sym same) ∙ all zero x (omega arith)))) (name_lacks c xs apart (λ k d l. all (suc k) d (omega (arith, l))))
 
--- names without a line feed
-abbrev pub EachOneLine : List (List ℕ) → Type 0
-EachOneLine [] = Unit {0}
-EachOneLine (n ∷ ns) = (has_feed n ≡ false) × EachOneLine ns
+-- names without the octet c
+abbrev EachLacks : ℕ → List (List ℕ) → Type 0
+EachLacks c [] = Unit {0}
+EachLacks c (n ∷ ns) = (holds c n ≡ false) × EachLacks c ns
 
-pub stations_feed : (f n : ℕ) (ss : List StationLine) → All (IsSoundStation f n) ss → EachOneLine (map (λ s. s.name) ss)
-stations_feed f n [] all = tt
-stations_feed f n (s ∷ ss) all = (name_feed s.name (all zero s (omega arith)).name.octets, stations_feed f n ss (λ k d l. all (suc k) d (omega (arith, l))))
+stations_lack : (c f n : ℕ) (ss : List StationLine) → is_name_octet c ≡ false → All (IsSoundStation f n) ss → EachLacks c (map (λ s. s.name) ss)
+stations_lack c f n [] apart all = tt
+stations_lack c f n (s ∷ ss) apart all = (name_lacks c s.name apart (all zero s (omega arith)).name.octets, stations_lack c f n ss apart (λ k d l. all (suc k) d (omega (arith, l))))
 
-pub repeaters_feed : (n : ℕ) (rs : List RepeaterLine) → All (IsSoundRepeater n) rs → EachOneLine (map (λ r. r.name) rs)
-repeaters_feed n [] all = tt
-repeaters_feed n (r ∷ rs) all = (name_feed r.name (all zero r (omega arith)).name.octets, repeaters_feed n rs (λ k d l. all (suc k) d (omega (arith, l))))
+repeaters_lack : (c n : ℕ) (rs : List RepeaterLine) → is_name_octet c ≡ false → All (IsSoundRepeater n) rs → EachLacks c (map (λ r. r.name) rs)
+repeaters_lack c n [] apart all = tt
+repeaters_lack c n (r ∷ rs) apart all = (name_lacks c r.name apart (all zero r (omega arith)).name.octets, repeaters_lack c n rs apart (λ k d l. all (suc k) d (omega (arith, l))))
 
-both_feed : (ns ms : List (List ℕ)) → EachOneLine ns → EachOneLine ms → EachOneLine (ns ++ ms)
-both_feed [] ms one two = two
-both_feed (n ∷ ns) ms one two = (one.0, both_feed ns ms one.1 two)
+both_lack : (c : ℕ) (ns ms : List (List ℕ)) → EachLacks c ns → EachLacks c ms → EachLacks c (ns ++ ms)
+both_lack c [] ms one two = two
+both_lack c (n ∷ ns) ms one two = (one.0, both_lack c ns ms one.1 two)
 
-feed_at : (k : ℕ) (ns : List (List ℕ)) → EachOneLine ns → has_feed (unwrap_or (slice_get ns k) []) ≡ false
-feed_at k [] each = refl
-feed_at zero (n ∷ ns) each = each.0
-feed_at (suc k) (n ∷ ns) each = feed_at k ns each.1
+lacks_at : (c k : ℕ) (ns : List (List ℕ)) → EachLacks c ns → holds c (unwrap_or (slice_get ns k) []) ≡ false
+lacks_at c k [] each = refl
+lacks_at c zero (n ∷ ns) each = each.0
+lacks_at c (suc k) (n ∷ ns) each = lacks_at c k ns each.1
 
--- the name of a device has no line feed
-pub device_feed : (k : ℕ) (layout : Layout) → IsSound layout → has_feed (unwrap_or (slice_get (device_names layout) k) []) ≡ false
-device_feed k layout sound =
-    feed_at k (device_names layout) (both_feed (map (λ s. s.name) layout.stations) (map (λ r. r.name) layout.repeaters)
-    (stations_feed _ _ layout.stations sound.stations) (repeaters_feed _ layout.repeaters sound.repeaters))
+-- the name of a device has no octet that names don't have
+pub device_lacks : (c k : ℕ) (layout : Layout) → is_name_octet c ≡ false → IsSound layout → holds c (unwrap_or (slice_get (device_names layout) k) []) ≡ false
+device_lacks c k layout apart sound =
+    lacks_at c k (device_names layout) (both_lack c (map (λ s. s.name) layout.stations) (map (λ r. r.name) layout.repeaters)
+    (stations_lack c _ _ layout.stations apart sound.stations) (repeaters_lack c _ layout.repeaters apart sound.repeaters))

@@ -4,19 +4,19 @@ use Rattle.std.specs.Prelude.{◌≢◌}
 use Rattle.std.specs.List.{prefix_len}
 use Rattle.std.proofs.lemmas.Bool.{cases_Bool, eqb-true}
 use Rattle.run_checkpoint.specs.TextLines.{is_within_line, onto_first_line, text_lines}
-use Rattle.run_checkpoint.proofs.HeldOctets.{either, has_feed}
+use Rattle.run_checkpoint.proofs.HeldOctets.{either, holds}
 
 -- a line without another line feed stands in front
-pub line_apart : (xs more : List ℕ) → has_feed xs ≡ false → text_lines ((xs ++ 10 ∷ []) ++ more) ≡ (xs ++ 10 ∷ []) ∷ text_lines more
+pub line_apart : (xs more : List ℕ) → holds 10 xs ≡ false → text_lines ((xs ++ 10 ∷ []) ++ more) ≡ (xs ++ 10 ∷ []) ∷ text_lines more
 line_apart [] more none = refl
 line_apart (x ∷ xs) more none =
-    let parts : ((x == 10) ≡ false) × (has_feed xs ≡ false) = either (x == 10) (has_feed xs) none in
+    let parts : ((x == 10) ≡ false) × (holds 10 xs ≡ false) = either (x == 10) (holds 10 xs) none in
     rw (parts.0, line_apart xs more parts.1) refl
 
 -- a text with a line feed at its end and nowhere else
 pub record IsOneTextLine (line : List ℕ) : Type 0 where
   pub text : List ℕ
-  pub none : has_feed text ≡ false
+  pub none : holds 10 text ≡ false
   pub is : line ≡ text ++ 10 ∷ []
 
 abbrev pub AreTextLines : List (List ℕ) → Type 0

@@ -4,7 +4,9 @@ use Rattle.std.specs.Prelude.{Result, ◌⊎◌, nat_lt}
 use Rattle.collision_log.specs.declared.row.Row.{Row}
 use Rattle.std.proofs.lemmas.List.{length-map}
 use Rattle.frame_layout.specs.declared.queue.Ready.{Ready}
+use Rattle.layout.specs.Limits.{most_stations}
 use Rattle.layout.specs.declared.lines.StationLine.{StationLine}
+use Rattle.load_plan.proofs.PlansAreSound.{sound_of_plan}
 use Rattle.load_plan.specs.declared.plan.Plan.{Plan}
 use Rattle.mac_transmit.specs.declared.state.SenderState.{SenderState}
 use Rattle.network.specs.Outputs.{half_bits}
@@ -110,8 +112,15 @@ rows_told plan octets lines t ss ss' more gs rs rest first rows captures p same 
     inl (sym (p.time ∙ all_told plan lines more rest t ss gs rs rows captures many p.senders p.guards (rows_part plan t ss ss' first rest (Ok (rows, captures)) same number h)))
 
 -- the ports are few
-pub few_named : (plan : Plan) (items : List PortName) → map named_port items ≡ all_ports plan.layout → length items ≤ 4096
+few_named : (plan : Plan) (items : List PortName) → map named_port items ≡ all_ports plan.layout → length items ≤ 4096
 few_named plan items h = omega (arith, ap length h, length-map items named_port, few_ports plan)
+
+pub few_stations : (plan : Plan) (stations : List StationLine) → stations ≡ plan.layout.stations → length stations ≤ most_stations
+few_stations plan stations is = omega (arith, ap length is, (sound_of_plan plan).stations_most)
+
+-- before the rows stand few lines
+pub few_lines : (plan : Plan) (stations : List StationLine) (named items : List PortName) → stations ≡ plan.layout.stations → named ≡ items → map named_port items ≡ all_ports plan.layout → length stations + length named ≤ 5120
+few_lines plan stations named items is same h = omega (arith, few_stations plan stations is, ap length same, few_named plan items h)
 
 pub row_line_is : (plan : Plan) (stations : List StationLine) (items : List PortName) → stations ≡ plan.layout.stations → map named_port items ≡ all_ports plan.layout → length stations + 2 + length items ≡ first_row_line plan
 row_line_is plan stations items st h = omega (arith, ap length st, ap length h, length-map items named_port)

@@ -27,29 +27,29 @@ use Rattle.run_checkpoint.specs.LineTexts.{count_words, defer_words, end_line, h
 use Rattle.run_checkpoint.specs.Places.{NamedPort, all_ports, ports_named, ports_of_repeaters}
 use Rattle.run_checkpoint.specs.States.{entries_of_state, lines_of_guards, lines_of_senders, lines_of_state, text_of_state}
 use Rattle.run_checkpoint.specs.TextLines.{text_lines}
-use Rattle.run_checkpoint.proofs.HeldOctets.{device_feed, has_feed, name_feed, neither, no_feed_append, number_feed, then_number, then_words}
+use Rattle.run_checkpoint.proofs.HeldOctets.{device_lacks, holds, holds_append, name_lacks, neither, no_feed_octet, number_lacks, then_number, then_words}
 use Rattle.run_checkpoint.proofs.LinesApart.{AreTextLines, IsOneTextLine, lines_again, text_lines_append}
 
 time_line : (t : ℕ) → IsOneTextLine (line_of_time_kept t)
 time_line t = record { text = codes "state " ++ decimal t; none = then_number (codes "state ") t refl; is = refl }
 
-yes_feed : (b : Bool) → has_feed (yes_or_no b) ≡ false
+yes_feed : (b : Bool) → holds 10 (yes_or_no b) ≡ false
 yes_feed true = refl
 yes_feed false = refl
 
-phase_feed : (p : Phase) → has_feed (phase_words p) ≡ false
+phase_feed : (p : Phase) → holds 10 (phase_words p) ≡ false
 phase_feed Rest = refl
 phase_feed Waiting = refl
 phase_feed (Sending start hit) = refl
 phase_feed (Backoff until) = then_number (codes " phase backoff ") until refl
 
-defer_feed : (d : Defer) → has_feed (defer_words d) ≡ false
+defer_feed : (d : Defer) → holds 10 (defer_words d) ≡ false
 defer_feed Watch = refl
-defer_feed (Busy was) = no_feed_append (codes " defer busy ") (yes_or_no was) refl (yes_feed was)
+defer_feed (Busy was) = holds_append 10 (codes " defer busy ") (yes_or_no was) refl (yes_feed was)
 defer_feed (Gap k was) =
-    no_feed_append (codes " defer gap " ++ decimal k ++ codes " ") (yes_or_no was) (no_feed_append (codes " defer gap " ++ decimal k) (codes " ") (then_number (codes " defer gap ") k refl) refl) (yes_feed was)
+    holds_append 10 (codes " defer gap " ++ decimal k ++ codes " ") (yes_or_no was) (holds_append 10 (codes " defer gap " ++ decimal k) (codes " ") (then_number (codes " defer gap ") k refl) refl) (yes_feed was)
 
-sender_line : (name : List ℕ) (s : SenderState) → has_feed name ≡ false → IsOneTextLine (line_of_sender name s)
+sender_line : (name : List ℕ) (s : SenderState) → holds 10 name ≡ false → IsOneTextLine (line_of_sender name s)
 unfolding line_of_sender
 sender_line name s none =
     let one : List ℕ = codes "station " ++ name in
@@ -61,15 +61,15 @@ sender_line name s none =
       text = five ++ codes " drawn " ++ decimal s.drawn;
       none =
           then_words five (codes " drawn ") s.drawn (then_words four (codes " place ") s.place (then_words three (codes " attempt ") s.attempt
-          (no_feed_append two (defer_words s.defer) (no_feed_append one (phase_words s.phase) (no_feed_append (codes "station ") name refl none) (phase_feed s.phase)) (defer_feed s.defer)) refl) refl) refl;
+          (holds_append 10 two (defer_words s.defer) (holds_append 10 one (phase_words s.phase) (holds_append 10 (codes "station ") name refl none) (phase_feed s.phase)) (defer_feed s.defer)) refl) refl) refl;
       is = refl;
     }
 
 -- a text, and an answer after words
-then_answer : (text words : List ℕ) (b : Bool) → has_feed text ≡ false → has_feed words ≡ false → has_feed (text ++ words ++ yes_or_no b) ≡ false
-then_answer text words b none word = no_feed_append (text ++ words) (yes_or_no b) (no_feed_append text words none word) (yes_feed b)
+then_answer : (text words : List ℕ) (b : Bool) → holds 10 text ≡ false → holds 10 words ≡ false → holds 10 (text ++ words ++ yes_or_no b) ≡ false
+then_answer text words b none word = holds_append 10 (text ++ words) (yes_or_no b) (holds_append 10 text words none word) (yes_feed b)
 
-guard_line : (name : List ℕ) (port : ℕ) (g : Guard) (rest : ℕ) → has_feed name ≡ false → IsOneTextLine (line_of_guard name port g rest)
+guard_line : (name : List ℕ) (port : ℕ) (g : Guard) (rest : ℕ) → holds 10 name ≡ false → IsOneTextLine (line_of_guard name port g rest)
 unfolding line_of_guard count_words
 guard_line name port g rest none =
     let one : List ℕ = codes "guard " ++ name in
@@ -77,29 +77,29 @@ guard_line name port g rest none =
     let three : List ℕ = two ++ codes " closed " ++ yes_or_no g.closed in
     let four : List ℕ = three ++ codes " mend " ++ yes_or_no g.mend in
     let five : List ℕ = four ++ codes " struck " ++ yes_or_no g.struck in
-    let front : has_feed five ≡ false =
+    let front : holds 10 five ≡ false =
     then_answer four (codes " struck ") g.struck (then_answer three (codes " mend ") g.mend (then_answer two (codes " closed ") g.closed
-    (then_words one (codes " port ") port (no_feed_append (codes "guard ") name refl none) refl) refl) refl) refl in
+    (then_words one (codes " port ") port (holds_append 10 (codes "guard ") name refl none) refl) refl) refl) refl in
     let six : List ℕ = codes " in_row " ++ decimal g.in_row in
     let seven : List ℕ = six ++ codes " clash_run " ++ decimal g.clash_run in
     let eight : List ℕ = seven ++ codes " clean_run " ++ decimal g.clean_run in
     let counts : List ℕ = eight ++ codes " rest " ++ decimal rest in
-    let back : has_feed counts ≡ false =
+    let back : holds 10 counts ≡ false =
     then_words eight (codes " rest ") rest (then_words seven (codes " clean_run ") g.clean_run (then_words six (codes " clash_run ") g.clash_run (then_number (codes " in_row ") g.in_row refl) refl) refl) refl in
-    record { text = five ++ counts; none = no_feed_append five counts front back; is = sym (append_assoc five counts (codes "\n")) }
+    record { text = five ++ counts; none = holds_append 10 five counts front back; is = sym (append_assoc five counts (codes "\n")) }
 
-hit_feed : (text words : List ℕ) (hit : Option ℕ) → has_feed text ≡ false → has_feed words ≡ false → has_feed (text ++ words ++ hit_text hit) ≡ false
-hit_feed text words None none word = no_feed_append (text ++ words) (codes "none") (no_feed_append text words none word) refl
+hit_feed : (text words : List ℕ) (hit : Option ℕ) → holds 10 text ≡ false → holds 10 words ≡ false → holds 10 (text ++ words ++ hit_text hit) ≡ false
+hit_feed text words None none word = holds_append 10 (text ++ words) (codes "none") (holds_append 10 text words none word) refl
 hit_feed text words (Some hit) none word = then_words text words hit none word
 
-why_feed : (why : Why) → has_feed (codes "dropped " ++ why_text why) ≡ false
+why_feed : (why : Why) → holds 10 (codes "dropped " ++ why_text why) ≡ false
 why_feed Fragment = refl
 why_feed TooLong = refl
 why_feed FcsError = refl
 why_feed AlignError = refl
 why_feed Damaged = refl
 
-body_feed : (b : Body) → has_feed (body_text b) ≡ false
+body_feed : (b : Body) → holds 10 (body_text b) ≡ false
 body_feed (Sent frame start attempt) =
     let one : List ℕ = codes "sent frame " ++ decimal frame in
     let two : List ℕ = one ++ codes " start " ++ decimal start in
@@ -127,24 +127,31 @@ body_feed (Closed port) = then_number (codes "closed port ") port refl
 body_feed (Opened port) = then_number (codes "opened port ") port refl
 body_feed (Halted port) = then_number (codes "halted port ") port refl
 
-word_feed : (repeater : Bool) → has_feed (device_word repeater) ≡ false
+word_feed : (repeater : Bool) → holds 10 (device_word repeater) ≡ false
 word_feed true = refl
 word_feed false = refl
+
+-- the line of a row without its line feed
+abbrev pub row_text : Row → Bool → List ℕ → List ℕ
+row_text row repeater name = decimal row.t ++ codes " " ++ device_word repeater ++ name ++ codes " " ++ body_text row.body
+
+pub row_feed : (row : Row) (repeater : Bool) (name : List ℕ) → holds 10 name ≡ false → holds 10 (row_text row repeater name) ≡ false
+row_feed row repeater name none =
+    let one : List ℕ = decimal row.t ++ codes " " in
+    let two : List ℕ = one ++ device_word repeater in
+    let three : List ℕ = two ++ name in
+    let four : List ℕ = three ++ codes " " in
+    holds_append 10 four (body_text row.body) (holds_append 10 three (codes " ") (holds_append 10 two name
+    (holds_append 10 one (device_word repeater) (holds_append 10 (decimal row.t) (codes " ") (number_lacks 10 row.t (omega arith)) refl) (word_feed repeater)) none) refl) (body_feed row.body)
 
 row_line : (layout : Layout) (row : Row) → IsSound layout → IsOneTextLine (line_of_row_kept layout row)
 unfolding line_of_row_kept line_of_row
 row_line layout row sound =
     let repeater : Bool = nat_le (length layout.stations) row.device in
     let name : List ℕ = unwrap_or (slice_get (device_names layout) row.device) [] in
-    let one : List ℕ = decimal row.t ++ codes " " in
-    let two : List ℕ = one ++ device_word repeater in
-    let three : List ℕ = two ++ name in
-    let four : List ℕ = three ++ codes " " in
-    let all : List ℕ = four ++ body_text row.body in
-    let none : has_feed all ≡ false =
-    no_feed_append four (body_text row.body) (no_feed_append three (codes " ") (no_feed_append two name
-    (no_feed_append one (device_word repeater) (no_feed_append (decimal row.t) (codes " ") (number_feed row.t) refl) (word_feed repeater)) (device_feed row.device layout sound)) refl) (body_feed row.body) in
-    record { text = codes "row " ++ all; none = no_feed_append (codes "row ") all refl none; is = sym (append_assoc (codes "row ") all (codes "\n")) }
+    let all : List ℕ = row_text row repeater name in
+    let none : holds 10 all ≡ false = row_feed row repeater name (device_lacks 10 row.device layout no_feed_octet sound) in
+    record { text = codes "row " ++ all; none = holds_append 10 (codes "row ") all refl none; is = sym (append_assoc (codes "row ") all (codes "\n")) }
 
 digit_other : (n : ℕ) → (hex_digit n == 10) ≡ false
 digit_other n =
@@ -153,38 +160,38 @@ digit_other n =
       | inr big ↦ rw (le-ltb n 10 big) (ne_eqb (n + 87) 10 (λ e. absurd (omega (arith, e))))
     ]
 
-digits_feed : (octets : List ℕ) → has_feed (flat_map hex_digits octets) ≡ false
+digits_feed : (octets : List ℕ) → holds 10 (flat_map hex_digits octets) ≡ false
 digits_feed [] = refl
 digits_feed (o ∷ os) =
     neither (hex_digit (o / 16) == 10) _ (digit_other (o / 16)) (neither (hex_digit (o % 16) == 10) _ (digit_other (o % 16)) (digits_feed os))
 
 octets_line : (octets : List ℕ) → IsOneTextLine (line_of_octets octets)
 unfolding line_of_octets
-octets_line octets = record { text = codes "octets " ++ flat_map hex_digits octets; none = no_feed_append (codes "octets ") (flat_map hex_digits octets) refl (digits_feed octets); is = refl }
+octets_line octets = record { text = codes "octets " ++ flat_map hex_digits octets; none = holds_append 10 (codes "octets ") (flat_map hex_digits octets) refl (digits_feed octets); is = refl }
 
 senders_lines : (f n : ℕ) (stations : List StationLine) (ss : List SenderState) → All (IsSoundStation f n) stations → AreTextLines (lines_of_senders stations ss)
 senders_lines f n [] ss all = tt
 senders_lines f n (st ∷ sts) [] all = tt
 senders_lines f n (st ∷ sts) (s ∷ ss) all =
-    (sender_line st.name s (name_feed st.name (all 0 st (omega arith)).name.octets), senders_lines f n sts ss (λ k d l. all (suc k) d (omega (arith, l))))
+    (sender_line st.name s (name_lacks 10 st.name no_feed_octet (all 0 st (omega arith)).name.octets), senders_lines f n sts ss (λ k d l. all (suc k) d (omega (arith, l))))
 
 -- ports whose repeater's name has no line feed
 abbrev PortsOneLine : List NamedPort → Type 0
 PortsOneLine [] = Unit {0}
-PortsOneLine (p ∷ ps) = (has_feed p.name ≡ false) × PortsOneLine ps
+PortsOneLine (p ∷ ps) = (holds 10 p.name ≡ false) × PortsOneLine ps
 
 ports_append : (ps qs : List NamedPort) → PortsOneLine ps → PortsOneLine qs → PortsOneLine (ps ++ qs)
 ports_append [] qs one two = two
 ports_append (p ∷ ps) qs one two = (one.0, ports_append ps qs one.1 two)
 
-ports_of_one : (name : List ℕ) (from : List ℕ) → has_feed name ≡ false → PortsOneLine (map (λ p. record { name = name; port = p + 1 }) from)
+ports_of_one : (name : List ℕ) (from : List ℕ) → holds 10 name ≡ false → PortsOneLine (map (λ p. record { name = name; port = p + 1 }) from)
 ports_of_one name [] none = tt
 ports_of_one name (k ∷ ks) none = (none, ports_of_one name ks none)
 
 ports_of_all : (n : ℕ) (rs : List RepeaterLine) → All (IsSoundRepeater n) rs → PortsOneLine (ports_of_repeaters rs)
 ports_of_all n [] all = tt
 ports_of_all n (r ∷ rs) all =
-    ports_append (ports_named r.name (length r.ports)) (ports_of_repeaters rs) (ports_of_one r.name _ (name_feed r.name (all 0 r (omega arith)).name.octets)) (ports_of_all n rs (λ k d l. all (suc k) d (omega (arith, l))))
+    ports_append (ports_named r.name (length r.ports)) (ports_of_repeaters rs) (ports_of_one r.name _ (name_lacks 10 r.name no_feed_octet (all 0 r (omega arith)).name.octets)) (ports_of_all n rs (λ k d l. all (suc k) d (omega (arith, l))))
 
 guards_lines : (ports : List NamedPort) (gs : List Guard) (rests : List ℕ) → PortsOneLine ports → AreTextLines (lines_of_guards ports gs rests)
 guards_lines [] gs rests all = tt

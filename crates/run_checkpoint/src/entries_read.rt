@@ -1,5 +1,5 @@
 //! The lines of rows with the octets that were received, and the last line.
-ghost use Rattle.std.specs.Prelude.{◌≡◌, ◌<◌, ◌≤◌, ◌+◌, ◌^◌, ◌⊎◌, [], ◌++◌, ◌∷◌, ℕ, List, None, Some, Ok, Err, IfOk, length};
+ghost use Rattle.std.specs.Prelude.{◌≡◌, ◌<◌, ◌≤◌, ◌+◌, ◌^◌, [], ◌++◌, ◌∷◌, ℕ, List, None, Some, Ok, Err, IfOk, length};
 ghost use Rattle.collision_log.specs.declared.row.Row.{Row};
 ghost use Rattle.load_plan.specs.declared.plan.Plan.{Plan};
 ghost use Rattle.mac_transmit.specs.declared.state.SenderState.{SenderState};
@@ -9,7 +9,6 @@ ghost use Rattle.run_checkpoint.specs.LineForms.{octets_form, row_form};
 ghost use Rattle.run_checkpoint.specs.Progress.{IsJudgedOn, IsToldOf, ended_counts, judged_after_row};
 ghost use Rattle.run_checkpoint.specs.Ranges.{is_row_after};
 ghost use Rattle.run_checkpoint.specs.TextLines.{text_lines};
-ghost use Rattle.run_checkpoint.specs.declared.fault.StateFault.TheVariants.{OutOfMemory};
 
 use crate::StateFault;
 use crate::octets_line::octets_of;

@@ -1,5 +1,5 @@
 //! Devices and ports by their names.
-ghost use Rattle.std.specs.Prelude.{◌≡◌, ◌≤◌, ◌<◌, ◌^◌, ◌+◌, ◌-◌, ℕ, IfOk, OnOk, map, length, ◌++◌};
+ghost use Rattle.std.specs.Prelude.{◌≡◌, ◌<◌, ◌^◌, ◌+◌, ◌-◌, IfOk, OnOk, map, length, ◌++◌};
 ghost use Rattle.layout.specs.Sound.{IsSound};
 ghost use Rattle.text_fields.specs.Reading.{IsReading};
 ghost use Rattle.run_checkpoint.specs.Places.{all_ports, device_of_line, device_from, ports_named};

@@ -1,5 +1,5 @@
 //! The state whose text this is.
-ghost use Rattle.std.specs.Prelude.{◌≡◌, ◌*◌, ◌<◌, ◌≤◌, ◌⊎◌, ◌↔◌, ℕ, Ok, Err, IfOk, length};
+ghost use Rattle.std.specs.Prelude.{◌≡◌, ◌*◌, ◌<◌, ◌≤◌, ◌↔◌, ℕ, Ok, Err, IfOk, length};
 ghost use Rattle.layout.specs.Sound.{IsSound};
 ghost use Rattle.mac_parameters.specs.Parameters.{half_bits_a_bit};
 ghost use Rattle.quiet_state.specs.PlanStates.{IsResumable};
@@ -9,7 +9,7 @@ ghost use Rattle.quiet_state.specs.declared.state.NetState.{NetState};
 ghost use Rattle.run_checkpoint.specs.Judging.{IsJudgement, IsTextOfState, judged_lines, judged_state, most_state_octets};
 ghost use Rattle.run_checkpoint.specs.States.{text_of_state};
 ghost use Rattle.run_checkpoint.specs.TextLines.{text_lines};
-ghost use Rattle.run_checkpoint.specs.declared.fault.StateFault.TheVariants.{OutOfMemory, TooLarge};
+ghost use Rattle.run_checkpoint.specs.declared.fault.StateFault.TheVariants.{TooLarge};
 
 use crate::StateFault;
 use crate::entries_read::judged_entries;

@@ -1,5 +1,5 @@
 //! The line of a row.
-ghost use Rattle.std.specs.Prelude.{◌≡◌, ◌<◌, ◌≤◌, ◌+◌, ◌^◌, ◌++◌, [], None, All, OnOk, IfOk, length, map, slice_get, unwrap_or};
+ghost use Rattle.std.specs.Prelude.{◌≡◌, ◌<◌, ◌+◌, ◌^◌, ◌++◌, [], None, OnOk, IfOk, length, slice_get, unwrap_or};
 ghost use Rattle.layout.specs.Sound.{IsSound, device_names};
 ghost use Rattle.run_checkpoint.specs.LineForms.{is_end_line, log_line_form, row_form};
 ghost use Rattle.run_checkpoint.specs.LineTexts.{line_of_row_kept};

@@ -1,5 +1,5 @@
 //! Whether a row may follow those before it.
-ghost use Rattle.std.specs.Prelude.{◌≡◌, ◌≤◌, ◌-◌, List, None, Some, length, slice_get, unwrap_or};
+ghost use Rattle.std.specs.Prelude.{◌≡◌, ◌-◌, List, None, Some, length, slice_get, unwrap_or};
 ghost use Rattle.collision_log.specs.declared.row.Row.{Row};
 ghost use Rattle.layout.specs.NameOctets.{is_between};
 ghost use Rattle.run_checkpoint.specs.Progress.{ended_counts};

@@ -1,9 +1,8 @@
 //! The lines of the half bit, of senders and of ports.
 ghost use Rattle.std.specs.Prelude.{◌≡◌, ◌<◌, ◌≤◌, ◌+◌, ◌^◌, [], Ok, IfOk, true, length, nat_lt, map};
-ghost use Rattle.load_plan.specs.declared.plan.Plan.{Plan};
 ghost use Rattle.network.specs.Outputs.{half_bits};
 ghost use Rattle.run_checkpoint.specs.GuardLines.{guard_of_line};
-ghost use Rattle.run_checkpoint.specs.Judging.{first_guard_line, judged_guards, judged_line, judged_senders};
+ghost use Rattle.run_checkpoint.specs.Judging.{judged_guards, judged_line, judged_senders};
 ghost use Rattle.run_checkpoint.specs.LineForms.{guard_form, sender_form, time_form};
 ghost use Rattle.run_checkpoint.specs.PortNames.{named_port};
 ghost use Rattle.run_checkpoint.specs.Progress.{IsJudgedOn};

@@ -1,8 +1,6 @@
 //! What the lines of rows have told so far.
-ghost use Rattle.std.specs.Prelude.{◌≡◌, ◌≤◌, ◌<◌, ◌++◌, ◌∷◌, [], ℕ, List, IfOk, OnOk, length, map, slice_index_or, slice_set};
-ghost use Rattle.std.specs.List.{range_with_len};
+ghost use Rattle.std.specs.Prelude.{◌≡◌, ◌<◌, ◌++◌, ◌∷◌, [], List, IfOk, OnOk, slice_index_or, slice_set};
 ghost use Rattle.network.specs.declared.outputs.Taken.{Taken};
-ghost use Rattle.run_checkpoint.specs.Entries.{Entry};
 ghost use Rattle.run_checkpoint.specs.Progress.{IsToldOf, captures_after, ended_after};
 
 use crate::row_order::ended_frame;

@@ -1,6 +1,5 @@
 //! The text of a state.
 ghost use Rattle.std.specs.Prelude.{◌≡◌, ◌++◌, OnOk, IfOk, map, flat_map, length};
-ghost use Rattle.layout.specs.Sound.{IsSound};
 ghost use Rattle.run_checkpoint.specs.PortNames.{named_port};
 ghost use Rattle.run_checkpoint.specs.States.{IsStateOfPlan, lines_of_guards, lines_of_senders, text_of_state};
 

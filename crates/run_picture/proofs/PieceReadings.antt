@@ -9,7 +9,7 @@ use Rattle.layout.specs.declared.lines.Layout.{Layout}
 use Rattle.layout.specs.declared.lines.SegmentLine.{SegmentLine}
 use Rattle.run_picture.specs.Axis.{axis, microseconds, tick, tick_at, tick_step, words_of_axis}
 use Rattle.run_picture.specs.Bands.{lane_text, name_of_tap, segment_text}
-use Rattle.run_picture.specs.Head.{clip_of_plot, ground, legend_of_repeaters, legend_of_sendings, legend_of_stations, pattern_of_collided, pattern_of_cut, pattern_of_given_up, pattern_of_sent, size_of_picture, style_of_sendings, style_of_signs, style_of_words}
+use Rattle.run_picture.specs.Head.{clip_of_plot, ground, legend_of_repeaters, legend_of_sendings, legend_of_stations, pattern_of, patterns, size_of_picture, style_of_sendings, style_of_signs, style_of_words}
 use Rattle.run_picture.specs.Markup.{is_plain}
 use Rattle.run_picture.specs.Marks.{word_of_drop}
 use Rattle.run_picture.specs.Signs.{bar, left_of_bar, right_of_bar, sending_word, sign, sign_path, sign_word}
@@ -35,21 +35,9 @@ pub style_of_signs_leads : (ts : List (List ℕ)) → Leads (between (codes "sty
 unfolding style_of_signs is_name_octet
 style_of_signs_leads ts = fixed (between (codes "style" ∷ codes "svg" ∷ []) ts) (between (codes "svg" ∷ []) ts) style_of_signs refl
 
-pub pattern_of_sent_leads : (ts : List (List ℕ)) → Leads (between (codes "defs" ∷ codes "svg" ∷ []) ts) pattern_of_sent (between (codes "defs" ∷ codes "svg" ∷ []) ts)
-unfolding pattern_of_sent is_name_octet
-pattern_of_sent_leads ts = fixed (between (codes "defs" ∷ codes "svg" ∷ []) ts) (between (codes "defs" ∷ codes "svg" ∷ []) ts) pattern_of_sent refl
-
-pub pattern_of_collided_leads : (ts : List (List ℕ)) → Leads (between (codes "defs" ∷ codes "svg" ∷ []) ts) pattern_of_collided (between (codes "defs" ∷ codes "svg" ∷ []) ts)
-unfolding pattern_of_collided is_name_octet
-pattern_of_collided_leads ts = fixed (between (codes "defs" ∷ codes "svg" ∷ []) ts) (between (codes "defs" ∷ codes "svg" ∷ []) ts) pattern_of_collided refl
-
-pub pattern_of_given_up_leads : (ts : List (List ℕ)) → Leads (between (codes "defs" ∷ codes "svg" ∷ []) ts) pattern_of_given_up (between (codes "defs" ∷ codes "svg" ∷ []) ts)
-unfolding pattern_of_given_up is_name_octet
-pattern_of_given_up_leads ts = fixed (between (codes "defs" ∷ codes "svg" ∷ []) ts) (between (codes "defs" ∷ codes "svg" ∷ []) ts) pattern_of_given_up refl
-
-pub pattern_of_cut_leads : (ts : List (List ℕ)) → Leads (between (codes "defs" ∷ codes "svg" ∷ []) ts) pattern_of_cut (between (codes "defs" ∷ codes "svg" ∷ []) ts)
-unfolding pattern_of_cut is_name_octet
-pattern_of_cut_leads ts = fixed (between (codes "defs" ∷ codes "svg" ∷ []) ts) (between (codes "defs" ∷ codes "svg" ∷ []) ts) pattern_of_cut refl
+pub patterns_lead : (ts : List (List ℕ)) → Leads (between (codes "defs" ∷ codes "svg" ∷ []) ts) patterns (between (codes "defs" ∷ codes "svg" ∷ []) ts)
+unfolding patterns pattern_of is_name_octet
+patterns_lead ts = fixed (between (codes "defs" ∷ codes "svg" ∷ []) ts) (between (codes "defs" ∷ codes "svg" ∷ []) ts) patterns refl
 
 pub legend_of_sendings_leads : (ts : List (List ℕ)) → Leads (between (codes "svg" ∷ []) ts) legend_of_sendings (between (codes "svg" ∷ []) ts)
 unfolding legend_of_sendings is_name_octet

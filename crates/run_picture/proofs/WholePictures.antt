@@ -14,7 +14,7 @@ use Rattle.layout.specs.declared.ways.Tap.TheVariants.{Station, Port}
 use Rattle.log_meter.specs.Lines.{IsLogLine}
 use Rattle.log_meter.specs.declared.line.LogLine.{LogLine}
 use Rattle.run_picture.specs.Bands.{bands_text, lane_text, name_at_station, name_of_port, name_of_tap}
-use Rattle.run_picture.specs.Head.{head, legend, patterns, style}
+use Rattle.run_picture.specs.Head.{head, legend, style}
 use Rattle.run_picture.specs.Lanes.{page_of}
 use Rattle.run_picture.specs.Markup.{TagReader, is_plain, titles_in, titles_of_reader}
 use Rattle.run_picture.specs.Marks.{title_of}
@@ -25,7 +25,7 @@ use Rattle.run_picture.specs.declared.lanes.Band.{Band}
 use Rattle.run_picture.specs.declared.lanes.Page.{Page}
 use Rattle.run_picture.specs.declared.window.Window.{Window}
 use Rattle.run_picture.proofs.MarkReadings.{between_marks, marks_lead}
-use Rattle.run_picture.proofs.PieceReadings.{axis_leads, clip_leads, ground_leads, lane_leads, legend_of_repeaters_leads, legend_of_sendings_leads, legend_of_stations_leads, pattern_of_collided_leads, pattern_of_cut_leads, pattern_of_given_up_leads, pattern_of_sent_leads, segment_leads, size_leads, style_of_sendings_leads, style_of_signs_leads, style_of_words_leads}
+use Rattle.run_picture.proofs.PieceReadings.{axis_leads, clip_leads, ground_leads, lane_leads, legend_of_repeaters_leads, legend_of_sendings_leads, legend_of_stations_leads, patterns_lead, segment_leads, size_leads, style_of_sendings_leads, style_of_signs_leads, style_of_words_leads}
 use Rattle.run_picture.proofs.Plain.{decimal_plain, name_plain, plain_append}
 use Rattle.run_picture.proofs.Readings.{Leads, all_stay, between, fixed, go_on, nothing}
 
@@ -35,10 +35,6 @@ in_defs ts = between (codes "defs" ∷ codes "svg" ∷ []) ts
 style_leads : (ts : List (List ℕ)) → Leads (between_marks ts) style (between_marks ts)
 unfolding style
 style_leads ts = go_on (go_on (style_of_words_leads ts) (style_of_sendings_leads ts)) (style_of_signs_leads ts)
-
-patterns_lead : (ts : List (List ℕ)) → Leads (in_defs ts) patterns (in_defs ts)
-unfolding patterns
-patterns_lead ts = go_on (go_on (go_on (pattern_of_sent_leads ts) (pattern_of_collided_leads ts)) (pattern_of_given_up_leads ts)) (pattern_of_cut_leads ts)
 
 legend_leads : (ts : List (List ℕ)) → Leads (between_marks ts) legend (between_marks ts)
 unfolding legend

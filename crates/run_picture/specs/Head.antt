@@ -29,34 +29,11 @@ style_of_signs =
     ++ codes ".opened{fill:#ffffff;stroke:#111111;stroke-width:120}"
     ++ codes ".halted{fill:#8a4fc0;stroke:#111111;stroke-width:100}</style>\n"
 
--- the pattern of frames that were sent
-unfoldable pub pattern_of_sent : List ℕ
-pattern_of_sent =
-    codes "<pattern id='sent' width='500' height='500' patternUnits='userSpaceOnUse'>"
-    ++ codes "<path d='M0 0h500v500h-500z' fill='#9ecbee'/><path d='M0 250h500' stroke='#5b9bd0' stroke-width='90'/>"
-    ++ codes "</pattern>\n"
-
--- the pattern of frames that met a collision
-unfoldable pub pattern_of_collided : List ℕ
-pattern_of_collided =
-    codes "<pattern id='collided' width='500' height='500' patternUnits='userSpaceOnUse'>"
-    ++ codes "<path d='M0 0h500v500h-500z' fill='#f6b3a8'/>"
-    ++ codes "<path d='M-100 600l700 -700M-100 100l200 -200M400 600l200 -200' stroke='#b02a2a' stroke-width='130'/>"
-    ++ codes "</pattern>\n"
-
--- the pattern of frames that were given up
-unfoldable pub pattern_of_given_up : List ℕ
-pattern_of_given_up =
-    codes "<pattern id='given_up' width='500' height='500' patternUnits='userSpaceOnUse'>"
-    ++ codes "<path d='M0 0h500v500h-500z' fill='#b79ad6'/>"
-    ++ codes "<path d='M0 0l500 500M0 500l500 -500' stroke='#3c1361' stroke-width='110'/></pattern>\n"
-
--- the pattern of sendings that the end of the run cut
-unfoldable pub pattern_of_cut : List ℕ
-pattern_of_cut =
-    codes "<pattern id='cut' width='500' height='500' patternUnits='userSpaceOnUse'>"
-    ++ codes "<path d='M0 0h500v500h-500z' fill='#eeeeee'/><path d='M150 150h200v200h-200z' fill='#555555'/>"
-    ++ codes "</pattern>\n"
+-- the pattern that fills the bars of one kind of sendings: its name, the colour of its ground, and the lines on it
+unfoldable pub pattern_of : List ℕ → List ℕ → List ℕ → List ℕ
+pattern_of name colour lines =
+    codes "<pattern id='" ++ name ++ codes "' width='500' height='500' patternUnits='userSpaceOnUse'>"
+    ++ codes "<path d='M0 0h500v500h-500z' fill='" ++ colour ++ codes "'/>" ++ lines ++ codes "</pattern>\n"
 
 -- the legend of sendings and their waves
 unfoldable pub legend_of_sendings : List ℕ
@@ -96,9 +73,16 @@ legend_of_repeaters =
 unfoldable pub style : List ℕ
 style = style_of_words ++ style_of_sendings ++ style_of_signs
 
--- the patterns: each way in which a sending ends has its own, so that they differ without colour
+-- the patterns: of frames that were sent, that met a collision and that were given up, and of sendings that the end of
+-- the run cut, so that they differ without colour
 unfoldable pub patterns : List ℕ
-patterns = pattern_of_sent ++ pattern_of_collided ++ pattern_of_given_up ++ pattern_of_cut
+patterns =
+    pattern_of (codes "sent") (codes "#9ecbee") (codes "<path d='M0 250h500' stroke='#5b9bd0' stroke-width='90'/>")
+    ++ pattern_of (codes "collided") (codes "#f6b3a8")
+    (codes "<path d='M-100 600l700 -700M-100 100l200 -200M400 600l200 -200' stroke='#b02a2a' stroke-width='130'/>")
+    ++ pattern_of (codes "given_up") (codes "#b79ad6")
+    (codes "<path d='M0 0l500 500M0 500l500 -500' stroke='#3c1361' stroke-width='110'/>")
+    ++ pattern_of (codes "cut") (codes "#eeeeee") (codes "<path d='M150 150h200v200h-200z' fill='#555555'/>")
 
 -- the legend
 unfoldable pub legend : List ℕ

@@ -1,6 +1,5 @@
 //! The texts of bands and lanes: their names and places.
-ghost use Rattle.std.specs.Prelude.{◌≡◌, ◌≤◌, ◌<◌, ◌^◌, ◌++◌, OnOk, length};
-ghost use Rattle.layout.specs.Sound.{IsSound};
+ghost use Rattle.std.specs.Prelude.{◌≡◌, ◌<◌, ◌++◌, OnOk, length};
 ghost use Rattle.run_picture.specs.Bands.{bands_text, lane_text, lanes_text, name_of_tap, segment_text, port_name};
 
 use crate::lanes::{Band, Lane};

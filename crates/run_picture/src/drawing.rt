@@ -1,5 +1,5 @@
 //! The picture of what a log tells of a window.
-ghost use Rattle.std.specs.Prelude.{◌≡◌, ◌≤◌, ◌<◌, ◌^◌, ◌+◌, ◌++◌, IfOk, OnOk, None, length};
+ghost use Rattle.std.specs.Prelude.{◌≡◌, ◌≤◌, ◌<◌, ◌+◌, IfOk, None};
 ghost use Rattle.std.specs.List.{AllByRecursion};
 ghost use Rattle.layout.specs.Limits.{most_half_bits};
 ghost use Rattle.layout.specs.Sound.{IsSound};

@@ -1,6 +1,6 @@
 //! The head of a picture: its size, its style, its patterns and its legend.
 ghost use Rattle.std.specs.Prelude.{◌≡◌, ◌++◌, OnOk};
-ghost use Rattle.run_picture.specs.Head.{clip_of_plot, ground, head, legend, legend_of_repeaters, legend_of_sendings, legend_of_stations, pattern_of_collided, pattern_of_cut, pattern_of_given_up, pattern_of_sent, patterns, size_of_picture, style, style_of_sendings, style_of_signs, style_of_words};
+ghost use Rattle.run_picture.specs.Head.{clip_of_plot, ground, head, legend, legend_of_repeaters, legend_of_sendings, legend_of_stations, pattern_of, patterns, size_of_picture, style, style_of_sendings, style_of_signs, style_of_words};
 
 use crate::sizes::HUNDREDTHS;
 use crate::window::add_number;
@@ -47,52 +47,24 @@ fn add_style_of_signs(text: &mut List<u8>) -> Result<(), OutOfMemory>
     text.extend(b".halted{fill:#8a4fc0;stroke:#111111;stroke-width:100}</style>\n")
 }
 
-/// Puts the pattern of frames that were sent at the end of a text.
-#[tactic(auto, unfolding(crate::specs::Head::pattern_of_sent))]
-fn add_pattern_of_sent(text: &mut List<u8>) -> Result<(), OutOfMemory>
-    ensures { OnOk result (text.new ≡ text.old ++ pattern_of_sent) }
+/// Puts the pattern that fills the bars of one kind of sendings at the end of a text: its name, the colour of its
+/// ground, and the lines on it.
+#[tactic(auto, unfolding(crate::specs::Head::pattern_of))]
+fn add_pattern(
+    text: &mut List<u8>,
+    name: &[u8],
+    colour: &[u8],
+    lines: &[u8],
+) -> Result<(), OutOfMemory>
+    ensures { OnOk result (text.new ≡ text.old ++ pattern_of name.now colour.now lines.now) }
 {
-    text.extend(b"<pattern id='sent' width='500' height='500' patternUnits='userSpaceOnUse'>")?;
-    text.extend(
-        b"<path d='M0 0h500v500h-500z' fill='#9ecbee'/><path d='M0 250h500' stroke='#5b9bd0' stroke-width='90'/>",
-    )?;
-    text.extend(b"</pattern>\n")
-}
-
-/// Puts the pattern of frames that met a collision at the end of a text.
-#[tactic(auto, unfolding(crate::specs::Head::pattern_of_collided))]
-fn add_pattern_of_collided(text: &mut List<u8>) -> Result<(), OutOfMemory>
-    ensures { OnOk result (text.new ≡ text.old ++ pattern_of_collided) }
-{
-    text.extend(b"<pattern id='collided' width='500' height='500' patternUnits='userSpaceOnUse'>")?;
-    text.extend(b"<path d='M0 0h500v500h-500z' fill='#f6b3a8'/>")?;
-    text.extend(
-        b"<path d='M-100 600l700 -700M-100 100l200 -200M400 600l200 -200' stroke='#b02a2a' stroke-width='130'/>",
-    )?;
-    text.extend(b"</pattern>\n")
-}
-
-/// Puts the pattern of frames that were given up at the end of a text.
-#[tactic(auto, unfolding(crate::specs::Head::pattern_of_given_up))]
-fn add_pattern_of_given_up(text: &mut List<u8>) -> Result<(), OutOfMemory>
-    ensures { OnOk result (text.new ≡ text.old ++ pattern_of_given_up) }
-{
-    text.extend(b"<pattern id='given_up' width='500' height='500' patternUnits='userSpaceOnUse'>")?;
-    text.extend(b"<path d='M0 0h500v500h-500z' fill='#b79ad6'/>")?;
-    text.extend(
-        b"<path d='M0 0l500 500M0 500l500 -500' stroke='#3c1361' stroke-width='110'/></pattern>\n",
-    )
-}
-
-/// Puts the pattern of sendings that the end of the run cut at the end of a text.
-#[tactic(auto, unfolding(crate::specs::Head::pattern_of_cut))]
-fn add_pattern_of_cut(text: &mut List<u8>) -> Result<(), OutOfMemory>
-    ensures { OnOk result (text.new ≡ text.old ++ pattern_of_cut) }
-{
-    text.extend(b"<pattern id='cut' width='500' height='500' patternUnits='userSpaceOnUse'>")?;
-    text.extend(
-        b"<path d='M0 0h500v500h-500z' fill='#eeeeee'/><path d='M150 150h200v200h-200z' fill='#555555'/>",
-    )?;
+    text.extend(b"<pattern id='")?;
+    text.extend(name)?;
+    text.extend(b"' width='500' height='500' patternUnits='userSpaceOnUse'>")?;
+    text.extend(b"<path d='M0 0h500v500h-500z' fill='")?;
+    text.extend(colour)?;
+    text.extend(b"'/>")?;
+    text.extend(lines)?;
     text.extend(b"</pattern>\n")
 }
 
@@ -162,10 +134,30 @@ fn add_style(text: &mut List<u8>) -> Result<(), OutOfMemory>
 fn add_patterns(text: &mut List<u8>) -> Result<(), OutOfMemory>
     ensures { OnOk result (text.new ≡ text.old ++ patterns) }
 {
-    add_pattern_of_sent(text)?;
-    add_pattern_of_collided(text)?;
-    add_pattern_of_given_up(text)?;
-    add_pattern_of_cut(text)
+    add_pattern(
+        text,
+        b"sent",
+        b"#9ecbee",
+        b"<path d='M0 250h500' stroke='#5b9bd0' stroke-width='90'/>",
+    )?;
+    add_pattern(
+        text,
+        b"collided",
+        b"#f6b3a8",
+        b"<path d='M-100 600l700 -700M-100 100l200 -200M400 600l200 -200' stroke='#b02a2a' stroke-width='130'/>",
+    )?;
+    add_pattern(
+        text,
+        b"given_up",
+        b"#b79ad6",
+        b"<path d='M0 0l500 500M0 500l500 -500' stroke='#3c1361' stroke-width='110'/>",
+    )?;
+    add_pattern(
+        text,
+        b"cut",
+        b"#eeeeee",
+        b"<path d='M150 150h200v200h-200z' fill='#555555'/>",
+    )
 }
 
 /// Puts the legend at the end of a text.

@@ -1,5 +1,5 @@
 //! The marks of a picture: one for each line of the log that meets the window.
-ghost use Rattle.std.specs.Prelude.{◌≡◌, ◌≤◌, ◌<◌, ◌^◌, ◌++◌, OnOk, List, length};
+ghost use Rattle.std.specs.Prelude.{◌≡◌, ◌<◌, ◌^◌, ◌++◌, OnOk, List, length};
 ghost use Rattle.std.specs.List.{AllByRecursion};
 ghost use Rattle.collision_log.specs.Rows.{why_text};
 ghost use Rattle.layout.specs.Sound.{IsSound};

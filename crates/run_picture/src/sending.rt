@@ -1,5 +1,5 @@
 //! Sendings, as lines of a log tell them, and which lines meet a window.
-ghost use Rattle.std.specs.Prelude.{◌≡◌, ◌≤◌, ◌<◌, ◌^◌, ◌++◌, OnOk};
+ghost use Rattle.std.specs.Prelude.{◌≡◌, ◌<◌, ◌^◌, ◌++◌, OnOk};
 ghost use Rattle.run_picture.specs.Sendings.{does_end, does_meet, hit_sign, last_wave, sending_of, sending_shapes};
 ghost use Rattle.run_picture.specs.Times.{IsWindow};
 

@@ -1,9 +1,6 @@
 //! Lines of a log whose devices a layout has, and the first line whose device it lacks.
 ghost use Rattle.std.specs.Prelude.{◌≡◌, ◌<◌, ◌^◌, IfSome, length};
-ghost use Rattle.std.specs.List.{position_from};
-ghost use Rattle.std.specs.Str.{bytes_eq};
 ghost use Rattle.run_picture.specs.Strangers.{first_stranger, has_port, is_known, number_of_repeater, number_of_station};
-ghost use Rattle.layout.specs.Sound.{IsSound};
 
 use collision_log::Body;
 use layout::{Layout, RepeaterLine, StationLine};

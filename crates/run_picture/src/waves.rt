@@ -1,7 +1,7 @@
 //! The fronts of waves, from lane to lane.
-ghost use Rattle.std.specs.Prelude.{◌≡◌, ◌<◌, ◌^◌, ◌++◌, OnOk, decimal};
+ghost use Rattle.std.specs.Prelude.{◌≡◌, ◌<◌, ◌^◌, ◌++◌, OnOk};
 ghost use Rattle.mac_parameters.specs.Distances.{distance};
-ghost use Rattle.run_picture.specs.Times.{IsWindow, place_of_time};
+ghost use Rattle.run_picture.specs.Times.{IsWindow};
 ghost use Rattle.run_picture.specs.Waves.{is_seen, point_of_wave, points_of_wave, seen_wave, wave};
 
 use crate::lanes::Lane;

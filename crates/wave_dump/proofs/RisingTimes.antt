@@ -1,13 +1,18 @@
--- The times of a dump rise, each but the first and the last is one of a change, and what a dump doesn't tell anew stays.
-use Rattle.std.proofs.Common.{◌≡◌, ℕ, zero, suc, ◌+◌, ◌-◌, ◌<◌, ◌≤◌, Bool, true, false, cond, List, [], ◌∷◌, ◌++◌, length, get_or, refl, sym, ap, ◌∙◌, arith, add-one, All}
+-- The times of a dump rise, each but the first and the last is one of a change, and what a dump doesn't tell anew
+-- stays.
+use Rattle.std.proofs.Common.{◌≡◌, ℕ, zero, suc, ◌+◌, ◌-◌, ◌<◌, ◌≤◌, Bool, true, false, cond, List, [], ◌∷◌, ◌++◌, length, get_or, refl, sym, ap, ◌∙◌, arith, add-one, inl, inr, All}
+use Rattle.std.proofs.lemmas.Bool.{cases_Bool, false≢true}
 use Rattle.std.proofs.lemmas.List.Elements.{All-cons, All-nil}
 use Rattle.std.specs.Bool.{⊤}
 use Rattle.std.specs.List.{filter, list_any, range_with_len}
 use Rattle.std.specs.List.Sorted.{IsStrictlyIncreasing}
+use denote.Enum.Bare.{sameb}
+use Rattle.manchester_line.specs.contracts.Sym.{the_type}
 use Rattle.manchester_line.specs.declared.Sym.{Sym}
-use Rattle.manchester_line.specs.declared.Sym.TheVariants.{Idle, Hi, Lo, Clash}
+use Rattle.line_probe.proofs.SameSymbols.{other_symbols, same_symbols}
 use Rattle.wave_dump.specs.Changes.{changing_half_bits, do_differ, is_changed, symbol_in}
 use Rattle.wave_dump.specs.WaveLaws.{OnlyChangesAreTold, TimesRise, ValuesLast}
+use Rattle.wave_dump.proofs.Standing.{differ}
 
 -- the first of these numbers is no less than a least one, and each other one is greater than the one before
 abbrev Rises : ℕ → List ℕ → Type 0
@@ -52,22 +57,11 @@ pub each_changes : OnlyChangesAreTold
 each_changes from to heard = all_pass (λ t. list_any (is_changed from t) heard) (range_with_len (from + 1) (to - (from + 1)))
 
 no_difference : (a b : Sym) → do_differ a b ≡ false → a ≡ b
-no_difference Idle Idle h = refl
-no_difference Idle Hi h = cc h
-no_difference Idle Lo h = cc h
-no_difference Idle Clash h = cc h
-no_difference Hi Idle h = cc h
-no_difference Hi Hi h = refl
-no_difference Hi Lo h = cc h
-no_difference Hi Clash h = cc h
-no_difference Lo Idle h = cc h
-no_difference Lo Hi h = cc h
-no_difference Lo Lo h = refl
-no_difference Lo Clash h = cc h
-no_difference Clash Idle h = cc h
-no_difference Clash Hi h = cc h
-no_difference Clash Lo h = cc h
-no_difference Clash Clash h = refl
+no_difference a b h =
+    elim (cases_Bool (sameb the_type a b)) [
+      | inl same ↦ same_symbols a b same
+      | inr other ↦ absurd (false≢true (sym h ∙ differ a b (other_symbols a b other)))
+    ]
 
 value_stays : (from s n : ℕ) (symbols : List Sym) → ((u : ℕ) → s < u → u ≤ s + n → is_changed from u symbols ≡ false) → symbol_in from symbols (s + n) ≡ symbol_in from symbols s
 value_stays from s zero symbols h = let same : s + 0 ≡ s = omega arith in ap (symbol_in from symbols) same

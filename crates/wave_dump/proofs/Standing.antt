@@ -13,8 +13,8 @@ use Rattle.wave_dump.specs.Heard.{AreTapRuns}
 use Rattle.wave_dump.specs.Values.{line_of_value}
 use Rattle.wave_dump.specs.Waiting.{begun_value, begun_values, does_begin, runs_after}
 
--- A tap that hears these symbols from half bit `from` on heard one of them in half bit from + m, hears it in so many more
--- after that one, and then these runs follow.
+-- A tap that hears these symbols from half bit `from` on heard one of them in half bit from + m, hears it in so many
+-- more after that one, and then these runs follow.
 pub record Stands (from m : ℕ) (symbols : List Sym) (runs : List Run) : Type 0 where
   pub symbol : Sym
   pub more : ℕ
@@ -41,7 +41,7 @@ differ_not Hi = refl
 differ_not Lo = refl
 differ_not Clash = refl
 
-differ : (a b : Sym) → a ≢ b → do_differ a b ≡ true
+pub differ : (a b : Sym) → a ≢ b → do_differ a b ≡ true
 differ Idle Idle h = absurd (h refl)
 differ Idle Hi h = refl
 differ Idle Lo h = refl

@@ -1,5 +1,5 @@
 //! The value change dump.
-ghost use Rattle.std.specs.Prelude.{◌≡◌, ◌*◌, ◌<◌, ◌≤◌, ◌^◌, ◌++◌, ℕ, List, IfOk, OnOk, length, map};
+ghost use Rattle.std.specs.Prelude.{◌≡◌, ◌*◌, ◌<◌, ◌≤◌, ◌^◌, ◌++◌, List, IfOk, OnOk, length, map};
 ghost use Rattle.manchester_line.specs.declared.Sym.{Sym};
 ghost use Rattle.mac_parameters.specs.Parameters.{nanoseconds_a_half_bit};
 ghost use Rattle.load_plan.specs.declared.plan.Plan.{Plan};

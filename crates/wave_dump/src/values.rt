@@ -1,5 +1,5 @@
 //! The lines of a dump that tell times and values.
-ghost use Rattle.std.specs.Prelude.{◌≡◌, ◌+◌, ◌*◌, ◌<◌, ◌≤◌, ◌^◌, ◌++◌, OnOk, decimal};
+ghost use Rattle.std.specs.Prelude.{◌≡◌, ◌+◌, ◌*◌, ◌<◌, ◌^◌, ◌++◌, OnOk, decimal};
 ghost use Rattle.mac_parameters.specs.Parameters.{nanoseconds_a_half_bit};
 ghost use Rattle.wave_dump.specs.Values.{code_of_tap, line_of_time, line_of_value, value_of_symbol};
 

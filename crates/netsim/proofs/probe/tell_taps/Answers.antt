@@ -1,7 +1,28 @@
+use Rattle.std.proofs.Common.{◌-◌, length, ap, ◌∙◌, inr, arith}
+use Rattle.line_probe.proofs.Columns.{rows_short}
 use Rattle.netsim.proofs.probe.tell_taps.Goals as goal
 
-pub returns-in-Runs : goal.returns-in-Runs
-returns-in-Runs g c = rw c.in-Runs.is c.tell_runs.ensures
+pub write_taps-requires-clause-heard : goal.write_taps-requires-clause-heard
+write_taps-requires-clause-heard g c =
+    record {
+      plan = c.args.plan.now;
+      all = c.args.taps.now;
+      n = c.from-end.result - c.from-begin.result;
+      are = c.in-Ok.ensures;
+      many = c.requires.named;
+      within = omega (arith, c.from-end.ensures, c.from-begin.ensures, c.requires.late, c.requires.order);
+    }
 
-pub returns-in-Waves : goal.returns-in-Waves
-returns-in-Waves g c = rw c.in-Waves.is c.tell_waves.ensures
+pub write_taps-requires-clause-short : goal.write_taps-requires-clause-short
+write_taps-requires-clause-short g c =
+    omega (arith, ap length c.in-Ok.ensures, rows_short c.args.plan.now c.args.taps.now c.from-begin.result (c.from-end.result - c.from-begin.result) c.requires.few, c.from-end.ensures, c.from-begin.ensures, c.requires.short, c.requires.late, c.requires.order)
+
+pub returns-in-Ok : goal.returns-in-Ok
+returns-in-Ok g c =
+    let told = c.write_taps.ensures c.args.plan.now c.args.taps.now (c.from-end.result - c.from-begin.result) c.in-Ok.ensures c.requires.named in
+    rw c.in-Runs.is (inr (rw (c.from-begin.ensures, c.from-end.ensures) at told))
+
+pub returns-in-Ok-text_of_waves : goal.returns-in-Ok-text_of_waves
+returns-in-Ok-text_of_waves g c =
+    let is = c.as_slice.ensures ∙ c.in-Ok-text_of_waves.ensures in
+    rw c.in-Waves.is (inr (c.as_slice.result.now, rw (c.from-begin.ensures, c.from-end.ensures) at is, c.write_line.ensures))

@@ -2,63 +2,35 @@ use Rattle.std.proofs.Common.{ap, arith, length, map, ◌∙◌}
 use Rattle.load_plan.proofs.PlansAreSound.{sound_of_plan}
 use Rattle.run_checkpoint.specs.PortNames.{named_port}
 use Rattle.run_checkpoint.specs.TextLines.{text_lines}
-use Rattle.run_checkpoint.proofs.ReadParts.{few_named, parts, row_line_is, rows_fault, rows_told}
+use Rattle.run_checkpoint.proofs.ReadParts.{few_lines, few_stations, parts, row_line_is, rows_fault, rows_told}
 use Rattle.run_checkpoint.proofs.reading.state_read.Goals as goal
 
 pub half_bits-requires : goal.half_bits-requires
 half_bits-requires c = sound_of_plan c.args.plan.now
 
 pub judged_senders-requires-clause-room : goal.judged_senders-requires-clause-room
-judged_senders-requires-clause-room c = omega (arith, ap length c.as_slice-stations.ensures, (sound_of_plan c.args.plan.now).stations_most)
+judged_senders-requires-clause-room c = omega (arith, few_stations c.args.plan.now _ c.as_slice-stations.ensures)
 
 pub all_ports-requires : goal.all_ports-requires
 all_ports-requires c = sound_of_plan c.args.plan.now
 
 pub overflow_cast-first_port : goal.overflow_cast-first_port
-overflow_cast-first_port c = omega (arith, ap length c.as_slice-stations.ensures, (sound_of_plan c.args.plan.now).stations_most)
+overflow_cast-first_port c = omega (arith, few_stations c.args.plan.now _ c.as_slice-stations.ensures)
 
 pub overflow_add-first_port : goal.overflow_add-first_port
-overflow_add-first_port c = omega (arith, ap length c.as_slice-stations.ensures, (sound_of_plan c.args.plan.now).stations_most)
+overflow_add-first_port c = omega (arith, few_stations c.args.plan.now _ c.as_slice-stations.ensures)
 
 pub judged_guards-requires : goal.judged_guards-requires
-judged_guards-requires c =
-    record {
-      room =
-          omega (
-            arith,
-            ap length c.as_slice-stations.ensures,
-            (sound_of_plan c.args.plan.now).stations_most,
-            ap length c.as_slice-named.ensures.value,
-            few_named c.args.plan.now c.in_ok-ports.ports.items c.in_ok-ports.ensures,
-          );
-    }
+judged_guards-requires c = record { room = omega (arith, few_lines c.args.plan.now _ _ _ c.as_slice-stations.ensures c.as_slice-named.ensures.value c.in_ok-ports.ensures) }
 
 pub overflow_cast-first_row : goal.overflow_cast-first_row
-overflow_cast-first_row c = omega (arith, ap length c.as_slice-named.ensures.value, few_named c.args.plan.now c.in_ok-ports.ports.items c.in_ok-ports.ensures)
+overflow_cast-first_row c = omega (arith, few_lines c.args.plan.now _ _ _ c.as_slice-stations.ensures c.as_slice-named.ensures.value c.in_ok-ports.ensures)
 
 pub overflow_add-first_row : goal.overflow_add-first_row
-overflow_add-first_row c =
-    omega (
-      arith,
-      ap length c.as_slice-stations.ensures,
-      (sound_of_plan c.args.plan.now).stations_most,
-      ap length c.as_slice-named.ensures.value,
-      few_named c.args.plan.now c.in_ok-ports.ports.items c.in_ok-ports.ensures,
-    )
+overflow_add-first_row c = omega (arith, few_lines c.args.plan.now _ _ _ c.as_slice-stations.ensures c.as_slice-named.ensures.value c.in_ok-ports.ensures)
 
 pub judged_entries-requires : goal.judged_entries-requires
-judged_entries-requires c =
-    omega (
-      arith,
-      ap length c.as_slice-stations.ensures,
-      (sound_of_plan c.args.plan.now).stations_most,
-      ap length c.as_slice-named.ensures.value,
-      few_named c.args.plan.now c.in_ok-ports.ports.items c.in_ok-ports.ensures,
-      c.in_ok-guards.ensures.shorter,
-      c.in_ok-senders.ensures.shorter,
-      c.in-Some.ensures.shorter,
-      c.requires,
-    )
+judged_entries-requires c = omega (arith, few_lines c.args.plan.now _ _ _ c.as_slice-stations.ensures c.as_slice-named.ensures.value c.in_ok-ports.ensures, c.in_ok-guards.ensures.shorter, c.in_ok-senders.ensures.shorter, c.in-Some.ensures.shorter, c.requires)
 
 pub returns-in-Err : goal.returns-in-Err
 returns-in-Err c =
