@@ -153,6 +153,7 @@ impl Repeater {
 
     /// One half bit, in which the ports hear these symbols: writes what each port emits, which was decided
     /// `delay` half bits ago, and what is decided for it now (clause 9, with the profile's transitions).
+    #[tactic(auto, unfolding(crate::specs::Step::mode_next, crate::specs::Step::chosen))]
     pub fn step(&mut self, hears: &[Sym], emits: &mut [Sym], decided: &mut [Sym]) -> RepeaterEvents
         requires hears_len { length hears.now ≡ length self.old.guards }
         requires emits_len { length emits.old ≡ length self.old.guards }
@@ -180,37 +181,6 @@ impl Repeater {
                 halted: 0,
             };
         }
-        self.step_through(hears, emits, decided)
-    }
-
-    /// Whether, in mode Idle, a silent half bit is known to leave all as it is.
-    fn is_unchanged(&self) -> bool
-        requires { self.now.mode ≡ Idle }
-        ensures { IsTrue result → IsUnchanged self.now }
-    {
-        self.line.is_idle() && counts_fresh(&self.counts) && guards_unchanged(&self.guards)
-    }
-
-    /// One half bit, by a pass over all ports.
-    #[tactic(auto, unfolding(crate::specs::Step::mode_next, crate::specs::Step::chosen))]
-    fn step_through(
-        &mut self,
-        hears: &[Sym],
-        emits: &mut [Sym],
-        decided: &mut [Sym],
-    ) -> RepeaterEvents
-        requires hears_len { length hears.now ≡ length self.old.guards }
-        requires emits_len { length emits.old ≡ length self.old.guards }
-        requires decided_len { length decided.old ≡ length self.old.guards }
-        ensures state { self.new ≡ after hears.now self.old }
-        ensures ports { length self.new.guards ≡ length self.old.guards }
-        ensures emits { emits.new ≡ emitted_by self.old }
-        ensures decided { decided.new ≡ decided_by hears.now self.old }
-        ensures clash { result.clash ≡ clash_begins hears.now self.old }
-        ensures closed { result.closed ≡ closed_mask hears.now self.old }
-        ensures opened { result.opened ≡ opened_mask hears.now self.old }
-        ensures halted { result.halted ≡ halted_mask hears.now self.old }
-    {
         let collided = collision(self.mode);
         self.mode = next_mode(self.mode, active_ports(&self.guards, hears));
         let halted = decide_all(self.mode, hears, &mut self.counts, decided);
@@ -222,6 +192,14 @@ impl Repeater {
             opened: changes.opened,
             halted,
         }
+    }
+
+    /// Whether, in mode Idle, a silent half bit is known to leave all as it is.
+    fn is_unchanged(&self) -> bool
+        requires { self.now.mode ≡ Idle }
+        ensures { IsTrue result → IsUnchanged self.now }
+    {
+        self.line.is_idle() && counts_fresh(&self.counts) && guards_unchanged(&self.guards)
     }
 
     /// The greatest n up to 4,096 such that n half bits in which every port hears Idle emit only Idle, decide only Idle
