@@ -71,12 +71,13 @@ apart a b ne = elim (cases_order a b) [
   | inr less ↦ elim less [ inl l ↦ omega arith | inr l ↦ omega arith ]
 ]
 
--- what is told alike of other places is heard alike
-heard_of_alike : (told told' : ℕ → ℕ → Sym) (p : ℕ) (here d : PortLine) (q : ℕ) (xs : List PortLine) →
-    ((i m : ℕ) → i < length xs → m ≡ q + i → m ≢ p → (get_or xs i d).segment ≡ here.segment → here.at ≢ (get_or xs i d).at) →
-    ((back m : ℕ) → 1 ≤ back → told back m ≡ told' back m) → heard_of told p here q xs ≡ heard_of told' p here q xs
-heard_of_alike told told' p here d q [] away same = refl
-heard_of_alike told told' p here d q (x ∷ xs) away same = ap₂ mix_of one (heard_of_alike told told' p here d (q + 1) xs (λ i m h e. away (suc i) m (omega arith) (omega arith)) same)
+-- what is told alike of the other taps of a segment is heard alike
+pub heard_of_alike : (told told' : ℕ → ℕ → Sym) (p : ℕ) (here d : PortLine) (q : ℕ) (xs : List PortLine) →
+    ((i m : ℕ) → i < length xs → m ≡ q + i → m ≢ p → (get_or xs i d).segment ≡ here.segment → told (distance here.at (get_or xs i d).at) m ≡ told' (distance here.at (get_or xs i d).at) m) →
+    heard_of told p here q xs ≡ heard_of told' p here q xs
+heard_of_alike told told' p here d q [] same = refl
+heard_of_alike told told' p here d q (x ∷ xs) same =
+    ap₂ mix_of one (heard_of_alike told told' p here d (q + 1) xs (λ i m l e. same (suc i) m (omega arith) (omega arith)))
   where
     one : cond (eqb x.segment here.segment && not (eqb q p)) (told (distance here.at x.at) q) Idle ≡ cond (eqb x.segment here.segment && not (eqb q p)) (told' (distance here.at x.at) q) Idle
     one = elim (cases_eq x.segment here.segment) [
@@ -84,7 +85,7 @@ heard_of_alike told told' p here d q (x ∷ xs) away same = ap₂ mix_of one (he
         | inl itself ↦
             let off : (eqb x.segment here.segment && not (eqb q p)) ≡ false = ap₂ (λ b e. b && not e) (eq-eqb x.segment here.segment on) (eq-eqb q p itself) in
             ap (λ b. cond b (told (distance here.at x.at) q) Idle) off ∙ sym (ap (λ b. cond b (told' (distance here.at x.at) q) Idle) off)
-        | inr other ↦ ap (λ s. cond (eqb x.segment here.segment && not (eqb q p)) s Idle) (same (distance here.at x.at) q (apart here.at x.at (away 0 q (omega arith) (omega arith) other on)))
+        | inr other ↦ ap (λ s. cond (eqb x.segment here.segment && not (eqb q p)) s Idle) (same 0 q (omega arith) (omega arith) other on)
       ]
       | inr not_on ↦
           let off : (eqb x.segment here.segment && not (eqb q p)) ≡ false = ap (λ b. b && not (eqb q p)) (ne_eqb x.segment here.segment not_on) in
@@ -102,8 +103,9 @@ heard_is plan t p d h =
     ap (λ ts. get_or (heard_by told ts 0 ts) p Idle) (taps_stay plan t)
     ∙ heard_by_at told all all 0 p p d h (omega arith)
     ∙ heard_of_alike told (λ back q. earlier (emitted plan q) t back) p (get_or all p d) d 0 all
-    (λ i m l e ne on same. let at : m ≡ i = omega arith in away p i d h l (λ pi. ne (at ∙ sym pi)) (sym on) same)
-    (λ back m l. emitted_before_is plan t back m l)
+    (λ i m l e ne on.
+    let at : m ≡ i = omega arith in
+    emitted_before_is plan t (distance (get_or all p d).at (get_or all i d).at) m (apart (get_or all p d).at (get_or all i d).at (away p i d h l (λ pi. ne (at ∙ sym pi)) (sym on))))
 
 length-heard_by : (told : ℕ → ℕ → Sym) (all : List PortLine) (k : ℕ) (xs : List PortLine) → length (heard_by told all k xs) ≡ length xs
 length-heard_by told all k [] = refl

@@ -1,12 +1,10 @@
 -- Networks that differ in nothing that is still to come stay so.
-use Rattle.std.proofs.Common.{◌≡◌, ◌≢◌, ℕ, zero, suc, ◌+◌, ◌<◌, ◌≤◌, false, not, ◌&&◌, cond, eqb, inl, inr, List, [], ◌∷◌, ◌++◌, map, take, drop, length, get_or, refl, sym, ap, ap₂, ◌∙◌, arith}
+use Rattle.std.proofs.Common.{◌≡◌, ◌≢◌, ℕ, zero, suc, ◌+◌, ◌<◌, ◌≤◌, List, [], ◌∷◌, ◌++◌, map, take, drop, length, get_or, refl, sym, ap, ap₂, ◌∙◌, arith}
 use Rattle.std.specs.List.{flat_map}
 use Rattle.std.proofs.lemmas.List.{length-map}
 use Rattle.std.proofs.lemmas.Simd.{map-map}
-use Rattle.std.proofs.lemmas.Bool.{cases_eq, eq-eqb, ne_eqb}
 use Rattle.manchester_line.specs.declared.Sym.{Sym}
 use Rattle.manchester_line.specs.declared.Sym.TheVariants.{Idle}
-use Rattle.manchester_line.specs.Line.{mix_of}
 use Rattle.mac_parameters.specs.Distances.{distance}
 use Rattle.collision_log.specs.declared.row.Row.{Row}
 use Rattle.layout.specs.declared.lines.PortLine.{PortLine}
@@ -18,6 +16,7 @@ use Rattle.network.specs.Captures.{captured}
 use Rattle.network.specs.Hearing.{heard_of, heard_by}
 use Rattle.network.specs.Net.{Net, next, emitted_before, heard_in, stations_hear, ports_hear, sendings, sendings_in, stations_emit, receptions, receptions_in, emitted_in, rows_in, each_repeater}
 use Rattle.network.specs.Rows.{rows_of, repeater_bodies, repeater_rows}
+use Rattle.network.proofs.AbsoluteTimes.{heard_of_alike}
 use Rattle.quiet_state.proofs.BareSenders.{bare_sender, sendings_bare, step_state, step_symbol, step_event}
 use Rattle.quiet_state.proofs.BareRepeaters.{bare_state, after_bare, bodies_bare, each_bare, map-each, emit_bare}
 
@@ -39,27 +38,6 @@ pub record Alike (n m : Net) : Type 0 where
   pub told : (p q back : ℕ) (d : PortLine) → IsAudible n.taps p q back d → emitted_before n.emitted back q ≡ emitted_before m.emitted back q
   pub rows : n.rows ≡ m.rows
   pub captures : n.captures ≡ m.captures
-
--- what is told alike of the other taps of a segment is heard alike
-heard_of_alike : (told told' : ℕ → ℕ → Sym) (p : ℕ) (here d : PortLine) (q : ℕ) (xs : List PortLine) →
-    ((i m : ℕ) → i < length xs → m ≡ q + i → m ≢ p → (get_or xs i d).segment ≡ here.segment → told (distance here.at (get_or xs i d).at) m ≡ told' (distance here.at (get_or xs i d).at) m) →
-    heard_of told p here q xs ≡ heard_of told' p here q xs
-heard_of_alike told told' p here d q [] same = refl
-heard_of_alike told told' p here d q (x ∷ xs) same =
-    ap₂ mix_of one (heard_of_alike told told' p here d (q + 1) xs (λ i m l e. same (suc i) m (omega arith) (omega arith)))
-  where
-    one : cond (eqb x.segment here.segment && not (eqb q p)) (told (distance here.at x.at) q) Idle ≡ cond (eqb x.segment here.segment && not (eqb q p)) (told' (distance here.at x.at) q) Idle
-    one = elim (cases_eq x.segment here.segment) [
-      | inl on ↦ elim (cases_eq q p) [
-        | inl itself ↦
-            let off : (eqb x.segment here.segment && not (eqb q p)) ≡ false = ap₂ (λ b e. b && not e) (eq-eqb x.segment here.segment on) (eq-eqb q p itself) in
-            ap (λ b. cond b (told (distance here.at x.at) q) Idle) off ∙ sym (ap (λ b. cond b (told' (distance here.at x.at) q) Idle) off)
-        | inr other ↦ ap (λ s. cond (eqb x.segment here.segment && not (eqb q p)) s Idle) (same 0 q (omega arith) (omega arith) other on)
-      ]
-      | inr not_on ↦
-          let off : (eqb x.segment here.segment && not (eqb q p)) ≡ false = ap (λ b. b && not (eqb q p)) (ne_eqb x.segment here.segment not_on) in
-          ap (λ b. cond b (told (distance here.at x.at) q) Idle) off ∙ sym (ap (λ b. cond b (told' (distance here.at x.at) q) Idle) off)
-    ]
 
 heard_by_alike : (told told' : ℕ → ℕ → Sym) (all : List PortLine) (d : PortLine) (k : ℕ) (xs : List PortLine) →
     ((i m : ℕ) → i < length xs → m ≡ k + i → heard_of told m (get_or xs i d) 0 all ≡ heard_of told' m (get_or xs i d) 0 all) →

@@ -21,26 +21,23 @@ either_bare : (b : Bool) (x y u v : Sender) → bare_sender x ≡ bare_sender u 
 either_bare true x y u v h k = h
 either_bare false x y u v h k = k
 
+-- a sender whose frame is behind it, and one that sends its frame again
+abbrev pub frame_left : Sender → Sender
+frame_left s = record s { place = s.place + 1; phase = Rest; last_end = Some s.t }
+
+abbrev pub backed_off : Sender → Sender
+backed_off s = record s {
+  phase = Backoff (s.t + slot_time * draw_of s.draws.seed s.draws.station s.draws.made s.attempt);
+  attempt = s.attempt + 1;
+  draws = drawn s.draws;
+  last_end = Some s.t;
+}
+
 ended_bare : (s : Sender) (hit : Option ℕ) → bare_sender (sending_ended s hit) ≡ bare_sender (sending_ended (bare_sender s) hit)
 ended_bare s None = refl
 ended_bare s (Some hit) =
     let b : Sender = bare_sender s in
-    either_bare (eqb s.attempt attempt_limit)
-    (record s { place = s.place + 1; phase = Rest; last_end = Some s.t })
-    (record s {
-      phase = Backoff (s.t + slot_time * draw_of s.draws.seed s.draws.station s.draws.made s.attempt);
-      attempt = s.attempt + 1;
-      draws = drawn s.draws;
-      last_end = Some s.t;
-    })
-    (record b { place = s.place + 1; phase = Rest; last_end = Some s.t })
-    (record b {
-      phase = Backoff (s.t + slot_time * draw_of s.draws.seed s.draws.station s.draws.made s.attempt);
-      attempt = s.attempt + 1;
-      draws = drawn s.draws;
-      last_end = Some s.t;
-    })
-    refl refl
+    either_bare (eqb s.attempt attempt_limit) (frame_left s) (backed_off s) (frame_left b) (backed_off b) refl refl
 
 finished_from_bare : (s : Sender) (p : Phase) → bare_sender (finished_from s p) ≡ bare_sender (finished_from (bare_sender s) p)
 finished_from_bare s Rest = refl

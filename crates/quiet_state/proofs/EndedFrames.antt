@@ -1,16 +1,17 @@
 -- The place of a sender tells the frames that it is done with.
-use Rattle.std.proofs.Common.{◌≡◌, ℕ, zero, suc, ◌+◌, ◌*◌, ◌&&◌, Bool, true, false, cond, eqb, ltb, leb, Option, Some, None, List, [], ◌∷◌, ◌++◌, length, refl, sym, ap, ◌∙◌, arith}
+use Rattle.std.proofs.Common.{◌≡◌, ℕ, zero, suc, ◌+◌, ◌&&◌, Bool, true, false, cond, eqb, ltb, leb, Option, Some, None, List, [], ◌∷◌, ◌++◌, length, refl, sym, ap, ◌∙◌, arith}
 use Rattle.std.specs.List.{range_with_len}
 use Rattle.std.proofs.lemmas.List.{append-nil}
-use Rattle.mac_parameters.specs.Parameters.{attempt_limit, slot_time}
+use Rattle.mac_parameters.specs.Parameters.{attempt_limit}
 use Rattle.manchester_line.specs.declared.Sym.{Sym}
 use Rattle.manchester_line.specs.Line.{is_signal}
-use Rattle.backoff_draw.specs.Draws.{draw_of, drawn}
+use Rattle.backoff_draw.specs.Draws.{draw_of}
 use Rattle.collision_log.specs.declared.row.Body.{Body}
 use Rattle.collision_log.specs.declared.row.Body.TheVariants.{Collided, GivenUp}
 use Rattle.mac_transmit.specs.declared.phase.Phase.{Phase}
 use Rattle.mac_transmit.specs.declared.phase.Phase.TheVariants.{Rest, Waiting, Sending, Backoff}
 use Rattle.mac_transmit.specs.Sender.{Sender, after_turn, deferring, emitting, end_event, event_from, finished, finished_from, has_ended, is_free, promoted, promoted_from, ready_at, sender_step, sending_ended, sending_started}
+use Rattle.quiet_state.proofs.BareSenders.{backed_off, frame_left}
 use Rattle.quiet_state.proofs.ReceiverRanges.{ended_by, received_by}
 
 -- the next number
@@ -42,14 +43,7 @@ either_body false before x y e f h k = k
 sending_ends : (s : Sender) (start : ℕ) (hit : Option ℕ) → Ends s.place (sending_ended s hit).place (ended_by (Some (end_event s start hit)))
 sending_ends s start None = next_frame s.place
 sending_ends s start (Some hit) =
-    either_body (eqb s.attempt attempt_limit) s.place
-    (record s { place = s.place + 1; phase = Rest; last_end = Some s.t })
-    (record s {
-      phase = Backoff (s.t + slot_time * draw_of s.draws.seed s.draws.station s.draws.made s.attempt);
-      attempt = s.attempt + 1;
-      draws = drawn s.draws;
-      last_end = Some s.t;
-    })
+    either_body (eqb s.attempt attempt_limit) s.place (frame_left s) (backed_off s)
     (GivenUp (s.place + 1) start hit)
     (Collided (s.place + 1) start s.attempt hit (draw_of s.draws.seed s.draws.station s.draws.made s.attempt))
     (next_frame s.place) (none_ended s.place)

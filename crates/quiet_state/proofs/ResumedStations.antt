@@ -1,12 +1,11 @@
 -- Stations that go on from a quiet half bit are as they were, but for what bears on nothing.
-use Rattle.std.proofs.Common.{◌≡◌, ℕ, zero, suc, ◌+◌, ◌*◌, ◌≤◌, ◌&&◌, Bool, true, false, cond, eqb, ltb, leb, All, Option, Some, None, List, [], ◌∷◌, map, length, length-take-le, refl, sym, ap, ap₂, ◌∙◌, arith}
+use Rattle.std.proofs.Common.{◌≡◌, ℕ, zero, suc, ◌+◌, ◌≤◌, ◌&&◌, Bool, true, false, cond, eqb, ltb, leb, All, Option, Some, None, List, [], ◌∷◌, map, length, length-take-le, refl, sym, ap, ap₂, ◌∙◌, arith}
 use Rattle.std.proofs.lemmas.List.{length-map}
 use Rattle.std.proofs.lemmas.List.Elements.{All-head, All-tail}
-use Rattle.mac_parameters.specs.Parameters.{attempt_limit, slot_time, most_octets}
+use Rattle.mac_parameters.specs.Parameters.{attempt_limit, most_octets}
 use Rattle.manchester_line.specs.declared.Sym.{Sym}
 use Rattle.manchester_line.specs.declared.Sym.TheVariants.{Idle, Hi, Lo, Clash}
 use Rattle.manchester_line.specs.Line.{is_signal}
-use Rattle.backoff_draw.specs.Draws.{draw_of, drawn}
 use Rattle.frame_layout.specs.declared.queue.Ready.{Ready}
 use Rattle.layout.specs.declared.lines.StationLine.{StationLine}
 use Rattle.load_plan.specs.declared.plan.Plan.{Plan}
@@ -20,7 +19,7 @@ use Rattle.network.proofs.AbsoluteTimes.{heard_sizes}
 use Rattle.network.proofs.StationAttempts.{shape_of, many_sendings}
 use Rattle.quiet_state.specs.Quiet.{IsStill}
 use Rattle.quiet_state.specs.Resumed.{resumed_senders}
-use Rattle.quiet_state.proofs.BareSenders.{bare_sender}
+use Rattle.quiet_state.proofs.BareSenders.{backed_off, bare_sender, frame_left}
 
 -- what a sender has from its plan, and its time
 pub record Owner : Type 0 where
@@ -39,15 +38,7 @@ either_owner false x y o h k = k
 ended_owner : (s : Sender) (hit : Option ℕ) → owner (sending_ended s hit) ≡ owner s
 ended_owner s None = refl
 ended_owner s (Some hit) =
-    either_owner (eqb s.attempt attempt_limit)
-    (record s { place = s.place + 1; phase = Rest; last_end = Some s.t })
-    (record s {
-      phase = Backoff (s.t + slot_time * draw_of s.draws.seed s.draws.station s.draws.made s.attempt);
-      attempt = s.attempt + 1;
-      draws = drawn s.draws;
-      last_end = Some s.t;
-    })
-    (owner s) refl refl
+    either_owner (eqb s.attempt attempt_limit) (frame_left s) (backed_off s) (owner s) refl refl
 
 finished_from_owner : (s : Sender) (p : Phase) → owner (finished_from s p) ≡ owner s
 finished_from_owner s Rest = refl
