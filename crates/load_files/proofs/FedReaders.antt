@@ -1,13 +1,12 @@
 -- A reader of captures that was given a file piece by piece.
-use Rattle.std.proofs.Common.{◌≡◌, ℕ, ◌+◌, ◌≤◌, ◌<◌, List, [], ◌++◌, take, length, Option, None, Some, option_map, Result, Ok, Err, refl, sym, ap, ◌∙◌, arith}
-use Rattle.std.specs.Prelude.{IfSome, IfOk, IfErr}
-use Rattle.std.proofs.Math.Seq.{take-add}
+use Rattle.std.proofs.Common.{◌≡◌, ℕ, ◌≤◌, ◌<◌, List, take, length, Option, None, Some, option_map, Result, Ok, Err, refl, ap, arith}
+use Rattle.std.specs.Prelude.{IfOk, IfErr}
 use Rattle.std.proofs.lemmas.List.{take_all}
-use Rattle.std.proofs.lemmas.Bool.{false≢true, le-ltb, lt-ltb}
-use Rattle.outside.specs.Files.{Files, file_of, IsRead, IsReadOf}
+use Rattle.std.proofs.lemmas.Bool.{le-ltb, lt-ltb}
+use Rattle.outside.specs.Files.{Files, file_of}
 use Rattle.file_pieces.specs.GivenPieces.{IsGivenFront, IsGivenFrontOf}
 use Rattle.capture_file.specs.Captures.{capture_fault}
-use Rattle.capture_file.specs.Reading.{Reader, Reads}
+use Rattle.capture_file.specs.Reading.{Reads}
 use Rattle.capture_file.specs.declared.entries.Record.{Record}
 use Rattle.capture_file.specs.declared.fault.CaptureFault.{CaptureFault}
 use Rattle.capture_file.specs.declared.fault.CaptureFault.TheVariants.{TooLarge}

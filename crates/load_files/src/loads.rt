@@ -73,35 +73,11 @@ fn read_station<S: Store>(
     }
 }
 
-/// Reads the loads of stations in their order, by pieces that fit the room.
-fn read_all<S: Store>(
-    alloc: Global,
-    store: &mut S,
-    stations: &[StationLine],
-    room: &mut [u8],
-) -> Result<RecordsList, LoadStop>
-    requires stations { length stations.now ≤ most_stations }
-    requires room { 0 < length room.old }
-    ensures whole { IfOk result (λ records. IsLoaded (S.held store.old) stations.now (Whole records)) }
-    ensures count { IfOk result (λ records. length records ≡ length stations.now) }
-    ensures few { IfOk result (λ records. All (λ rs. length rs ≤ 4194304) records) }
-    ensures stopped { IfErr result (λ s. IsStopped (S.held store.old) stations.now (S.read_faults store.old) (S.read_faults store.new) s) }
-    ensures held { S.held store.new ≡ S.held store.old }
-    ensures reads { S.read_faults store.old ≤ S.read_faults store.new }
-    ensures writes { S.write_faults store.old ≤ S.write_faults store.new }
+/// Room for what is read at once.
+fn piece_room(alloc: Global) -> Result<Vec<u8>, OutOfMemory>
+    ensures { IfOk result (λ room. 0 < length room.items) }
 {
-    let mut loads = RecordsList::new(alloc);
-    let mut before = 0;
-    for (k, station) in stations.iter().enumerate() {
-        match read_station(alloc, store, station, before, room) {
-            Ok(load) => {
-                before += load.octets;
-                loads.push(load.records)?;
-            }
-            Err(unloaded) => return Err(stop_at(k as u32, unloaded)),
-        }
-    }
-    Ok(loads)
+    vec![in alloc; 0; PIECE].map_err(|_| OutOfMemory)
 }
 
 /// Reads the loads of stations in their order: the records of each, and none where a station has no load. A load that
@@ -123,9 +99,17 @@ pub fn read_loads<S: Store>(
     ensures reads { S.read_faults store.old ≤ S.read_faults store.new }
     ensures writes { S.write_faults store.old ≤ S.write_faults store.new }
 {
-    let mut room = match vec![in alloc; 0; PIECE] {
-        Ok(room) => room,
-        Err(_) => return Err(LoadStop::OutOfMemory),
-    };
-    read_all(alloc, store, stations, room.as_mut_slice())
+    let mut room = piece_room(alloc)?;
+    let mut loads = RecordsList::new(alloc);
+    let mut before = 0;
+    for (k, station) in stations.iter().enumerate() {
+        match read_station(alloc, store, station, before, room.as_mut_slice()) {
+            Ok(load) => {
+                before += load.octets;
+                loads.push(load.records)?;
+            }
+            Err(unloaded) => return Err(stop_at(k as u32, unloaded)),
+        }
+    }
+    Ok(loads)
 }

@@ -1,4 +1,4 @@
-use Rattle.std.proofs.Common.{◌<◌, ◌≤◌, rules, arith}
+use Rattle.std.proofs.Common.{rules}
 use Rattle.load_files.proofs.FedReaders.{whole-records, whole-fault, judged-over}
 use Rattle.load_files.proofs.load.read_load.Goals as goal
 

@@ -1,10 +1,10 @@
 use Rattle.std.proofs.Common.{◌<◌, length, refl, rules, arith}
 use Rattle.load_files.specs.Loaded.{IsUnloadedOf}
 use Rattle.load_files.proofs.LoadsSoFar.{element-at, loaded-none, loaded-stopped, held-same}
-use Rattle.load_files.proofs.loads.read_all.Goals as goal
+use Rattle.load_files.proofs.loads.read_loads.Goals as goal
 
 pub loop-k-init : goal.loop-k-init
-loop-k-init g c = (rw c.new-loads.ensures (loaded-none (g.S.Store.held c.args.store.now) c.args.stations.now), search rules, search rules, refl, search rules, refl, omega arith, omega arith)
+loop-k-init g c = (rw c.new-loads.ensures (loaded-none (g.S.Store.held c.args.store.now) c.args.stations.now), search rules, search rules, search rules, search rules, refl, omega arith, omega arith)
 
 pub returns-in-Err-clause-stopped : goal.returns-in-Err-clause-stopped
 returns-in-Err-clause-stopped g c =
