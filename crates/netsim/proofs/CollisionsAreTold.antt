@@ -14,6 +14,7 @@ use Rattle.path_checker.specs.declared.verdict.PathVerdict.{PathVerdict}
 use Rattle.path_checker.specs.declared.verdict.PathVerdict.TheVariants.{Within, Over, NoPair}
 use Rattle.run_texts.specs.Texts.{totals_of_rows}
 use Rattle.network.specs.Outputs.{rows}
+use Rattle.netsim.specs.declared.endings.Ending.TheVariants as ending
 use Rattle.netsim.specs.Endings.{IsAnswer, IsJudged}
 use Rattle.netsim.specs.LoggedCollisions.{AreCollisionsLogged, AreLogged, HasLine, IsLogged, IsLogHeld, IsWithin, IsWithinSaid, ShowsHit, log_line}
 use Rattle.netsim.specs.LogLaws.{HasCollision, IsEmptyLogRefused, IsInfixRefused, IsLateHitRefused}
@@ -25,7 +26,8 @@ use Rattle.program_texts.specs.Texts.{name_of_log}
 use Rattle.program_texts.specs.Verdicts.{line_of_verdict}
 use Rattle.netsim.specs.Writing.{added, put_all}
 use Rattle.netsim.proofs.DetectedInTheLog.{are_detected, are_logged}
-use Rattle.netsim.proofs.FilesAfterRuns.{done}
+use Rattle.netsim.proofs.EndingsByStatus.{end_at, files_end}
+use Rattle.netsim.proofs.FilesAfterRuns.{run_done}
 use Rattle.netsim.proofs.LayoutDecidesStatus.{same_network}
 use Rattle.netsim.proofs.LinesOfRows.{head, no_infix, not_given_up, same_body, same_hit}
 use Rattle.netsim.proofs.LogAmongFiles.{log_held, put_none, some_same}
@@ -61,7 +63,7 @@ log_told layout prefix (Some old) (Some files) written after network other plan 
 -- status 0 of a run
 pub collisions_are_told : (words : List (List ℕ)) (entry exit : Moment) (status : ℕ) → IsAnswer words entry exit status → status ≡ 0 → IfFiles (asked words) (λ layout prefix. AreCollisionsLogged layout prefix entry exit)
 collisions_are_told words entry exit status answer zero layout prefix is network judged said plan planned =
-    let run : IsRunDone layout prefix entry exit = done words entry exit status answer zero layout prefix is in
+    let run : IsRunDone layout prefix entry exit = run_done layout prefix entry exit (files_end (asked words) layout prefix entry exit ending.Done is (end_at words entry exit status 0 answer zero)) in
     log_told layout prefix entry.held exit.held entry.written exit.written network run.planned.network plan run.plan run.summary judged run.planned.judged planned run.planned.is run.files run.summed run.written said
 
 -- what is told of the first attempt

@@ -7,11 +7,11 @@ use Rattle.netsim.specs.declared.endings.Ending.TheVariants as ending
 use Rattle.netsim.specs.Endings.{IsAnswer, IsDemoEnd, IsEarly, IsEndOf, IsPlainEnd, IsRun, IsTellingEnd, IsText, IsTold, IsUnloadedSaid, Says, status_of}
 use Rattle.netsim.specs.Moments.{Moment}
 use Rattle.program_words.specs.Requests.{Asked, asked, Check, Slack, Plain, Run, Stop, Resume, Demo, Probe, Meter, Picture, Help, Version}
-use Rattle.netsim.specs.Statuses.{AreSlacksDone, AskForFiles, IfCheck, IfDemo, IfFiles, IfSlack, IfTelling, IsCheckDone, IsDemoCut, IsDemoDone, IsDemoStatus, IsRunBroken, IsRunDone, IsRunRefused, IsSummaryCut, IsTellingCut, IsTellingDone}
-use Rattle.netsim.specs.StatusLaws.{AreDemosCutShort, AreDemosRefused, AreFailuresSilent, AreFilesWhole, AreTellingsCutShort, AreTellingsRefused, AreTextsCutShort, AreTextsFailed, AreTextsWritten, AreWordsSaid, DoDemosKeepFiles, DoTellingsKeepFiles, DoTextsKeepFiles, HaveDemosStatuses}
+use Rattle.netsim.specs.Statuses.{AskForFiles, IfFiles, IsDemoCut, IsDemoDone, IsDemoStatus, IsRunBroken, IsRunDone, IsRunRefused, IsSummaryCut, IsTellingCut, IsTellingDone}
+use Rattle.netsim.specs.StatusLaws.{AreDemosCutShort, AreDemosRefused, AreFailuresSilent, AreFilesWhole, AreTellingsCutShort, AreTellingsRefused, AreTextsCutShort, AreTextsFailed, AreWordsSaid, DoDemosKeepFiles, DoTellingsKeepFiles, DoTextsKeepFiles, HaveDemosStatuses}
 use Rattle.program_texts.specs.Texts.{line_of_words_fault}
 use Rattle.netsim.specs.Runs.{run_files}
-use Rattle.netsim.specs.Writing.{added, IsBrokenAmong, IsCutShort}
+use Rattle.netsim.specs.Writing.{IsBrokenAmong, IsCutShort}
 use Rattle.netsim.proofs.EndingsByStatus.{by_demo, by_way, demo_end, end_at, files_end, of_tellings, of_texts}
 use Rattle.netsim.proofs.EveryForm.{never_demo, never_meter, never_picture, never_probe, never_resume, never_stop, never_words}
 
@@ -20,10 +20,6 @@ run_of : (layout prefix : List ℕ) (before after : Moment) (e : Ending) → (Is
     → IsPlainEnd layout prefix before after e → IsRun layout prefix before after e
 run_of layout prefix before after e early unloaded memory h =
     by_way (IsRun layout prefix before after e) layout prefix before after e (λ one. absurd (early one)) (λ two. absurd (unloaded two.network two.said)) (λ unrun. absurd (memory unrun.0)) (λ run. run) h
-
--- a run was done
-run_done : (layout prefix : List ℕ) (before after : Moment) → IsPlainEnd layout prefix before after ending.Done → IsRun layout prefix before after ending.Done
-run_done layout prefix before after h = run_of layout prefix before after ending.Done (λ early. early) (λ network said. said) (λ e. cc) h
 
 run_written : (layout prefix : List ℕ) (before after : Moment) → IsPlainEnd layout prefix before after ending.Write → IsRun layout prefix before after ending.Write
 run_written layout prefix before after h = run_of layout prefix before after ending.Write (λ early. early) (λ network said. said) (λ e. cc) h
@@ -35,10 +31,9 @@ held_of layout prefix before after run =
       | inr some ↦ absurd some
     ]
 
--- status 0 of a run
-pub done : (words : List (List ℕ)) (entry exit : Moment) (status : ℕ) → IsAnswer words entry exit status → status ≡ 0 → IfFiles (asked words) (λ layout prefix. IsRunDone layout prefix entry exit)
-done words entry exit status answer zero layout prefix is =
-    held_of layout prefix entry exit (run_done layout prefix entry exit (files_end (asked words) layout prefix entry exit ending.Done is (end_at words entry exit status 0 answer zero)))
+-- a run was done
+pub run_done : (layout prefix : List ℕ) (before after : Moment) → IsPlainEnd layout prefix before after ending.Done → IsRunDone layout prefix before after
+run_done layout prefix before after h = held_of layout prefix before after (run_of layout prefix before after ending.Done (λ early. early) (λ network said. said) (λ e. cc) h)
 
 -- a run that left some of its files, or a front of its summary
 run_left : (layout prefix : List ℕ) (before after : Moment) (e : Ending) (run : IsRun layout prefix before after e)
@@ -89,25 +84,13 @@ pub memory : (words : List (List ℕ)) (entry exit : Moment) (status : ℕ) → 
 memory words entry exit status answer six layout prefix is =
     memory_of layout prefix entry exit (files_end (asked words) layout prefix entry exit ending.Memory is (end_at words entry exit status 6 answer six))
 
-telling_done : (Tells : Layout → List ℕ → Type 0) (layout : List ℕ) (before after : Moment) → IsTellingEnd Tells layout before after ending.Done → IsTellingDone Tells layout before after
+-- a form that only tells of a layout was done
+pub telling_done : (Tells : Layout → List ℕ → Type 0) (layout : List ℕ) (before after : Moment) → IsTellingEnd Tells layout before after ending.Done → IsTellingDone Tells layout before after
 telling_done Tells layout before after h =
     elim h.1 [
       | inl early ↦ absurd early
       | inr told ↦ record { network = told.network; judged = told.judged; text = told.text; right = told.right; written = told.written; held = h.0 }
     ]
-
--- status 0 of a form that only tells of a layout
-tellings_are_done : (words : List (List ℕ)) (entry exit : Moment) (status : ℕ) → IsAnswer words entry exit status → status ≡ 0 → IfTelling (asked words) (λ Tells layout. IsTellingDone Tells layout entry exit)
-tellings_are_done words entry exit status answer zero =
-    of_tellings (asked words) entry exit ending.Done (λ Tells layout. IsTellingDone Tells layout entry exit) (λ Tells layout end. telling_done Tells layout entry exit end) (end_at words entry exit status 0 answer zero)
-
--- status 0 of a check
-pub checked : (words : List (List ℕ)) (entry exit : Moment) (status : ℕ) → IsAnswer words entry exit status → status ≡ 0 → IfCheck (asked words) (λ layout. IsCheckDone layout entry exit)
-checked words entry exit status answer zero = (tellings_are_done words entry exit status answer zero).0
-
--- status 0 where the slacks are asked for
-pub slacks_done : (words : List (List ℕ)) (entry exit : Moment) (status : ℕ) → IsAnswer words entry exit status → status ≡ 0 → IfSlack (asked words) (λ layout. AreSlacksDone layout entry exit)
-slacks_done words entry exit status answer zero = (tellings_are_done words entry exit status answer zero).1
 
 cut_of : (Tells : Layout → List ℕ → Type 0) (layout : List ℕ) (before after : Moment) (e : Ending) (told : IsTold Tells layout before after e) → IsCutShort told.text before.written after.written → IsTellingCut Tells layout before after
 cut_of Tells layout before after e told cut = record { network = told.network; judged = told.judged; text = told.text; right = told.right; cut = cut }
@@ -136,11 +119,10 @@ done_unmade e = cc
 write_unmade : ending.Write ≡ ending.Memory → ⊥
 write_unmade e = cc
 
--- status 0 of demo
-pub demonstrated : (words : List (List ℕ)) (entry exit : Moment) (status : ℕ) → IsAnswer words entry exit status → status ≡ 0 → IfDemo (asked words) (λ number. IsDemoDone number entry exit)
-demonstrated words entry exit status answer zero number workers is =
-    let end : IsDemoEnd number entry exit ending.Done = demo_end (asked words) number workers entry exit ending.Done is (end_at words entry exit status 0 answer zero) in
-    by_demo (IsDemoDone number entry exit) number entry exit ending.Done (λ memory written. absurd (done_unmade memory)) (λ text right written. record { text = text; right = right; written = written; held = end.1 }) end
+-- demo was done
+pub demo_done : (number : ℕ) (before after : Moment) → IsDemoEnd number before after ending.Done → IsDemoDone number before after
+demo_done number before after h =
+    by_demo (IsDemoDone number before after) number before after ending.Done (λ memory written. absurd (done_unmade memory)) (λ text right written. record { text = text; right = right; written = written; held = h.1 }) h
 
 pub demos_are_cut_short : AreDemosCutShort
 demos_are_cut_short words entry exit status answer five number workers is =
@@ -173,10 +155,6 @@ pub demos_have_statuses : HaveDemosStatuses
 demos_have_statuses words entry exit status answer number workers is =
     rw answer.is (by_demo (IsDemoStatus (status_of answer.by)) number entry exit answer.by (λ memory written. inr (inr (ap status_of memory))) (λ text right written. text_status text entry exit answer.by written)
     (demo_end (asked words) number workers entry exit answer.by is answer.allowed))
-
-pub texts_are_written : AreTextsWritten
-texts_are_written words entry exit status answer zero =
-    of_texts (asked words) entry exit ending.Done (λ text. exit.written ≡ added text entry.written) (λ text end. end.0) (end_at words entry exit status 0 answer zero)
 
 pub texts_are_failed : AreTextsFailed
 texts_are_failed words entry exit status answer five =

@@ -11,6 +11,7 @@ pub mod ProbesAreTold
 pub mod PicturesAreTold
 pub mod StopsAreTold
 pub mod StopsAreLeft
+pub mod DoneByForm
 pub mod FilesInTurn
 pub mod RunEnds
 pub mod ProbeEnds

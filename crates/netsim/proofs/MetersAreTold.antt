@@ -9,13 +9,13 @@ use Rattle.log_meter.specs.declared.line.LogLine.{LogLine}
 use Rattle.outside.specs.Files.{Files, IsAbsent, Rose}
 use Rattle.netsim.specs.declared.endings.Ending.{Ending}
 use Rattle.netsim.specs.declared.endings.Ending.TheVariants as ending
-use Rattle.netsim.specs.Endings.{IsAnswer, IsEndOf, IsLogFaultSaid, IsMeterEnd, IsUnmetered, status_of}
+use Rattle.netsim.specs.Endings.{IsEndOf, IsLogFaultSaid, IsMeterEnd, IsUnmetered, status_of}
 use Rattle.netsim.specs.MeterLaws.{AreLogFaultsSaid, AreMetersComplete, AreMetersCutShort, AreMetersRefused, DoAbsentLogsDecide, DoLogFaultsDecide, DoMetersKeepFiles}
 use Rattle.netsim.specs.Meters.{HasLog, HasLogFault, IsFaultOfLog, IsFaultyLog, IsMeterText, IsReadLog}
 use Rattle.netsim.specs.Moments.{Moment}
 use Rattle.netsim.specs.Reading.{front_of}
 use Rattle.program_words.specs.Requests.{Asked, asked, Check, Slack, Plain, Run, Stop, Resume, Demo, Probe, Meter, Picture, Help, Version}
-use Rattle.netsim.specs.Statuses.{IfMeter, IsDoneOrMemory, IsFaultStatus, IsMeterCut, IsMeterDone, IsLogWith, IsUnreadOrMemory}
+use Rattle.netsim.specs.Statuses.{IsDoneOrMemory, IsFaultStatus, IsMeterCut, IsMeterDone, IsLogWith, IsUnreadOrMemory}
 use Rattle.netsim.proofs.EndingsByStatus.{by_demo, by_meter, by_picture, by_probe, by_resume, by_stop, by_way, end_at, meter_end}
 use Rattle.netsim.proofs.LayoutDecidesStatus.{some_of, unread_status}
 use Rattle.netsim.proofs.LoadsDecideStatus.{text_whole}
@@ -123,11 +123,10 @@ log_faulty_of (Some (Picture layout log from to)) entry exit h =
 pub log_faults_are_said : AreLogFaultsSaid
 log_faults_are_said words entry exit status answer is = log_faulty_of (asked words) entry exit (end_at words entry exit status 8 answer is)
 
--- status 0 of meter
-pub metered : (words : List (List ℕ)) (entry exit : Moment) (status : ℕ) → IsAnswer words entry exit status → status ≡ 0 → IfMeter (asked words) (λ log. IsMeterDone log entry exit)
-metered words entry exit status answer zero log is =
-    let end : IsMeterEnd log entry exit ending.Done = meter_end (asked words) log entry exit ending.Done is (end_at words entry exit status 0 answer zero) in
-    by_meter (IsMeterDone log entry exit) log entry exit ending.Done (λ unmetered. absurd unmetered) (λ m. record { text = m.text; right = m.right; written = m.written; held = end.0 }) end
+-- meter was done
+pub meter_done : (log : List ℕ) (before after : Moment) → IsMeterEnd log before after ending.Done → IsMeterDone log before after
+meter_done log before after h =
+    by_meter (IsMeterDone log before after) log before after ending.Done (λ unmetered. absurd unmetered) (λ m. record { text = m.text; right = m.right; written = m.written; held = h.0 }) h
 
 pub meters_are_cut_short : AreMetersCutShort
 meters_are_cut_short words entry exit status answer five log is =

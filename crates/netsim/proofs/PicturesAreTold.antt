@@ -13,11 +13,11 @@ use Rattle.run_picture.specs.Pictures.{picture_of}
 use Rattle.run_picture.specs.Strangers.{first_stranger}
 use Rattle.netsim.specs.declared.endings.Ending.{Ending}
 use Rattle.netsim.specs.declared.endings.Ending.TheVariants as ending
-use Rattle.netsim.specs.Endings.{ArePictured, IsAnswer, IsDrawn, IsEarly, IsEndOf, IsJudged, IsPictureEnd, IsStrangeEnd, IsUnmetered, status_of}
+use Rattle.netsim.specs.Endings.{ArePictured, IsDrawn, IsEarly, IsEndOf, IsJudged, IsPictureEnd, IsStrangeEnd, IsUnmetered, status_of}
 use Rattle.netsim.specs.Meters.{HasLog, HasLogFault, IsFaultyLog}
 use Rattle.netsim.specs.Moments.{Moment}
 use Rattle.netsim.specs.PictureLaws.{ArePicturesComplete, ArePicturesCutShort, ArePicturesRefused, AreStrangersSaid, DoPicturedAbsentLogsDecide, DoPicturedLogFaultsDecide, DoPicturesKeepFiles, DoStrangersDecide}
-use Rattle.netsim.specs.Statuses.{HasStranger, IfPicture, IsDoneOrMemory, IsFaultStatus, IsNetworkWith, IsPictureCut, IsPictureDone, IsPictureText, IsPictureWith, IsStrangerSaid, IsUnreadOrMemory}
+use Rattle.netsim.specs.Statuses.{HasStranger, IsDoneOrMemory, IsFaultStatus, IsNetworkWith, IsPictureCut, IsPictureDone, IsPictureText, IsPictureWith, IsStrangerSaid, IsUnreadOrMemory}
 use Rattle.netsim.proofs.EndingsByStatus.{by_demo, by_meter, by_picture, by_probe, by_resume, by_stop, by_way, end_at, picture_end}
 use Rattle.netsim.proofs.LayoutDecidesStatus.{absent_unjudged, good_or_faulty, same_network}
 use Rattle.netsim.proofs.LoadsDecideStatus.{text_whole}
@@ -281,12 +281,11 @@ text_of : (layout log : List ℕ) (from to : ℕ) (before after : Moment) (e : E
     → IsPictureText layout log before.held from to (picture_of drawn.network drawn.lines from to)
 text_of layout log from to before after e drawn known = record { network = drawn.network; judged = drawn.judged; lines = drawn.lines; read = drawn.read; known = known; is = refl }
 
--- status 0 of picture
-pub pictured : (words : List (List ℕ)) (entry exit : Moment) (status : ℕ) → IsAnswer words entry exit status → status ≡ 0 → IfPicture (asked words) (λ layout log from to. IsPictureDone layout log from to entry exit)
-pictured words entry exit status answer zero layout log from to is =
-    let end : IsPictureEnd layout log from to entry exit ending.Done = picture_end (asked words) layout log from to entry exit ending.Done is (end_at words entry exit status 0 answer zero) in
-    by_picture (IsPictureDone layout log from to entry exit) layout log from to entry exit ending.Done (λ early. absurd early) (λ unlogged. absurd unlogged.said) (λ drawn strange. absurd strange)
-    (λ drawn p. record { text = picture_of drawn.network drawn.lines from to; right = text_of layout log from to entry exit ending.Done drawn p.known; written = p.text; held = end.0 }) end
+-- picture was done
+pub picture_done : (layout log : List ℕ) (from to : ℕ) (before after : Moment) → IsPictureEnd layout log from to before after ending.Done → IsPictureDone layout log from to before after
+picture_done layout log from to before after h =
+    by_picture (IsPictureDone layout log from to before after) layout log from to before after ending.Done (λ early. absurd early) (λ unlogged. absurd unlogged.said) (λ drawn strange. absurd strange)
+    (λ drawn p. record { text = picture_of drawn.network drawn.lines from to; right = text_of layout log from to before after ending.Done drawn p.known; written = p.text; held = h.0 }) h
 
 pub pictures_are_cut_short : ArePicturesCutShort
 pictures_are_cut_short words entry exit status answer five layout log from to is =

@@ -11,13 +11,13 @@ use Rattle.load_files.specs.Loaded.{Loaded, IsLoaded, IsFirstAbsent, Whole, Faul
 use Rattle.outside.specs.Files.{Files, IsAbsent, Rose}
 use Rattle.netsim.specs.declared.endings.Ending.{Ending}
 use Rattle.netsim.specs.declared.endings.Ending.TheVariants as ending
-use Rattle.netsim.specs.Endings.{IsAimEnd, IsAnswer, IsEarly, IsEndOf, IsJudged, IsMissed, IsProbed, IsProbeEnd, status_of}
+use Rattle.netsim.specs.Endings.{IsAimEnd, IsEarly, IsEndOf, IsJudged, IsMissed, IsProbed, IsProbeEnd, status_of}
 use Rattle.netsim.specs.Moments.{Moment}
 use Rattle.netsim.specs.ProbeLaws.{AreMissesSaid, AreProbesComplete, AreProbesCutShort, AreProbesRefused, DoMissesDecide, DoProbedAbsentLoadsDecide, DoProbedLoadFaultsDecide, DoProbesKeepFiles}
 use Rattle.netsim.specs.Probes.{AreTapsOf, HasAim, HasNoAim}
 use Rattle.program_words.specs.Requests.{Asked, asked, Check, Slack, Plain, Run, Stop, Resume, Demo, Probe, Meter, Picture, Help, Version}
 use Rattle.program_words.specs.declared.words.Hearing.{Hearing}
-use Rattle.netsim.specs.Statuses.{IfHeard, IsDoneOrMemory, IsFaultStatus, IsMissSaid, IsNetworkWith, IsProbeCut, IsProbeDone, IsProbeWith, IsUnreadOrMemory}
+use Rattle.netsim.specs.Statuses.{IsDoneOrMemory, IsFaultStatus, IsMissSaid, IsNetworkWith, IsProbeCut, IsProbeDone, IsProbeWith, IsUnreadOrMemory}
 use Rattle.netsim.proofs.EndingsByStatus.{by_demo, by_meter, by_picture, by_probe, by_resume, by_stop, by_way, end_at, probe_end}
 use Rattle.netsim.proofs.LayoutDecidesStatus.{absent_unjudged, good_or_faulty, same_network, some_of, unread_status}
 use Rattle.netsim.proofs.LoadsDecideStatus.{IfKnown, IsKnown, Says, absent_says, early_known, fault_says, known_loads, text_whole, unloaded_known}
@@ -222,12 +222,11 @@ probed_absent_loads_decide words entry exit status answer told layout from to ta
     (probe_known ProbedAbsentSays told layout from to taps entry exit answer.by (absent_says entry.reads exit.reads) (λ loads probed name w. whole_absent _ loads name w)
     (probe_end (asked words) told layout from to taps entry exit answer.by is answer.allowed)))
 
--- status 0 of probe
-pub probed : (words : List (List ℕ)) (entry exit : Moment) (status : ℕ) → IsAnswer words entry exit status → status ≡ 0 → IfHeard (asked words) (λ told layout from to taps. IsProbeDone told layout from to taps entry exit)
-probed words entry exit status answer zero told layout from to taps is =
-    let end : IsProbeEnd told layout from to taps entry exit ending.Done = probe_end (asked words) told layout from to taps entry exit ending.Done is (end_at words entry exit status 0 answer zero) in
-    by_probe (IsProbeDone told layout from to taps entry exit) told layout from to taps entry exit ending.Done (λ early. absurd early) (λ missed. absurd missed.missed) (λ unprobed. absurd unprobed.said)
-    (λ p. record { text = p.text; right = p.right; written = p.written; held = end.0 }) end
+-- probe or waves was done
+pub probe_done : (told : Hearing) (layout : List ℕ) (from to : ℕ) (taps : List (List ℕ)) (before after : Moment) → IsProbeEnd told layout from to taps before after ending.Done → IsProbeDone told layout from to taps before after
+probe_done told layout from to taps before after h =
+    by_probe (IsProbeDone told layout from to taps before after) told layout from to taps before after ending.Done (λ early. absurd early) (λ missed. absurd missed.missed) (λ unprobed. absurd unprobed.said)
+    (λ p. record { text = p.text; right = p.right; written = p.written; held = h.0 }) h
 
 pub probes_are_cut_short : AreProbesCutShort
 probes_are_cut_short words entry exit status answer five told layout from to taps is =

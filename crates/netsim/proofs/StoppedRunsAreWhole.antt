@@ -6,6 +6,7 @@ use Rattle.std.proofs.lemmas.List.{length-take, take_all}
 use Rattle.load_plan.specs.declared.plan.Plan.{Plan}
 use Rattle.outside.specs.Files.{Files, with_file}
 use Rattle.program_texts.specs.Texts.{name_of_state}
+use Rattle.program_words.specs.Requests.{Resume, Stop}
 use Rattle.quiet_state.proofs.QuietNets.{resumed_captures, resumed_rows}
 use Rattle.quiet_state.specs.Quiet.{IsQuiet}
 use Rattle.quiet_state.specs.Resumed.{rows_from, state_at}
@@ -25,7 +26,8 @@ use Rattle.netsim.specs.Runs.{IsSummaryOver, output_files, resumed_files, run_fi
 use Rattle.netsim.specs.Statuses.{IsResumeDone, IsRunDone, IsStopDone}
 use Rattle.netsim.specs.StopLaws.{AreStoppedRunsWhole}
 use Rattle.netsim.specs.Writing.{put_all, put_file}
-use Rattle.netsim.proofs.StopsAreTold.{resumed, same_planned, stopped}
+use Rattle.netsim.proofs.DoneByForm.{done_as}
+use Rattle.netsim.proofs.StopsAreTold.{same_planned}
 use Rattle.netsim.proofs.WrittenByPieces.{file_of-with_file}
 
 -- the text of the state of a quiet half bit is read back, where it isn't too large
@@ -113,4 +115,4 @@ of_told layout (Some files) plan X on = on files refl
 pub stopped_runs_are_whole : AreStoppedRunsWhole
 stopped_runs_are_whole stop resume layout prefix from a b c d plan is then one two =
     of_told layout a.held plan (c.held ≡ b.held → IsPlanned layout b.held plan → IsRunDone layout prefix c d)
-    (λ files told planned same still. went_on layout prefix from files plan a b c d planned same still told (stopped stop a b 0 one refl layout prefix from is) (resumed resume c d 0 two refl layout prefix then))
+    (λ files told planned same still. went_on layout prefix from files plan a b c d planned same still told (done_as stop (Some (Stop layout prefix from)) a b is one) (done_as resume (Some (Resume layout prefix)) c d then two))

@@ -15,11 +15,11 @@ use Rattle.net_step.specs.Stops.{HasNoQuiet}
 use Rattle.netsim.specs.declared.endings.Ending.{Ending}
 use Rattle.netsim.specs.declared.endings.Ending.TheVariants as ending
 use Rattle.netsim.specs.CheckpointFiles.{HasState, IsStateFaulty}
-use Rattle.netsim.specs.Endings.{IsAnswer, IsEndOf, IsPlanned, HasResumed, IsStateFaultSaid, HasStopped, IsUnquietEnd, IsUnrun, IsUnstated, Says, status_of}
+use Rattle.netsim.specs.Endings.{IsEndOf, IsPlanned, HasResumed, IsResumeEnd, IsStateFaultSaid, HasStopped, IsStopEnd, IsUnquietEnd, IsUnrun, IsUnstated, Says, status_of}
 use Rattle.netsim.specs.Moments.{Moment}
 use Rattle.netsim.specs.Reading.{IsFront, front_of}
 use Rattle.netsim.specs.Runs.{IsPlanOf}
-use Rattle.netsim.specs.Statuses.{IfResume, IfStop, IsFaultStatus, IsPlannedWith, IsResumeDone, IsResumeWith, IsStopDone, IsStopWith, IsUnreadOrMemory}
+use Rattle.netsim.specs.Statuses.{IsFaultStatus, IsPlannedWith, IsResumeDone, IsResumeWith, IsStopDone, IsStopWith, IsUnreadOrMemory}
 use Rattle.netsim.specs.StopLaws.{AreStateFaultsSaid, AreUnquietSaid, DoAbsentStatesDecide, DoStateFaultsDecide, DoUnquietDecide}
 use Rattle.netsim.specs.Writing.{added}
 use Rattle.netsim.proofs.EndingsByStatus.{by_demo, by_meter, by_picture, by_probe, by_resume, by_stop, by_way, end_at, resume_end, stop_end}
@@ -27,7 +27,6 @@ use Rattle.netsim.proofs.LayoutDecidesStatus.{same_network, unread_status}
 use Rattle.netsim.proofs.LoadsDecideStatus.{IfKnown, Says as SaysOfLoads, early_known, unloaded_known}
 use Rattle.netsim.proofs.OnePlan.{one_plan}
 
--- status 0 of stop
 stop_of : (layout prefix : List ℕ) (from : ℕ) (before after : Moment) → HasStopped layout prefix from before after ending.Done → IsStopDone layout prefix from before after
 stop_of layout prefix from before after ran =
     elim ran.filed [
@@ -38,12 +37,12 @@ stop_of layout prefix from before after ran =
 done_unrun : ending.Done ≡ ending.Memory → ⊥
 done_unrun e = cc
 
-pub stopped : (words : List (List ℕ)) (entry exit : Moment) (status : ℕ) → IsAnswer words entry exit status → status ≡ 0 → IfStop (asked words) (λ layout prefix from. IsStopDone layout prefix from entry exit)
-stopped words entry exit status answer zero layout prefix from is =
-    by_stop (IsStopDone layout prefix from entry exit) layout prefix from entry exit ending.Done (λ early. absurd early) (λ unloaded. absurd unloaded.said) (λ unrun. absurd (done_unrun unrun.0)) (λ un. absurd un.said)
-    (λ ran. stop_of layout prefix from entry exit ran) (stop_end (asked words) layout prefix from entry exit ending.Done is (end_at words entry exit status 0 answer zero))
+-- stop was done
+pub stop_done : (layout prefix : List ℕ) (from : ℕ) (before after : Moment) → IsStopEnd layout prefix from before after ending.Done → IsStopDone layout prefix from before after
+stop_done layout prefix from before after h =
+    by_stop (IsStopDone layout prefix from before after) layout prefix from before after ending.Done (λ early. absurd early) (λ unloaded. absurd unloaded.said) (λ unrun. absurd (done_unrun unrun.0)) (λ un. absurd un.said)
+    (λ ran. stop_of layout prefix from before after ran) h
 
--- status 0 of resume
 resume_of : (layout prefix : List ℕ) (before after : Moment) → HasResumed layout prefix before after ending.Done → IsResumeDone layout prefix before after
 resume_of layout prefix before after ran =
     elim ran.filed [
@@ -51,10 +50,11 @@ resume_of layout prefix before after ran =
       | inr some ↦ absurd some
     ]
 
-pub resumed : (words : List (List ℕ)) (entry exit : Moment) (status : ℕ) → IsAnswer words entry exit status → status ≡ 0 → IfResume (asked words) (λ layout prefix. IsResumeDone layout prefix entry exit)
-resumed words entry exit status answer zero layout prefix is =
-    by_resume (IsResumeDone layout prefix entry exit) layout prefix entry exit ending.Done (λ early. absurd early) (λ unloaded. absurd unloaded.said) (λ unrun. absurd (done_unrun unrun.0)) (λ un. absurd un.said)
-    (λ ran. resume_of layout prefix entry exit ran) (resume_end (asked words) layout prefix entry exit ending.Done is (end_at words entry exit status 0 answer zero))
+-- resume was done
+pub resume_done : (layout prefix : List ℕ) (before after : Moment) → IsResumeEnd layout prefix before after ending.Done → IsResumeDone layout prefix before after
+resume_done layout prefix before after h =
+    by_resume (IsResumeDone layout prefix before after) layout prefix before after ending.Done (λ early. absurd early) (λ unloaded. absurd unloaded.said) (λ unrun. absurd (done_unrun unrun.0)) (λ un. absurd un.said)
+    (λ ran. resume_of layout prefix before after ran) h
 
 words_unquiet : ending.Unquiet ≡ ending.Words → ⊥
 words_unquiet e = cc

@@ -8,7 +8,7 @@ use Rattle.netsim.specs.Moments.{Moment}
 use Rattle.program_words.specs.Requests.{asked}
 use Rattle.netsim.specs.Statuses.{AreRunFilesHeld, HasAbsentLoad, HasLoadFault, IfDemo, IfFiles, IfLayout, IfLoaded, IfTelling, IfText, IsDemoCut, IsDemoStatus, IsDoneOrMemory, IsFaultStatus, IsLayoutWith, IsLoadedWith, IsNetworkWith, IsReadFaultSaid, IsTellingCut, IsUnreadOrMemory}
 use Rattle.program_texts.specs.Texts.{line_of_words_fault}
-use Rattle.netsim.specs.Writing.{added, IsCutShort}
+use Rattle.netsim.specs.Writing.{IsCutShort}
 
 -- this holds of the answer of every call
 abbrev pub OfAnswers : (List (List ℕ) → Moment → Moment → ℕ → Type 0) → Type 0
@@ -143,12 +143,6 @@ abbrev pub AreDemosComplete : Type 0
 AreDemosComplete =
     OfAnswers (λ words entry exit status.
     IfDemo (asked words) (λ number. ¬ Rose entry.faults exit.faults → IsDoneOrMemory status))
-
--- with status 0 of a form with a fixed text the sink got it
-abbrev pub AreTextsWritten : Type 0
-AreTextsWritten =
-    OfAnswers (λ words entry exit status.
-    status ≡ 0 → IfText (asked words) (λ text. exit.written ≡ added text entry.written))
 
 -- with status 5 of a form with a fixed text a write to the sink failed
 abbrev pub AreTextsFailed : Type 0

@@ -15,7 +15,6 @@ use Rattle.netsim.specs.Moments.{Moment}
 use Rattle.netsim.specs.Probes.{IsMissLine}
 use Rattle.program_words.specs.Requests.{Asked, asked, Check, Slack, Plain, Run, Stop, Resume, Demo, Probe, Meter, Picture, Help, Version}
 use Rattle.program_words.specs.declared.words.Hearing.{Hearing}
-use Rattle.program_words.specs.declared.words.Hearing.TheVariants as hearing
 use Rattle.quiet_state.specs.Resumed.{state_at}
 use Rattle.quiet_state.specs.declared.state.NetState.{NetState}
 use Rattle.run_checkpoint.specs.States.{text_of_state}
@@ -79,18 +78,6 @@ abbrev pub IfHeard : Option Asked → (Hearing → List ℕ → ℕ → ℕ → 
 IfHeard o P =
     (told : Hearing) (layout : List ℕ) (from to : ℕ) (taps : List (List ℕ)) → o ≡ Some (Probe told layout from to taps)
     → P told layout from to taps
-
--- if the words are probe LAYOUT FROM TO TAP .., this holds of the name, of the two half bits and of the words for taps
-abbrev pub IfProbe : Option Asked → (List ℕ → ℕ → ℕ → List (List ℕ) → Type 0) → Type 0
-IfProbe o P =
-    (layout : List ℕ) (from to : ℕ) (taps : List (List ℕ)) → o ≡ Some (Probe hearing.Runs layout from to taps)
-    → P layout from to taps
-
--- if the words are waves LAYOUT FROM TO TAP .., this holds of the same
-abbrev pub IfWaves : Option Asked → (List ℕ → ℕ → ℕ → List (List ℕ) → Type 0) → Type 0
-IfWaves o P =
-    (layout : List ℕ) (from to : ℕ) (taps : List (List ℕ)) → o ≡ Some (Probe hearing.Waves layout from to taps)
-    → P layout from to taps
 
 -- if the words are meter LOG, this holds of the name
 abbrev pub IfMeter : Option Asked → (List ℕ → Type 0) → Type 0
@@ -433,6 +420,27 @@ pub record IsPictureCut (layout log : List ℕ) (from to : ℕ) (entry exit : Mo
   pub text : List ℕ
   pub right : IsPictureText layout log entry.held from to text
   pub cut : IsCutShort text entry.written exit.written
+
+-- a fixed text is told: the sink got it, and every file is as at entry
+pub record IsTextDone (text : List ℕ) (entry exit : Moment) : Type 0 where
+  pub written : exit.written ≡ added text entry.written
+  pub held : exit.held ≡ entry.held
+
+-- what these words ask for is done; words of no form ask for nothing that could be
+abbrev pub IsDone : Option Asked → Moment → Moment → Type 0
+IsDone (Some (Check layout)) entry exit = IsCheckDone layout entry exit
+IsDone (Some (Slack layout)) entry exit = AreSlacksDone layout entry exit
+IsDone (Some (Plain layout prefix)) entry exit = IsRunDone layout prefix entry exit
+IsDone (Some (Run layout prefix workers)) entry exit = IsRunDone layout prefix entry exit
+IsDone (Some (Stop layout prefix from)) entry exit = IsStopDone layout prefix from entry exit
+IsDone (Some (Resume layout prefix)) entry exit = IsResumeDone layout prefix entry exit
+IsDone (Some (Demo number workers)) entry exit = IsDemoDone number entry exit
+IsDone (Some (Probe told layout from to taps)) entry exit = IsProbeDone told layout from to taps entry exit
+IsDone (Some (Meter log)) entry exit = IsMeterDone log entry exit
+IsDone (Some (Picture layout log from to)) entry exit = IsPictureDone layout log from to entry exit
+IsDone (Some Help) entry exit = IsTextDone HELP.now entry exit
+IsDone (Some Version) entry exit = IsTextDone VERSION.now entry exit
+IsDone None entry exit = ⊥
 
 -- the log has no fault, and of its lines the one with this number, from 1, is the first that names what a network lacks
 pub record HasStranger (network : Layout) (log : List ℕ) (held : Option Files) (n : ℕ) : Type 0 where

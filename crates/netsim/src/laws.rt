@@ -4,7 +4,7 @@ ghost use Rattle.netsim.specs.MeterLaws.{AreLogFaultsSaid, AreMetersComplete, Ar
 ghost use Rattle.netsim.specs.PictureLaws.{ArePicturesComplete, ArePicturesCutShort, ArePicturesRefused, AreStrangersSaid, DoPicturedAbsentLogsDecide, DoPicturedLogFaultsDecide, DoPicturesKeepFiles, DoStrangersDecide};
 ghost use Rattle.netsim.specs.ProbeLaws.{AreMissesSaid, AreProbesComplete, AreProbesCutShort, AreProbesRefused, DoMissesDecide, DoProbedAbsentLoadsDecide, DoProbedLoadFaultsDecide, DoProbesKeepFiles};
 ghost use Rattle.netsim.specs.StopLaws.{AreStateFaultsSaid, AreStopFilesWhole, AreStoppedRunsWhole, AreStopsBroken, AreStopsComplete, AreStopsRefused, AreStopsSilent, AreUnquietSaid, DoAbsentStatesDecide, DoStateFaultsDecide, DoUnquietDecide};
-ghost use Rattle.netsim.specs.StatusLaws.{AreDemosComplete, AreDemosCutShort, AreDemosRefused, AreFailuresSilent, AreFilesWhole, AreLayoutFaultsSaid, AreLoadFaultsSaid, AreReadFaultsSaid, AreTellingsComplete, AreTellingsCutShort, AreTellingsRefused, AreTextsComplete, AreTextsCutShort, AreTextsFailed, AreTextsWritten, AreWordsSaid, DoAbsentLayoutsDecide, DoAbsentLoadsDecide, DoDemosKeepFiles, DoLayoutFaultsDecide, DoLoadFaultsDecide, DoTellingsKeepFiles, DoTextsKeepFiles, HaveDemosStatuses};
+ghost use Rattle.netsim.specs.StatusLaws.{AreDemosComplete, AreDemosCutShort, AreDemosRefused, AreFailuresSilent, AreFilesWhole, AreLayoutFaultsSaid, AreLoadFaultsSaid, AreReadFaultsSaid, AreTellingsComplete, AreTellingsCutShort, AreTellingsRefused, AreTextsComplete, AreTextsCutShort, AreTextsFailed, AreWordsSaid, DoAbsentLayoutsDecide, DoAbsentLoadsDecide, DoDemosKeepFiles, DoLayoutFaultsDecide, DoLoadFaultsDecide, DoTellingsKeepFiles, DoTextsKeepFiles, HaveDemosStatuses};
 
 /// Words of no form have their line on the sink, or a front of it where the sink refuses.
 pub fn words_are_said()
@@ -154,10 +154,9 @@ pub fn stopped_runs_are_whole()
     ensures { AreStoppedRunsWhole }
 {}
 
-/// A form with a fixed text writes it, or a front of it, and leaves every file as at entry; with 5 a write to the sink
-/// failed. One that nothing hinders has the status 0 or 6.
+/// A form with a fixed text leaves a front of it on the sink where it isn't done, and every file as at entry; with 5 a
+/// write to the sink failed. One that nothing hinders has the status 0 or 6.
 pub fn texts_are_told()
-    ensures done { AreTextsWritten }
     ensures failed { AreTextsFailed }
     ensures cut { AreTextsCutShort }
     ensures held { DoTextsKeepFiles }

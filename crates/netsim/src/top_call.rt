@@ -5,8 +5,7 @@ ghost use Rattle.netsim.specs.LoggedCollisions.{AreCollisionsLogged};
 ghost use Rattle.netsim.specs.Endings.{IsAnswer, IsEnd};
 ghost use Rattle.netsim.specs.Moments.{moment};
 ghost use Rattle.program_words.specs.Requests.{asked};
-ghost use Rattle.program_words.specs.declared.words.Hearing.TheVariants as hearing;
-ghost use Rattle.netsim.specs.Statuses.{AreSlacksDone, IfCheck, IfDemo, IfFiles, IfMeter, IfPicture, IfProbe, IfResume, IfSlack, IfStop, IfWaves, IsCheckDone, IsDemoDone, IsDoneOrMemory, IsMeterDone, IsPictureDone, IsProbeDone, IsRefusal, IsResumeDone, IsRunBroken, IsRunDone, IsRunRefused, IsStopDone, IsUnhindered};
+ghost use Rattle.netsim.specs.Statuses.{IfFiles, IsDone, IsDoneOrMemory, IsRefusal, IsRunBroken, IsRunRefused, IsUnhindered};
 
 use crate::demo::demo;
 use crate::endings::Ending;
@@ -115,68 +114,16 @@ pub fn netsim<X: Threads + Wait + Sync, S: Store, K: Sink, G: Gate>(
     // Status 1 exactly where the words are none of the forms.
     ensures words { (result ≡ 1) ↔ (asked words.now ≡ None) }
 
-    // A run, by half bits or by windows on any number of workers, is done: the store holds the files of the run of the
-    // layout and the loads held at entry, nothing else is changed, and the sink got the summary.
-    ensures done { result ≡ 0 → IfFiles (asked words.now) (λ layout prefix. IsRunDone layout prefix
+    // Status 0 only where what the words ask for is done, as the record of their form says: of a run, by half bits or
+    // by windows on any number of workers, the store holds its files, by the layout and the loads held at entry, and
+    // the sink got the summary; of a form that tells, the sink got its text; nothing else is changed.
+    ensures done { result ≡ 0 → IsDone (asked words.now)
         (moment S.held S.read_faults S.write_faults K.written K.faults K.refused store.old out.old)
-        (moment S.held S.read_faults S.write_faults K.written K.faults K.refused store.new out.new)) }
+        (moment S.held S.read_faults S.write_faults K.written K.faults K.refused store.new out.new) }
 
     // Where the sink got the verdict within: of two attempts of different stations that overlap over an open path each
     // that ends within the run has a whole line in PREFIX.log as the store holds it, with a hit before the 512th bit.
     ensures detected { result ≡ 0 → IfFiles (asked words.now) (λ layout prefix. AreCollisionsLogged layout prefix
-        (moment S.held S.read_faults S.write_faults K.written K.faults K.refused store.old out.old)
-        (moment S.held S.read_faults S.write_faults K.written K.faults K.refused store.new out.new)) }
-
-    // A check is done: the sink got the line of the layout's path verdict, and nothing else is changed.
-    ensures checked { result ≡ 0 → IfCheck (asked words.now) (λ layout. IsCheckDone layout
-        (moment S.held S.read_faults S.write_faults K.written K.faults K.refused store.old out.old)
-        (moment S.held S.read_faults S.write_faults K.written K.faults K.refused store.new out.new)) }
-
-    // The slacks are told: the sink got that line and a line for each gap and each delay, with how far it can grow and
-    // what stops it, and nothing else is changed.
-    ensures slacks { result ≡ 0 → IfSlack (asked words.now) (λ layout. AreSlacksDone layout
-        (moment S.held S.read_faults S.write_faults K.written K.faults K.refused store.old out.old)
-        (moment S.held S.read_faults S.write_faults K.written K.faults K.refused store.new out.new)) }
-
-    // A demo is done: the sink got the size of the layout of that number and the summary of its run, and nothing else
-    // is changed.
-    ensures demonstrated { result ≡ 0 → IfDemo (asked words.now) (λ number. IsDemoDone number
-        (moment S.held S.read_faults S.write_faults K.written K.faults K.refused store.old out.old)
-        (moment S.held S.read_faults S.write_faults K.written K.faults K.refused store.new out.new)) }
-
-    // A probe is done: the sink got the runs and the bursts of what each tap hears in the network of the layout and the
-    // loads held at entry, and nothing else is changed.
-    ensures probed { result ≡ 0 → IfProbe (asked words.now) (λ layout from to taps. IsProbeDone hearing.Runs layout from to taps
-        (moment S.held S.read_faults S.write_faults K.written K.faults K.refused store.old out.old)
-        (moment S.held S.read_faults S.write_faults K.written K.faults K.refused store.new out.new)) }
-
-    // The waves are told: the sink got the value change dump of what the taps hear in that network, and nothing else is
-    // changed.
-    ensures waved { result ≡ 0 → IfWaves (asked words.now) (λ layout from to taps. IsProbeDone hearing.Waves layout from to taps
-        (moment S.held S.read_faults S.write_faults K.written K.faults K.refused store.old out.old)
-        (moment S.held S.read_faults S.write_faults K.written K.faults K.refused store.new out.new)) }
-
-    // A log is metered: the sink got the figures of the log held at entry, and nothing else is changed.
-    ensures metered { result ≡ 0 → IfMeter (asked words.now) (λ log. IsMeterDone log
-        (moment S.held S.read_faults S.write_faults K.written K.faults K.refused store.old out.old)
-        (moment S.held S.read_faults S.write_faults K.written K.faults K.refused store.new out.new)) }
-
-    // A picture is drawn: the sink got the picture of what the log held at entry tells of the half bits in the network
-    // of the layout held then, and nothing else is changed.
-    ensures pictured { result ≡ 0 → IfPicture (asked words.now) (λ layout log from to. IsPictureDone layout log from to
-        (moment S.held S.read_faults S.write_faults K.written K.faults K.refused store.old out.old)
-        (moment S.held S.read_faults S.write_faults K.written K.faults K.refused store.new out.new)) }
-
-    // A run is stopped: the file PREFIX.state is the text of the state of the network of the layout and the loads held
-    // at entry before its first quiet half bit at or after FROM, nothing else is changed, and the sink got that half
-    // bit.
-    ensures stopped { result ≡ 0 → IfStop (asked words.now) (λ layout prefix from. IsStopDone layout prefix from
-        (moment S.held S.read_faults S.write_faults K.written K.faults K.refused store.old out.old)
-        (moment S.held S.read_faults S.write_faults K.written K.faults K.refused store.new out.new)) }
-
-    // A run went on: the store holds the files of the run of that network that goes on from the state in PREFIX.state
-    // as held at entry, nothing else is changed, and the sink got that run's summary.
-    ensures resumed { result ≡ 0 → IfResume (asked words.now) (λ layout prefix. IsResumeDone layout prefix
         (moment S.held S.read_faults S.write_faults K.written K.faults K.refused store.old out.old)
         (moment S.held S.read_faults S.write_faults K.written K.faults K.refused store.new out.new)) }
 

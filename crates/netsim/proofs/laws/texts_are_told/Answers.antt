@@ -1,9 +1,6 @@
-use Rattle.netsim.proofs.FilesAfterRuns.{texts_are_written, texts_are_failed, texts_are_cut_short, texts_keep_files}
+use Rattle.netsim.proofs.FilesAfterRuns.{texts_are_failed, texts_are_cut_short, texts_keep_files}
 use Rattle.netsim.proofs.LoadsDecideStatus.{texts_are_complete}
 use Rattle.netsim.proofs.laws.texts_are_told.Goals as goal
-
-pub returns-clause-done : goal.returns-clause-done
-returns-clause-done c = texts_are_written
 
 pub returns-clause-failed : goal.returns-clause-failed
 returns-clause-failed c = texts_are_failed
