@@ -1,2 +1,3 @@
 mod RowsInOrder
 mod SoundDemo
+mod PiecesJoined

@@ -29,13 +29,14 @@ one_item_more head f a k j old new x place pushed is before =
     ∙ append_assoc head (map f (range_with_len a k)) (f j ∷ [])
     ∙ ap (λ ys. head ++ ys) (sym (map-range_with_len_more f a k j place))
 
--- with the next piece there is one more
-pub one_piece_more : {X : Type 0} (f : ℕ → List X) (k : ℕ) (old new : List X)
-    → new ≡ old ++ f k → old ≡ flat_map f (range_with_len 0 k) → new ≡ flat_map f (range_with_len 0 (k + 1))
-one_piece_more f k old new pushed before =
+-- with the next piece after the head there is one more
+pub one_piece_more : {X : Type 0} (head : List X) (f : ℕ → List X) (a k j : ℕ) (old new : List X)
+    → a + k ≡ j → new ≡ old ++ f j → old ≡ head ++ flat_map f (range_with_len a k) → new ≡ head ++ flat_map f (range_with_len a (k + 1))
+one_piece_more head f a k j old new place pushed before =
     let next : suc k ≡ k + 1 = omega arith in
     pushed
-    ∙ ap (λ ys. ys ++ f k) before
-    ∙ flat_map_more f [] (range_with_len 0 k) k
-    ∙ ap (flat_map f) (sym (range_more 0 k k (omega arith)))
-    ∙ ap (λ n. flat_map f (range_with_len 0 n)) next
+    ∙ ap (λ ys. ys ++ f j) before
+    ∙ append_assoc head (flat_map f (range_with_len a k)) (f j)
+    ∙ ap (λ ys. head ++ ys) (flat_map_more f [] (range_with_len a k) j
+    ∙ ap (flat_map f) (sym (range_more a k j place))
+    ∙ ap (λ n. flat_map f (range_with_len a n)) next)

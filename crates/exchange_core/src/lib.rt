@@ -1,4 +1,5 @@
-//! What one worker owns: parts of one plan and the parcels at them. Its calls are the events of a board.
+//! What one worker owns: parts of one plan and the parcels at them. Its calls are the events of a board
+//! (profile).
 #![tactic(auto)]
 
 mod holder;

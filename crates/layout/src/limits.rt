@@ -1,4 +1,4 @@
-//! The limits of a layout. Each stands here and nowhere else; all are this project's profile.
+//! The limits of a layout; all are this project's profile.
 
 /// The greatest seed.
 pub const GREATEST_SEED: u64 = 9_223_372_036_854_775_807;

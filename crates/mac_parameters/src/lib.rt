@@ -1,5 +1,5 @@
 //! The numbers of IEEE 802.3 for 10 Mb/s (4.4.2, under the standard's names where it has one), and those that this
-//! project's profile adds. Each stands here and nowhere else; times are half bits of 50 ns.
+//! project's profile adds for lines, stations and repeaters; times are half bits of 50 ns.
 #![tactic(auto)]
 
 ghost use Rattle.std.specs.Prelude.{◌≡◌};

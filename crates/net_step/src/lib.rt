@@ -1,4 +1,4 @@
-//! The network of a plan, stepped half bit by half bit on one thread.
+//! The network of a plan, stepped half bit by half bit on one thread (profile).
 #![tactic(auto)]
 
 mod devices;

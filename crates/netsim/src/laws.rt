@@ -40,7 +40,7 @@ pub fn failed_runs_are_told()
     ensures silent { AreFailuresSilent }
 {}
 
-/// A form that only tells of a layout, `check` or `slack`, leaves a front of its text on the sink where it isn't done,
+/// A form that only tells of a layout, `check` or `slack`, leaves a front of its text on the sink with status 5 or 6,
 /// and every file as at entry; with 5 a write to the sink failed. One that nothing hinders has the status 0 or 6.
 pub fn layouts_are_told()
     ensures failed { AreTellingsCutShort }
@@ -72,8 +72,8 @@ pub fn probed_loads_decide()
     ensures absent { DoProbedAbsentLoadsDecide }
 {}
 
-/// `probe` and `waves` leave a front of their text on the sink where they aren't done, and every file as at entry; with
-/// 5 a write to the sink failed. One that nothing hinders has the status 0 or 6.
+/// `probe` and `waves` leave a front of their text on the sink with status 5 or 6, and every file as at entry; with 5 a
+/// write to the sink failed. One that nothing hinders has the status 0 or 6.
 pub fn probes_are_told()
     ensures failed { AreProbesCutShort }
     ensures refused { AreProbesRefused }
@@ -89,8 +89,8 @@ pub fn log_faults_decide()
     ensures absent { DoAbsentLogsDecide }
 {}
 
-/// `meter` leaves a front of its text on the sink where it isn't done, and every file as at entry; with 5 a write to
-/// the sink failed. One that nothing hinders has the status 0 or 6.
+/// `meter` leaves a front of its text on the sink with status 5 or 6, and every file as at entry; with 5 a write to the
+/// sink failed. One that nothing hinders has the status 0 or 6.
 pub fn meters_are_told()
     ensures failed { AreMetersCutShort }
     ensures refused { AreMetersRefused }
@@ -111,7 +111,7 @@ pub fn pictured_logs_decide()
     ensures absent { DoPicturedAbsentLogsDecide }
 {}
 
-/// `picture` leaves a front of its text on the sink where it isn't done, and every file as at entry; with 5 a write to
+/// `picture` leaves a front of its text on the sink with status 5 or 6, and every file as at entry; with 5 a write to
 /// the sink failed. One that nothing hinders has the status 0 or 6.
 pub fn pictures_are_told()
     ensures failed { ArePicturesCutShort }
@@ -136,8 +136,8 @@ pub fn state_faults_decide()
     ensures absent { DoAbsentStatesDecide }
 {}
 
-/// Where `stop` or `resume` isn't done, of its files those before one are whole, that one is as it was or a front of
-/// its text, later ones are as at entry, and the sink got nothing; or all are whole, and the sink got a front of its
+/// With status 5 or 6 of `stop` or `resume`, of its files those before one are whole, that one is as it was or a front
+/// of its text, later ones are as at entry, and the sink got nothing; or all are whole, and the sink got a front of its
 /// text. With 5 all files are whole where no write to the store failed, and the sink is as at entry where no write to
 /// it did. One that nothing hinders has the status 0 or 6.
 pub fn stops_are_told()

@@ -91,11 +91,12 @@ pub fn run_words<X: Threads + Wait + Sync, S: Store, K: Sink, G: Gate>(
 /// of one symbol and bursts, and `waves LAYOUT FROM TO TAP ..` the same as a value change dump. `meter LOG` writes the
 /// figures of a log to the sink, and `picture LAYOUT LOG FROM TO` what the log tells of the half bits from FROM on and
 /// before TO as a picture. `--help` and `--version` write a fixed text to the sink. LAYOUT, PREFIX and LOG have 1 to
-/// 200 octets, and a TAP 1 to 40; FROM is below TO, which is at most 2,000,000,000 and at most 1,000,000 more. The
-/// statuses are 0 for done, 1 for words of no form, 2 for a layout with a fault, 3 for a load with a fault, 4 for a
-/// file that can't be read, 5 for a failed write, 6 for want of memory, which alone is free, 7 for a tap that the
-/// layout hasn't or a TO past the run, 8 for a log with a fault, 9 for a run without a quiet half bit from FROM on, 10
-/// for a state with a fault, and 11 for a log that names what the layout lacks. The forms `run` and `demo` may wait.
+/// 200 octets, and a TAP 1 to 40; FROM is below TO, which is at most 2,000,000,000 and at most 1,000,000 more, and the
+/// FROM of `stop` is at most 2,000,000,000. The statuses are 0 for done, 1 for words of no form, 2 for a layout with a
+/// fault, 3 for a load with a fault, 4 for a file that can't be read, 5 for a failed write, 6 for want of memory, which
+/// alone is free, 7 for a tap that the layout hasn't or a TO past the run, 8 for a log with a fault, 9 for a run
+/// without a quiet half bit from FROM on, 10 for a state with a fault, and 11 for a log that names what the layout
+/// lacks. The forms `run` and `demo` may wait.
 pub fn netsim<X: Threads + Wait + Sync, S: Store, K: Sink, G: Gate>(
     rt: &X,
     alloc: Global,
@@ -121,8 +122,9 @@ pub fn netsim<X: Threads + Wait + Sync, S: Store, K: Sink, G: Gate>(
         (moment S.held S.read_faults S.write_faults K.written K.faults K.refused store.old out.old)
         (moment S.held S.read_faults S.write_faults K.written K.faults K.refused store.new out.new) }
 
-    // Where the sink got the verdict within: of two attempts of different stations that overlap over an open path each
-    // that ends within the run has a whole line in PREFIX.log as the store holds it, with a hit before the 512th bit.
+    // Of `plain` and `run`, where the sink got the verdict within: of two attempts of different stations that overlap
+    // over an open path each that ends within the run has a whole line in PREFIX.log as the store holds it, with a hit
+    // before the 512th bit.
     ensures detected { result ≡ 0 → IfFiles (asked words.now) (λ layout prefix. AreCollisionsLogged layout prefix
         (moment S.held S.read_faults S.write_faults K.written K.faults K.refused store.old out.old)
         (moment S.held S.read_faults S.write_faults K.written K.faults K.refused store.new out.new)) }
@@ -134,9 +136,9 @@ pub fn netsim<X: Threads + Wait + Sync, S: Store, K: Sink, G: Gate>(
     ensures failed { result ≡ 5
         → Rose (S.write_faults store.old) (S.write_faults store.new) ⊎ Rose (K.faults out.old) (K.faults out.new) }
 
-    // After a failed write the files of a run before one of them are whole, that one is as it was or a front of its
-    // text, later ones are as at entry, and the sink got nothing; or all are whole, and the sink got a front of the
-    // summary.
+    // After a failed write the files of `plain` or `run` before one of them are whole, that one is as it was or a front
+    // of its text, later ones are as at entry, and the sink got nothing; or all are whole, and the sink got a front of
+    // the summary.
     ensures broken { result ≡ 5 → IfFiles (asked words.now) (λ layout prefix. IsRunBroken layout prefix
         (moment S.held S.read_faults S.write_faults K.written K.faults K.refused store.old out.old)
         (moment S.held S.read_faults S.write_faults K.written K.faults K.refused store.new out.new)) }
@@ -146,7 +148,8 @@ pub fn netsim<X: Threads + Wait + Sync, S: Store, K: Sink, G: Gate>(
         (moment S.held S.read_faults S.write_faults K.written K.faults K.refused store.old out.old)
         (moment S.held S.read_faults S.write_faults K.written K.faults K.refused store.new out.new)) }
 
-    // Complete: a layout and loads that are held without fault, and no count that rose, give status 0 or 6.
+    // Complete: for `plain` and `run` a layout and loads that are held without fault, and no count that rose, give
+    // status 0 or 6.
     ensures complete { IsUnhindered words.now
         (moment S.held S.read_faults S.write_faults K.written K.faults K.refused store.old out.old)
         (moment S.held S.read_faults S.write_faults K.written K.faults K.refused store.new out.new)

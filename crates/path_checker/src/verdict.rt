@@ -107,7 +107,8 @@ fn verdict_of(worst: Option<Worst>) -> PathVerdict
     }
 }
 
-/// Judges a layout that `read_layout` answered. The only error is want of memory.
+/// Judges a sound layout by its worst round trip, in half bits (profile, in the manner of clause 13). The only error is
+/// want of memory.
 pub fn check_paths(alloc: Global, layout: &Layout) -> Result<PathVerdict, OutOfMemory>
     requires { IsSound layout.now }
     ensures no_pair { IfOk result (λ v. (v ≡ PathVerdict.NoPair) ↔ (length layout.now.stations < 2)) }

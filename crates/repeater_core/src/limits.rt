@@ -1,4 +1,4 @@
-//! The limits of a repeater (profile), each here and nowhere else.
+//! The limits of a repeater (profile).
 
 /// The most half bits of calm that are told at a time.
 pub const MOST_CALM: u64 = 4_096;

@@ -1,4 +1,4 @@
-//! A repeater as a part of a network: it makes its windows by itself, and takes no memory in them.
+//! A repeater as a part of a network: it makes its windows by itself, and takes no memory in them (profile).
 #![tactic(auto)]
 
 mod engine;

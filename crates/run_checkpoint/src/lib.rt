@@ -1,4 +1,4 @@
-//! The text of a network's state, from which a run can go on, and the reading of it.
+//! The text of a network's state, from which a run can go on, and the reading of it (profile).
 #![tactic(auto)]
 
 mod entries_read;

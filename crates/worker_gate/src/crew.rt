@@ -11,7 +11,7 @@ use part_dealing::{Duties, last_segment, outlets_of, owner_of, owners};
 use std::alloc::Global;
 use window_exchange::Planned;
 
-/// A kit for each of so many workers, which have all parts together.
+/// A kit for each of so many workers. They have all parts together, each part once; that shows when they are gathered.
 pub fn make_kits<
     P: Planned + Send,
     S: Part,

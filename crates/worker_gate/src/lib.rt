@@ -1,5 +1,5 @@
 //! Workers that run the parts of a plan beside each other, each in a thread of its own, and hand parcels to each other
-//! through mailboxes; and parts that pass a gate at the beginning of each of their windows.
+//! through mailboxes; and parts that pass a gate at the beginning of each of their windows (profile).
 #![tactic(auto)]
 
 mod crew;
