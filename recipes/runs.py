@@ -2,7 +2,7 @@
 
 A run works in FOLDER/unfinished-NAME, which gets the name FOLDER/NAME in one step after status 0; only that counts as
 finished. A recipe that is called again names what was cut off or failed, and runs that again; what is finished isn't
-run again. The program is ../netsim or the one that the variable NETSIM names."""
+run again. The program is the one that the variable NETSIM names, or ../netsim, or else netsim on the PATH."""
 import concurrent.futures
 import fcntl
 import os
@@ -14,7 +14,8 @@ import subprocess
 import sys
 import typing
 
-PROGRAM = os.path.abspath(os.environ.get("NETSIM", pathlib.Path(__file__).resolve().parent.parent / "netsim"))
+BUILT = pathlib.Path(__file__).resolve().parent.parent / "netsim"
+PROGRAM = os.path.abspath(os.environ.get("NETSIM") or (not BUILT.exists() and shutil.which("netsim")) or BUILT)
 
 # Numbers of the standard, in half bits.
 SLOT, GAP, PREAMBLE, OCTET = 1024, 192, 128, 16
@@ -50,8 +51,8 @@ def finish(runs, folder, jobs):
         fcntl.flock(lock, fcntl.LOCK_EX | fcntl.LOCK_NB)
     except OSError:
         sys.exit(f"another recipe is at work in {folder}")
-    # Where the program has to be built, it is built here, once.
-    if subprocess.run([PROGRAM, "--version"], stdout=subprocess.DEVNULL).returncode:
+    # Where the program has to be built, it is built here, once: it reads an empty layout, which has a fault.
+    if subprocess.run([PROGRAM, "check", os.devnull], stdout=subprocess.DEVNULL).returncode != 2:
         sys.exit(f"{PROGRAM} doesn't run")
     clear(folder)
     todo = [run for run in runs if not (folder / run.name).exists()]

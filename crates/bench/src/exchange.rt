@@ -1,7 +1,7 @@
 //! Parcels that go to and fro in a share.
 ghost use Rattle.std.specs.Prelude.{◌≡◌, true, IfSome};
 
-use crate::parts::plan_of;
+use case_support::plan_of;
 use exchange_core::Share;
 use lists::OutOfMemory;
 use load_plan::Plan;
@@ -114,7 +114,9 @@ fn go_round<S: Part, R: Part>(share: &mut Share<S, R>, first: Parcel) -> u64
 
 /// Moves 2,000,001 parcels, and answers how many it moved. All are spoiled, so that no part makes a window in earnest.
 pub fn moves(alloc: Global) -> Result<u64, OutOfMemory> {
-    let plan = plan_of(alloc, LAYOUT)?;
+    let Ok(plan) = plan_of(alloc, LAYOUT) else {
+        return Err(OutOfMemory);
+    };
     let mut share = share(alloc, &plan)?;
     take(&mut share, spoiled(alloc, 0, false));
     Ok(go_round(&mut share, spoiled(alloc, 1, true)))

@@ -3,9 +3,10 @@ ghost use Rattle.std.specs.Prelude.{◌≡◌, ◌≢◌, ◌≤◌, ◌+◌, �
 ghost use Rattle.manchester_line.specs.declared.Sym.TheVariants.{Idle};
 
 use crate::exchange::moves;
-use crate::parts::{plan_of, quiet_segment};
+use crate::parts::quiet_segment;
 use crate::segment::{leaps, segments};
 use capture_file::{CaptureFault, CaptureReader, CaptureWriter};
+use case_support::plan_of;
 use frame_layout::fcs;
 use lists::OutOfMemory;
 use mac_parameters::{HALF_BITS_AN_OCTET, MOST_OCTETS_TAGGED, PREAMBLE};
@@ -291,7 +292,9 @@ fn repeat(alloc: Global, ports: u32, heard: Sym) -> Result<u64, OutOfMemory>
 }
 
 fn plain(alloc: Global) -> Result<u64, OutOfMemory> {
-    let plan = plan_of(alloc, LAYOUT)?;
+    let Ok(plan) = plan_of(alloc, LAYOUT) else {
+        return Err(OutOfMemory);
+    };
     let outputs = run_plain(alloc, &plan)?;
     Ok(DEVICE_HALF_BITS + (outputs.rows.len() % 2) as u64)
 }

@@ -1,10 +1,7 @@
 //! A network of one segment by its part alone.
-ghost use Rattle.std.specs.Prelude.{◌≡◌, ◌≤◌, All, IfOk, length};
-
-use capture_file::Records;
-use layout_file::read_layout;
+use case_support::plan_of;
 use lists::OutOfMemory;
-use load_plan::{Plan, RecordsList, make_plan};
+use load_plan::Plan;
 use net_parts::Part;
 use segment_engine::SegmentPart;
 use std::alloc::Global;
@@ -26,27 +23,6 @@ send = [{ station = "a", at = 0, octets = "ffffffffffff0200000000010800" }]
 /// The half bits of that layout.
 const HALF_BITS: u64 = 2 * 1_000_000_000;
 
-/// No records for so many stations.
-fn no_loads(alloc: Global, stations: usize) -> Result<RecordsList, OutOfMemory>
-    ensures count { IfOk result (λ loads. length loads ≡ stations) }
-    ensures few { IfOk result (λ loads. All (λ rs. length rs ≤ 4000000000) loads) }
-{
-    let mut loads = RecordsList::new(alloc);
-    for _station in 0..stations {
-        loads.push(Records::new(alloc))?;
-    }
-    Ok(loads)
-}
-
-/// The plan of a layout whose stations have no loads.
-pub fn plan_of(alloc: Global, text: &str) -> Result<Plan, OutOfMemory> {
-    let Ok(layout) = read_layout(alloc, text.as_bytes()) else {
-        return Err(OutOfMemory);
-    };
-    let loads = no_loads(alloc, layout.stations.len())?;
-    make_plan(alloc, layout, loads)
-}
-
 /// Runs all windows of the one segment of a plan, and answers the number of its rows.
 fn rows_of(alloc: Global, plan: &Plan) -> Result<usize, OutOfMemory> {
     if plan.layout.segments.len() != 1 {
@@ -65,7 +41,9 @@ fn rows_of(alloc: Global, plan: &Plan) -> Result<usize, OutOfMemory> {
 
 /// Runs a segment on which hardly anything happens, and answers its half bits.
 pub fn quiet_segment(alloc: Global) -> Result<u64, OutOfMemory> {
-    let plan = plan_of(alloc, QUIET)?;
+    let Ok(plan) = plan_of(alloc, QUIET) else {
+        return Err(OutOfMemory);
+    };
     let rows = rows_of(alloc, &plan)?;
     Ok(HALF_BITS + (rows % 2) as u64)
 }

@@ -9,11 +9,3 @@ fn the_least_seed_with_two_first_draws_of_zero(rt: HostRuntime) {
     });
     assert_eq!(rt; least, Some(8));
 }
-
-#[test]
-fn a_draw_by_its_number_is_that_of_the_row(rt: HostRuntime) {
-    let mut row = Draws::new(7, 3);
-    for j in 0..20 {
-        assert_eq!(rt; row.draw(15), Draws::at(7, 3, j).draw(15), "draw {j}");
-    }
-}

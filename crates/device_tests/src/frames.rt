@@ -1,10 +1,5 @@
 use frame_layout::{FrameFault, Queue, Verdict, build, build_up_to, fcs, judge, judge_up_to};
 
-#[test]
-fn the_nine_digits_have_the_known_octets(rt: HostRuntime) {
-    assert_eq!(rt; fcs(b"123456789").to_le_bytes(), [0x26, 0x39, 0xf4, 0xcb]);
-}
-
 // The values are those of zlib's crc32.
 #[test]
 fn texts_have_the_sequences_of_zlib(rt: HostRuntime) {
@@ -38,10 +33,11 @@ fn texts_have_the_sequences_of_zlib(rt: HostRuntime) {
     ] {
         assert_eq!(rt; fcs(text.as_bytes()), sequence, "at {text}");
     }
+    assert_eq!(rt; fcs(b"123456789").to_le_bytes(), [0x26, 0x39, 0xf4, 0xcb]);
 }
 
 #[test]
-fn a_frame_has_pad_and_sequence(rt: HostRuntime) -> Result<(), FrameFault> {
+fn frames_are_made_and_judged(rt: HostRuntime) -> Result<(), FrameFault> {
     let frame = build(rt.alloc(), b"ABCDEFGHIJKLMN")?;
     assert_eq!(rt; frame.octets().len(), 64);
     assert_eq!(rt; &frame.octets()[60..], [0x13, 0x72, 0x62, 0xb5].as_slice());
@@ -50,20 +46,12 @@ fn a_frame_has_pad_and_sequence(rt: HostRuntime) -> Result<(), FrameFault> {
     assert_eq!(rt; tagged.octets().len(), 1_522);
     assert_eq!(rt; judge_up_to(tagged.octets(), 0, 1_518), Verdict::Good);
     assert_eq!(rt; judge(tagged.octets(), 0), Verdict::TooLong);
-    Ok(())
-}
-
-#[test]
-fn wrong_octets_are_judged(rt: HostRuntime) {
     assert_eq!(rt; judge(&[0; 63], 0), Verdict::Fragment);
     assert_eq!(rt; judge(&[0; 64], 0), Verdict::FcsError);
     assert_eq!(rt; judge(&[0; 64], 1), Verdict::AlignError);
-}
-
-#[test]
-fn too_few_or_too_many_octets_make_no_frame(rt: HostRuntime) {
     assert!(rt; matches!(build(rt.alloc(), &[0; 13]), Err(FrameFault::TooShort)));
     assert!(rt; matches!(build(rt.alloc(), &[0; 1_515]), Err(FrameFault::TooLong)));
+    Ok(())
 }
 
 #[test]

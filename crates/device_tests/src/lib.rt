@@ -12,8 +12,6 @@ mod guards;
 #[cfg(test)]
 mod parameters;
 #[cfg(test)]
-mod port_classes;
-#[cfg(test)]
 mod receivers;
 #[cfg(test)]
 mod repeaters;

@@ -1,11 +1,11 @@
-ghost use Rattle.std.specs.Prelude.{◌≡◌, ◌<◌, ◌≤◌, length, IfOk};
+ghost use Rattle.std.specs.Prelude.{◌≡◌, ◌≤◌, IfOk};
 
 use backoff_draw::Draws;
 use collision_log::Body;
 use frame_layout::{Frame, Queue, build};
 use lists::OutOfMemory;
-use mac_transmit::{Defer, Phase, SenderState, Transmitter};
-use manchester_line::{Sym, encode_into, jam_sym};
+use mac_transmit::{Phase, Transmitter};
+use manchester_line::{Sym, jam_sym};
 use std::alloc::Global;
 
 /// The 14 octets of a frame of 64 octets with pad and FCS, whose line text has 1,152 half bits.
@@ -27,21 +27,14 @@ fn with_one(alloc: Global, at: u64) -> Result<Transmitter, OutOfMemory>
     Ok(Transmitter::new(queue, Draws::new(1, 0)))
 }
 
-/// Two frames that are ready at once.
-fn two_frames(alloc: Global) -> Result<Queue, OutOfMemory>
-    ensures { IfOk result (λ queue. length queue ≡ 2) }
-{
-    let mut queue = Queue::new(alloc);
-    queue.push(0, frame(alloc)?)?;
-    queue.push(0, frame(alloc)?)?;
-    Ok(queue)
-}
-
 /// A new sender with two frames that are ready at once.
 fn with_two(alloc: Global) -> Result<Transmitter, OutOfMemory>
     ensures { IfOk result (λ s. s.t ≡ 0) }
 {
-    Ok(Transmitter::new(two_frames(alloc)?, Draws::new(1, 0)))
+    let mut queue = Queue::new(alloc);
+    queue.push(0, frame(alloc)?)?;
+    queue.push(0, frame(alloc)?)?;
+    Ok(Transmitter::new(queue, Draws::new(1, 0)))
 }
 
 /// The first event of a sender that hears Hi at these half bits and else Idle, with its half bit.
@@ -184,145 +177,6 @@ fn a_sender_is_calm_until_its_frame_is_ready(rt: HostRuntime) -> Result<(), OutO
     ] {
         let sender = with_one(rt.alloc(), at)?;
         assert_eq!(rt; sender.calm(0, carrier), calm, "ready at {at}");
-    }
-    Ok(())
-}
-
-/// The first event of a sender that hears nothing and leaps wherever it is calm, with its half bit.
-fn event_by_leaps(mut sender: Transmitter) -> Option<(u64, Body)>
-    requires { sender.t ≡ 0 }
-{
-    let mut t = 0u64;
-    for _leap in 0..20u64 {
-        let n = sender.calm(t, false);
-        sender.leap(t, n, false);
-        t += n;
-        if let Some(body) = sender.step(t, Sym::Idle).event {
-            return Some((t, body));
-        }
-        t += 1;
-    }
-    None
-}
-
-#[test]
-fn a_sending_comes_to_its_end_by_leaps(rt: HostRuntime) -> Result<(), OutOfMemory> {
-    for at in [0, 100, 10_000] {
-        let sent = Body::Sent {
-            frame: 1,
-            start: at,
-            attempt: 1,
-        };
-        let sender = with_one(rt.alloc(), at)?;
-        assert_eq!(rt;
-            event_by_leaps(sender),
-            Some((at + 1152, sent)),
-            "ready at {at}"
-        );
-    }
-    Ok(())
-}
-
-/// The sender hears nothing in the half bits below `end`.
-fn hear_nothing(sender: &mut Transmitter, end: u64)
-    requires start { sender.old.t ≡ 0 }
-    requires end { end ≤ 2000000000 }
-    ensures { sender.new.t ≡ end }
-{
-    for t in 0..end {
-        sender.step(t, Sym::Idle);
-    }
-}
-
-/// The first event, before half bit `end`, of a sender that hears nothing from half bit `from` on, with its half bit.
-fn quiet_event(sender: &mut Transmitter, from: u64, end: u64) -> Option<(u64, Body)>
-    requires start { sender.old.t ≡ from }
-    requires order { from ≤ end }
-    requires end { end ≤ 2000000000 }
-{
-    for t in from..end {
-        if let Some(body) = sender.step(t, Sym::Idle).event {
-            return Some((t, body));
-        }
-    }
-    None
-}
-
-#[test]
-fn a_sender_goes_on_from_its_state(rt: HostRuntime) -> Result<(), OutOfMemory> {
-    let state = SenderState {
-        phase: Phase::Waiting,
-        defer: Defer::Gap { k: 48, was: true },
-        attempt: 1,
-        place: 1,
-        drawn: 0,
-    };
-    let mut sender = with_two(rt.alloc())?;
-    hear_nothing(&mut sender, 1200);
-    assert_eq!(rt; sender.state(), state);
-    let mut resumed = Transmitter::resume(two_frames(rt.alloc())?, Draws::at(1, 0, 0), 1200, state);
-    let sent = Body::Sent {
-        frame: 2,
-        start: 1344,
-        attempt: 1,
-    };
-    assert_eq!(rt; quiet_event(&mut resumed, 1200, 3000), Some((2496, sent)));
-    Ok(())
-}
-
-/// The half bits that are calm from `t` on, where the station hears this symbol in each of them, and in how many of
-/// these, up to the first other one, a step emits what the piece of them has.
-fn emitted_as_told(sender: &mut Transmitter, t: u64, heard: Sym) -> Option<(usize, usize)>
-    requires start { sender.old.t ≡ t }
-    requires end { t ≤ 1000000000 }
-{
-    let Phase::Sending { .. } = sender.phase() else {
-        return None;
-    };
-    let mut text = [Sym::Idle; 25_728];
-    let mut piece = [Sym::Idle; 4096];
-    let size = encode_into(sender.frame()?.octets(), &mut text);
-    let calm = sender.calm(t, heard != Sym::Idle) as usize;
-    sender.piece(t, &text[..size], &mut piece[..calm]);
-    for j in 0..calm {
-        if sender.step(t + j as u64, heard).emitted != piece[j] {
-            return Some((calm, j));
-        }
-    }
-    Some((calm, calm))
-}
-
-#[test]
-fn steps_emit_what_a_piece_has(rt: HostRuntime) -> Result<(), OutOfMemory> {
-    for (t, calm) in [(1, 1151), (2, 1150), (500, 652)] {
-        let mut sender = with_one(rt.alloc(), 0)?;
-        hear_nothing(&mut sender, t);
-        assert_eq!(rt;
-            emitted_as_told(&mut sender, t, Sym::Idle),
-            Some((calm, calm)),
-            "from {t} on"
-        );
-    }
-    Ok(())
-}
-
-#[test]
-fn steps_emit_what_a_piece_has_after_a_hit(rt: HostRuntime) -> Result<(), OutOfMemory> {
-    for (hit, heard, calm) in [
-        (100, Sym::Idle, 91),
-        (100, Sym::Lo, 91),
-        (301, Sym::Hi, 64),
-        (302, Sym::Idle, 65),
-        (1151, Sym::Clash, 64),
-    ] {
-        let mut sender = with_one(rt.alloc(), 0)?;
-        hear_nothing(&mut sender, hit);
-        sender.step(hit, Sym::Hi);
-        assert_eq!(rt;
-            emitted_as_told(&mut sender, hit + 1, heard),
-            Some((calm, calm)),
-            "Hi at {hit}"
-        );
     }
     Ok(())
 }

@@ -1,3 +1,4 @@
+//! The layouts of demo, of which the program says the size and what comes of them.
 use demo_layout::demo;
 use layout::Layout;
 use std::test::Fail;
@@ -44,72 +45,6 @@ fn sum_of_sends(layout: &Layout) -> u64 {
         sum = mixed_octets(sum, row.octets.as_slice());
     }
     sum
-}
-
-/// How many segments, repeaters, stations and sends the layouts have.
-#[test]
-fn demos_have_their_rows(rt: HostRuntime) -> Result<(), Fail> {
-    let alloc = rt.alloc();
-    let one = demo(alloc, 1)?;
-    assert_eq!(rt; (one.segments.len(), one.repeaters.len()), (2, 1));
-    assert_eq!(rt; (one.stations.len(), one.sends.len()), (8, 160));
-    let eight = demo(alloc, 8)?;
-    assert_eq!(rt; (eight.segments.len(), eight.repeaters.len()), (9, 8));
-    assert_eq!(rt; (eight.stations.len(), eight.sends.len()), (36, 720));
-    let largest = demo(alloc, 128)?;
-    assert_eq!(rt;
-        (largest.segments.len(), largest.repeaters.len()),
-        (129, 128)
-    );
-    assert_eq!(rt;
-        (largest.stations.len(), largest.sends.len()),
-        (516, 10_320)
-    );
-    Ok(())
-}
-
-/// The segment and the place of the last station.
-fn last_station(layout: &Layout) -> (u32, u32) {
-    match layout.stations.as_slice() {
-        [.., row] => (row.segment, row.at),
-        [] => (0, 0),
-    }
-}
-
-/// The first segment, its place and the delay of the last repeater.
-fn last_repeater(layout: &Layout) -> (u32, u32, u32) {
-    match layout.repeaters.as_slice() {
-        [.., row] => match row.ports.as_slice() {
-            [first, ..] => (first.segment, first.at, row.delay),
-            [] => (0, 0, 0),
-        },
-        [] => (0, 0, 0),
-    }
-}
-
-/// The station of the last send, when it is ready, how many octets it has and the last of them.
-fn last_send(layout: &Layout) -> (u32, u64, usize, u8) {
-    match layout.sends.as_slice() {
-        [.., row] => match row.octets.as_slice() {
-            [.., octet] => (row.station, row.at, row.octets.len(), *octet),
-            [] => (0, 0, 0, 0),
-        },
-        [] => (0, 0, 0, 0),
-    }
-}
-
-/// The last rows of demo 128 and its last send, as another program makes them.
-#[test]
-fn last_rows_are_those_of_another_program(rt: HostRuntime) -> Result<(), Fail> {
-    let largest = demo(rt.alloc(), 128)?;
-    assert_eq!(rt;
-        (largest.format, largest.seed, largest.until_bits),
-        (1, 128, 200_000)
-    );
-    assert_eq!(rt; last_station(&largest), (128, 50));
-    assert_eq!(rt; last_repeater(&largest), (63, 60, 28));
-    assert_eq!(rt; last_send(&largest), (515, 399_055, 1_424, 165));
-    Ok(())
 }
 
 /// All rows and sends together are those that another program makes.

@@ -1,4 +1,5 @@
-//! Tests of what is read and written: layouts, captures, logs, stores, slacks and figures.
+//! Tests of what no command shows: captures and files by pieces, stores, merged logs, the layouts of demo, layouts that
+//! are lengthened, and states that are read back.
 #![tactic(auto)]
 
 #[cfg(test)]
@@ -6,17 +7,9 @@ mod captures;
 #[cfg(test)]
 mod demos;
 #[cfg(test)]
-mod layouts;
-#[cfg(test)]
-mod loads;
-#[cfg(test)]
 mod logs;
 #[cfg(test)]
-mod meters;
-#[cfg(test)]
 mod pieces;
-#[cfg(test)]
-mod refusals;
 #[cfg(test)]
 mod slacks;
 #[cfg(test)]

@@ -8,3 +8,4 @@ pub mod WalksOverEdges
 pub mod OneDistance
 pub mod SoundTaps
 pub mod WalksBack
+pub mod Numbers

@@ -1,47 +1,46 @@
--- The limits of a layout, by which definitions name what the code names by its constants (profile).
+-- The limits of a layout (profile).
 use Rattle.std.specs.Prelude.{ℕ}
-use Rattle.layout.specs.declared.limits.TheConstants.{GREATEST_SEED, MOST_BITS, MOST_HALF_BITS, MOST_DEVICE_BITS, MOST_SEGMENTS, MOST_STATIONS, MOST_REPEATERS, MOST_SENDS, MOST_LOST_BITS, LONGEST_NAME, LONGEST_LOAD}
 
 -- the greatest seed
 abbrev pub greatest_seed : ℕ
-greatest_seed = GREATEST_SEED
+greatest_seed = 9223372036854775807
 
 -- the most bits of a run
 abbrev pub most_bits : ℕ
-most_bits = MOST_BITS
+most_bits = 1000000000
 
 -- the half bits of the longest run, which is the last half bit, from 0, in which a frame may become ready
 abbrev pub most_half_bits : ℕ
-most_half_bits = MOST_HALF_BITS
+most_half_bits = 2000000000
 
 -- the most bits of a run, over all its devices
 abbrev pub most_device_bits : ℕ
-most_device_bits = MOST_DEVICE_BITS
+most_device_bits = 4000000000
 
 -- the most segments
 abbrev pub most_segments : ℕ
-most_segments = MOST_SEGMENTS
+most_segments = 256
 
 -- the most stations
 abbrev pub most_stations : ℕ
-most_stations = MOST_STATIONS
+most_stations = 1024
 
 -- the most repeaters
 abbrev pub most_repeaters : ℕ
-most_repeaters = MOST_REPEATERS
+most_repeaters = 128
 
 -- the most sends
 abbrev pub most_sends : ℕ
-most_sends = MOST_SENDS
+most_sends = 65536
 
 -- the most bits that a receiver loses at the start of each reception
 abbrev pub most_lost_bits : ℕ
-most_lost_bits = MOST_LOST_BITS
+most_lost_bits = 48
 
 -- the octets of the longest name
 abbrev pub longest_name : ℕ
-longest_name = LONGEST_NAME
+longest_name = 32
 
 -- the octets of the longest name of a load
 abbrev pub longest_load : ℕ
-longest_load = LONGEST_LOAD
+longest_load = 255

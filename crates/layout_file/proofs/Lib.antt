@@ -9,3 +9,4 @@ pub mod TapsDiffer
 pub mod TreesWithoutLoop
 pub mod NoCrowds
 pub mod SoundLayouts
+pub mod Numbers

@@ -7,7 +7,6 @@ use Rattle.layout_file.specs.declared.fault.Key.TheVariants as key
 use Rattle.layout_file.specs.declared.fault.LayoutCode.TheVariants as code
 use Rattle.layout_file.specs.declared.fault.LayoutFault.{LayoutFault}
 use Rattle.layout.specs.declared.lines.Layout.{Layout}
-use Rattle.layout_file.specs.declared.reader.TheConstants.{LONGEST_FILE}
 use Rattle.layout_file.specs.declared.rows.RowTest.{RowTest}
 use Rattle.layout_file.specs.declared.rows.RowTest.TheVariants as test
 use Rattle.layout_file.specs.GraphFaults.{first_graph_fault}
@@ -64,7 +63,7 @@ judged_document (Some ms) = judged_tree ms (first_fault ms)
 
 -- the octets of the longest layout file
 abbrev pub longest_file : ℕ
-longest_file = LONGEST_FILE
+longest_file = 1048576
 
 -- more octets than are read
 unfoldable pub is_too_long : List ℕ → Bool

@@ -1,2 +1,3 @@
 pub mod FedReaders
 pub mod LoadsSoFar
+pub mod Numbers

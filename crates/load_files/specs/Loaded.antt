@@ -10,17 +10,16 @@ use Rattle.outside.specs.Files.{Files, file_of, IsAbsent, Rose}
 use Rattle.load_files.specs.declared.load.Load.{Load}
 use Rattle.load_files.specs.declared.load.Unloaded.{Unloaded}
 use Rattle.load_files.specs.declared.load.Unloaded.TheVariants as unloaded
-use Rattle.load_files.specs.declared.loads.TheConstants.{MOST_OF_LOAD, MOST_OF_LOADS}
 use Rattle.load_files.specs.declared.stop.LoadStop.{LoadStop}
 use Rattle.load_files.specs.declared.stop.LoadStop.TheVariants as stop
 
 -- the most octets of one load
 abbrev pub most_of_load : ℕ
-most_of_load = MOST_OF_LOAD
+most_of_load = 67108864
 
 -- the most octets of all loads together
 abbrev pub most_of_loads : ℕ
-most_of_loads = MOST_OF_LOADS
+most_of_loads = 268435456
 
 -- the most octets of a load where the loads before it have so many
 abbrev pub most_after : ℕ → ℕ

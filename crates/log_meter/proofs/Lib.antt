@@ -10,3 +10,4 @@ pub mod NamesListed
 pub mod RowsOfStations
 pub mod RowsOfRepeaters
 pub mod PlannedRows
+pub mod Numbers

@@ -6,11 +6,10 @@ use Rattle.log_meter.specs.Lines.{IsLogLine, entry_text}
 use Rattle.log_meter.specs.declared.fault.LogFault.{LogFault}
 use Rattle.log_meter.specs.declared.fault.LogFault.TheVariants as fault
 use Rattle.log_meter.specs.declared.line.LogLine.{LogLine}
-use Rattle.log_meter.specs.declared.log.TheConstants.{MOST_LOG_OCTETS}
 
 -- the most octets of a log
 abbrev pub most_log_octets : ℕ
-most_log_octets = MOST_LOG_OCTETS
+most_log_octets = 268435456
 
 -- the text of a log
 abbrev pub log_text : List LogLine → List ℕ

@@ -11,34 +11,9 @@ use Rattle.mac_receive.specs.KeptReceiver.{Kept, Hears, kept_octets}
 use Rattle.network.specs.declared.outputs.Taken.{Taken}
 use Rattle.network.specs.Net.{new_receiver, receptions}
 use Rattle.network.specs.Captures.{captured, taken_by}
-use Rattle.net_step.specs.KeptNet.{AllHear, AllGive, Gives, Lends}
-
-pub length-AllHear : (rs : List Receiving) (ks : List Kept) → AllHear rs ks → length rs ≡ length ks
-length-AllHear [] [] h = refl
-length-AllHear [] (k ∷ ks) h = absurd h
-length-AllHear (r ∷ rs) [] h = absurd h
-length-AllHear (r ∷ rs) (k ∷ ks) h = ap suc (length-AllHear rs ks h.1)
-
--- the receiver at a place
-pub AllHear-at : (rs : List Receiving) (ks : List Kept) (i : ℕ) (d : Receiving) (e : Kept) → AllHear rs ks → i < length ks → Hears (get_or rs i d) (get_or ks i e)
-AllHear-at [] [] i d e h l = absurd (omega arith)
-AllHear-at [] (k ∷ ks) i d e h l = absurd h
-AllHear-at (r ∷ rs) [] i d e h l = absurd h
-AllHear-at (r ∷ rs) (k ∷ ks) zero d e h l = h.0
-AllHear-at (r ∷ rs) (k ∷ ks) (suc i) d e h l = AllHear-at rs ks i d e h.1 (omega arith)
-
-receptions-suc : (hs es : List Sym) (rs : List Receiving) (i : ℕ) (a b : Sym) (d : Receiving) → i < length hs → i < length es → i < length rs →
-    receptions (take (suc i) hs) (take (suc i) es) (take (suc i) rs) ≡ receptions (take i hs) (take i es) (take i rs) ++ receiver_step (get_or rs i d) (get_or hs i a) (is_signal (get_or es i b)) ∷ []
-receptions-suc [] es rs i a b d lh le lr = absurd (omega arith)
-receptions-suc (h ∷ hs) [] rs i a b d lh le lr = absurd (omega arith)
-receptions-suc (h ∷ hs) (e ∷ es) [] i a b d lh le lr = absurd (omega arith)
-receptions-suc (h ∷ hs) (e ∷ es) (r ∷ rs) zero a b d lh le lr = refl
-receptions-suc (h ∷ hs) (e ∷ es) (r ∷ rs) (suc i) a b d lh le lr = ap (λ xs. receiver_step r h (is_signal e) ∷ xs) (receptions-suc hs es rs i a b d (omega arith) (omega arith) (omega arith))
-
--- the receptions of one station more
-pub receptions-more : (hs es : List Sym) (rs : List Receiving) (i : ℕ) (a b : Sym) (d : Receiving) → i < length hs → i < length es → i < length rs →
-    receptions (take (i + 1) hs) (take (i + 1) es) (take (i + 1) rs) ≡ receptions (take i hs) (take i es) (take i rs) ++ receiver_step (get_or rs i d) (get_or hs i a) (is_signal (get_or es i b)) ∷ []
-receptions-more hs es rs i a b d lh le lr = let e : i + 1 ≡ suc i = omega arith in rw e (receptions-suc hs es rs i a b d lh le lr)
+use Rattle.kept_devices.proofs.Receivers.{AllHear-more, receptions-more}
+use Rattle.kept_devices.specs.KeptReceivers.{AllHear}
+use Rattle.net_step.specs.KeptNet.{AllGive, Gives, Lends}
 
 -- what a receiver lends where it received a frame, in each case
 pub Lends-from : (event : Option Body) (octets kept : List ℕ) → ((n : ℕ) → event ≡ Some (Received n) → kept ≡ octets) → Lends event octets kept
@@ -113,13 +88,6 @@ captured-given t (z ∷ rs) (y ∷ ks) (x ∷ os) [] h = refl
 captured-given t (z ∷ rs) (y ∷ ks) (x ∷ os) (c ∷ cs) h =
     ap₂ (λ (one : List Taken) (rest : List (List Taken)). (c ++ one) ∷ rest) (ap (λ e. taken_by t e (kept_octets y)) h.0.event ∙ taken-lent t z.event z.octets (kept_octets y) h.0.lends) (captured-given t rs ks os cs h.1)
 
--- one receiver more that stands for one
-pub AllHear-more : (rs : List Receiving) (ks : List Kept) (r : Receiving) (k : Kept) → AllHear rs ks → Hears r k → AllHear (rs ++ r ∷ []) (ks ++ k ∷ [])
-AllHear-more [] [] r k h g = (g, tt)
-AllHear-more [] (y ∷ ks) r k h g = absurd h
-AllHear-more (z ∷ rs) [] r k h g = absurd h
-AllHear-more (z ∷ rs) (y ∷ ks) r k h g = (h.0, AllHear-more rs ks r k h.1 g)
-
 -- one new receiver more
 pub AllHear-new : (most : ℕ) (stations : List StationLine) (ks : List Kept) (i : ℕ) (d : StationLine) (k : Kept) → i < length stations → AllHear (map (new_receiver most) (take i stations)) ks → Hears (new_receiver most (get_or stations i d)) k →
     AllHear (map (new_receiver most) (take (i + 1) stations)) (ks ++ k ∷ [])
@@ -132,11 +100,6 @@ pub given-alike : (hs hs' es es' : List Sym) (ks ks' kn kn' : List Kept) (os : L
 given-alike hs hs' es es' ks ks' kn kn' os eh ee ek en given rs h =
     let first : AllHear rs ks = subst (λ xs. AllHear rs xs) (sym ek) h in
     subst (λ xs. AllGive (receptions hs' es' rs) xs os) en (subst (λ xs. AllGive (receptions hs' xs rs) kn os) ee (subst (λ xs. AllGive (receptions xs es rs) kn os) eh (given rs first)))
-
--- one receiver that has made no step
-pub All-one : (k : Kept) → k.steps ≡ 0 → All (λ (r : Kept). r.steps ≡ 0) (k ∷ [])
-All-one k h zero d l = h
-All-one k h (suc i) d l = absurd (omega arith)
 
 -- one receiver that has made so many steps
 pub All-stepped : (k : Kept) (t : ℕ) → k.steps ≡ t → All (λ (r : Kept). r.steps ≡ t) (k ∷ [])

@@ -1,4 +1,3 @@
-pub mod ChangedElements
 pub mod CableHistory
 pub mod KeptReceivers
 pub mod RepeatersInARow

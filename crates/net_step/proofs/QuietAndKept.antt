@@ -13,7 +13,8 @@ use Rattle.network.specs.Net.{Net}
 use Rattle.quiet_state.specs.LastSignals.{last_signal, reach_over, IsOverBy, IsQuietAsKept}
 use Rattle.quiet_state.specs.Quiet.{IsStill}
 use Rattle.quiet_state.proofs.QuietAsKept.{still_as_kept}
-use Rattle.net_step.specs.KeptNet.{KeptNet, AllHear, AreOver, Stands}
+use Rattle.kept_devices.specs.KeptReceivers.{AllHear}
+use Rattle.net_step.specs.KeptNet.{KeptNet, AreOver, Stands}
 
 -- a new receiver that hears Idle stays new
 pub still_new : (lose most n : ℕ) → receiver_after (new_receiving lose most) (replicate n Idle) false ≡ new_receiving lose most

@@ -31,7 +31,8 @@ use Rattle.network.specs.Rows.{repeater_rows, repeater_bodies, rows_of}
 use Rattle.network.specs.Runnable.{IsRunnable}
 use Rattle.net_step.specs.Wires.{Wire, no_wire, wire_at, symbols_of, told_from, carried, heard_at_place, cable_places, new_wire, places_from}
 use Rattle.network.specs.TapsOnSegments.{positions_on, count_on}
-use Rattle.net_step.specs.KeptNet.{KeptNet, heard_kept, stations_hear_kept, ports_hear_kept, sendings_kept, stations_emit_kept, emitted_kept, decided_kept, over_from, receptions_kept, AllHear, AllGive, IsNextKept, IsSilentNet, IsWire, Stands}
+use Rattle.kept_devices.specs.KeptReceivers.{AllHear}
+use Rattle.net_step.specs.KeptNet.{KeptNet, heard_kept, stations_hear_kept, ports_hear_kept, sendings_kept, stations_emit_kept, emitted_kept, decided_kept, over_from, receptions_kept, AllGive, IsNextKept, IsSilentNet, IsWire, Stands}
 use Rattle.quiet_state.specs.LastSignals.{reach_over, line_delays}
 use Rattle.net_step.proofs.KeptReceivers.{AllHear-given, events-given, captured-given}
 use Rattle.network.proofs.HearingOnSegments.{hears_alike}

@@ -18,6 +18,7 @@ use Rattle.mac_receive.specs.KeptReceiver.{Kept, Hears, kept_octets}
 use Rattle.repeater_core.specs.declared.repeater.RepeaterEvents.{RepeaterEvents}
 use Rattle.repeater_core.specs.Step.{State, new_state, after, decided_by, emitted_by}
 use Rattle.network.specs.declared.outputs.Taken.{Taken}
+use Rattle.kept_devices.specs.KeptReceivers.{AllHear}
 use Rattle.net_step.specs.declared.places.Place.{Place}
 use Rattle.net_step.specs.Wires.{Wire, wire_at, heard_at_place, carried, cable_places, new_wire, places_from, IsPlaced}
 use Rattle.network.specs.TapsOnSegments.{positions_on, numbers_on, count_on}
@@ -98,12 +99,6 @@ kept_tap_number stations repeaters device port =
 abbrev pub all_told : List State → List RepeaterEvents → List (List Body)
 all_told (r ∷ rs) (e ∷ es) = told_bodies (length r.guards) e ∷ all_told rs es
 all_told _ _ = []
-
--- Each of the receivers that are kept stands for one of these, in their order.
-abbrev pub AllHear : List Receiving → List Kept → Type 0
-AllHear [] [] = Unit {0}
-AllHear (r ∷ rs) (k ∷ ks) = Hears r k × AllHear rs ks
-AllHear _ _ = ⊥
 
 -- Where the event of a receiver is that it received a frame, it keeps the frame's octets.
 abbrev pub Lends : Option Body → List ℕ → List ℕ → Type 0

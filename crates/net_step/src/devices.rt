@@ -2,7 +2,7 @@
 ghost use Rattle.std.specs.Prelude.{◌≡◌, ◌<◌, ◌≤◌, ◌^◌, [], All, length, map, sum_by, IfOk};
 ghost use Rattle.mac_parameters.specs.Parameters.{IsMost, greatest_place, jabber_rest};
 ghost use Rattle.network.specs.Net.{new_receiver, new_repeater, new_senders};
-ghost use Rattle.net_step.specs.KeptNet.{AllHear};
+ghost use Rattle.kept_devices.specs.KeptReceivers.{AllHear};
 ghost use Rattle.std.specs.List.{range_with_len};
 ghost use Rattle.net_step.specs.Wires.{new_wire};
 ghost use Rattle.quiet_state.specs.PlanStates.{AreStatesOf};

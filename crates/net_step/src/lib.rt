@@ -12,7 +12,5 @@ mod settling;
 mod states;
 mod stops;
 
-pub use places::taps_of;
 pub use plain::{PlainNet, run_plain};
-pub use rows::push_row;
 pub use stops::{resume_run, stop_run};

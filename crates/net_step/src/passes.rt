@@ -3,7 +3,8 @@ ghost use Rattle.std.specs.Prelude.{◌≡◌, ◌<◌, ◌+◌, ◌++◌, List,
 ghost use Rattle.network.specs.Net.{sendings, receptions, each_repeater, ports_of};
 ghost use Rattle.network.specs.Captures.{captured, taken_by};
 ghost use Rattle.network.specs.Rows.{repeater_bodies};
-ghost use Rattle.net_step.specs.KeptNet.{AllHear, AllGive, all_told};
+ghost use Rattle.kept_devices.specs.KeptReceivers.{AllHear};
+ghost use Rattle.net_step.specs.KeptNet.{AllGive, all_told};
 ghost use Rattle.net_step.specs.Wires.{heard_at_place, carried, IsPlaced};
 ghost use Rattle.mac_receive.specs.Receiver.{Receiving};
 ghost use Rattle.mac_receive.specs.KeptReceiver.{kept_octets};

@@ -1,10 +1,9 @@
 //! The taps of a layout, and where each is.
 ghost use Rattle.std.specs.Prelude.{◌≡◌, ◌<◌, ◌≤◌, ◌^◌, length, IfOk};
-ghost use Rattle.layout.specs.Taps.{taps_of};
 ghost use Rattle.net_step.specs.Wires.{places_from};
 ghost use Rattle.network.specs.TapsOnSegments.{count_on};
 
-use layout::{Layout, PortLine};
+use layout::PortLine;
 use lists::OutOfMemory;
 use std::alloc::Global;
 
@@ -13,23 +12,6 @@ use std::alloc::Global;
 pub struct Place {
     pub segment: u32,
     pub local: u32,
-}
-
-/// The taps of the stations, then those of the repeaters' ports.
-pub fn taps_of(alloc: Global, layout: &Layout) -> Result<Vec<PortLine>, OutOfMemory>
-    ensures { IfOk result (λ taps. taps.items ≡ taps_of layout.now) }
-{
-    let mut taps = Vec::new(alloc);
-    for station in layout.stations.as_slice() {
-        taps.push(PortLine {
-            segment: station.segment,
-            at: station.at,
-        })?;
-    }
-    for repeater in layout.repeaters.as_slice() {
-        taps.extend_from_slice(repeater.ports.as_slice())?;
-    }
-    Ok(taps)
 }
 
 /// How many of these taps are on a segment.

@@ -10,13 +10,14 @@ use crate::devices::{
     resumed_receivers, resumed_relays, resumed_transmitters,
 };
 use crate::passes::{capture_all, carry_all, hear_all, join, relay_all, step_stations};
-use crate::places::{Place, places_of, taps_of};
+use crate::places::{Place, places_of};
 use crate::relay::Relay;
 use crate::rows::{log_all, log_cut};
 use crate::segment::Segment;
 use crate::settling::Settling;
 use crate::states::{all_idle, all_still, guards_of, none_sends, rests_of, states_of};
 use collision_log::{Body, Rows};
+use kept_devices::taps_of;
 use lists::OutOfMemory;
 use load_plan::Plan;
 use mac_parameters::{HALF_BITS_A_BIT, most_octets};

@@ -1,29 +1,15 @@
 //! The rows of a half bit.
 ghost use Rattle.std.specs.Prelude.{◌≡◌, ◌<◌, ◌≤◌, ◌+◌, ◌^◌, ◌++◌, length, OnOk};
-ghost use Rattle.network.specs.Rows.{repeater_rows, rows_of_bodies, happened, rows_of, row_of, told_bodies, bits_bodies};
+ghost use Rattle.network.specs.Rows.{repeater_rows, rows_of_bodies, happened, rows_of, told_bodies, bits_bodies};
 ghost use Rattle.network.specs.Outputs.{cut_rows};
 ghost use Rattle.net_step.specs.KeptNet.{all_told};
 
 use crate::relay::Relay;
 use collision_log::{Body, Row, Rows};
+use kept_devices::push_row;
 use lists::OutOfMemory;
 use mac_transmit::Transmitter;
 use repeater_core::{RepeaterEvents, behind_first, has_first};
-
-/// Writes the row of an event of half bit `t`, if there is one. Devices count from 0.
-pub fn push_row(
-    rows: &mut Rows,
-    t: u64,
-    device: u32,
-    event: Option<Body>,
-) -> Result<(), OutOfMemory>
-    ensures { OnOk result (rows.new ≡ rows.old ++ row_of t device event) }
-{
-    match event {
-        Some(body) => rows.push(Row { t, device, body }),
-        None => Ok(()),
-    }
-}
 
 /// Writes the stations' rows of half bit `t`.
 fn log_stations(

@@ -7,8 +7,8 @@ use Rattle.demo_layout.specs.Demo.{demo_of}
 use Rattle.layout.specs.declared.lines.Layout.{Layout}
 use Rattle.load_plan.specs.Loads.{planned_queues, planned_skips}
 use Rattle.load_plan.specs.declared.plan.Plan.{Plan}
-use Rattle.netsim.specs.Demos.{IsDemoText, line_of_demo, empty_loads}
-use Rattle.netsim.specs.Runs.{IsSummary, IsSummaryOver}
+use Rattle.program_endings.specs.Demos.{IsDemoText, line_of_demo, empty_loads}
+use Rattle.program_endings.specs.Runs.{IsSummary, IsSummaryOver}
 
 -- the summary of a plan's whole run
 pub summary-of : (plan : Plan) (given whole : List Row) (text : List ℕ) → given ≡ whole → IsSummaryOver plan given text → IsSummaryOver plan whole text

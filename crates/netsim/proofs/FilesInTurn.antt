@@ -7,8 +7,8 @@ use Rattle.layout.specs.declared.lines.StationLine.{StationLine}
 use Rattle.network.specs.declared.outputs.Taken.{Taken}
 use Rattle.outside.specs.Files.{Files}
 use Rattle.outside.specs.declared.memory.File.{File}
-use Rattle.netsim.specs.Writing.{IsBroken, IsBrokenAmong, put_file, put_all}
-use Rattle.netsim.specs.Runs.{capture_files}
+use Rattle.program_endings.specs.Writing.{IsBroken, IsBrokenAmong, put_file, put_all}
+use Rattle.program_endings.specs.Runs.{capture_files}
 use Rattle.program_texts.specs.Texts.{name_of_capture}
 use Rattle.run_texts.specs.Captures.{pcap_of_taken}
 

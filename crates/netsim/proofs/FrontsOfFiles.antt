@@ -5,7 +5,7 @@ use Rattle.std.proofs.lemmas.Bool.{cases_Bool, leb-true, leb-false}
 use Rattle.std.proofs.lemmas.List.{take_all}
 use Rattle.file_pieces.specs.GivenPieces.{IsGivenFront, IsGivenFrontOf}
 use Rattle.outside.specs.Files.{Files, file_of}
-use Rattle.netsim.specs.Reading.{front_of, IsFront}
+use Rattle.program_endings.specs.Reading.{front_of, IsFront}
 
 take_min : (limit seen : ℕ) (whole : List ℕ) → seen ≡ min (length whole) (limit + 1) → take (limit + 1) whole ≡ take seen whole
 take_min limit seen whole is =

@@ -7,13 +7,13 @@ use Rattle.log_meter.specs.Lines.{entry_text}
 use Rattle.log_meter.specs.Logs.{log_text}
 use Rattle.log_meter.specs.declared.line.LogLine.{LogLine}
 use Rattle.outside.specs.Files.{Files}
-use Rattle.netsim.specs.declared.endings.Ending.{Ending}
-use Rattle.netsim.specs.declared.endings.Ending.TheVariants as ending
-use Rattle.netsim.specs.Endings.{HasOnlyRead, IsDrawnEnd, IsEarly, IsJudged, IsPictureEnd, IsText, IsUnmetered}
-use Rattle.netsim.specs.Meters.{HasLog}
+use Rattle.program_endings.specs.declared.endings.Ending.{Ending}
+use Rattle.program_endings.specs.declared.endings.Ending.TheVariants as ending
+use Rattle.program_endings.specs.Endings.{HasOnlyRead, IsDrawnEnd, IsEarly, IsJudged, IsPictureEnd, IsText, IsUnmetered}
+use Rattle.program_endings.specs.Meters.{HasLog}
 use Rattle.run_picture.specs.Pictures.{picture_of}
 use Rattle.run_picture.specs.Strangers.{first_stranger}
-use Rattle.netsim.specs.Moments.{Moment}
+use Rattle.program_endings.specs.Moments.{Moment}
 use Rattle.netsim.proofs.RunEnds.{rose-before, said_before}
 
 -- the layout could not be read

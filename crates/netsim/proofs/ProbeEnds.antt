@@ -3,13 +3,13 @@ use Rattle.std.proofs.Common.{◌≡◌, ℕ, ◌≤◌, Ok, List, sym, subst, �
 use Rattle.layout.specs.declared.lines.Layout.{Layout}
 use Rattle.line_probe.specs.declared.tap.Tap.{Tap}
 use Rattle.load_plan.specs.declared.plan.Plan.{Plan}
-use Rattle.netsim.specs.declared.endings.Ending.{Ending}
-use Rattle.netsim.specs.declared.endings.Ending.TheVariants as ending
-use Rattle.netsim.specs.Endings.{AreTapsTold, HasOnlyRead, IsAimEnd, IsEarly, IsJudged, IsProbeEnd, IsUnloadedSaid}
-use Rattle.netsim.specs.Moments.{Moment}
+use Rattle.program_endings.specs.declared.endings.Ending.{Ending}
+use Rattle.program_endings.specs.declared.endings.Ending.TheVariants as ending
+use Rattle.program_endings.specs.Endings.{AreTapsTold, HasOnlyRead, IsAimEnd, IsEarly, IsJudged, IsProbeEnd, IsUnloadedSaid}
+use Rattle.program_endings.specs.Moments.{Moment}
 use Rattle.program_words.specs.declared.words.Hearing.{Hearing}
-use Rattle.netsim.specs.Probes.{AreTapsOf, half_bits_of}
-use Rattle.netsim.specs.Runs.{IsPlanOf}
+use Rattle.program_endings.specs.Probes.{AreTapsOf, half_bits_of}
+use Rattle.program_endings.specs.Runs.{IsPlanOf}
 use Rattle.netsim.proofs.RunEnds.{unloaded_before}
 
 -- the layout could not be read

@@ -4,12 +4,12 @@ use Rattle.layout.specs.declared.lines.Layout.{Layout}
 use Rattle.load_plan.specs.declared.plan.Plan.{Plan}
 use Rattle.outside.specs.Files.{Files, Rose}
 use Rattle.outside.specs.declared.memory.File.{File}
-use Rattle.netsim.specs.declared.endings.Ending.{Ending}
-use Rattle.netsim.specs.declared.endings.Ending.TheVariants as ending
-use Rattle.netsim.specs.Moments.{Moment}
-use Rattle.netsim.specs.Endings.{IsBeforeRun, IsJudged, IsFiledEnd, IsFileEnd, IsPlainEnd, IsPlanned, HasOnlyRead, IsRunEnd, IsText, IsUnloadedSaid, IsUnfiled}
-use Rattle.netsim.specs.Writing.{put_all, IsBrokenAmong, IsSaid}
-use Rattle.netsim.specs.Runs.{IsPlanOf, IsSummary, run_files}
+use Rattle.program_endings.specs.declared.endings.Ending.{Ending}
+use Rattle.program_endings.specs.declared.endings.Ending.TheVariants as ending
+use Rattle.program_endings.specs.Moments.{Moment}
+use Rattle.program_endings.specs.Endings.{IsBeforeRun, IsJudged, IsFiledEnd, IsFileEnd, IsPlainEnd, IsPlanned, HasOnlyRead, IsRunEnd, IsText, IsUnloadedSaid, IsUnfiled}
+use Rattle.program_endings.specs.Writing.{put_all, IsBrokenAmong, IsSaid}
+use Rattle.program_endings.specs.Runs.{IsPlanOf, IsSummary, run_files}
 
 -- the files are whole, and the text was written
 pub run-filed : (files : List File) (IsRight : List ℕ → Type 0) (before after : Moment) (e : Ending) (right text : List ℕ) → after.held ≡ put_all files before.held → IsRight right → text ≡ right

@@ -13,13 +13,13 @@ use Rattle.run_checkpoint.proofs.ResumableTexts.{quiet_states}
 use Rattle.run_checkpoint.specs.States.{IsStateOfPlan, text_of_state}
 use Rattle.quiet_state.specs.declared.state.NetState.{NetState}
 use Rattle.net_step.specs.Stops.{HasNoQuiet, IsFirstQuiet}
-use Rattle.netsim.specs.declared.endings.Ending.{Ending}
-use Rattle.netsim.specs.declared.endings.Ending.TheVariants as ending
-use Rattle.netsim.specs.CheckpointFiles.{HasState}
-use Rattle.netsim.specs.Endings.{HasOnlyRead, IsBeforeRun, IsFileEnd, IsPlanned, IsResumeEnd, IsRunEnd, IsStopEnd, IsText, IsUnstated, Says}
-use Rattle.netsim.specs.Moments.{Moment}
-use Rattle.netsim.specs.Runs.{IsResumedSummary, IsStopLine, IsSummaryOver, output_files, resumed_files, state_files}
-use Rattle.netsim.specs.Writing.{IsBroken, put_file}
+use Rattle.program_endings.specs.declared.endings.Ending.{Ending}
+use Rattle.program_endings.specs.declared.endings.Ending.TheVariants as ending
+use Rattle.program_endings.specs.CheckpointFiles.{HasState}
+use Rattle.program_endings.specs.Endings.{HasOnlyRead, IsBeforeRun, IsFileEnd, IsPlanned, IsResumeEnd, IsRunEnd, IsStopEnd, IsText, IsUnstated, Says}
+use Rattle.program_endings.specs.Moments.{Moment}
+use Rattle.program_endings.specs.Runs.{IsResumedSummary, IsStopLine, IsSummaryOver, output_files, resumed_files, state_files}
+use Rattle.program_endings.specs.Writing.{IsBroken, put_file}
 use Rattle.netsim.proofs.RunEnds.{filed_before, rose-before, run-filed, run-unfiled, said_before}
 
 -- there was no memory after all was read

@@ -1,9 +1,8 @@
 -- The text of what several taps hear, written tap by tap: there is one, and a front of it was written.
-use Rattle.std.proofs.Common.{◌≡◌, ℕ, ◌+◌, ◌-◌, ◌<◌, ◌≤◌, List, [], ◌∷◌, ◌++◌, take, drop, length, length-drop, get_or, Option, None, Some, refl, sym, ap, subst, ◌∙◌, inl, inr, append_assoc, arith}
-use Rattle.std.specs.Prelude.{nat_le}
-use Rattle.std.proofs.lemmas.Bool.{cases_Bool, leb-true, leb-false}
+use Rattle.std.proofs.Common.{◌≡◌, ℕ, ◌+◌, ◌-◌, ◌<◌, ◌≤◌, List, [], ◌∷◌, ◌++◌, take, drop, length, length-append, length-drop, get_or, Option, None, Some, refl, sym, ap, subst, ◌∙◌, inl, inr, append_assoc, arith}
+use Rattle.std.proofs.lemmas.Bool.{cases_Bool}
 use Rattle.std.proofs.lemmas.List.{append-nil, drop_more, take-append-drop, take-append-le, take_all, take_more}
-use Rattle.std.proofs.Math.Seq.{take-append-add, take-append_seam, take-length}
+use Rattle.std.proofs.Math.Seq.{take-append-add, take-append_seam}
 use denote.Enum.Bare.{sameb}
 use Rattle.manchester_line.specs.contracts.Sym.{the_type}
 use Rattle.manchester_line.specs.declared.Sym.{Sym}
@@ -18,7 +17,7 @@ use Rattle.line_probe.proofs.RunsSoFar.{first_run, longer, run_begins, run_goes_
 use Rattle.line_probe.proofs.SameSymbols.{other_symbols, same_symbols}
 use Rattle.program_texts.specs.HeardTexts.{IsTextOfTap, IsTextOfTaps, text_of_bursts}
 use Rattle.program_texts.specs.Texts.{line_of_tap}
-use Rattle.netsim.specs.Writing.{IsCutShort, added}
+use Rattle.program_endings.specs.Writing.{IsCutShort, added}
 
 -- ---- there are runs of all symbols
 
@@ -76,24 +75,21 @@ added_twice a b None = refl
 added_twice a b (Some w) = ap Some (append_assoc w a b)
 
 -- nothing more was written
-cut_here : (done rest : List ℕ) (written now : Option (List ℕ)) → now ≡ added done written → IsCutShort (done ++ rest) written now
-cut_here done rest written now is = (length done, is ∙ ap (λ (xs : List ℕ). added xs written) (sym (take-append_seam done rest)))
-
-cut_at : (done one rest : List ℕ) (k m : ℕ) (written mid now : Option (List ℕ)) → mid ≡ added done written → now ≡ added (take k one) mid → m ≤ length one → take k one ≡ take m one → IsCutShort (done ++ (one ++ rest)) written now
-cut_at done one rest k m written mid now begun is le same = (
-  length done + m,
-  is ∙ ap (λ (w : Option (List ℕ)). added (take k one) w) begun ∙ added_twice done (take k one) written
-      ∙ ap (λ (xs : List ℕ). added (done ++ xs) written) (same ∙ sym (take-append-le m one rest le))
-      ∙ ap (λ (xs : List ℕ). added xs written) (sym (take-append-add done (one ++ rest) m)),
-)
+cut_here : (done rest : List ℕ) (written now : Option (List ℕ)) → now ≡ added done written → 0 < length rest → IsCutShort (done ++ rest) written now
+cut_here done rest written now is more =
+    (length done, is ∙ ap (λ (xs : List ℕ). added xs written) (sym (take-append_seam done rest)), omega (arith, length-append done rest, more))
 
 -- a front of one more text was written
 cut_after : (done one rest : List ℕ) (written mid now : Option (List ℕ)) → mid ≡ added done written → IsCutShort one mid now → IsCutShort (done ++ (one ++ rest)) written now
 cut_after done one rest written mid now begun cut =
-    elim (cases_Bool (nat_le cut.0 (length one))) [
-      | inl within ↦ cut_at done one rest cut.0 cut.0 written mid now begun cut.1 (leb-true cut.0 (length one) within) refl
-      | inr past ↦ cut_at done one rest cut.0 (length one) written mid now begun cut.1 (omega arith) (take_all cut.0 one (omega (arith, leb-false cut.0 (length one) past)) ∙ sym (take-length one))
-    ]
+    let k = cut.0 in
+    let le : k ≤ length one = omega (arith, cut.2) in (
+      length done + k,
+      cut.1 ∙ ap (λ (w : Option (List ℕ)). added (take k one) w) begun ∙ added_twice done (take k one) written
+          ∙ ap (λ (xs : List ℕ). added (done ++ xs) written) (sym (take-append-le k one rest le))
+          ∙ ap (λ (xs : List ℕ). added xs written) (sym (take-append-add done (one ++ rest) k)),
+      omega (arith, length-append done (one ++ rest), length-append one rest, cut.2),
+    )
 
 -- so far the texts of the first k of these words were written
 pub record IsToldUpTo (plan : Plan) (from n k : ℕ) (words : List (List ℕ)) (taps : List Tap) (written now : Option (List ℕ)) : Type 0 where
@@ -128,13 +124,27 @@ told_all plan from n k words taps written now all same told =
 left_long : (k : ℕ) (words : List (List ℕ)) (taps : List Tap) → length taps ≡ length words → length (drop k taps) ≡ length (drop k words)
 left_long k words taps same = length-drop k taps ∙ ap (λ m. m - k) same ∙ sym (length-drop k words)
 
+line_fills : (word runs bursts : List ℕ) → 0 < length (line_of_tap word ++ runs ++ bursts)
+unfolding line_of_tap
+line_fills word runs bursts = omega arith
+
+-- the texts of some taps are not empty, since each has its line
+texts_fill : (plan : Plan) (from n : ℕ) (words ws : List (List ℕ)) (taps ts : List Tap) (word text : List ℕ) (tap : Tap) → words ≡ word ∷ ws → taps ≡ tap ∷ ts → IsTextOfTaps plan from n words taps text → 0 < length text
+texts_fill plan from n words ws taps ts word text tap one two right =
+    let texts : IsTextOfTaps plan from n (word ∷ ws) (tap ∷ ts) text = rw (one, two) at right in
+    let first = line_fills word (text_of_runs texts.2.runs) (text_of_bursts (bursts_of from (heard_from plan tap from n))) in
+    let filled : 0 < length texts.0 = subst (λ (xs : List ℕ). 0 < length xs) (sym texts.2.is) first in
+    subst (λ (xs : List ℕ). 0 < length xs) (sym texts.4) (omega (arith, length-append texts.0 texts.1, filled))
+
 -- no memory for the next one
-pub told_unmade : (plan : Plan) (from n k : ℕ) (words : List (List ℕ)) (taps : List Tap) (written now : Option (List ℕ)) → length taps ≡ length words
+pub told_unmade : (plan : Plan) (from n k : ℕ) (words : List (List ℕ)) (taps : List Tap) (d : Tap) (e : List ℕ) (written now : Option (List ℕ)) → k < length words → length taps ≡ length words
     → IsToldUpTo plan from n k words taps written now → (text : List ℕ) × IsTextOfTaps plan from n words taps text × IsCutShort text written now
-told_unmade plan from n k words taps written now same told =
+told_unmade plan from n k words taps d e written now lt same told =
+    let within : k < length taps = omega (arith, lt, same) in
     let rest = some_texts plan from n (drop k words) (drop k taps) (left_long k words taps same) in
     let whole = texts_append plan from n (take k words) (drop k words) (take k taps) (drop k taps) told.done rest.0 told.texts rest.1 in
-    (told.done ++ rest.0, rw (take-append-drop k words, take-append-drop k taps) at whole, cut_here told.done rest.0 written now told.so_far)
+    let more = texts_fill plan from n (drop k words) (drop (k + 1) words) (drop k taps) (drop (k + 1) taps) (get_or words k e) rest.0 (get_or taps k d) (drop_more words k e lt) (drop_more taps k d within) rest.1 in
+    (told.done ++ rest.0, rw (take-append-drop k words, take-append-drop k taps) at whole, cut_here told.done rest.0 written now told.so_far more)
 
 -- the next one was cut short
 pub told_cut : (plan : Plan) (from n k : ℕ) (words : List (List ℕ)) (taps : List Tap) (d : Tap) (e one : List ℕ) (written mid now : Option (List ℕ)) → k < length words → length taps ≡ length words

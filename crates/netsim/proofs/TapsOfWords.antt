@@ -4,7 +4,7 @@ use Rattle.std.proofs.lemmas.List.{drop_more, take-append-drop, take_all, take_m
 use Rattle.layout.specs.declared.lines.Layout.{Layout}
 use Rattle.line_probe.specs.Taps.{IsWordOf}
 use Rattle.line_probe.specs.declared.tap.Tap.{Tap}
-use Rattle.netsim.specs.Probes.{AreTapsOf, IsFirstUnknown, NamesNoTap}
+use Rattle.program_endings.specs.Probes.{AreTapsOf, IsFirstUnknown, NamesNoTap}
 
 named_more : (network : Layout) (words : List (List ℕ)) (taps : List Tap) (word : List ℕ) (tap : Tap) → AreTapsOf network words taps → IsWordOf network word tap → AreTapsOf network (words ++ word ∷ []) (taps ++ tap ∷ [])
 named_more network [] [] word tap all one = (one, tt)

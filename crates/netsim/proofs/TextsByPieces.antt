@@ -3,7 +3,7 @@ use Rattle.std.proofs.Common.{◌≡◌, ℕ, ◌+◌, ◌≤◌, List, ◌++◌
 use Rattle.std.proofs.lemmas.List.{take_all}
 use Rattle.std.proofs.Math.Seq.{take-add}
 use Rattle.outside.specs.Files.{written_more, Rose}
-use Rattle.netsim.specs.Writing.{IsSaid, added, IsCutShort}
+use Rattle.program_endings.specs.Writing.{IsSaid, added, IsCutShort}
 
 line_next : (E : Type 0) (line : List ℕ) (k n : ℕ) (written : Option (List ℕ)) → option_map (written_more {E = E} (drop k line) (Ok n)) (option_map (λ w. w ++ take k line) written) ≡ option_map (λ w. w ++ take (k + n) line) written
 line_next E line k n None = refl

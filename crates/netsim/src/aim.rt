@@ -2,18 +2,19 @@
 ghost use Rattle.std.specs.Prelude.{◌≡◌, ◌≤◌, All, IfOk, IfErr, OnOk, OnErr};
 ghost use Rattle.layout.specs.Sound.{IsSound};
 ghost use Rattle.line_probe.specs.Taps.{HasTap};
-ghost use Rattle.netsim.specs.Endings.{IsAimEnd};
-ghost use Rattle.netsim.specs.Probes.{AreTapsOf, IsTapStop, half_bits_of};
+ghost use Rattle.program_endings.specs.Endings.{IsAimEnd};
+ghost use Rattle.netsim.specs.TapStops.{IsTapStop};
+ghost use Rattle.program_endings.specs.Probes.{AreTapsOf, half_bits_of};
 ghost use Rattle.program_texts.specs.Texts.{line_of_tap_fault};
-ghost use Rattle.netsim.specs.Writing.{IsSaid};
+ghost use Rattle.program_endings.specs.Writing.{IsSaid};
 
-use crate::endings::Ending;
 use crate::sink_texts::say;
 use layout::Layout;
 use line_probe::{Tap, find_tap};
 use lists::{List, OutOfMemory, Text};
 use mac_parameters::HALF_BITS_A_BIT;
 use outside::Sink;
+use program_endings::Ending;
 use program_texts::{RANGE_FAULT, line_of_tap_fault};
 use std::alloc::Global;
 

@@ -1,11 +1,10 @@
 //! The form that runs the layout of demo of a number.
 ghost use Rattle.std.specs.Prelude.{◌≡◌, ◌≤◌, IfOk};
 ghost use Rattle.layout.specs.Limits.{most_repeaters};
-ghost use Rattle.netsim.specs.Demos.{IsDemoText, line_of_demo};
-ghost use Rattle.netsim.specs.Endings.{IsDemoTold};
+ghost use Rattle.program_endings.specs.Demos.{IsDemoText, line_of_demo};
+ghost use Rattle.program_endings.specs.Endings.{IsDemoTold};
 ghost use Rattle.program_words.specs.WordLimits.{most_workers};
 
-use crate::endings::Ending;
 use crate::plans::empty_loads;
 use crate::runs::summary_of;
 use crate::sink_texts::write_line;
@@ -14,6 +13,7 @@ use layout::Layout;
 use lists::{List, OutOfMemory};
 use load_plan::make_plan;
 use outside::{Gate, Sink};
+use program_endings::Ending;
 use program_texts::add_count;
 use std::alloc::Global;
 use std::sync::Wait;
@@ -37,7 +37,7 @@ fn line_of_demo(alloc: Global, number: u32, network: &Layout) -> Result<List<u8>
     Ok(line)
 }
 
-/// That line, and the summary of the layout's run by windows, on 1 to 64 workers. It may wait.
+/// That line, and the summary of the layout's run on 1 to 64 workers. It may wait.
 fn text_of_demo<X: Threads + Wait + Sync, G: Gate>(
     rt: &X,
     alloc: Global,
@@ -60,7 +60,7 @@ fn text_of_demo<X: Threads + Wait + Sync, G: Gate>(
     Ok(text)
 }
 
-/// Runs the layout of demo of a number by windows, on 1 to 64 workers, and says its size and the summary. It may wait.
+/// Runs the layout of demo of a number on 1 to 64 workers, and says its size and the summary. It may wait.
 pub(crate) fn demo<X: Threads + Wait + Sync, G: Gate, K: Sink>(
     rt: &X,
     alloc: Global,

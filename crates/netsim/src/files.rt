@@ -1,8 +1,8 @@
 //! Whole files through a store.
 ghost use Rattle.std.specs.Prelude.{◌≡◌, ◌<◌, ◌≤◌, ◌+◌, ◌^◌, length, IfOk, OnOk, OnErr, IsErrOf, IfErr, option_map};
 ghost use Rattle.outside.specs.Files.{Rose, RoseAtNothing, IsAbsent, appended};
-ghost use Rattle.netsim.specs.Reading.{IsFront};
-ghost use Rattle.netsim.specs.Writing.{put_file, IsBroken};
+ghost use Rattle.program_endings.specs.Reading.{IsFront};
+ghost use Rattle.program_endings.specs.Writing.{put_file, IsBroken};
 
 use file_pieces::read_pieces;
 use lists::List;

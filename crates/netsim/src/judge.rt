@@ -1,18 +1,18 @@
 //! A layout file, read and judged.
 ghost use Rattle.std.specs.Prelude.{◌≡◌, ◌≤◌, Ok, IfOk, IfErr, OnOk, OnErr};
 ghost use Rattle.layout.specs.Sound.{IsSound};
-ghost use Rattle.netsim.specs.Endings.{IsJudged, IsEarly};
-ghost use Rattle.netsim.specs.Moments.{moment};
-ghost use Rattle.netsim.specs.Writing.{IsSaid};
+ghost use Rattle.program_endings.specs.Endings.{IsJudged, IsEarly};
+ghost use Rattle.program_endings.specs.Moments.{moment};
+ghost use Rattle.program_endings.specs.Writing.{IsSaid};
 ghost use Rattle.program_texts.specs.Texts.{line_of_fault, line_of_read_fault};
 
-use crate::endings::Ending;
 use crate::files::read_file;
 use crate::sink_texts::say;
 use layout::Layout;
 use layout_file::{LayoutCode, LayoutFault, read_layout};
 use lists::OutOfMemory;
 use outside::{Sink, Store, StoreFail};
+use program_endings::Ending;
 use program_texts::{line_of_fault, line_of_read_fault};
 use std::alloc::Global;
 

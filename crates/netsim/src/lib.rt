@@ -3,10 +3,8 @@
 
 mod aim;
 mod demo;
-mod endings;
 mod files;
 mod judge;
-pub mod laws;
 mod loads;
 mod meter;
 mod outputs;
@@ -20,7 +18,7 @@ mod stops;
 mod tell;
 mod top_call;
 
-pub use endings::Ending;
+pub use program_endings::{Ending, laws};
 pub use program_texts::HELP;
 pub use program_words::Words;
 pub use top_call::{netsim, run_words};

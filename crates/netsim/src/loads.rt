@@ -2,13 +2,12 @@
 ghost use Rattle.std.specs.Prelude.{◌≡◌, ◌≤◌, length, All, IfOk, IfErr, OnOk, OnErr, option_map};
 ghost use Rattle.layout.specs.Sound.{IsSound};
 ghost use Rattle.load_files.specs.Loaded.{IsLoaded, Whole, load_of};
-ghost use Rattle.netsim.specs.Endings.{IsFaultyEnd, IsUnloadedSaid, IsUnreadEnd};
-ghost use Rattle.netsim.specs.Moments.{moment};
-ghost use Rattle.netsim.specs.FileLimits.{most_load_records};
-ghost use Rattle.netsim.specs.Writing.{IsSaid};
+ghost use Rattle.program_endings.specs.Endings.{IsFaultyEnd, IsUnloadedSaid, IsUnreadEnd};
+ghost use Rattle.program_endings.specs.Moments.{moment};
+ghost use Rattle.program_endings.specs.FileLimits.{most_load_records};
+ghost use Rattle.program_endings.specs.Writing.{IsSaid};
 ghost use Rattle.program_texts.specs.Texts.{line_of_load_fault};
 
-use crate::endings::Ending;
 use crate::judge::say_read_fault;
 use crate::sink_texts::say;
 use capture_file::CaptureFault;
@@ -17,6 +16,7 @@ use lists::OutOfMemory;
 use load_files::{LoadStop, read_loads};
 use load_plan::RecordsList;
 use outside::{Sink, Store};
+use program_endings::Ending;
 use program_texts::line_of_load_fault;
 use std::alloc::Global;
 

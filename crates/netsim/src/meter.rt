@@ -1,17 +1,17 @@
 //! The form that says figures of a log.
 ghost use Rattle.std.specs.Prelude.{◌≡◌, OnOk, OnErr};
 ghost use Rattle.log_meter.specs.FigureTexts.{line_of_log_with};
-ghost use Rattle.netsim.specs.Endings.{IsMeterEnd};
-ghost use Rattle.netsim.specs.Moments.{moment};
-ghost use Rattle.netsim.specs.Writing.{IsSaid};
+ghost use Rattle.program_endings.specs.Endings.{IsMeterEnd};
+ghost use Rattle.program_endings.specs.Moments.{moment};
+ghost use Rattle.program_endings.specs.Writing.{IsSaid};
 
-use crate::endings::Ending;
 use crate::files::read_file;
 use crate::judge::say_read_fault;
 use crate::sink_texts::{say, write_line};
 use lists::OutOfMemory;
 use log_meter::{LogFault, MOST_LOG_OCTETS, figures_text, log_fault_text};
 use outside::{Sink, Store, StoreFail};
+use program_endings::Ending;
 use std::alloc::Global;
 
 /// Says that a log has a fault.

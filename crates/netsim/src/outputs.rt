@@ -3,33 +3,22 @@ ghost use Rattle.std.specs.Prelude.{◌≡◌, ◌≤◌, All, OnOk, OnErr, IfEr
 ghost use Rattle.layout.specs.Sound.{IsSound};
 ghost use Rattle.run_texts.specs.Captures.{AreShort, pcap_of_taken};
 ghost use Rattle.run_texts.specs.Counts.{AreLeft, counts_of};
-ghost use Rattle.netsim.specs.Endings.{IsFileEnd};
-ghost use Rattle.netsim.specs.Writing.{IsBroken, IsBrokenAmong, put_file, put_all};
-ghost use Rattle.netsim.specs.Runs.{capture_files, output_files};
+ghost use Rattle.program_endings.specs.Endings.{IsFileEnd};
+ghost use Rattle.program_endings.specs.Writing.{IsBroken, IsBrokenAmong, put_file, put_all};
+ghost use Rattle.program_endings.specs.Runs.{capture_files, output_files};
 ghost use Rattle.run_texts.specs.Texts.{counters_of_rows, log_of_rows};
 ghost use Rattle.program_texts.specs.Texts.{name_of_capture, name_of_counters, name_of_log};
 
-use crate::endings::Ending;
 use crate::files::write_file;
 use layout::StationLine;
 use lists::{List, OutOfMemory};
 use load_plan::Plan;
 use network::{Outputs, TakenList};
 use outside::{Store, StoreFail};
+use program_endings::Ending;
 use program_texts::{name_of_capture, name_of_counters, name_of_log};
 use run_texts::{counters_of_rows, log_of_rows, pcap_of};
 use std::alloc::Global;
-
-impl From<OutOfMemory> for Ending {
-    ghost use Rattle.std.specs.Prelude.{◌≡◌};
-    ghost use Rattle.netsim.specs.declared.endings.Ending.TheVariants as ending;
-
-    ghost from_gives = { λ _ e. e ≡ ending.Memory };
-
-    fn from(_: OutOfMemory) -> Self {
-        Ending::Memory
-    }
-}
 
 /// Makes a file of a text.
 pub(crate) fn file<S: Store>(store: &mut S, name: &str, text: &[u8]) -> Result<(), Ending>

@@ -1,18 +1,18 @@
 //! The plan of a layout file and its loads.
 ghost use Rattle.std.specs.Prelude.{◌≡◌, ◌≤◌, [], All, IfOk, IfErr, OnOk, length, replicate};
 ghost use Rattle.layout.specs.Sound.{IsSound};
-ghost use Rattle.netsim.specs.Endings.{IsBeforeRun, IsPlanned, IsUnloadedSaid, HasOnlyRead};
-ghost use Rattle.netsim.specs.FileLimits.{most_load_records};
-ghost use Rattle.netsim.specs.Moments.{moment};
-ghost use Rattle.netsim.specs.Runs.{IsPlanOf};
+ghost use Rattle.program_endings.specs.Endings.{IsBeforeRun, IsPlanned, IsUnloadedSaid, HasOnlyRead};
+ghost use Rattle.program_endings.specs.FileLimits.{most_load_records};
+ghost use Rattle.program_endings.specs.Moments.{moment};
+ghost use Rattle.program_endings.specs.Runs.{IsPlanOf};
 
-use crate::endings::Ending;
 use crate::judge::read_network;
 use crate::loads::read_network_loads;
 use layout::Layout;
 use lists::{List, OutOfMemory};
 use load_plan::{Plan, RecordsList, make_plan};
 use outside::{Sink, Store};
+use program_endings::Ending;
 use std::alloc::Global;
 
 /// Reads the loads of a network and makes their plan, or says why there is none.

@@ -2,28 +2,28 @@
 ghost use Rattle.std.specs.Prelude.{◌≡◌, ◌≤◌, All, IfOk};
 ghost use Rattle.layout.specs.Sound.{IsSound};
 ghost use Rattle.network.specs.Outputs.{captures, rows};
-ghost use Rattle.netsim.specs.Endings.{IsPlainEnd, IsRunEnd};
+ghost use Rattle.program_endings.specs.Endings.{IsPlainEnd, IsRunEnd};
 ghost use Rattle.program_words.specs.WordLimits.{most_workers};
-ghost use Rattle.netsim.specs.Moments.{moment};
-ghost use Rattle.netsim.specs.Runs.{IsSummary, IsSummaryOver, output_files, run_files};
+ghost use Rattle.program_endings.specs.Moments.{moment};
+ghost use Rattle.program_endings.specs.Runs.{IsSummary, IsSummaryOver, output_files, run_files};
 ghost use Rattle.run_texts.specs.Captures.{AreShort};
 ghost use Rattle.run_texts.specs.Counts.{AreLeft, counts_of};
 
-use crate::endings::Ending;
 use crate::outputs::file_outputs;
 use crate::plans::read_plan;
 use crate::sink_texts::write_line;
 use lists::{List, OutOfMemory};
 use load_plan::Plan;
-use net_step::run_plain;
 use network::Outputs;
 use outside::{Gate, Sink, Store};
+use program_endings::Ending;
 use program_texts::verdict_line;
 use run_texts::laws::{captures_are_short, frames_are_left};
 use run_texts::totals_of_rows;
 use std::alloc::Global;
 use std::sync::Wait;
 use std::thread::Threads;
+use turn_run::run_in_turn;
 use window_run::run_by_windows;
 
 /// The summary of a run of a plan.
@@ -95,11 +95,12 @@ fn file_whole_run<S: Store, K: Sink>(
     file_run(alloc, plan, &outputs, prefix, store, out)
 }
 
-/// Runs the network of a layout file and its loads by half bits, writes the files of a prefix, and says the summary.
-pub(crate) fn plain<S: Store, K: Sink>(
+/// Runs the network of a layout file and its loads on one thread, writes the files of a prefix, and says the summary.
+pub(crate) fn plain<G: Gate, S: Store, K: Sink>(
     alloc: Global,
     layout: &str,
     prefix: &str,
+    gate: &G,
     store: &mut S,
     out: &mut K,
 ) -> Ending
@@ -112,11 +113,11 @@ pub(crate) fn plain<S: Store, K: Sink>(
         Ok(plan) => plan,
         Err(ended) => return ended,
     };
-    let outputs = run_plain(alloc, &plan);
+    let outputs = run_in_turn(alloc, &plan, gate);
     file_whole_run(alloc, &plan, outputs, prefix, store, out)
 }
 
-/// The same by windows, on 1 to 64 workers. It may wait.
+/// The same on 1 to 64 workers. It may wait.
 pub(crate) fn run<X: Threads + Wait + Sync, G: Gate, S: Store, K: Sink>(
     rt: &X,
     alloc: Global,

@@ -1,11 +1,11 @@
 //! Texts to a sink.
 ghost use Rattle.std.specs.Prelude.{◌≡◌, ◌≤◌, OnOk, OnErr, IsErrOf};
 ghost use Rattle.outside.specs.Files.{Rose};
-ghost use Rattle.netsim.specs.Endings.{IsText};
-ghost use Rattle.netsim.specs.Writing.{IsSaid, added, IsCutShort};
+ghost use Rattle.program_endings.specs.Endings.{IsText};
+ghost use Rattle.program_endings.specs.Writing.{IsSaid, added, IsCutShort};
 
-use crate::endings::Ending;
 use outside::{Sink, SinkFail};
+use program_endings::Ending;
 
 /// Writes a text, or a front of it where the sink refuses.
 pub(crate) fn write_text<K: Sink>(out: &mut K, text: &[u8]) -> Result<(), SinkFail>

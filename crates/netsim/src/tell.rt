@@ -1,15 +1,16 @@
 //! The forms that only tell of a layout.
 ghost use Rattle.std.specs.Prelude.{IfOk};
 ghost use Rattle.layout.specs.Sound.{IsSound};
-ghost use Rattle.netsim.specs.Endings.{IsTellingEnd, told_by};
-ghost use Rattle.netsim.specs.Moments.{moment};
+ghost use Rattle.netsim.specs.Tellings.{told_by};
+ghost use Rattle.program_endings.specs.Endings.{IsTellingEnd};
+ghost use Rattle.program_endings.specs.Moments.{moment};
 
-use crate::endings::Ending;
 use crate::judge::read_network;
 use crate::sink_texts::write_line;
 use layout::Layout;
 use lists::{List, OutOfMemory};
 use outside::{Sink, Store};
+use program_endings::Ending;
 use program_texts::{slack_text, verdict_line};
 use std::alloc::Global;
 

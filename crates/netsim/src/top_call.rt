@@ -1,14 +1,13 @@
 //! The top call.
 ghost use Rattle.std.specs.Prelude.{◌≡◌, ◌⊎◌, ◌↔◌, None};
 ghost use Rattle.outside.specs.Files.{Rose};
-ghost use Rattle.netsim.specs.LoggedCollisions.{AreCollisionsLogged};
-ghost use Rattle.netsim.specs.Endings.{IsAnswer, IsEnd};
-ghost use Rattle.netsim.specs.Moments.{moment};
+ghost use Rattle.program_endings.specs.LoggedCollisions.{AreCollisionsLogged};
+ghost use Rattle.program_endings.specs.Endings.{IsAnswer, IsEnd};
+ghost use Rattle.program_endings.specs.Moments.{moment};
 ghost use Rattle.program_words.specs.Requests.{asked};
-ghost use Rattle.netsim.specs.Statuses.{IfFiles, IsDone, IsDoneOrMemory, IsRefusal, IsRunBroken, IsRunRefused, IsUnhindered};
+ghost use Rattle.program_endings.specs.Statuses.{IfFiles, IsDone, IsDoneOrMemory, IsRefusal, IsRunBroken, IsRunRefused, IsUnhindered};
 
 use crate::demo::demo;
-use crate::endings::Ending;
 use crate::meter::meter;
 use crate::picture::picture;
 use crate::probe::probe;
@@ -18,6 +17,7 @@ use crate::sink_texts::{say, write_line};
 use crate::stops::stop;
 use crate::tell::{Telling, tell};
 use outside::{Gate, Sink, Store};
+use program_endings::Ending;
 use program_texts::{HELP, VERSION, WORDS_FAULT};
 use program_words::{Request, Words, read_words};
 use std::alloc::Global;
@@ -46,7 +46,7 @@ pub fn run_words<X: Threads + Wait + Sync, S: Store, K: Sink, G: Gate>(
     match request {
         Request::Check { layout } => tell(alloc, Telling::Verdict, layout, store, out),
         Request::Slack { layout } => tell(alloc, Telling::Slacks, layout, store, out),
-        Request::Plain { layout, prefix } => plain(alloc, layout, prefix, store, out),
+        Request::Plain { layout, prefix } => plain(alloc, layout, prefix, gate, store, out),
         Request::Run {
             layout,
             prefix,
@@ -82,11 +82,11 @@ pub fn run_words<X: Threads + Wait + Sync, S: Store, K: Sink, G: Gate>(
 ///
 /// `check LAYOUT` writes the path verdict of the layout to the sink, and `slack LAYOUT` that and how far each gap
 /// between neighbouring taps and each repeater's delay can grow. `plain LAYOUT PREFIX` runs the network of the layout
-/// with its loads by half bits, writes PREFIX.log, PREFIX.counters and a capture PREFIX.STATION.pcap for each station,
-/// and then the summary to the sink. `run LAYOUT PREFIX WORKERS` does the same by windows, on 1 to 64 workers. `stop
-/// LAYOUT PREFIX FROM` runs it by half bits to its first quiet half bit at or after FROM and writes the state there to
-/// PREFIX.state, and `resume LAYOUT PREFIX` goes on from that state and does as `plain`. `demo NUMBER WORKERS` runs the
-/// layout of demo of 1 to 128 so, and writes its size and the summary to the sink. `probe LAYOUT FROM TO TAP ..` runs
+/// with its loads on one thread, writes PREFIX.log, PREFIX.counters and a capture PREFIX.STATION.pcap for each station,
+/// and then the summary to the sink. `run LAYOUT PREFIX WORKERS` does the same on 1 to 64 workers. `stop LAYOUT PREFIX
+/// FROM` runs it by half bits to its first quiet half bit at or after FROM and writes the state there to PREFIX.state,
+/// and `resume LAYOUT PREFIX` goes on from that state and does as `plain`. `demo NUMBER WORKERS` runs the layout of
+/// demo of 1 to 128 on workers, and writes its size and the summary to the sink. `probe LAYOUT FROM TO TAP ..` runs
 /// the network by half bits and writes to the sink what 1 to 16 taps hear from half bit FROM on and before TO, as runs
 /// of one symbol and bursts, and `waves LAYOUT FROM TO TAP ..` the same as a value change dump. `meter LOG` writes the
 /// figures of a log to the sink, and `picture LAYOUT LOG FROM TO` what the log tells of the half bits from FROM on and
@@ -115,9 +115,9 @@ pub fn netsim<X: Threads + Wait + Sync, S: Store, K: Sink, G: Gate>(
     // Status 1 exactly where the words are none of the forms.
     ensures words { (result ≡ 1) ↔ (asked words.now ≡ None) }
 
-    // Status 0 only where what the words ask for is done, as the record of their form says: of a run, by half bits or
-    // by windows on any number of workers, the store holds its files, by the layout and the loads held at entry, and
-    // the sink got the summary; of a form that tells, the sink got its text; nothing else is changed.
+    // Status 0 only where what the words ask for is done, as the record of their form says: of a run, on any number of
+    // workers, the store holds its files, by the layout and the loads held at entry, and the sink got the summary; of a
+    // form that tells, the sink got its text; nothing else is changed.
     ensures done { result ≡ 0 → IsDone (asked words.now)
         (moment S.held S.read_faults S.write_faults K.written K.faults K.refused store.old out.old)
         (moment S.held S.read_faults S.write_faults K.written K.faults K.refused store.new out.new) }

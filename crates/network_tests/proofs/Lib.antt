@@ -1,2 +1,1 @@
-pub mod PlannedTapsStand
 pub mod ToldBodiesExample

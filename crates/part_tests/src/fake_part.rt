@@ -1,17 +1,14 @@
 //! A part in memory for tests. Where it has no edges it makes its windows; where it has some, its room is always
 //! refused.
-ghost use Rattle.std.specs.Prelude.{◌≡◌, ◌<◌, ◌≤◌, ◌+◌, All, IfOk, [], true, length};
+ghost use Rattle.std.specs.Prelude.{◌≡◌, ◌<◌, ◌+◌, IfOk, [], true};
 ghost use Rattle.net_parts.specs.Parts.{edges_of_part, parts};
 ghost use Rattle.net_parts.specs.Windows.{windows};
 
-use capture_file::Records;
-use layout_file::read_layout;
 use lists::{List, OutOfMemory};
-use load_plan::{Plan, RecordsList, make_plan};
+use load_plan::Plan;
 use net_parts::{Parcel, Part, edges_of, windows};
 use std::alloc::Global;
 use std::snapshot::Snapshot;
-use std::test::Fail;
 
 #[derive(Drop)]
 pub struct FakePart {
@@ -91,26 +88,4 @@ impl Part for FakePart {
     ghost within = { λ s. s.within };
 
     ghost stands = { λ s i. s.number };
-}
-
-/// The plan of a layout, without loads.
-pub fn plan_of(alloc: Global, layout: &str) -> Result<Plan, Fail> {
-    let layout = match read_layout(alloc, layout.as_bytes()) {
-        Ok(layout) => layout,
-        Err(_) => return Err(Fail::from("a fault")),
-    };
-    let loads = no_loads(alloc, layout.stations.len())?;
-    Ok(make_plan(alloc, layout, loads)?)
-}
-
-/// No records for so many stations.
-fn no_loads(alloc: Global, stations: usize) -> Result<RecordsList, OutOfMemory>
-    ensures count { IfOk result (λ loads. length loads ≡ stations) }
-    ensures few { IfOk result (λ loads. All (λ rs. length rs ≤ 4000000000) loads) }
-{
-    let mut loads = RecordsList::new(alloc);
-    for _station in 0..stations {
-        loads.push(Records::new(alloc))?;
-    }
-    Ok(loads)
 }

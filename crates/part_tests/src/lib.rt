@@ -14,6 +14,4 @@ mod repeaters;
 #[cfg(test)]
 mod rooms;
 #[cfg(test)]
-mod segments;
-#[cfg(test)]
 mod shares;

@@ -33,30 +33,6 @@ fn one_line_is_heard_by_the_other_tap(rt: HostRuntime) -> Result<(), OutOfMemory
     Ok(())
 }
 
-/// Two taps, the second of which emits a signal in half bit 2, which is cut again, and with it the Idle behind its
-/// first.
-#[test]
-fn a_line_that_is_cut_is_no_source(rt: HostRuntime) -> Result<(), OutOfMemory> {
-    let mut first = Line::new(rt.alloc(), 0, 4, 20, 8)?;
-    let mut second = Line::new(rt.alloc(), 10, 4, 20, 8)?;
-    first.extend(&[Sym::Hi, Sym::Lo, Sym::Idle]);
-    second.extend(&[Sym::Hi, Sym::Idle, Sym::Lo]);
-    let mut lines = [first, second];
-    let mut loud = LoudTaps::new(rt.alloc(), 2)?;
-    loud.find(&lines, 1);
-    assert_eq!(rt; loud.only(), None);
-    loud.find(&lines, 2);
-    assert_eq!(rt; loud.only(), Some(1));
-    lines[1].cut(2);
-    loud.find(&lines, 2);
-    assert_eq!(rt; loud.only(), None);
-    loud.find(&lines, 1);
-    assert_eq!(rt; loud.only(), Some(0));
-    loud.find(&lines, 0);
-    assert_eq!(rt; loud.only(), None);
-    Ok(())
-}
-
 /// Tap 0 listens at place 20. Tap 1, at place 0, emits signals in half bits 0 to 3, and tap 2, at place 10, in half
 /// bits 13 to 16. So tap 0 hears the first 20 half bits later, in 20 to 23, and the others 10 half bits later, in 23
 /// to 26: in 23 they clash. Tap 1 hears tap 2 from half bit 23 on.
@@ -103,28 +79,5 @@ fn a_tap_hears_two_lines_one_after_another(rt: HostRuntime) -> Result<(), OutOfM
     );
     assert_eq!(rt; classes_ahead(&lines, 1, &loud, 4, far, 20, &heard, 10), 7);
     assert_eq!(rt; classes_ahead(&lines, 3, &loud, 4, far, 20, &heard, 10), 3);
-    Ok(())
-}
-
-/// Two taps 10 half bits apart, the first of which emits signals in half bits 0 to 23: the other hears them in 10 to
-/// 33.
-#[test]
-fn the_only_loud_tap_hears_idle(rt: HostRuntime) -> Result<(), OutOfMemory> {
-    let mut first = Line::new(rt.alloc(), 0, 4, 20, 24)?;
-    let second = Line::new(rt.alloc(), 10, 4, 20, 24)?;
-    first.extend(&[Sym::Hi; 24]);
-    let lines = [first, second];
-    let far = farthest(&lines, 4);
-    assert_eq!(rt; far, 10);
-    let mut loud = LoudTaps::new(rt.alloc(), 2)?;
-    loud.find(&lines, 0);
-    assert_eq!(rt; loud.only(), Some(0));
-    assert_eq!(rt; lines[0].is_signal_over(0, 24), true);
-    assert_eq!(rt; lines[0].is_signal_over(0, 25), false);
-    let heard = [Sym::Idle, Sym::Hi];
-    assert_eq!(rt; classes_ahead(&lines, 2, &loud, 4, far, 10, &heard, 5), 5);
-    assert_eq!(rt; classes_ahead(&lines, 2, &loud, 4, far, 30, &heard, 5), 4);
-    let both = [Sym::Hi, Sym::Hi];
-    assert_eq!(rt; classes_ahead(&lines, 2, &loud, 4, far, 10, &both, 5), 0);
     Ok(())
 }

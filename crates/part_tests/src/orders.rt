@@ -1,15 +1,14 @@
 //! The three parts of a network in two shares, between which parcels are moved in two orders.
-ghost use Rattle.std.specs.Prelude.{◌≡◌, ◌<◌, ◌≤◌, [], All, IfOk, OnOk, Some, length};
+ghost use Rattle.std.specs.Prelude.{◌≡◌, ◌<◌, [], IfOk, OnOk, Some, length};
 ghost use Rattle.exchange_core.specs.Shares.{rack};
 ghost use Rattle.worker_gate.specs.PlannedShares.{IsPlannedShare};
 
 use backoff_draw::Draws;
-use capture_file::Records;
+use case_support::plan_of;
 use collision_log::{Body, Row, Rows, RowsList, merge};
 use exchange_core::Share;
-use layout_file::read_layout;
 use lists::OutOfMemory;
-use load_plan::{Plan, RecordsList, make_plan};
+use load_plan::Plan;
 use net_parts::{Part, opening, windows};
 use net_step::run_plain;
 use repeater_engine::RepeaterPart;
@@ -32,27 +31,6 @@ send = [
   { station = "b", at = 65, octets = "ffffffffffff0200000000010800" },
 ]
 "#;
-
-/// No records for so many stations.
-fn no_loads(alloc: Global, stations: usize) -> Result<RecordsList, OutOfMemory>
-    ensures count { IfOk result (λ loads. length loads ≡ stations) }
-    ensures few { IfOk result (λ loads. All (λ rs. length rs ≤ 4000000000) loads) }
-{
-    let mut loads = RecordsList::new(alloc);
-    for _station in 0..stations {
-        loads.push(Records::new(alloc))?;
-    }
-    Ok(loads)
-}
-
-/// The plan of a layout without loads.
-fn plan_of(alloc: Global, text: &str) -> Result<Plan, Fail> {
-    let Ok(layout) = read_layout(alloc, text.as_bytes()) else {
-        return Err(Fail::from("a fault"));
-    };
-    let loads = no_loads(alloc, layout.stations.len())?;
-    Ok(make_plan(alloc, layout, loads)?)
-}
 
 /// Adds a segment with the parcels of the first window.
 fn add_segment<S: Part, R: Part>(

@@ -1,6 +1,6 @@
 //! A repeater as a part of a plan.
 
-use crate::fake_part::plan_of;
+use case_support::plan_of;
 use net_parts::Part;
 use repeater_engine::RepeaterPart;
 use std::test::Fail;

@@ -3,7 +3,8 @@ ghost use Rattle.std.specs.Prelude.{◌≡◌, IfOk, IsTrue, true};
 ghost use Rattle.exchange_core.specs.Holdings.{refused_holding};
 ghost use Rattle.exchange_core.specs.Shares.{owns, change};
 
-use crate::fake_part::{FakePart, plan_of};
+use crate::fake_part::FakePart;
+use case_support::plan_of;
 use exchange_core::{PartList, Share};
 use load_plan::Plan;
 use net_parts::{Parcel, Part, opening};

@@ -1,14 +1,6 @@
-//! Tests of what taps hear, with the words that name them, runs, bursts, and runs that are read back, of value change
-//! dumps and of pictures.
+//! Tests of runs that are read back from their text, and of the bursts in them. What taps hear, dumps of waves and
+//! pictures are stored cases.
 #![tactic(auto)]
 
 #[cfg(test)]
-mod pictures;
-#[cfg(test)]
-mod reading;
-#[cfg(test)]
 mod runs;
-#[cfg(test)]
-mod taps;
-#[cfg(test)]
-mod waves;

@@ -3,10 +3,10 @@ ghost use Rattle.std.specs.Prelude.{◌≡◌, ◌≤◌, true};
 ghost use Rattle.layout.specs.Limits.{most_half_bits};
 ghost use Rattle.line_probe.specs.Runs.{end_after_runs};
 
-use line_probe::{Burst, OutOfMemory, Run, Runs, RunsFault, bursts, read_runs};
+use line_probe::{Burst, OutOfMemory, Run, Runs, RunsFault, bursts, read_runs, run_text};
+use lists::List;
 use manchester_line::Sym;
 use std::alloc::Global;
-use std::test::Fail;
 
 /// How many runs there are, or the fault.
 fn told(answer: Result<Runs, RunsFault>) -> Result<usize, RunsFault> {
@@ -17,7 +17,7 @@ fn told(answer: Result<Runs, RunsFault>) -> Result<usize, RunsFault> {
 }
 
 fn count(alloc: Global, bytes: &[u8]) -> Result<usize, RunsFault> {
-    if bytes.len() > 100_000 {
+    if bytes.len() > 4_000_000_000 {
         return Err(RunsFault::OutOfMemory);
     }
     told(read_runs(alloc, bytes))
@@ -51,110 +51,8 @@ fn runs_are_read(rt: HostRuntime) -> Result<(), RunsFault> {
     Ok(())
 }
 
-/// What is told of the first octets of the four runs: their line feeds are octets 9, 17, 25 and 45, from 0.
-fn told_of_front(len: usize) -> Result<usize, RunsFault> {
-    match len {
-        0 => Ok(0),
-        1..=9 => Err(RunsFault::BadLine { line: 1 }),
-        10 => Ok(1),
-        11..=17 => Err(RunsFault::BadLine { line: 2 }),
-        18 => Ok(2),
-        19..=25 => Err(RunsFault::BadLine { line: 3 }),
-        26 => Ok(3),
-        27..=45 => Err(RunsFault::BadLine { line: 4 }),
-        _ => Ok(4),
-    }
-}
-
-#[test]
-fn a_text_that_is_cut_lacks_a_line_feed(rt: HostRuntime) {
-    assert_eq!(rt; FOUR.len(), 46);
-    for len in 0..FOUR.len() + 1 {
-        assert_eq!(rt; count(rt.alloc(), &FOUR[..len]), told_of_front(len));
-    }
-}
-
-/// Lines of runs, the numbers of which are at the ends of their range.
-const LINES: [&[u8]; 5] = [
-    b"0 1 idle",
-    b"2000000000 2000000000 clash",
-    b"7 10 hi",
-    b"10 7 lo",
-    b"1999999999 1 idle",
-];
-
-/// Whether each of the line's fronts is refused that is shorter than the line, before a line feed.
-fn fronts_are_bad(alloc: Global, line: &[u8]) -> bool {
-    let mut room = [0; 80];
-    if line.len() >= room.len() {
-        return false;
-    }
-    for len in 0..line.len() {
-        room[..len].copy_from_slice(&line[..len]);
-        room[len] = b'\n';
-        if count(alloc, &room[..len + 1]) != Err(RunsFault::BadLine { line: 1 }) {
-            return false;
-        }
-    }
-    true
-}
-
-/// Whether the line is read, before a line feed.
-fn line_is_read(alloc: Global, line: &[u8]) -> bool {
-    let mut room = [b'\n'; 80];
-    if line.len() >= room.len() {
-        return false;
-    }
-    room[..line.len()].copy_from_slice(line);
-    count(alloc, &room[..line.len() + 1]) == Ok(1)
-}
-
-#[test]
-fn a_line_that_is_cut_is_none(rt: HostRuntime) {
-    for line in LINES {
-        assert!(rt; line_is_read(rt.alloc(), line));
-        assert!(rt; fronts_are_bad(rt.alloc(), line));
-    }
-}
-
-/// Octets that are no line of a run, before a line feed: no count, numbers past their range, leading zeros, other
-/// words, other blanks, a carriage return.
-const BAD_LINES: [&[u8]; 24] = [
-    b"",
-    b"0 0 idle",
-    b"2000000001 1 idle",
-    b"0 2000000001 idle",
-    b"4294967296 1 idle",
-    b"0 99999999999999999999 idle",
-    b"0 01 idle",
-    b"00 1 idle",
-    b"01 1 idle",
-    b"+0 1 idle",
-    b"0 -1 idle",
-    b"0 1 Idle",
-    b"0 1 idl",
-    b"0 1 idles",
-    b"0 1 none",
-    b"0 1 ",
-    b"0 1",
-    b"0  1 idle",
-    b"0 1  idle",
-    b" 0 1 idle",
-    b"0 1 idle ",
-    b"0 1 idle\r",
-    b"0\t1 idle",
-    b"0,1,idle",
-];
-
-#[test]
-fn other_octets_are_no_lines(rt: HostRuntime) {
-    for line in BAD_LINES {
-        assert!(rt; !line_is_read(rt.alloc(), line));
-    }
-}
-
 /// Texts with what is told of each.
-const DAMAGED: [(&[u8], Result<usize, RunsFault>); 13] = [
+const TEXTS: [(&[u8], Result<usize, RunsFault>); 44] = [
     (b"0 10 idle\n11 1 lo\n", Err(RunsFault::Gap { line: 2 })),
     (b"0 10 idle\n9 1 lo\n", Err(RunsFault::Gap { line: 2 })),
     (b"0 10 idle\n10 1 idle\n", Err(RunsFault::Same { line: 2 })),
@@ -180,26 +78,60 @@ const DAMAGED: [(&[u8], Result<usize, RunsFault>); 13] = [
     ),
     (b"7 3 lo\n10 1 hi\n", Ok(2)),
     (b"0 2000000000 lo\n2000000000 2000000000 hi\n", Ok(2)),
+    // The numbers are at the ends of their range.
+    (b"0 1 idle\n", Ok(1)),
+    (b"2000000000 2000000000 clash\n", Ok(1)),
+    (b"7 10 hi\n", Ok(1)),
+    (b"10 7 lo\n", Ok(1)),
+    (b"1999999999 1 idle\n", Ok(1)),
+    // No count, numbers past their range, leading zeros, other words, other blanks, a carriage return.
+    (b"0 0 idle\n", Err(RunsFault::BadLine { line: 1 })),
+    (b"2000000001 1 idle\n", Err(RunsFault::BadLine { line: 1 })),
+    (b"0 2000000001 idle\n", Err(RunsFault::BadLine { line: 1 })),
+    (b"4294967296 1 idle\n", Err(RunsFault::BadLine { line: 1 })),
+    (
+        b"0 99999999999999999999 idle\n",
+        Err(RunsFault::BadLine { line: 1 }),
+    ),
+    (b"00 1 idle\n", Err(RunsFault::BadLine { line: 1 })),
+    (b"01 1 idle\n", Err(RunsFault::BadLine { line: 1 })),
+    (b"+0 1 idle\n", Err(RunsFault::BadLine { line: 1 })),
+    (b"0 -1 idle\n", Err(RunsFault::BadLine { line: 1 })),
+    (b"0 1 Idle\n", Err(RunsFault::BadLine { line: 1 })),
+    (b"0 1 idl\n", Err(RunsFault::BadLine { line: 1 })),
+    (b"0 1 idles\n", Err(RunsFault::BadLine { line: 1 })),
+    (b"0 1 none\n", Err(RunsFault::BadLine { line: 1 })),
+    (b"0 1 \n", Err(RunsFault::BadLine { line: 1 })),
+    (b"0 1\n", Err(RunsFault::BadLine { line: 1 })),
+    (b"0  1 idle\n", Err(RunsFault::BadLine { line: 1 })),
+    (b"0 1  idle\n", Err(RunsFault::BadLine { line: 1 })),
+    (b" 0 1 idle\n", Err(RunsFault::BadLine { line: 1 })),
+    (b"0 1 idle \n", Err(RunsFault::BadLine { line: 1 })),
+    (b"0 1 idle\r\n", Err(RunsFault::BadLine { line: 1 })),
+    (b"0\t1 idle\n", Err(RunsFault::BadLine { line: 1 })),
+    (b"0,1,idle\n", Err(RunsFault::BadLine { line: 1 })),
+    // The line feed is missing, or more.
+    (b"0 10 idle", Err(RunsFault::BadLine { line: 1 })),
+    (b"0 10 idle\n10 1 l", Err(RunsFault::BadLine { line: 2 })),
+    (
+        b"0 10 idle\n10 1 lo\n1",
+        Err(RunsFault::BadLine { line: 3 }),
+    ),
+    (
+        b"0 10 idle\n10 1 lo\n11 2 hi\n13 1999999987 clash",
+        Err(RunsFault::BadLine { line: 4 }),
+    ),
 ];
 
 #[test]
-fn a_damaged_text_has_its_first_fault(rt: HostRuntime) {
-    for (bytes, told) in DAMAGED {
+fn a_text_has_its_first_fault(rt: HostRuntime) {
+    for (bytes, told) in TEXTS {
         assert_eq!(rt; count(rt.alloc(), bytes), told);
     }
-}
-
-#[test]
-fn a_fault_of_runs_has_its_code(rt: HostRuntime) {
-    let faults = [
-        (RunsFault::BadLine { line: 7 }, 1),
-        (RunsFault::Gap { line: 2 }, 2),
-        (RunsFault::Same { line: 3 }, 3),
-        (RunsFault::OutOfMemory, 4),
-    ];
-    for (fault, code) in faults {
-        assert_eq!(rt; fault.code(), code);
-    }
+    assert_eq!(rt; RunsFault::BadLine { line: 7 }.code(), 1);
+    assert_eq!(rt; RunsFault::Gap { line: 2 }.code(), 2);
+    assert_eq!(rt; RunsFault::Same { line: 3 }.code(), 3);
+    assert_eq!(rt; RunsFault::OutOfMemory.code(), 4);
 }
 
 /// Whether the runs end by half bit 2,000,000,000.
@@ -218,7 +150,7 @@ fn end_soon(runs: &[Run]) -> bool
 
 /// The first of the bursts in the runs of a text, and how many there are.
 fn first_burst(alloc: Global, text: &[u8]) -> Result<(Option<Burst>, usize), RunsFault> {
-    if text.len() > 100_000 {
+    if text.len() > 4_000_000_000 {
         return Err(RunsFault::OutOfMemory);
     }
     let runs = read_runs(alloc, text)?;
@@ -282,5 +214,33 @@ fn bursts_are_judged(rt: HostRuntime) -> Result<(), RunsFault> {
     for (text, first, many) in texts {
         assert_eq!(rt; first_burst(rt.alloc(), text)?, (first, many));
     }
+    Ok(())
+}
+
+/// The text of so many runs of one half bit each, lo and hi in turn, and a last one of idle.
+fn text_of_ones(alloc: Global, halves: u64) -> Result<List<u8>, OutOfMemory> {
+    let mut text = List::new(alloc);
+    let mut room = [0; 80];
+    for start in 0..halves {
+        let symbol = if start % 2 == 0 { Sym::Lo } else { Sym::Hi };
+        let run = Run {
+            start,
+            count: 1,
+            symbol,
+        };
+        let len = run_text(&run, &mut room);
+        text.extend(&room[..len])?;
+    }
+    text.extend(b"100000 1 idle\n")?;
+    Ok(text)
+}
+
+/// They are 50,000 bits 1, of which the first two are read as the delimiter's end.
+#[test]
+fn a_hundred_thousand_runs_are_read(rt: HostRuntime) -> Result<(), RunsFault> {
+    let text = text_of_ones(rt.alloc(), 100_000)?;
+    assert_eq!(rt; count(rt.alloc(), text.as_slice()), Ok(100_001));
+    let burst = burst(0, 100_000, 6_249, 6);
+    assert_eq!(rt; first_burst(rt.alloc(), text.as_slice())?, (Some(burst), 1));
     Ok(())
 }

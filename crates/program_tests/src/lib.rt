@@ -1,21 +1,11 @@
-//! Tests of the top call over stores and sinks in memory, some of whose calls fail.
+//! Tests of the top call over stores and sinks in memory, of which a call fails.
 #![tactic(auto)]
 
 #[cfg(test)]
-mod cases;
+mod blocks;
 #[cfg(test)]
-mod loads;
+mod calls;
 #[cfg(test)]
-mod meters;
+mod done;
 #[cfg(test)]
-mod pictures;
-#[cfg(test)]
-mod plain;
-#[cfg(test)]
-mod probes;
-#[cfg(test)]
-mod runs;
-#[cfg(test)]
-mod stops;
-#[cfg(test)]
-mod waves;
+mod failing;

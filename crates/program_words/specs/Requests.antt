@@ -8,11 +8,11 @@ use Rattle.program_words.specs.declared.words.Hearing.TheVariants as hearing
 use Rattle.program_words.specs.declared.words.Request.{Request}
 use Rattle.program_words.specs.declared.words.Request.TheVariants as request
 
--- the path verdict of a layout, its slacks, a run by half bits with the names of the layout and of what is written, the
--- same by windows on so many workers, a run that stops at or after a half bit with the same names, one that goes on
--- from where such a run stopped, a run of the layout of demo of a number on so many workers, what the taps of these
--- words hear from one half bit on and before another, told so, the figures of a log, the picture of what a log tells of
--- the half bits from one on and before another, or a fixed text
+-- the path verdict of a layout, its slacks, a run with the names of the layout and of what is written, the same on so
+-- many workers, a run that stops at or after a half bit with the same names, one that goes on from where such a run
+-- stopped, a run of the layout of demo of a number on so many workers, what the taps of these words hear from one half
+-- bit on and before another, told so, the figures of a log, the picture of what a log tells of the half bits from one
+-- on and before another, or a fixed text
 pub data Asked : Type 0 where
   Check : (layout : List ℕ) → Asked
   Slack : (layout : List ℕ) → Asked

@@ -48,12 +48,12 @@ pub enum Request<'a> {
     Slack {
         layout: &'a str,
     },
-    /// Runs the network of a layout by half bits and writes the files of a prefix.
+    /// Runs the network of a layout and writes the files of a prefix.
     Plain {
         layout: &'a str,
         prefix: &'a str,
     },
-    /// The same by windows, on so many workers.
+    /// The same on so many workers.
     Run {
         layout: &'a str,
         prefix: &'a str,
@@ -71,7 +71,7 @@ pub enum Request<'a> {
         layout: &'a str,
         prefix: &'a str,
     },
-    /// Runs the layout of demo of a number by windows, on so many workers.
+    /// Runs the layout of demo of a number on so many workers.
     Demo {
         number: u32,
         workers: u32,

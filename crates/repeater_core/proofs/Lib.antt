@@ -23,3 +23,4 @@ pub mod SteadyMost
 pub mod SteadyRows
 pub mod SteadinessLasts
 pub mod LeapedParts
+pub mod Numbers

@@ -27,3 +27,4 @@ pub mod ReadStates
 pub mod SenderSteps
 pub mod ReadParts
 pub mod EntriesTold
+pub mod Numbers

@@ -5,11 +5,10 @@ use Rattle.std.specs.Char.{is_ascii_digit}
 use Rattle.std.specs.List.{prefix_len}
 use Rattle.std.specs.Str.{bytes_eq}
 use Rattle.text_fields.specs.Reading.{Read, ◌>>=◌, else_read, after_word, decimal_at}
-use Rattle.run_checkpoint.specs.declared.fields.TheConstants.{BEYOND_RANGES}
 
 -- the least number of more than 32 bits, as which each longer one is told: it is beyond all ranges of a state's numbers
 abbrev pub beyond_ranges : ℕ
-beyond_ranges = BEYOND_RANGES
+beyond_ranges = 4294967296
 
 -- whether a digit other than zero stands in front
 abbrev pub begins_number : List ℕ → Bool

@@ -17,11 +17,10 @@ use Rattle.run_checkpoint.specs.States.{IsStateOfPlan, text_of_state}
 use Rattle.run_checkpoint.specs.TextLines.{text_lines}
 use Rattle.run_checkpoint.specs.declared.fault.StateFault.{StateFault}
 use Rattle.run_checkpoint.specs.declared.fault.StateFault.TheVariants as fault
-use Rattle.run_checkpoint.specs.declared.reading.TheConstants.{MOST_STATE_OCTETS}
 
 -- the most octets of a state's text
 abbrev pub most_state_octets : ℕ
-most_state_octets = MOST_STATE_OCTETS
+most_state_octets = 268435456
 
 -- the second judgement, where the first has no fault
 abbrev pub then_judged : {A B : Type 0} → Result A StateFault → (A → Result B StateFault) → Result B StateFault

@@ -17,19 +17,18 @@ use Rattle.mac_transmit.specs.declared.phase.Phase.TheVariants.{Rest, Waiting, S
 use Rattle.mac_transmit.specs.declared.state.SenderState.{SenderState}
 use Rattle.port_partition.specs.Guard.{Guard}
 use Rattle.run_checkpoint.specs.Fields.{beyond_ranges}
-use Rattle.run_checkpoint.specs.declared.ranges.TheConstants.{GREATEST_DRAW, LAST_BACKOFF, MOST_DRAWS}
 
 -- the last half bit in which a backoff ends
 abbrev pub last_backoff : ℕ
-last_backoff = LAST_BACKOFF
+last_backoff = 2100000000
 
 -- the most draws that a station made
 abbrev pub most_draws : ℕ
-most_draws = MOST_DRAWS
+most_draws = 2000000000
 
 -- the greatest number that is drawn
 abbrev pub greatest_draw : ℕ
-greatest_draw = GREATEST_DRAW
+greatest_draw = 1023
 
 -- whether a sender with so many frames, of which it is at this place, may do this
 abbrev pub is_phase_in : ℕ → ℕ → Phase → Bool

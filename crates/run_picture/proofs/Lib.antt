@@ -9,3 +9,4 @@ pub mod Readings
 pub mod PieceReadings
 pub mod MarkReadings
 pub mod WholePictures
+pub mod Numbers

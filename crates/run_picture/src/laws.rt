@@ -1,5 +1,5 @@
 //! Laws of pictures: calls without a body, whose contracts are the laws.
-ghost use Rattle.run_picture.specs.PictureLaws.{LinesAreFew, LinesAreTitles, PicturesAreClosed, TitlesAreLines};
+ghost use Rattle.run_picture.specs.PictureLaws.{IsAMicrosecond, IsATenth, LinesAreFew, LinesAreTitles, PicturesAreClosed, TitlesAreLines};
 
 /// The titles of a picture are the lines of the log that meet its window, without their line feeds, in their order,
 /// each once.
@@ -17,4 +17,10 @@ pub fn pictures_are_closed()
 /// A log has no more lines than octets, so that the lines of a log that was read are few enough for `find_stranger`.
 pub fn lines_are_few()
     ensures { LinesAreFew }
+{}
+
+/// A picture's times are those of the standard's half bits of 50 ns.
+pub fn times_are_microseconds()
+    ensures microsecond { IsAMicrosecond }
+    ensures tenth { IsATenth }
 {}

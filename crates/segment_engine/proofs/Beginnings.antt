@@ -17,8 +17,8 @@ use Rattle.network.specs.Net.{new_receiver}
 use Rattle.network.specs.Times.{emitted, port_delays}
 use Rattle.network.proofs.StationAttempts.{first_sender, station_runs}
 use Rattle.network.proofs.TapsOnSegments.{length-numbers}
-use Rattle.net_step.specs.KeptNet.{AllHear}
-use Rattle.net_step.proofs.KeptReceivers.{AllHear-more}
+use Rattle.kept_devices.specs.KeptReceivers.{AllHear}
+use Rattle.kept_devices.proofs.Receivers.{AllHear-more}
 use Rattle.net_parts.specs.Windows.{lookahead, edge_ports}
 use Rattle.net_parts.specs.Machines.{span}
 use Rattle.net_parts.specs.SegmentParts.{Wiring, wiring}

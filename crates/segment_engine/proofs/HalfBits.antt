@@ -15,7 +15,7 @@ use Rattle.network.specs.declared.outputs.Taken.{Taken}
 use Rattle.network.specs.Attempts.{sender_at}
 use Rattle.network.specs.Net.{sendings}
 use Rattle.network.specs.Times.{heard, emitted}
-use Rattle.net_step.specs.KeptNet.{AllHear}
+use Rattle.kept_devices.specs.KeptReceivers.{AllHear}
 use Rattle.net_parts.specs.declared.parcel.Parcel.{Parcel}
 use Rattle.net_parts.specs.Windows.{lookahead}
 use Rattle.net_parts.specs.Machines.{span}

@@ -15,8 +15,8 @@ use Rattle.collision_log.specs.declared.row.Row.{Row}
 use Rattle.network.specs.declared.outputs.Taken.{Taken}
 use Rattle.network.specs.Attempts.{sender_at}
 use Rattle.network.specs.Times.{heard, emitted}
-use Rattle.net_step.specs.KeptNet.{AllHear}
-use Rattle.net_step.proofs.KeptReceivers.{length-AllHear, AllHear-at}
+use Rattle.kept_devices.specs.KeptReceivers.{AllHear}
+use Rattle.kept_devices.proofs.Receivers.{length-AllHear, AllHear-at}
 use Rattle.net_parts.specs.Windows.{time, lookahead}
 use Rattle.net_parts.specs.SegmentParts.{wiring}
 use Rattle.net_parts.specs.Standing.{receiver_at, segment_at}

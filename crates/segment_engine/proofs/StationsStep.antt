@@ -12,8 +12,8 @@ use Rattle.network.specs.declared.outputs.Taken.{Taken}
 use Rattle.network.specs.Captures.{taken_by}
 use Rattle.network.specs.Net.{sendings, receptions}
 use Rattle.network.specs.Rows.{row_of}
-use Rattle.net_step.specs.KeptNet.{AllHear}
-use Rattle.net_step.proofs.KeptReceivers.{receptions-more, AllHear-more}
+use Rattle.kept_devices.specs.KeptReceivers.{AllHear}
+use Rattle.kept_devices.proofs.Receivers.{receptions-more, AllHear-more}
 use Rattle.tap_lines.proofs.Spans.{rest_of}
 use Rattle.segment_engine.specs.StationPasses.{rows_heard, captures_heard}
 

@@ -9,7 +9,7 @@ use Rattle.mac_receive.specs.KeptReceiver.{Kept}
 use Rattle.network.specs.declared.outputs.Taken.{Taken}
 use Rattle.network.specs.Attempts.{sender_at}
 use Rattle.network.specs.Times.{emitted}
-use Rattle.net_step.specs.KeptNet.{AllHear}
+use Rattle.kept_devices.specs.KeptReceivers.{AllHear}
 use Rattle.net_parts.specs.declared.parcel.Parcel.{Parcel}
 use Rattle.net_parts.specs.Machines.{span}
 use Rattle.net_parts.specs.SegmentParts.{Wiring}

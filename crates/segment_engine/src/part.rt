@@ -12,12 +12,12 @@ use crate::segment::Segment;
 use crate::start::start;
 use crate::window::run;
 use collision_log::Rows;
+use kept_devices::push_row;
 use lists::OutOfMemory;
 use load_plan::Plan;
 use mac_parameters::most_octets;
 use mac_transmit::Transmitter;
 use net_parts::{Pace, Parcel, Part, PartOutputs};
-use net_step::push_row;
 use std::alloc::Global;
 use window_room::reserve_stations;
 

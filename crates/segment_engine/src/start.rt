@@ -2,7 +2,7 @@
 ghost use Rattle.std.specs.Prelude.{◌≡◌, ◌<◌, ◌≤◌, ◌+◌, ◌*◌, All, length, map, IfOk};
 ghost use Rattle.network.specs.Attempts.{sender_at};
 ghost use Rattle.net_parts.specs.Standing.{receiver_at};
-ghost use Rattle.net_step.specs.KeptNet.{AllHear};
+ghost use Rattle.kept_devices.specs.KeptReceivers.{AllHear};
 ghost use Rattle.segment_engine.specs.NewLines.{AreNewLines, AreWithin, new_delay};
 ghost use Rattle.segment_engine.specs.RunningStates.{IsRunningAt};
 
@@ -10,13 +10,13 @@ use crate::running::Running;
 use crate::segment::Segment;
 use crate::taps::{delays_of, places_on};
 use backoff_draw::Draws;
+use kept_devices::taps_of;
 use lists::OutOfMemory;
 use load_plan::Plan;
 use mac_parameters::most_octets;
 use mac_receive::Receiver;
 use mac_transmit::Transmitter;
 use manchester_line::Sym;
-use net_step::taps_of;
 use std::alloc::Global;
 use tap_lines::{Line, LoudTaps, farthest};
 use window_room::RowRoom;

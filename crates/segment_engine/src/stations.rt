@@ -7,7 +7,7 @@ ghost use Rattle.mac_transmit.specs.Sender.{sender_step};
 ghost use Rattle.network.specs.Captures.{taken_by};
 ghost use Rattle.network.specs.Net.{sendings};
 ghost use Rattle.network.specs.Rows.{row_of};
-ghost use Rattle.net_step.specs.KeptNet.{AllHear};
+ghost use Rattle.kept_devices.specs.KeptReceivers.{AllHear};
 ghost use Rattle.segment_engine.specs.StationPasses.{receptions_by, rows_heard, captures_heard};
 ghost use Rattle.window_room.specs.NeededRoom.{Covers, Demand, both_demands, sender_demand, receiver_demand, stations_demand};
 ghost use Rattle.window_room.specs.Rooms.{captures_with};

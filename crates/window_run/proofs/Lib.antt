@@ -1,3 +1,1 @@
-pub mod StationCaptures
-pub mod HandedOutParts
-pub mod Crossings
+pub mod FinishedParts

@@ -1,9 +1,6 @@
 //! The run of a plan by workers, window by window. Its rows and captures are those of the whole network.
 #![tactic(auto)]
 
-mod captures;
-mod gathered;
-mod kind;
 mod parts;
 mod run;
 

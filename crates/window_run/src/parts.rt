@@ -3,12 +3,12 @@ ghost use Rattle.std.specs.Prelude.{◌≡◌, ◌++◌, All, OnOk, map};
 ghost use Rattle.net_parts.specs.OutputsOfParts.{rows_of_part, captures_of_part};
 ghost use Rattle.net_parts.specs.Windows.{windows};
 
-use crate::kind::Kind;
 use collision_log::RowsList;
 use exchange_core::PartList;
 use lists::OutOfMemory;
 use network::Captures;
 use outside::Gate;
+use turn_run::Kind;
 use worker_gate::Gated;
 
 /// Puts the rows and captures of parts that have made all their windows behind others, part by part.

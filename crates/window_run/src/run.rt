@@ -2,8 +2,6 @@
 ghost use Rattle.std.specs.Prelude.{◌≡◌, ◌<◌, ◌≤◌, ◌+◌, IfOk, length};
 ghost use Rattle.network.specs.Outputs.{captures, rows};
 
-use crate::gathered::gathered;
-use crate::kind::Kind;
 use crate::parts::collect_parts;
 use collision_log::RowsList;
 use lists::OutOfMemory;
@@ -16,10 +14,11 @@ use segment_engine::SegmentPart;
 use std::alloc::Global;
 use std::sync::Wait;
 use std::thread::Threads;
+use turn_run::{Kind, gather_outputs, run_in_turn};
 use worker_gate::{Gated, run_planned};
 
 /// Runs a plan to its end by 1 to 64 workers, the caller being one of them. Each part passes the gate at the beginning
-/// of each of its windows. It may wait.
+/// of each of its windows. It may wait. Alone the caller runs the parts in turn, without mailboxes.
 pub fn run_by_windows<G: Gate, X: Threads + Wait + Sync>(
     rt: &X,
     alloc: Global,
@@ -32,6 +31,9 @@ pub fn run_by_windows<G: Gate, X: Threads + Wait + Sync>(
     ensures rows { IfOk result (λ outputs. outputs.rows ≡ rows plan.now) }
     ensures captures { IfOk result (λ outputs. outputs.captures ≡ captures plan.now) }
 {
+    if workers == 1 {
+        return run_in_turn(alloc, plan, gate);
+    }
     run_parts::<SegmentPart, RepeaterPart, G, X>(rt, alloc, plan, workers, gate)
 }
 
@@ -73,7 +75,7 @@ fn run_parts<S: Kind, R: Kind, G: Gate, X: Threads + Wait + Sync>(
     let mut of_parts = Vec::new(alloc);
     collect_parts(segments, &mut logs, &mut of_parts)?;
     collect_parts(repeaters, &mut logs, &mut of_parts)?;
-    gathered(alloc, plan, logs, of_parts)
+    gather_outputs(alloc, plan, logs, of_parts)
 }
 
 /// A part of a kind behind the gate.

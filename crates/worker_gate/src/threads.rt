@@ -136,7 +136,7 @@ fn send_kit<P: Planned + Send, S: Part, R: Part, X: Wait>(
 
 /// Runs the plan by so many workers, or as many fewer as there are threads, each part at one of them. Answers their
 /// kits; what these hold shows when they are gathered, since a thread that ends tells no more than a type.
-pub fn run_threads<
+pub(crate) fn run_threads<
     P: Planned + Send,
     S: Part,
     R: Part,

@@ -8,6 +8,4 @@ mod mailboxes;
 #[cfg(test)]
 mod runs;
 #[cfg(test)]
-mod samples;
-#[cfg(test)]
 mod turnstile;

@@ -1,18 +1,19 @@
 //! Boxes in use. Each test ends by itself.
-ghost use Rattle.std.specs.Prelude.{◌≡◌, ◌<◌, [], ◌∷◌, IfOk, Some};
+ghost use Rattle.std.specs.Prelude.{◌≡◌, ◌<◌, Some};
 ghost use Rattle.std.specs.Arc.{arc_value};
 ghost use Rattle.crossbeam_queue.specs.Passes.{IsPassOf};
 ghost use Rattle.window_exchange.specs.MailNames.{IsHonest};
 
-use layout::{Layout, RepeaterLines, SegmentLine, SegmentLines, SendLines, StationLines};
-use lists::{OutOfMemory, Text};
-use load_plan::{Plan, RecordsList, make_plan};
+use case_support::plan_of;
+use lists::OutOfMemory;
+use load_plan::Plan;
 use net_parts::{Parcel, Symbols};
 use std::alloc::Global;
 use std::marker::Brand;
 use std::process::Abort;
 use std::snapshot::Snapshot;
 use std::sync::{Arc, Wait};
+use std::test::Fail;
 use std::thread;
 use std::thread::Threads;
 use window_exchange::{Mail, MailPass, Mailbox, Named, Planned};
@@ -121,30 +122,8 @@ fn comes_parcel<P: Planned, U: Named, R: Wait + Abort>(
     }
 }
 
-/// One segment, called x.
-fn one_line(alloc: Global) -> Result<SegmentLines, OutOfMemory>
-    ensures { IfOk result (λ lines. lines ≡ record { name = 120 ∷ [] } ∷ []) }
-{
-    let name = Text::new(alloc, "x")?;
-    let mut segments = SegmentLines::new(alloc);
-    segments.push(SegmentLine { name })?;
-    Ok(segments)
-}
-
-/// The plan of one segment with nothing on it.
-fn one_segment(alloc: Global) -> Result<Plan, OutOfMemory> {
-    let segments = one_line(alloc)?;
-    let layout = Layout {
-        format: 1,
-        seed: 1,
-        until_bits: 1,
-        segments,
-        stations: StationLines::new(alloc),
-        repeaters: RepeaterLines::new(alloc),
-        sends: SendLines::new(alloc),
-    };
-    make_plan(alloc, layout, RecordsList::new(alloc))
-}
+/// One segment with nothing on it.
+const ONE_SEGMENT: &str = "format = 1\nseed = 1\nuntil_bits = 1\nsegment = [{ name = \"x\" }]\n";
 
 /// A kit and a spoiled parcel go through a box for a plan.
 fn kit_and_parcel<P: Planned, R: Wait + Abort>(
@@ -168,9 +147,9 @@ fn kit_and_parcel<P: Planned, R: Wait + Abort>(
 
 /// What is sent to a box comes out in order, and is of its plan.
 #[test]
-fn kits_and_parcels_come_in_order(rt: HostRuntime) -> Result<(), OutOfMemory> {
-    let plan = one_segment(rt.alloc())?;
-    kit_and_parcel::<Brand, HostRuntime>(&rt, rt.alloc(), &plan)
+fn kits_and_parcels_come_in_order(rt: HostRuntime) -> Result<(), Fail> {
+    let plan = plan_of(rt.alloc(), ONE_SEGMENT)?;
+    Ok(kit_and_parcel::<Brand, HostRuntime>(&rt, rt.alloc(), &plan)?)
 }
 
 /// One pass of a box that takes what it put itself, and then what the other one put.

@@ -1,8 +1,8 @@
 //! A gate that two parts pass only together, so that it takes two threads.
 ghost use Rattle.std.specs.Prelude.{◌≤◌};
 
-use crate::samples::{TWO_HOPS, plan_of};
 use backoff_draw::Draws;
+use case_support::plan_of;
 use collision_log::{Body, Row};
 use network::Outputs;
 use outside::Gate;
@@ -13,6 +13,19 @@ use std::test::Fail;
 use std::thread;
 use std::thread::Threads;
 use window_run::run_by_windows;
+
+/// Two stations that collide over a repeater.
+const TWO_HOPS: &str = r#"format = 1
+seed = 1
+until_bits = 130
+segment = [{ name = "x" }, { name = "y" }]
+station = [{ name = "a", segment = "x", at = 0 }, { name = "b", segment = "y", at = 30 }]
+repeater = [{ name = "r", delay = 16, port = [{ segment = "x", at = 20 }, { segment = "y", at = 0 }] }]
+send = [
+  { station = "a", at = 0, octets = "ffffffffffff0200000000010800" },
+  { station = "b", at = 65, octets = "ffffffffffff0200000000020800" },
+]
+"#;
 
 /// After so many turns over the whole run the gate lets go for good.
 const MOST_TURNS: u64 = 1_000_000_000;

@@ -1,5 +1,5 @@
 use denote.Param.Send.{sendable}
-use Rattle.window_run.proofs.Crossings.{segment_part_send, repeater_part_send}
+use Rattle.turn_run.proofs.Crossings.{segment_part_send, repeater_part_send}
 use Rattle.bench.proofs.exchange.moves.Goals as goal
 
 pub take-requires-send-S : goal.take-requires-send-S

@@ -7,7 +7,7 @@ use Rattle.exchange_core.specs.Shares.{AreParcelsFor, IsOfPlan, nothing_held, wi
 use Rattle.exchange_core.specs.Holdings.{added_segment}
 use Rattle.exchange_core.proofs.ShareLaws.{parcels_serve}
 use Rattle.exchange_core.proofs.SharesOnBoards.{shares_begin}
-use Rattle.window_run.proofs.Crossings.{segment_part_send, repeater_part_send}
+use Rattle.turn_run.proofs.Crossings.{segment_part_send, repeater_part_send}
 use Rattle.bench.proofs.exchange.share.Goals as goal
 
 less : (b : ℕ) → 0 < b → nat_lt 0 b ≡ true

@@ -3,8 +3,9 @@ use Rattle.std.proofs.lemmas.List.Elements.{All-append}
 use Rattle.std.proofs.lemmas.Grind.{common_steps}
 use Rattle.mac_receive.specs.KeptReceiver.{Kept, Hears}
 use Rattle.network.specs.Net.{new_receiver}
-use Rattle.net_step.specs.KeptNet.{AllHear}
-use Rattle.net_step.proofs.KeptReceivers.{AllHear-new, All-one}
+use Rattle.kept_devices.specs.KeptReceivers.{AllHear}
+use Rattle.kept_devices.proofs.Receivers.{All-one}
+use Rattle.net_step.proofs.KeptReceivers.{AllHear-new}
 use Rattle.net_step.proofs.devices.new_receivers.Goals as goal
 
 pub loop-station-preserved : goal.loop-station-preserved

@@ -1,6 +1,6 @@
 use Rattle.std.proofs.Common.{◌≡◌, All, length, map, take}
 use Rattle.network.specs.Net.{new_receiver}
-use Rattle.net_step.specs.KeptNet.{AllHear}
+use Rattle.kept_devices.specs.KeptReceivers.{AllHear}
 use Rattle.net_step.proofs.devices.new_receivers.Given as goal
 
 abbrev pub invariant-loop-station : goal.invariant-loop-station

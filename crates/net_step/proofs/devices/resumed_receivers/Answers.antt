@@ -3,7 +3,7 @@ use Rattle.std.proofs.lemmas.List.Elements.{All-append}
 use Rattle.std.proofs.lemmas.Grind.{common_steps}
 use Rattle.mac_receive.specs.KeptReceiver.{Kept, Hears}
 use Rattle.network.specs.Net.{new_receiver}
-use Rattle.net_step.specs.KeptNet.{AllHear}
+use Rattle.kept_devices.specs.KeptReceivers.{AllHear}
 use Rattle.net_step.proofs.KeptReceivers.{AllHear-new, All-stepped}
 use Rattle.net_step.proofs.QuietAndKept.{still_new}
 use Rattle.net_step.proofs.devices.resumed_receivers.Goals as goal

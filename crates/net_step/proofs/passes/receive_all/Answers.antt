@@ -5,8 +5,9 @@ use Rattle.manchester_line.specs.Line.{is_signal}
 use Rattle.mac_receive.specs.Receiver.{Receiving, new_receiving, receiver_step}
 use Rattle.mac_receive.specs.KeptReceiver.{Kept, Hears}
 use Rattle.net_step.specs.KeptNet.{Gives}
-use Rattle.net_step.proofs.ChangedElements.{one_later, get_or-rest, rest-set}
-use Rattle.net_step.proofs.KeptReceivers.{length-AllHear, AllHear-at, AllGive-next, Lends-from}
+use Rattle.kept_devices.proofs.ChangedElements.{one_later, get_or-rest, rest-set}
+use Rattle.kept_devices.proofs.Receivers.{length-AllHear, AllHear-at}
+use Rattle.net_step.proofs.KeptReceivers.{AllGive-next, Lends-from}
 use Rattle.net_step.proofs.passes.receive_all.Goals as goal
 
 pub loop-k-preserved : goal.loop-k-preserved

@@ -1,7 +1,8 @@
 use Rattle.std.proofs.Common.{◌≡◌, ◌+◌, List, All, length, take, drop}
 use Rattle.mac_receive.specs.Receiver.{Receiving}
 use Rattle.network.specs.Net.{receptions}
-use Rattle.net_step.specs.KeptNet.{AllHear, AllGive}
+use Rattle.kept_devices.specs.KeptReceivers.{AllHear}
+use Rattle.net_step.specs.KeptNet.{AllGive}
 use Rattle.net_step.proofs.passes.receive_all.Given as goal
 
 -- the receivers below k have stepped, and the rest have not

@@ -1,7 +1,7 @@
 use Rattle.std.proofs.Common.{arith, rules}
 use Rattle.std.proofs.lemmas.Grind.{common_steps}
 use Rattle.mac_transmit.specs.Sender.{Sender}
-use Rattle.net_step.proofs.ChangedElements.{one_later}
+use Rattle.kept_devices.proofs.ChangedElements.{one_later}
 use Rattle.net_step.proofs.passes.send_all.Goals as goal
 
 pub loop-k-preserved : goal.loop-k-preserved

@@ -1,6 +1,6 @@
 use Rattle.std.proofs.Common.{All, take}
 use Rattle.line_probe.specs.Taps.{HasTap}
-use Rattle.netsim.specs.Probes.{AreTapsOf}
+use Rattle.program_endings.specs.Probes.{AreTapsOf}
 use Rattle.netsim.proofs.aim.taps_of.Given as goal
 
 abbrev pub invariant-loop-word : goal.invariant-loop-word

@@ -2,7 +2,7 @@ use Rattle.std.proofs.Common.{◌+◌, take, inr, rules, arith}
 use Rattle.std.proofs.lemmas.List.{take_rest}
 use Rattle.outside.specs.declared.store.StoreFail.{StoreFail}
 use Rattle.outside.specs.Files.{IsAbsent}
-use Rattle.netsim.proofs.WrittenByPieces.{put-present, put-next}
+use Rattle.program_endings.proofs.WrittenByPieces.{put-present, put-next}
 use Rattle.netsim.proofs.files.write_file.Goals as goal
 
 pub returns-in_err-count-clause-missing : goal.returns-in_err-count-clause-missing
@@ -15,6 +15,7 @@ returns-then-count-eq0-clause-err g c =
     inr (
       c.loop-done.done + c.in_ok-count.count,
       put-next StoreFail c.args.name.now c.args.text.now c.loop-done.done c.in_ok-count.count (g.S.Store.held c.args.store.now) _ _ c.loop-done.invariant.1 (rw take_rest at c.in_ok-count.ensures.held),
+      omega arith,
     )
 
 pub loop-done-preserved : goal.loop-done-preserved

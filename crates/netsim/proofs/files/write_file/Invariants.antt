@@ -1,5 +1,5 @@
 use Rattle.std.proofs.Common.{◌≡◌, ◌≤◌, ◌-◌, length, take}
-use Rattle.netsim.specs.Writing.{put_file}
+use Rattle.program_endings.specs.Writing.{put_file}
 use Rattle.netsim.proofs.files.write_file.Given as goal
 
 abbrev pub invariant-loop-done : goal.invariant-loop-done

@@ -1,5 +1,5 @@
 use Rattle.std.proofs.Common.{◌≡◌, rules}
-use Rattle.netsim.specs.declared.endings.Ending.{Ending}
+use Rattle.program_endings.specs.declared.endings.Ending.{Ending}
 use Rattle.program_texts.specs.Texts.{name_of_capture}
 use Rattle.run_texts.specs.Captures.{pcap_of_taken}
 use Rattle.netsim.proofs.FilesInTurn.{broken-same}

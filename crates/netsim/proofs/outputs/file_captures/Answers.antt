@@ -1,6 +1,6 @@
 use Rattle.std.proofs.Common.{◌<◌, length, rules}
-use Rattle.netsim.specs.Runs.{capture_files}
-use Rattle.netsim.specs.declared.endings.Ending.{Ending}
+use Rattle.program_endings.specs.Runs.{capture_files}
+use Rattle.program_endings.specs.declared.endings.Ending.{Ending}
 use Rattle.netsim.proofs.FilesInTurn.{captures-next, captures-end, left-broken, left-none, on-err}
 use Rattle.netsim.proofs.outputs.file_captures.Goals as goal
 

@@ -1,5 +1,5 @@
 use Rattle.std.proofs.Common.{◌≤◌, drop}
-use Rattle.netsim.specs.Runs.{capture_files}
+use Rattle.program_endings.specs.Runs.{capture_files}
 use Rattle.netsim.proofs.FilesInTurn.{IsLeft}
 use Rattle.netsim.proofs.outputs.file_captures.Given as goal
 

@@ -1,5 +1,5 @@
 use Rattle.std.proofs.Common.{◌≡◌, rules}
-use Rattle.netsim.specs.declared.endings.Ending.{Ending}
+use Rattle.program_endings.specs.declared.endings.Ending.{Ending}
 use Rattle.run_texts.specs.Texts.{log_of_rows}
 use Rattle.program_texts.specs.Texts.{name_of_log}
 use Rattle.netsim.proofs.FilesInTurn.{broken-same}

@@ -1,6 +1,6 @@
 use Rattle.std.proofs.Common.{refl}
-use Rattle.netsim.specs.Endings.{HasOnlyRead}
-use Rattle.netsim.specs.Moments.{Moment, moment}
+use Rattle.program_endings.specs.Endings.{HasOnlyRead}
+use Rattle.program_endings.specs.Moments.{Moment, moment}
 use Rattle.netsim.proofs.PictureEnds.{lines_few, picture-drawn, picture-early, picture-unlogged}
 use Rattle.netsim.proofs.RunEnds.{read-twice}
 use Rattle.netsim.proofs.picture.picture.Goals as goal

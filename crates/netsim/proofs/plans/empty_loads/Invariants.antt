@@ -1,6 +1,6 @@
 use Rattle.std.proofs.Common.{◌≡◌, ◌≤◌, [], All, length}
 use Rattle.std.specs.Prelude.{replicate}
-use Rattle.netsim.specs.FileLimits.{most_load_records}
+use Rattle.program_endings.specs.FileLimits.{most_load_records}
 use Rattle.netsim.proofs.plans.empty_loads.Given as goal
 
 abbrev pub invariant-loop-station : goal.invariant-loop-station

@@ -1,5 +1,5 @@
-use Rattle.netsim.specs.Endings.{HasOnlyRead}
-use Rattle.netsim.specs.Moments.{Moment, moment}
+use Rattle.program_endings.specs.Endings.{HasOnlyRead}
+use Rattle.program_endings.specs.Moments.{Moment, moment}
 use Rattle.netsim.proofs.RunEnds.{planned-of, read-through, unplanned-of}
 use Rattle.netsim.proofs.plans.read_plan.Goals as goal
 

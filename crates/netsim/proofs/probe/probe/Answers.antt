@@ -2,9 +2,9 @@ use Rattle.std.proofs.Common.{All, List, length, ap, sym, subst, ◌≤◌, ◌�
 use Rattle.layout.specs.declared.lines.Layout.{Layout}
 use Rattle.line_probe.specs.Taps.{HasTap}
 use Rattle.line_probe.specs.declared.tap.Tap.{Tap}
-use Rattle.netsim.specs.Endings.{HasOnlyRead}
-use Rattle.netsim.specs.Moments.{Moment, moment}
-use Rattle.netsim.specs.Probes.{AreTapsOf, half_bits_of}
+use Rattle.program_endings.specs.Endings.{HasOnlyRead}
+use Rattle.program_endings.specs.Moments.{Moment, moment}
+use Rattle.program_endings.specs.Probes.{AreTapsOf, half_bits_of}
 use Rattle.netsim.proofs.ProbeEnds.{probe-early, probe-missed, probe-told, probe-unloaded}
 use Rattle.netsim.proofs.RunEnds.{plan-before, read-twice}
 use Rattle.netsim.proofs.TapsOfWords.{named_many}

@@ -20,7 +20,7 @@ next_text g c plan taps n is many =
 
 pub returns-in-Err : goal.returns-in-Err
 returns-in-Err g c plan taps n is many =
-    told_unmade plan c.args.from n c.loop-k.k c.args.words.now taps (g.K.Sink.written c.args.out.now) (g.K.Sink.written c.loop-k.out) many (c.loop-k.invariant.told plan taps n is many)
+    told_unmade plan c.args.from n c.loop-k.k c.args.words.now taps no_tap c.index-words-k.result (g.K.Sink.written c.args.out.now) (g.K.Sink.written c.loop-k.out) c.loop-k-test.true many (c.loop-k.invariant.told plan taps n is many)
 
 pub returns-in-Err-Failed : goal.returns-in-Err-Failed
 returns-in-Err-Failed g c plan taps n is many =

@@ -1,4 +1,4 @@
-use Rattle.netsim.specs.Moments.{Moment, moment}
+use Rattle.program_endings.specs.Moments.{Moment, moment}
 use Rattle.netsim.proofs.StopEnds.{resume-filed}
 use Rattle.netsim.proofs.resumes.go_on.Goals as goal
 

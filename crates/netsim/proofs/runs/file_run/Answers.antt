@@ -1,6 +1,6 @@
 use Rattle.std.proofs.Common.{refl}
-use Rattle.netsim.specs.Moments.{Moment}
-use Rattle.netsim.specs.Runs.{IsSummaryOver, output_files}
+use Rattle.program_endings.specs.Moments.{Moment}
+use Rattle.program_endings.specs.Runs.{IsSummaryOver, output_files}
 use Rattle.netsim.proofs.RunEnds.{run-filed, run-unfiled}
 use Rattle.netsim.proofs.runs.file_run.Goals as goal
 

@@ -1,4 +1,4 @@
-use Rattle.netsim.specs.Moments.{Moment, moment}
+use Rattle.program_endings.specs.Moments.{Moment, moment}
 use Rattle.netsim.proofs.StopEnds.{captures-of, resume-filed, rows-of}
 use Rattle.netsim.proofs.runs.file_whole_run.Goals as goal
 

@@ -1,4 +1,4 @@
-use Rattle.netsim.specs.Moments.{Moment}
+use Rattle.program_endings.specs.Moments.{Moment}
 use Rattle.netsim.proofs.RunEnds.{plain-ran}
 use Rattle.netsim.proofs.runs.plain.Goals as goal
 

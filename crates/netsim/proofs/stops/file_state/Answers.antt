@@ -1,5 +1,5 @@
 use Rattle.std.proofs.Common.{◌≡◌, rules}
-use Rattle.netsim.specs.declared.endings.Ending.{Ending}
+use Rattle.program_endings.specs.declared.endings.Ending.{Ending}
 use Rattle.program_texts.specs.Texts.{name_of_state}
 use Rattle.run_checkpoint.specs.States.{text_of_state}
 use Rattle.netsim.proofs.StopEnds.{of-plan}

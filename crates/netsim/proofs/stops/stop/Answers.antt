@@ -1,6 +1,6 @@
 use Rattle.std.proofs.Common.{◌≡◌, Some, None, refl, rules}
 use Rattle.program_texts.specs.Texts.{line_of_no_quiet}
-use Rattle.netsim.specs.Moments.{Moment, moment}
+use Rattle.program_endings.specs.Moments.{Moment, moment}
 use Rattle.netsim.proofs.StopEnds.{first-from, found-first, never-from, stop-ran, stop-unquiet}
 use Rattle.netsim.proofs.stops.stop.Goals as goal
 

@@ -1,8 +1,8 @@
-use Rattle.netsim.proofs.EveryForm.{words_of_none, refused, failed}
-use Rattle.netsim.proofs.DoneByForm.{done}
-use Rattle.netsim.proofs.FilesAfterRuns.{broken, memory}
-use Rattle.netsim.proofs.LoadsDecideStatus.{complete}
-use Rattle.netsim.proofs.CollisionsAreTold.{collisions_are_told}
+use Rattle.program_endings.proofs.EveryForm.{words_of_none, refused, failed}
+use Rattle.program_endings.proofs.DoneByForm.{done}
+use Rattle.program_endings.proofs.FilesAfterRuns.{broken, memory}
+use Rattle.program_endings.proofs.LoadsDecideStatus.{complete}
+use Rattle.program_endings.proofs.CollisionsAreTold.{collisions_are_told}
 use Rattle.netsim.proofs.top_call.netsim.Goals as goal
 
 pub returns-clause-detected : goal.returns-clause-detected

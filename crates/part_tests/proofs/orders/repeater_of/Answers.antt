@@ -4,7 +4,7 @@ use Rattle.load_plan.specs.declared.plan.Plan.{Plan}
 use denote.Param.Send.{sendable}
 use Rattle.exchange_core.specs.Holdings.{added_repeater}
 use Rattle.worker_gate.proofs.KeptPlans.{nothing_planned, repeater_added}
-use Rattle.window_run.proofs.Crossings.{segment_part_send, repeater_part_send}
+use Rattle.turn_run.proofs.Crossings.{segment_part_send, repeater_part_send}
 use Rattle.part_tests.proofs.orders.repeater_of.Goals as goal
 
 pub new-share-requires-send-S : goal.new-share-requires-send-S

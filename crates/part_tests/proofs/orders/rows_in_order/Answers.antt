@@ -1,5 +1,5 @@
 use denote.Param.Send.{sendable}
-use Rattle.window_run.proofs.Crossings.{segment_part_send, repeater_part_send}
+use Rattle.turn_run.proofs.Crossings.{segment_part_send, repeater_part_send}
 use Rattle.part_tests.proofs.orders.rows_in_order.Goals as goal
 
 pub run-requires-send-S : goal.run-requires-send-S

@@ -1,7 +1,7 @@
 use Rattle.std.specs.Prelude.{Some}
 use denote.Param.Send.{sendable}
 use Rattle.worker_gate.proofs.KeptPlans.{nothing_planned}
-use Rattle.window_run.proofs.Crossings.{segment_part_send, repeater_part_send}
+use Rattle.turn_run.proofs.Crossings.{segment_part_send, repeater_part_send}
 use Rattle.part_tests.proofs.orders.segments_of.Goals as goal
 
 pub new-share-requires-send-S : goal.new-share-requires-send-S

@@ -3,7 +3,7 @@ use Rattle.std.proofs.lemmas.List.Elements.{All-append}
 use Rattle.mac_receive.specs.Receiver.{Receiving, new_receiving}
 use Rattle.mac_receive.specs.KeptReceiver.{Kept, Hears}
 use Rattle.net_parts.specs.Standing.{receiver_at}
-use Rattle.net_step.proofs.KeptReceivers.{All-one}
+use Rattle.kept_devices.proofs.Receivers.{All-one}
 use Rattle.segment_engine.proofs.Beginnings.{receiver_new, hear_more}
 use Rattle.segment_engine.proofs.start.receivers_of.Goals as goal
 

@@ -1,6 +1,6 @@
 use Rattle.std.proofs.Common.{◌≡◌, All, map, take}
 use Rattle.net_parts.specs.Standing.{receiver_at}
-use Rattle.net_step.specs.KeptNet.{AllHear}
+use Rattle.kept_devices.specs.KeptReceivers.{AllHear}
 use Rattle.segment_engine.proofs.start.receivers_of.Given as goal
 
 abbrev pub invariant-loop-i : goal.invariant-loop-i

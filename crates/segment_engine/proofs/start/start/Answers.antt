@@ -2,7 +2,7 @@ use Rattle.std.proofs.Common.{◌≡◌, ◌<◌, ℕ, List, [], All, map, repli
 use Rattle.load_plan.specs.declared.plan.Plan.{Plan}
 use Rattle.collision_log.specs.declared.row.Row.{Row}
 use Rattle.network.specs.Attempts.{sender_at}
-use Rattle.net_step.specs.KeptNet.{AllHear}
+use Rattle.kept_devices.specs.KeptReceivers.{AllHear}
 use Rattle.net_parts.specs.Standing.{receiver_at}
 use Rattle.segment_engine.specs.PartStates.{AreStationsAt}
 use Rattle.network.specs.Times.{port_delays}

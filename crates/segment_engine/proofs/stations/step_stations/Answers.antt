@@ -9,10 +9,10 @@ use Rattle.mac_receive.specs.KeptReceiver.{Kept, Hears, IsReceiver}
 use Rattle.network.specs.Captures.{taken_by}
 use Rattle.network.specs.Rows.{row_of}
 use Rattle.network.specs.Net.{sendings, receptions}
-use Rattle.net_step.specs.KeptNet.{AllHear}
+use Rattle.kept_devices.specs.KeptReceivers.{AllHear}
 use Rattle.window_room.specs.NeededRoom.{both_demands, stations_demand}
-use Rattle.net_step.proofs.ChangedElements.{All-take-set, All-drop-set, get_or-rest, rest-set}
-use Rattle.net_step.proofs.KeptReceivers.{length-AllHear, AllHear-at}
+use Rattle.kept_devices.proofs.ChangedElements.{All-take-set, All-drop-set, get_or-rest, rest-set}
+use Rattle.kept_devices.proofs.Receivers.{length-AllHear, AllHear-at}
 use Rattle.segment_engine.proofs.StationRoom.{room_for_one, room_for_next, room_after_next, room_at_end}
 use Rattle.segment_engine.proofs.StationsStep.{pass_next, pass_end, rows_next, rows_end, captures_next, captures_end, receivers_next}
 use Rattle.segment_engine.proofs.stations.step_stations.Goals as goal

@@ -1,7 +1,7 @@
 use Rattle.std.proofs.Common.{◌≡◌, ℕ, suc, ◌+◌, ◌++◌, List, All, length, map, take, drop}
 use Rattle.mac_receive.specs.Receiver.{Receiving}
 use Rattle.network.specs.Net.{sendings, receptions}
-use Rattle.net_step.specs.KeptNet.{AllHear}
+use Rattle.kept_devices.specs.KeptReceivers.{AllHear}
 use Rattle.segment_engine.specs.StationPasses.{rows_heard, captures_heard}
 use Rattle.window_room.specs.NeededRoom.{Covers, stations_demand}
 use Rattle.segment_engine.proofs.StationRoom.{IsRoomLeft}

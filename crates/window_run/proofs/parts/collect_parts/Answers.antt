@@ -2,7 +2,7 @@ use Rattle.std.proofs.Common.{◌≡◌, ◌∷◌, sym, ap, subst, ◌∙◌, r
 use Rattle.std.specs.Vec.Iter.{into_iter_items}
 use Rattle.net_parts.specs.OutputsOfParts.{rows_of_part, captures_of_part}
 use Rattle.net_parts.specs.Windows.{windows}
-use Rattle.window_run.proofs.HandedOutParts.{handed_on, first_and_rest}
+use Rattle.turn_run.proofs.PartsOneByOne.{handed_on, first_and_rest}
 use Rattle.window_run.proofs.parts.collect_parts.Goals as goal
 
 pub loop-part-preserved : goal.loop-part-preserved

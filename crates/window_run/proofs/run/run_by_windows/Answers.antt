@@ -1,5 +1,5 @@
 use denote.Param.Send.{sendable}
-use Rattle.window_run.proofs.Crossings.{segment_part_send, repeater_part_send}
+use Rattle.turn_run.proofs.Crossings.{segment_part_send, repeater_part_send}
 use Rattle.window_run.proofs.run.run_by_windows.Goals as goal
 
 pub run_parts-requires-send-S : goal.run_parts-requires-send-S

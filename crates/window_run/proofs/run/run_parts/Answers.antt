@@ -1,10 +1,11 @@
 use Rattle.std.proofs.Common.{◌++◌, map, length, ap, refl, ◌∙◌}
 use Rattle.net_parts.specs.OutputsOfParts.{rows_of_part, captures_of_part}
-use Rattle.window_run.proofs.HandedOutParts.{handed, all_parts}
+use Rattle.turn_run.proofs.PartsOneByOne.{all_parts}
+use Rattle.window_run.proofs.FinishedParts.{handed}
 use Rattle.window_run.proofs.run.run_parts.Goals as goal
 
-pub gathered-requires-clause-logs : goal.gathered-requires-clause-logs
-gathered-requires-clause-logs g c =
+pub gather_outputs-requires-clause-logs : goal.gather_outputs-requires-clause-logs
+gather_outputs-requires-clause-logs g c =
     let plan = c.args.plan.now in
     let n = length plan.layout.segments in
     let m = length plan.layout.repeaters in
@@ -14,8 +15,8 @@ gathered-requires-clause-logs g c =
     let first = c.in_ok-collect_parts.ensures.rows ∙ ap (λ xs. xs ++ map (λ s. rows_of_part (g.S.Part.plan s.part) (g.S.Part.number s.part)) done.segments.items) c.new-logs.ensures in
     c.in_ok-collect_parts-2.ensures.rows ∙ all_parts (rows_of_part plan) plan _ _ _ n first segments refl repeaters
 
-pub gathered-requires-clause-of_parts : goal.gathered-requires-clause-of_parts
-gathered-requires-clause-of_parts g c =
+pub gather_outputs-requires-clause-of_parts : goal.gather_outputs-requires-clause-of_parts
+gather_outputs-requires-clause-of_parts g c =
     let plan = c.args.plan.now in
     let n = length plan.layout.segments in
     let m = length plan.layout.repeaters in

@@ -3,7 +3,7 @@ use Rattle.mac_parameters.specs.Parameters.{most_octets}
 use Rattle.repeater_core.specs.Step.{State}
 use Rattle.network.specs.Net.{new_net, new_receiver, new_repeater, new_senders}
 use Rattle.network.proofs.RunnablePlans.{runnable_plan}
-use Rattle.net_step.specs.KeptNet.{AllHear}
+use Rattle.kept_devices.specs.KeptReceivers.{AllHear}
 use Rattle.net_step.proofs.GoingOn.{new_ports}
 use Rattle.net_step.proofs.StandsForNet.{stands_silent, taps_near, taps_on}
 use Rattle.net_step.proofs.plain.PlainNet.new.Goals as goal

@@ -5,7 +5,7 @@ use Rattle.repeater_core.specs.Step.{State}
 use Rattle.network.specs.Net.{new_receiver}
 use Rattle.network.proofs.RunnablePlans.{runnable_plan}
 use Rattle.quiet_state.specs.Resumed.{net_of, resumed_repeaters, resumed_senders}
-use Rattle.net_step.specs.KeptNet.{AllHear}
+use Rattle.kept_devices.specs.KeptReceivers.{AllHear}
 use Rattle.net_step.proofs.GoingOn.{resumed_ports, many_delays}
 use Rattle.net_step.proofs.StandsForNet.{stands_silent, taps_near, taps_on}
 use Rattle.net_step.proofs.plain.PlainNet.resume.Goals as goal

@@ -1,0 +1,2 @@
+pub mod ChangedElements
+pub mod Receivers

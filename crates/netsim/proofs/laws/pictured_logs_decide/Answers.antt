@@ -1,8 +1,0 @@
-use Rattle.netsim.proofs.PicturesAreTold.{pictured_absent_logs_decide, pictured_log_faults_decide}
-use Rattle.netsim.proofs.laws.pictured_logs_decide.Goals as goal
-
-pub returns-clause-fault : goal.returns-clause-fault
-returns-clause-fault c = pictured_log_faults_decide
-
-pub returns-clause-absent : goal.returns-clause-absent
-returns-clause-absent c = pictured_absent_logs_decide

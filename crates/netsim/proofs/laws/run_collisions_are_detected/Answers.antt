@@ -1,5 +1,0 @@
-use Rattle.netsim.proofs.DetectedInTheLog.{are_detected}
-use Rattle.netsim.proofs.laws.run_collisions_are_detected.Goals as goal
-
-pub returns : goal.returns
-returns c = are_detected

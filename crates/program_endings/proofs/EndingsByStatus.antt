@@ -1,0 +1,142 @@
+-- The ending of an answer, by its status and by its words.
+use Rattle.std.proofs.Common.{◌≡◌, ℕ, zero, suc, List, Option, Some, refl, sym, ap, subst, ◌∙◌, inl, inr}
+use Rattle.layout.specs.declared.lines.Layout.{Layout}
+use Rattle.program_endings.specs.declared.endings.Ending.{Ending}
+use Rattle.program_endings.specs.declared.endings.Ending.TheVariants as ending
+use Rattle.program_texts.specs.declared.texts.TheConstants.{HELP, VERSION}
+use Rattle.program_endings.specs.Endings.{ArePictured, IsAnswer, IsCheckEnd, IsDemoEnd, IsDrawn, IsEarly, IsEndOf, IsLoadEnd, IsMeterEnd, IsMetered, IsMissed, IsPictureEnd, IsPlainEnd, IsProbed, IsProbeEnd, HasResumed, IsResumeEnd, IsRun, IsSlackEnd, IsStopEnd, HasStopped, IsStrangeEnd, IsText, IsTellingEnd, IsTextEnd, IsUnlogged, IsUnmetered, IsUnprobed, IsUnresumed, IsUnrun, IsUnstopped, status_of}
+use Rattle.program_endings.specs.Demos.{IsDemoText}
+use Rattle.program_endings.specs.Moments.{Moment}
+use Rattle.program_words.specs.Requests.{Asked, asked, Check, Demo, Meter, Picture, Probe, Resume, Slack, Stop}
+use Rattle.program_words.specs.declared.words.Hearing.{Hearing}
+use Rattle.program_texts.specs.SlackTexts.{IsSlackText}
+use Rattle.program_endings.specs.Statuses.{AskForFiles, IfTelling, IfText}
+use Rattle.program_texts.specs.Verdicts.{IsVerdictLine}
+
+-- the ending of a status
+abbrev pub ending_at : ℕ → Ending
+ending_at zero = ending.Done
+ending_at (suc zero) = ending.Words
+ending_at (suc (suc zero)) = ending.Layout
+ending_at (suc (suc (suc zero))) = ending.Load
+ending_at (suc (suc (suc (suc zero)))) = ending.Read
+ending_at (suc (suc (suc (suc (suc zero))))) = ending.Write
+ending_at (suc (suc (suc (suc (suc (suc zero)))))) = ending.Memory
+ending_at (suc (suc (suc (suc (suc (suc (suc zero))))))) = ending.Probe
+ending_at (suc (suc (suc (suc (suc (suc (suc (suc zero)))))))) = ending.Log
+ending_at (suc (suc (suc (suc (suc (suc (suc (suc (suc zero))))))))) = ending.Unquiet
+ending_at (suc (suc (suc (suc (suc (suc (suc (suc (suc (suc zero)))))))))) = ending.State
+ending_at (suc (suc (suc (suc (suc (suc (suc (suc (suc (suc (suc n))))))))))) = ending.Stranger
+
+at_status : (e : Ending) → ending_at (status_of e) ≡ e
+at_status ending.Done = refl
+at_status ending.Words = refl
+at_status ending.Layout = refl
+at_status ending.Load = refl
+at_status ending.Read = refl
+at_status ending.Write = refl
+at_status ending.Memory = refl
+at_status ending.Probe = refl
+at_status ending.Log = refl
+at_status ending.Stranger = refl
+at_status ending.Unquiet = refl
+at_status ending.State = refl
+
+-- the end of an answer with this status
+pub end_at : (words : List (List ℕ)) (entry exit : Moment) (status k : ℕ) → IsAnswer words entry exit status → status ≡ k → IsEndOf (asked words) entry exit (ending_at k)
+end_at words entry exit status k answer is =
+    subst (λ e. IsEndOf (asked words) entry exit e) (sym (at_status answer.by) ∙ ap ending_at (sym answer.is ∙ is)) answer.allowed
+
+pub check_end : (o : Option Asked) (layout : List ℕ) (entry exit : Moment) (e : Ending) → o ≡ Some (Check layout) → IsEndOf o entry exit e → IsCheckEnd layout entry exit e
+check_end o layout entry exit e is end = subst (λ a. IsEndOf a entry exit e) is end
+
+pub slack_end : (o : Option Asked) (layout : List ℕ) (entry exit : Moment) (e : Ending) → o ≡ Some (Slack layout) → IsEndOf o entry exit e → IsSlackEnd layout entry exit e
+slack_end o layout entry exit e is end = subst (λ a. IsEndOf a entry exit e) is end
+
+-- the end of a form that writes the files of a run
+pub files_end : (o : Option Asked) (layout prefix : List ℕ) (entry exit : Moment) (e : Ending) → AskForFiles o layout prefix → IsEndOf o entry exit e → IsPlainEnd layout prefix entry exit e
+files_end o layout prefix entry exit e asks end =
+    elim asks [ inl plain ↦ subst (λ a. IsEndOf a entry exit e) plain end | inr run ↦ subst (λ a. IsEndOf a entry exit e) run.1 end ]
+
+pub stop_end : (o : Option Asked) (layout prefix : List ℕ) (from : ℕ) (entry exit : Moment) (e : Ending) → o ≡ Some (Stop layout prefix from) → IsEndOf o entry exit e → IsStopEnd layout prefix from entry exit e
+stop_end o layout prefix from entry exit e is end = subst (λ a. IsEndOf a entry exit e) is end
+
+pub resume_end : (o : Option Asked) (layout prefix : List ℕ) (entry exit : Moment) (e : Ending) → o ≡ Some (Resume layout prefix) → IsEndOf o entry exit e → IsResumeEnd layout prefix entry exit e
+resume_end o layout prefix entry exit e is end = subst (λ a. IsEndOf a entry exit e) is end
+
+pub demo_end : (o : Option Asked) (number workers : ℕ) (entry exit : Moment) (e : Ending) → o ≡ Some (Demo number workers) → IsEndOf o entry exit e → IsDemoEnd number entry exit e
+demo_end o number workers entry exit e is end = subst (λ a. IsEndOf a entry exit e) is end
+
+pub probe_end : (o : Option Asked) (told : Hearing) (layout : List ℕ) (from to : ℕ) (taps : List (List ℕ)) (entry exit : Moment) (e : Ending) → o ≡ Some (Probe told layout from to taps) → IsEndOf o entry exit e → IsProbeEnd told layout from to taps entry exit e
+probe_end o told layout from to taps entry exit e is end = subst (λ a. IsEndOf a entry exit e) is end
+
+pub meter_end : (o : Option Asked) (log : List ℕ) (entry exit : Moment) (e : Ending) → o ≡ Some (Meter log) → IsEndOf o entry exit e → IsMeterEnd log entry exit e
+meter_end o log entry exit e is end = subst (λ a. IsEndOf a entry exit e) is end
+
+pub picture_end : (o : Option Asked) (layout log : List ℕ) (from to : ℕ) (entry exit : Moment) (e : Ending) → o ≡ Some (Picture layout log from to) → IsEndOf o entry exit e → IsPictureEnd layout log from to entry exit e
+picture_end o layout log from to entry exit e is end = subst (λ a. IsEndOf a entry exit e) is end
+
+-- what comes of each of the four ways in which picture ends comes of its end
+pub by_picture : (X : Type 0) (layout log : List ℕ) (from to : ℕ) (before after : Moment) (e : Ending) → (IsEarly layout before after e → X) → (IsUnlogged layout log before after e → X)
+    → ((d : IsDrawn layout log from to before after e) → IsStrangeEnd d.network d.lines before.written after.written before.refused after.refused e → X)
+    → ((d : IsDrawn layout log from to before after e) → ArePictured d.network d.lines from to before.written after.written before.faults after.faults e → X) → IsPictureEnd layout log from to before after e → X
+by_picture X layout log from to before after e early unlogged strange pictured h =
+    elim h.1 [
+      | inl one ↦ early one
+      | inr later ↦ elim later [ inl two ↦ unlogged two | inr d ↦ elim d.drawn [ inl three ↦ strange d three | inr four ↦ pictured d four ] ]
+    ]
+
+-- what comes of each of the four ways in which probe ends comes of its end
+pub by_probe : (X : Type 0) (told : Hearing) (layout : List ℕ) (from to : ℕ) (taps : List (List ℕ)) (before after : Moment) (e : Ending) → (IsEarly layout before after e → X) → (IsMissed layout to taps before after e → X)
+    → (IsUnprobed layout to taps before after e → X) → (IsProbed told layout from to taps before after e → X) → IsProbeEnd told layout from to taps before after e → X
+by_probe X told layout from to taps before after e early missed unprobed probed h =
+    elim h.1 [
+      | inl one ↦ early one
+      | inr later ↦ elim later [ inl two ↦ missed two | inr last ↦ elim last [ inl three ↦ unprobed three | inr four ↦ probed four ] ]
+    ]
+
+-- what comes of each of the two ways in which meter ends comes of its end
+pub by_meter : (X : Type 0) (log : List ℕ) (before after : Moment) (e : Ending) → (IsUnmetered log before after e → X) → (IsMetered log before after e → X) → IsMeterEnd log before after e → X
+by_meter X log before after e unmetered metered h = elim h.1 [ inl one ↦ unmetered one | inr two ↦ metered two ]
+
+-- what comes of each of the four ways in which a form that writes the files of a run ends comes of its end
+pub by_way : (X : Type 0) (layout prefix : List ℕ) (before after : Moment) (e : Ending) → (IsEarly layout before after e → X) → (IsLoadEnd layout before after e → X) → (IsUnrun before after e → X) → (IsRun layout prefix before after e → X)
+    → IsPlainEnd layout prefix before after e → X
+by_way X layout prefix before after e early unloaded unrun run h =
+    elim h [
+      | inl none ↦ elim none [ inl one ↦ early one.0 | inr later ↦ elim later [ inl two ↦ unloaded two.0 | inr three ↦ unrun three ] ]
+      | inr ran ↦ run ran
+    ]
+
+-- what comes of each of the five ways in which stop ends comes of its end
+pub by_stop : (X : Type 0) (layout prefix : List ℕ) (from : ℕ) (before after : Moment) (e : Ending) → (IsEarly layout before after e → X) → (IsLoadEnd layout before after e → X) → (IsUnrun before after e → X)
+    → (IsUnstopped layout from before after e → X) → (HasStopped layout prefix from before after e → X) → IsStopEnd layout prefix from before after e → X
+by_stop X layout prefix from before after e early unloaded unrun unstopped stopped h =
+    elim h [
+      | inl none ↦ elim none [ inl one ↦ early one.0 | inr later ↦ elim later [ inl two ↦ unloaded two.0 | inr three ↦ unrun three ] ]
+      | inr last ↦ elim last [ inl four ↦ unstopped four | inr five ↦ stopped five ]
+    ]
+
+-- what comes of each of the five ways in which resume ends comes of its end
+pub by_resume : (X : Type 0) (layout prefix : List ℕ) (before after : Moment) (e : Ending) → (IsEarly layout before after e → X) → (IsLoadEnd layout before after e → X) → (IsUnrun before after e → X)
+    → (IsUnresumed layout prefix before after e → X) → (HasResumed layout prefix before after e → X) → IsResumeEnd layout prefix before after e → X
+by_resume X layout prefix before after e early unloaded unrun unresumed resumed h =
+    elim h [
+      | inl none ↦ elim none [ inl one ↦ early one.0 | inr later ↦ elim later [ inl two ↦ unloaded two.0 | inr three ↦ unrun three ] ]
+      | inr last ↦ elim last [ inl four ↦ unresumed four | inr five ↦ resumed five ]
+    ]
+
+-- what comes of each of the two ways in which demo ends comes of its end
+pub by_demo : (X : Type 0) (number : ℕ) (before after : Moment) (e : Ending) → (e ≡ ending.Memory → after.written ≡ before.written → X)
+    → ((text : List ℕ) → IsDemoText number text → IsText text before.written after.written before.faults after.faults e → X) → IsDemoEnd number before after e → X
+by_demo X number before after e none told h = elim h.0 [ inl unmade ↦ none unmade.0 unmade.1 | inr made ↦ told made.0 made.1 made.2 ]
+
+-- what holds of the end of every form that only tells of a layout
+pub of_tellings : (o : Option Asked) (entry exit : Moment) (e : Ending) (P : (Layout → List ℕ → Type 0) → List ℕ → Type 0)
+    → ((Tells : Layout → List ℕ → Type 0) (layout : List ℕ) → IsTellingEnd Tells layout entry exit e → P Tells layout) → IsEndOf o entry exit e → IfTelling o P
+of_tellings o entry exit e P on end =
+    (λ layout is. on IsVerdictLine layout (check_end o layout entry exit e is end), λ layout is. on IsSlackText layout (slack_end o layout entry exit e is end))
+
+-- what holds of the end of every fixed text
+pub of_texts : (o : Option Asked) (entry exit : Moment) (e : Ending) (P : List ℕ → Type 0) → ((text : List ℕ) → IsTextEnd text entry exit e → P text) → IsEndOf o entry exit e → IfText o P
+of_texts o entry exit e P on end = (λ is. on HELP.now (subst (λ a. IsEndOf a entry exit e) is end), λ is. on VERSION.now (subst (λ a. IsEndOf a entry exit e) is end))

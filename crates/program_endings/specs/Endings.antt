@@ -1,0 +1,505 @@
+-- How a call ends (profile).
+use Rattle.std.specs.Prelude.{◌≡◌, ◌≤◌, ◌⊎◌, ℕ, ◌-◌, List, Option, None, Some, option_map, slice_get, Result, Ok, Err}
+use Rattle.capture_file.specs.declared.fault.CaptureFault.{CaptureFault}
+use Rattle.net_step.specs.Stops.{HasNoQuiet, IsFirstQuiet}
+use Rattle.outside.specs.Files.{Files, IsAbsent, Rose}
+use Rattle.outside.specs.declared.memory.File.{File}
+use Rattle.quiet_state.specs.declared.state.NetState.{NetState}
+use Rattle.run_checkpoint.specs.Faults.{line_of_state_with}
+use Rattle.run_checkpoint.specs.declared.fault.StateFault.{StateFault}
+use Rattle.layout_file.specs.Faults.{judged}
+use Rattle.layout.specs.declared.lines.Layout.{Layout}
+use Rattle.layout.specs.declared.lines.StationLine.{StationLine}
+use Rattle.layout_file.specs.declared.fault.LayoutFault.{LayoutFault}
+use Rattle.line_probe.specs.declared.tap.Tap.{Tap}
+use Rattle.load_files.specs.Loaded.{IsLoaded, IsFirstAbsent, Faulty, load_of}
+use Rattle.load_plan.specs.declared.plan.Plan.{Plan}
+use Rattle.log_meter.specs.FigureTexts.{line_of_log_with}
+use Rattle.log_meter.specs.declared.fault.LogFault.{LogFault}
+use Rattle.log_meter.specs.declared.line.LogLine.{LogLine}
+use Rattle.network.specs.Outputs.{half_bits}
+use Rattle.program_endings.specs.FileLimits.{most_layout}
+use Rattle.program_endings.specs.Reading.{front_of}
+use Rattle.program_endings.specs.Writing.{put_all, added, IsBrokenAmong, IsSaid, IsCutShort}
+use Rattle.program_endings.specs.Moments.{Moment}
+use Rattle.program_endings.specs.CheckpointFiles.{HasState, IsStateFaulty}
+use Rattle.program_endings.specs.Demos.{IsDemoText}
+use Rattle.program_endings.specs.Meters.{HasLog, HasLogFault, IsMeterText}
+use Rattle.program_endings.specs.Probes.{AreTapsOf, HasAim, IsMissLine}
+use Rattle.program_texts.specs.HeardTexts.{IsTextOfTaps}
+use Rattle.program_words.specs.Requests.{Asked, asked, Check, Slack, Plain, Run, Stop, Resume, Demo, Probe, Meter, Picture, Help, Version}
+use Rattle.program_words.specs.declared.words.Hearing.{Hearing}
+use Rattle.program_words.specs.declared.words.Hearing.TheVariants as hearing
+use Rattle.program_endings.specs.Runs.{IsPlanOf, IsResumedSummary, IsStopLine, IsSummary, resumed_files, run_files, state_files}
+use Rattle.run_picture.specs.Pictures.{picture_of}
+use Rattle.run_picture.specs.Strangers.{first_stranger}
+use Rattle.wave_dump.specs.Heard.{waves_of_plan}
+use Rattle.program_texts.specs.SlackTexts.{IsSlackText}
+use Rattle.program_texts.specs.Texts.{line_of_words_fault, line_of_fault, line_of_load_fault, line_of_no_quiet, line_of_read_fault, line_of_stranger, name_of_state}
+use Rattle.program_texts.specs.Verdicts.{IsVerdictLine}
+use Rattle.program_endings.specs.declared.endings.Ending.{Ending}
+use Rattle.program_endings.specs.declared.endings.Ending.TheVariants as ending
+use Rattle.program_texts.specs.declared.texts.TheConstants.{HELP, VERSION}
+
+-- where the store tells its files, the layout was there and was judged so, whole or at one octet past the most that
+-- it may have
+abbrev pub IsJudged : List ℕ → Option Files → Result Layout LayoutFault → Type 0
+IsJudged name None verdict = Unit {0}
+IsJudged name (Some files) verdict = option_map judged (front_of most_layout name files) ≡ Some verdict
+
+-- the layout has a fault
+abbrev pub HasFault : List ℕ → Option Files → Type 0
+HasFault name held = (fault : LayoutFault) × IsJudged name held (Err fault)
+
+-- this line was said, or a front of it where the sink refused
+abbrev pub Says : List ℕ → Moment → Moment → Type 0
+Says line before after = IsSaid line before.written after.written before.refused after.refused
+
+-- the layout has a fault, and its line was said
+abbrev pub IsFaultSaid : List ℕ → Moment → Moment → Type 0
+IsFaultSaid name before after =
+    (fault : LayoutFault) × IsJudged name before.held (Err fault) × Says (line_of_fault fault) before after
+
+-- of a network's loads that of a station, from 0, is the first with a fault, and its line was said
+pub record IsLoadFaultSaid (network : Layout) (before after : Moment) : Type 0 where
+  pub station : ℕ
+  pub fault : CaptureFault
+  pub loaded : IsLoaded before.held network.stations (Faulty station fault)
+  pub name : List ℕ
+  pub named : option_map (λ s. s.name) (slice_get network.stations station) ≡ Some name
+  pub said : Says (line_of_load_fault name fault) before after
+
+-- a load of the network is the first that isn't held, no load before it having a fault, or a read of it failed; that
+-- was said
+pub record IsLoadUnreadSaid (network : Layout) (before after : Moment) : Type 0 where
+  pub station : ℕ
+  pub name : List ℕ
+  pub named : load_of network.stations station ≡ Some name
+  pub unread : IsFirstAbsent before.held network.stations name ⊎ Rose before.reads after.reads
+  pub said : Says (line_of_read_fault name) before after
+
+-- the layout isn't held or a read failed, and that was said
+abbrev pub IsUnreadSaid : List ℕ → Moment → Moment → Type 0
+IsUnreadSaid name before after =
+    (IsAbsent name before.held ⊎ Rose before.reads after.reads) × Says (line_of_read_fault name) before after
+
+-- the call ended before a layout without fault was read
+abbrev pub IsEarly : List ℕ → Moment → Moment → Ending → Type 0
+IsEarly name before after ending.Done = ⊥
+IsEarly name before after ending.Words = ⊥
+IsEarly name before after ending.Layout = IsFaultSaid name before after
+IsEarly name before after ending.Load = ⊥
+IsEarly name before after ending.Read = IsUnreadSaid name before after
+IsEarly name before after ending.Write = ⊥
+IsEarly name before after ending.Memory = after.written ≡ before.written
+IsEarly name before after ending.Probe = ⊥
+IsEarly name before after ending.Log = ⊥
+IsEarly name before after ending.Stranger = ⊥
+IsEarly name before after ending.Unquiet = ⊥
+IsEarly name before after ending.State = ⊥
+
+-- what is said of the load of a station, from 0, with a fault: its line, and nothing without memory; the last two
+-- numbers count what the sink refused
+abbrev pub IsFaultyEnd :
+    List StationLine → ℕ → CaptureFault → Option (List ℕ) → Option (List ℕ) → ℕ → ℕ → Ending → Type 0
+IsFaultyEnd stations station fault written now refused risen ending.Load =
+    (name : List ℕ) × (option_map (λ s. s.name) (slice_get stations station) ≡ Some name)
+    × IsSaid (line_of_load_fault name fault) written now refused risen
+IsFaultyEnd stations station fault written now refused risen ending.Memory = now ≡ written
+IsFaultyEnd stations station fault written now refused risen _ = ⊥
+
+-- what is said of the load of a station, from 0, that can't be read: its line, and nothing without memory
+abbrev pub IsUnreadEnd : List StationLine → ℕ → Option (List ℕ) → Option (List ℕ) → ℕ → ℕ → Ending → Type 0
+IsUnreadEnd stations station written now refused risen ending.Read =
+    (name : List ℕ) × (load_of stations station ≡ Some name)
+    × IsSaid (line_of_read_fault name) written now refused risen
+IsUnreadEnd stations station written now refused risen ending.Memory = now ≡ written
+IsUnreadEnd stations station written now refused risen _ = ⊥
+
+-- the call ended before the network's loads, without fault, were read
+abbrev pub IsUnloadedSaid : Layout → Moment → Moment → Ending → Type 0
+IsUnloadedSaid network before after ending.Done = ⊥
+IsUnloadedSaid network before after ending.Words = ⊥
+IsUnloadedSaid network before after ending.Layout = ⊥
+IsUnloadedSaid network before after ending.Load = IsLoadFaultSaid network before after
+IsUnloadedSaid network before after ending.Read = IsLoadUnreadSaid network before after
+IsUnloadedSaid network before after ending.Write = ⊥
+IsUnloadedSaid network before after ending.Memory = after.written ≡ before.written
+IsUnloadedSaid network before after ending.Probe = ⊥
+IsUnloadedSaid network before after ending.Log = ⊥
+IsUnloadedSaid network before after ending.Stranger = ⊥
+IsUnloadedSaid network before after ending.Unquiet = ⊥
+IsUnloadedSaid network before after ending.State = ⊥
+
+-- the call ended before the loads of a layout without fault were read
+pub record IsLoadEnd (layout : List ℕ) (before after : Moment) (e : Ending) : Type 0 where
+  pub network : Layout
+  pub judged : IsJudged layout before.held (Ok network)
+  pub said : IsUnloadedSaid network before after e
+
+-- a fixed text was written to the sink, or a front of it was; the last two numbers count the failed writes
+abbrev pub IsText : List ℕ → Option (List ℕ) → Option (List ℕ) → ℕ → ℕ → Ending → Type 0
+IsText text written now faults risen ending.Done = now ≡ added text written
+IsText text written now faults risen ending.Words = ⊥
+IsText text written now faults risen ending.Layout = ⊥
+IsText text written now faults risen ending.Load = ⊥
+IsText text written now faults risen ending.Read = ⊥
+IsText text written now faults risen ending.Write = IsCutShort text written now × Rose faults risen
+IsText text written now faults risen ending.Memory = IsCutShort text written now
+IsText text written now faults risen ending.Probe = ⊥
+IsText text written now faults risen ending.Log = ⊥
+IsText text written now faults risen ending.Stranger = ⊥
+IsText text written now faults risen ending.Unquiet = ⊥
+IsText text written now faults risen ending.State = ⊥
+
+-- all these files are whole; a text that is right was written, or a front of it
+abbrev pub AreFiled : List File → (List ℕ → Type 0) → Moment → Moment → Ending → Type 0
+AreFiled files IsRight before after e =
+    (after.held ≡ put_all files before.held)
+    × ((text : List ℕ) × IsRight text × IsText text before.written after.written before.faults after.faults e)
+
+-- one of these files could not be written, or there was no memory for it; nothing was said
+abbrev pub IsUnfiled : List File → Moment → Moment → Ending → Type 0
+IsUnfiled files before after ending.Done = ⊥
+IsUnfiled files before after ending.Words = ⊥
+IsUnfiled files before after ending.Layout = ⊥
+IsUnfiled files before after ending.Load = ⊥
+IsUnfiled files before after ending.Read = ⊥
+IsUnfiled files before after ending.Write =
+    IsBrokenAmong files before.held after.held × Rose before.writes after.writes × (after.written ≡ before.written)
+IsUnfiled files before after ending.Memory =
+    IsBrokenAmong files before.held after.held × (after.written ≡ before.written)
+IsUnfiled files before after ending.Probe = ⊥
+IsUnfiled files before after ending.Log = ⊥
+IsUnfiled files before after ending.Stranger = ⊥
+IsUnfiled files before after ending.Unquiet = ⊥
+IsUnfiled files before after ending.State = ⊥
+
+-- a file could not be written: a write to the store failed, or there was no memory
+abbrev pub IsFileEnd : ℕ → ℕ → Ending → Type 0
+IsFileEnd writes risen ending.Write = Rose writes risen
+IsFileEnd writes risen ending.Memory = Unit {0}
+IsFileEnd writes risen _ = ⊥
+
+-- there was no memory for the run, before a file was begun
+abbrev pub IsUnrun : Moment → Moment → Ending → Type 0
+IsUnrun before after e = (e ≡ ending.Memory) × (after.held ≡ before.held) × (after.written ≡ before.written)
+
+-- reading changed nothing but the counts of failed reads and writes of the store, which don't fall
+pub record HasOnlyRead (before after : Moment) : Type 0 where
+  pub held : after.held ≡ before.held
+  pub reads : before.reads ≤ after.reads
+  pub writes : before.writes ≤ after.writes
+  pub written : after.written ≡ before.written
+  pub faults : after.faults ≡ before.faults
+  pub refused : after.refused ≡ before.refused
+
+-- the layout held under this name has no fault, and this is its plan with the loads held
+pub record IsPlanned (layout : List ℕ) (held : Option Files) (plan : Plan) : Type 0 where
+  pub network : Layout
+  pub judged : IsJudged layout held (Ok network)
+  pub is : IsPlanOf held network plan
+
+-- these files were written, and a text that is right, or some of them were
+abbrev pub IsFiledEnd : List File → (List ℕ → Type 0) → Moment → Moment → Ending → Type 0
+IsFiledEnd files IsRight before after e =
+    AreFiled files IsRight before after e ⊎ IsUnfiled files before after e
+
+-- the end of what writes these files and such a text; or there was no memory to begin them
+abbrev pub IsRunEnd : List File → (List ℕ → Type 0) → Moment → Moment → Ending → Type 0
+IsRunEnd files IsRight before after e = IsUnrun before after e ⊎ IsFiledEnd files IsRight before after e
+
+-- the layout and its loads have no fault, and its network was run
+pub record IsRun (layout prefix : List ℕ) (before after : Moment) (e : Ending) : Type 0 where
+  pub plan : Plan
+  pub planned : IsPlanned layout before.held plan
+  pub filed : IsFiledEnd (run_files prefix plan) (IsSummary plan) before after e
+
+-- the call ended before the network of a layout was run
+abbrev pub IsBeforeRun : List ℕ → Moment → Moment → Ending → Type 0
+IsBeforeRun layout before after e =
+    (IsEarly layout before after e × (after.held ≡ before.held))
+    ⊎ (IsLoadEnd layout before after e × (after.held ≡ before.held))
+    ⊎ IsUnrun before after e
+
+-- the end of the form plain LAYOUT PREFIX, and of run LAYOUT PREFIX WORKERS for any number of workers
+abbrev pub IsPlainEnd : List ℕ → List ℕ → Moment → Moment → Ending → Type 0
+IsPlainEnd layout prefix before after e = IsBeforeRun layout before after e ⊎ IsRun layout prefix before after e
+
+-- what is said of a run that has no quiet half bit at or after the one that was asked for
+abbrev pub IsUnquietEnd : Moment → Moment → Ending → Type 0
+IsUnquietEnd before after ending.Unquiet = Says line_of_no_quiet before after
+IsUnquietEnd before after _ = ⊥
+
+-- the layout and its loads have no fault, its run has no quiet half bit at or after this one, and that was said
+pub record IsUnstopped (layout : List ℕ) (from : ℕ) (before after : Moment) (e : Ending) : Type 0 where
+  pub plan : Plan
+  pub planned : IsPlanned layout before.held plan
+  pub never : HasNoQuiet plan from
+  pub said : IsUnquietEnd before after e
+  pub held : after.held ≡ before.held
+
+-- the layout and its loads have no fault, and its network was run to the first quiet half bit at or after this one
+pub record HasStopped (layout prefix : List ℕ) (from : ℕ) (before after : Moment) (e : Ending) : Type 0 where
+  pub plan : Plan
+  pub planned : IsPlanned layout before.held plan
+  pub t : ℕ
+  pub first : IsFirstQuiet plan from t
+  pub filed : IsFiledEnd (state_files prefix plan t) (IsStopLine t) before after e
+
+-- the end of the form stop LAYOUT PREFIX FROM
+abbrev pub IsStopEnd : List ℕ → List ℕ → ℕ → Moment → Moment → Ending → Type 0
+IsStopEnd layout prefix from before after e =
+    IsBeforeRun layout before after e ⊎ IsUnstopped layout from before after e
+    ⊎ HasStopped layout prefix from before after e
+
+-- the file of a state has a fault, and its line was said
+abbrev pub IsStateFaultSaid : Plan → List ℕ → Moment → Moment → Type 0
+IsStateFaultSaid plan name before after =
+    (fault : StateFault) × IsStateFaulty plan name before.held fault × Says (line_of_state_with fault) before after
+
+-- the call ended before a state of a plan was read from this file
+abbrev pub IsUnstated : Plan → List ℕ → Moment → Moment → Ending → Type 0
+IsUnstated plan name before after ending.State = IsStateFaultSaid plan name before after
+IsUnstated plan name before after ending.Read = IsUnreadSaid name before after
+IsUnstated plan name before after ending.Memory = after.written ≡ before.written
+IsUnstated plan name before after _ = ⊥
+
+-- the layout and its loads have no fault, and the call ended before a state of its run was read
+pub record IsUnresumed (layout prefix : List ℕ) (before after : Moment) (e : Ending) : Type 0 where
+  pub plan : Plan
+  pub planned : IsPlanned layout before.held plan
+  pub said : IsUnstated plan (name_of_state prefix) before after e
+  pub held : after.held ≡ before.held
+
+-- the layout, its loads and the state of its run have no fault, and its network went on from that state
+pub record HasResumed (layout prefix : List ℕ) (before after : Moment) (e : Ending) : Type 0 where
+  pub plan : Plan
+  pub planned : IsPlanned layout before.held plan
+  pub state : NetState
+  pub read : HasState plan (name_of_state prefix) before.held state
+  pub filed : IsFiledEnd (resumed_files prefix plan state) (IsResumedSummary plan state) before after e
+
+-- the end of the form resume LAYOUT PREFIX
+abbrev pub IsResumeEnd : List ℕ → List ℕ → Moment → Moment → Ending → Type 0
+IsResumeEnd layout prefix before after e =
+    IsBeforeRun layout before after e ⊎ IsUnresumed layout prefix before after e
+    ⊎ HasResumed layout prefix before after e
+
+-- the layout has no fault, and a text that tells this of its network was written, or a front of it
+pub record IsTold (Tells : Layout → List ℕ → Type 0) (layout : List ℕ) (before after : Moment)
+    (e : Ending) : Type 0 where
+  pub network : Layout
+  pub judged : IsJudged layout before.held (Ok network)
+  pub text : List ℕ
+  pub right : Tells network text
+  pub written : IsText text before.written after.written before.faults after.faults e
+
+-- the end of a form whose text tells this of a layout's network; it reads no loads
+abbrev pub IsTellingEnd : (Layout → List ℕ → Type 0) → List ℕ → Moment → Moment → Ending → Type 0
+IsTellingEnd Tells layout before after e =
+    (after.held ≡ before.held) × (IsEarly layout before after e ⊎ IsTold Tells layout before after e)
+
+-- the end of the form check LAYOUT: the line of the path verdict
+abbrev pub IsCheckEnd : List ℕ → Moment → Moment → Ending → Type 0
+IsCheckEnd layout before after e = IsTellingEnd IsVerdictLine layout before after e
+
+-- the end of the form slack LAYOUT: the text of the slacks
+abbrev pub IsSlackEnd : List ℕ → Moment → Moment → Ending → Type 0
+IsSlackEnd layout before after e = IsTellingEnd IsSlackText layout before after e
+
+-- the end of a form that writes a fixed text
+abbrev pub IsTextEnd : List ℕ → Moment → Moment → Ending → Type 0
+IsTextEnd text before after e =
+    IsText text before.written after.written before.faults after.faults e × (after.held ≡ before.held)
+
+-- the text of demo of a number was written, or a front of it, or there was no memory for it; the last two numbers count
+-- the failed writes
+abbrev pub IsDemoTold : ℕ → Option (List ℕ) → Option (List ℕ) → ℕ → ℕ → Ending → Type 0
+IsDemoTold number written now faults risen e =
+    ((e ≡ ending.Memory) × (now ≡ written))
+    ⊎ ((text : List ℕ) × IsDemoText number text × IsText text written now faults risen e)
+
+-- the end of the form demo NUMBER WORKERS: its text; it reads and writes no file
+abbrev pub IsDemoEnd : ℕ → Moment → Moment → Ending → Type 0
+IsDemoEnd number before after e =
+    IsDemoTold number before.written after.written before.faults after.faults e × (after.held ≡ before.held)
+
+-- what a probe aims at isn't there: that was said, and nothing without memory; the last two numbers count what the sink
+-- refused
+abbrev pub IsAimEnd : Layout → ℕ → List (List ℕ) → Option (List ℕ) → Option (List ℕ) → ℕ → ℕ → Ending → Type 0
+IsAimEnd network to words written now refused risen ending.Probe =
+    (line : List ℕ) × IsMissLine network to words line × IsSaid line written now refused risen
+IsAimEnd network to words written now refused risen ending.Memory = now ≡ written
+IsAimEnd network to words written now refused risen _ = ⊥
+
+-- the layout has no fault, what a probe aims at isn't in its network, and that was said
+pub record IsMissed (layout : List ℕ) (to : ℕ) (words : List (List ℕ)) (before after : Moment) (e : Ending)
+    : Type 0 where
+  pub network : Layout
+  pub judged : IsJudged layout before.held (Ok network)
+  pub missed : IsAimEnd network to words before.written after.written before.refused after.refused e
+
+-- the layout has no fault, what a probe aims at is in its network, and the call ended before the loads were read
+pub record IsUnprobed (layout : List ℕ) (to : ℕ) (words : List (List ℕ)) (before after : Moment) (e : Ending)
+    : Type 0 where
+  pub network : Layout
+  pub judged : IsJudged layout before.held (Ok network)
+  pub aim : HasAim network to words
+  pub said : IsUnloadedSaid network before after e
+
+-- this text tells so what the taps of these words hear from one half bit on and before another: runs and bursts, tap by
+-- tap, or the waves of all taps
+abbrev pub IsTextHeard : Hearing → Plan → ℕ → ℕ → List (List ℕ) → List Tap → List ℕ → Type 0
+IsTextHeard hearing.Runs plan from to words taps text = IsTextOfTaps plan from (to - from) words taps text
+IsTextHeard hearing.Waves plan from to words taps text = text ≡ waves_of_plan plan words taps from to
+
+-- the layout and its loads have no fault, its network has a tap for each of these words, its run has the half bits of
+-- the probe, and this text tells so what they hear
+pub record IsProbeText (told : Hearing) (layout : List ℕ) (held : Option Files) (from to : ℕ) (words : List (List ℕ))
+    (text : List ℕ) : Type 0 where
+  pub plan : Plan
+  pub planned : IsPlanned layout held plan
+  pub taps : List Tap
+  pub named : AreTapsOf plan.layout words taps
+  pub within : to ≤ half_bits plan
+  pub lines : IsTextHeard told plan from to words taps text
+
+-- the text of a probe was written, or a front of it
+pub record IsProbed (told : Hearing) (layout : List ℕ) (from to : ℕ) (words : List (List ℕ)) (before after : Moment)
+    (e : Ending) : Type 0 where
+  pub text : List ℕ
+  pub right : IsProbeText told layout before.held from to words text
+  pub written : IsText text before.written after.written before.faults after.faults e
+
+-- the text of what the taps of these words hear in so many half bits from this one on was written, or a front of it;
+-- the last two numbers count the failed writes
+abbrev pub AreTextsTold :
+    Plan → ℕ → ℕ → List (List ℕ) → List Tap → Option (List ℕ) → Option (List ℕ) → ℕ → ℕ → Ending → Type 0
+AreTextsTold plan from n words taps written now faults risen e =
+    (text : List ℕ) × IsTextOfTaps plan from n words taps text × IsText text written now faults risen e
+
+-- what taps of a plan hear was written, told so, or a front of it, or there was no memory for it; the last two numbers
+-- count the failed writes
+abbrev pub AreTapsTold :
+    Hearing → Plan → ℕ → ℕ → List (List ℕ) → List Tap → Option (List ℕ) → Option (List ℕ) → ℕ → ℕ → Ending → Type 0
+AreTapsTold told plan from to words taps written now faults risen e =
+    ((e ≡ ending.Memory) × (now ≡ written))
+    ⊎ ((text : List ℕ) × IsTextHeard told plan from to words taps text × IsText text written now faults risen e)
+
+-- the end of the forms probe LAYOUT FROM TO TAP .. and waves LAYOUT FROM TO TAP ..: they write no file
+abbrev pub IsProbeEnd : Hearing → List ℕ → ℕ → ℕ → List (List ℕ) → Moment → Moment → Ending → Type 0
+IsProbeEnd told layout from to words before after e =
+    (after.held ≡ before.held)
+    × (IsEarly layout before after e ⊎ IsMissed layout to words before after e
+    ⊎ IsUnprobed layout to words before after e ⊎ IsProbed told layout from to words before after e)
+
+-- the log has a fault, and its line was said
+abbrev pub IsLogFaultSaid : List ℕ → Moment → Moment → Type 0
+IsLogFaultSaid log before after =
+    (fault : LogFault) × HasLogFault log before.held fault × Says (line_of_log_with fault) before after
+
+-- the call ended before a log without fault was read
+abbrev pub IsUnmetered : List ℕ → Moment → Moment → Ending → Type 0
+IsUnmetered log before after ending.Log = IsLogFaultSaid log before after
+IsUnmetered log before after ending.Read = IsUnreadSaid log before after
+IsUnmetered log before after ending.Memory = after.written ≡ before.written
+IsUnmetered log before after _ = ⊥
+
+-- the text of a log's figures was written, or a front of it
+pub record IsMetered (log : List ℕ) (before after : Moment) (e : Ending) : Type 0 where
+  pub text : List ℕ
+  pub right : IsMeterText log before.held text
+  pub written : IsText text before.written after.written before.faults after.faults e
+
+-- the end of the form meter LOG: it writes no file
+abbrev pub IsMeterEnd : List ℕ → Moment → Moment → Ending → Type 0
+IsMeterEnd log before after e =
+    (after.held ≡ before.held) × (IsUnmetered log before after e ⊎ IsMetered log before after e)
+
+-- the layout has no fault, and the call ended before a log without fault was read
+pub record IsUnlogged (layout log : List ℕ) (before after : Moment) (e : Ending) : Type 0 where
+  pub network : Layout
+  pub judged : IsJudged layout before.held (Ok network)
+  pub said : IsUnmetered log before after e
+
+-- what is said of the first of these lines, from 1, that names what a network lacks: its line, and nothing without
+-- memory; the last two numbers count what the sink refused
+abbrev pub IsStrangeEnd : Layout → List LogLine → Option (List ℕ) → Option (List ℕ) → ℕ → ℕ → Ending → Type 0
+IsStrangeEnd network lines written now refused risen ending.Stranger =
+    (n : ℕ) × (first_stranger network lines ≡ Some n) × IsSaid (line_of_stranger n) written now refused risen
+IsStrangeEnd network lines written now refused risen ending.Memory = now ≡ written
+IsStrangeEnd network lines written now refused risen _ = ⊥
+
+-- the picture of what these lines, none of which names what a network lacks, tell of the half bits from one on and
+-- before another was written, or a front of it; the last two numbers count the failed writes
+pub record ArePictured (network : Layout) (lines : List LogLine) (from to : ℕ) (written now : Option (List ℕ))
+    (faults risen : ℕ) (e : Ending) : Type 0 where
+  pub known : first_stranger network lines ≡ None
+  pub text : IsText (picture_of network lines from to) written now faults risen e
+
+-- these lines were drawn, or one of them names what the network lacks, or there was no memory; of the last four numbers
+-- two count the failed writes, and two what the sink refused
+abbrev pub IsDrawnEnd :
+    Layout → List LogLine → ℕ → ℕ → Option (List ℕ) → Option (List ℕ) → ℕ → ℕ → ℕ → ℕ → Ending → Type 0
+IsDrawnEnd network lines from to written now faults faulted refused risen e =
+    IsStrangeEnd network lines written now refused risen e
+    ⊎ ArePictured network lines from to written now faults faulted e
+
+-- the layout and the log have no fault, and the log's lines were drawn, or one names what the layout lacks
+pub record IsDrawn (layout log : List ℕ) (from to : ℕ) (before after : Moment) (e : Ending) : Type 0 where
+  pub network : Layout
+  pub judged : IsJudged layout before.held (Ok network)
+  pub lines : List LogLine
+  pub read : HasLog log before.held lines
+  pub drawn :
+      IsDrawnEnd network lines from to before.written after.written before.faults after.faults before.refused
+      after.refused e
+
+-- the end of the form picture LAYOUT LOG FROM TO: it writes no file
+abbrev pub IsPictureEnd : List ℕ → List ℕ → ℕ → ℕ → Moment → Moment → Ending → Type 0
+IsPictureEnd layout log from to before after e =
+    (after.held ≡ before.held)
+    × (IsEarly layout before after e ⊎ IsUnlogged layout log before after e
+    ⊎ IsDrawn layout log from to before after e)
+
+-- the end of words that ask for this; the words are none of the forms where they ask for nothing
+abbrev pub IsEndOf : Option Asked → Moment → Moment → Ending → Type 0
+IsEndOf None before after e = (e ≡ ending.Words) × (after.held ≡ before.held) × Says line_of_words_fault before after
+IsEndOf (Some (Check layout)) before after e = IsCheckEnd layout before after e
+IsEndOf (Some (Slack layout)) before after e = IsSlackEnd layout before after e
+IsEndOf (Some (Plain layout prefix)) before after e = IsPlainEnd layout prefix before after e
+IsEndOf (Some (Run layout prefix workers)) before after e = IsPlainEnd layout prefix before after e
+IsEndOf (Some (Stop layout prefix from)) before after e = IsStopEnd layout prefix from before after e
+IsEndOf (Some (Resume layout prefix)) before after e = IsResumeEnd layout prefix before after e
+IsEndOf (Some (Demo number workers)) before after e = IsDemoEnd number before after e
+IsEndOf (Some (Probe told layout from to words)) before after e = IsProbeEnd told layout from to words before after e
+IsEndOf (Some (Meter log)) before after e = IsMeterEnd log before after e
+IsEndOf (Some (Picture layout log from to)) before after e = IsPictureEnd layout log from to before after e
+IsEndOf (Some Help) before after e = IsTextEnd HELP.now before after e
+IsEndOf (Some Version) before after e = IsTextEnd VERSION.now before after e
+
+-- the end of a call with these words
+abbrev pub IsEnd : List (List ℕ) → Moment → Moment → Ending → Type 0
+IsEnd words before after e = IsEndOf (asked words) before after e
+
+-- the program's status
+abbrev pub status_of : Ending → ℕ
+status_of ending.Done = 0
+status_of ending.Words = 1
+status_of ending.Layout = 2
+status_of ending.Load = 3
+status_of ending.Read = 4
+status_of ending.Write = 5
+status_of ending.Memory = 6
+status_of ending.Probe = 7
+status_of ending.Log = 8
+status_of ending.Stranger = 11
+status_of ending.Unquiet = 9
+status_of ending.State = 10
+
+-- the status is that of an ending which these words allow between entry and exit
+pub record IsAnswer (words : List (List ℕ)) (entry exit : Moment) (status : ℕ) : Type 0 where
+  pub by : Ending
+  pub is : status ≡ status_of by
+  pub allowed : IsEnd words entry exit by

@@ -1,0 +1,230 @@
+//! What is said and left where a call of the store or of the sink fails: each call in turn, for each form of words.
+use crate::calls::{Case, RUN, RUNS, STATE, holds, is_alone, is_right, store_of};
+use crate::done::holds_one_frame;
+use lists::OutOfMemory;
+use outside::MemoryStore;
+use std::sync::Wait;
+use std::thread::Threads;
+
+/// Forms with the names of the files that they read, a piece and then the end of each.
+const READS: [(&[&str], &[&str]); 13] = [
+    (&["check", "l.toml"], &["l.toml", "l.toml"]),
+    (&["slack", "l.toml"], &["l.toml", "l.toml"]),
+    (
+        &["plain", "l.toml", "out"],
+        &["l.toml", "l.toml", "b.pcap", "b.pcap"],
+    ),
+    (
+        &["run", "l.toml", "out", "1"],
+        &["l.toml", "l.toml", "b.pcap", "b.pcap"],
+    ),
+    (
+        &["run", "l.toml", "out", "2"],
+        &["l.toml", "l.toml", "b.pcap", "b.pcap"],
+    ),
+    (
+        &["run", "l.toml", "out", "7"],
+        &["l.toml", "l.toml", "b.pcap", "b.pcap"],
+    ),
+    (
+        &["run", "l.toml", "out", "64"],
+        &["l.toml", "l.toml", "b.pcap", "b.pcap"],
+    ),
+    (
+        &["resume", "l.toml", "out"],
+        &[
+            "l.toml",
+            "l.toml",
+            "b.pcap",
+            "b.pcap",
+            "out.state",
+            "out.state",
+        ],
+    ),
+    (
+        &["stop", "l.toml", "out", "0"],
+        &["l.toml", "l.toml", "b.pcap", "b.pcap"],
+    ),
+    (
+        &["probe", "l.toml", "0", "20", "b"],
+        &["l.toml", "l.toml", "b.pcap", "b.pcap"],
+    ),
+    (
+        &["waves", "l.toml", "8", "16", "b"],
+        &["l.toml", "l.toml", "b.pcap", "b.pcap"],
+    ),
+    (&["meter", "m.log"], &["m.log", "m.log"]),
+    (
+        &["picture", "l.toml", "m.log", "0", "1400"],
+        &["l.toml", "l.toml", "m.log", "m.log"],
+    ),
+];
+
+/// Whether each read that fails, in turn, is told by the name of its file.
+fn reads_are_told<R: Threads + Wait + Sync + AllocGlobal>(
+    rt: &R,
+    words: &[&'static str],
+    names: &[&str],
+) -> Result<bool, OutOfMemory> {
+    let mut read = 1u32;
+    for name in names {
+        let said = format!(in rt.alloc(); "read fault {name}\n")?;
+        let case = Case {
+            words,
+            read,
+            status: 4,
+            said: &said,
+            ..RUN
+        };
+        if !is_alone(rt, &case)? {
+            return Ok(false);
+        }
+        read = read.saturating_add(1);
+    }
+    Ok(true)
+}
+
+#[test]
+fn reads_that_fail(rt: HostRuntime) -> Result<(), OutOfMemory> {
+    for (words, names) in READS {
+        assert!(rt; reads_are_told(&rt, words, names)?);
+    }
+    Ok(())
+}
+
+/// Forms that say nothing where the first write fails, which begin no file; a refusal keeps its status.
+const WRITES: [(&[&str], u8); 18] = [
+    (&["--help"], 5),
+    (&["--version"], 5),
+    (&["check", "l.toml"], 5),
+    (&["slack", "l.toml"], 5),
+    (&["demo", "1", "1"], 5),
+    (&["probe", "l.toml", "0", "20", "b"], 5),
+    (&["waves", "l.toml", "8", "16", "b"], 5),
+    (&["meter", "m.log"], 5),
+    (&["picture", "l.toml", "m.log", "0", "1400"], 5),
+    (&["check"], 1),
+    (&["plain", "none", "out"], 2),
+    (&["plain", "load.toml", "out"], 3),
+    (&["plain", "m.toml", "out"], 4),
+    (&["probe", "l.toml", "0", "1401", "b"], 7),
+    (&["meter", "l.toml"], 8),
+    (&["stop", "l.toml", "out", "1400"], 9),
+    (&["resume", "l.toml", "none"], 10),
+    (&["picture", "l.toml", "other.log", "0", "1400"], 11),
+];
+
+#[test]
+fn writes_that_fail(rt: HostRuntime) -> Result<(), OutOfMemory> {
+    for (words, status) in WRITES {
+        let case = Case {
+            words,
+            write: 1,
+            status,
+            said: "",
+            ..RUN
+        };
+        assert!(rt; is_alone(&rt, &case)?, "{status}");
+    }
+    let second = Case {
+        words: &["probe", "l.toml", "0", "2", "a", "b"],
+        write: 2,
+        status: 5,
+        said: "tap a\n0 2 idle\n",
+        ..RUN
+    };
+    assert!(rt; is_alone(&rt, &second)?);
+    Ok(())
+}
+
+/// The files of a run, in the order in which they are written.
+const NAMES: [&str; 4] = ["out.log", "out.counters", "out.a.pcap", "out.b.pcap"];
+
+/// Whether a store holds the first so many files of a run whole, the next one empty where it was begun, and no others.
+fn is_left(store: &MemoryStore, whole: &MemoryStore, count: u32, begun: bool) -> bool {
+    let mut number = 0u32;
+    for name in NAMES {
+        let right = match store.get(name) {
+            Some(held) if number < count => Some(held) == whole.get(name),
+            Some(held) => begun && number == count && held.is_empty(),
+            None => number > count || (number == count && !begun),
+        };
+        if !right {
+            return false;
+        }
+        number = number.saturating_add(1);
+    }
+    true
+}
+
+/// Whether a run whose files are begun or filled in vain, each in turn, leaves what it must.
+fn files_are_left<R: Threads + Wait + Sync + AllocGlobal>(
+    rt: &R,
+    words: &[&'static str],
+    whole: &MemoryStore,
+) -> Result<bool, OutOfMemory> {
+    for count in 0..4u32 {
+        for begun in [false, true] {
+            let next = count.saturating_add(1);
+            let (start, append) = if begun { (0, next) } else { (next, 0) };
+            let case = Case {
+                words,
+                start,
+                append,
+                status: 5,
+                said: "",
+                ..RUN
+            };
+            let mut store = store_of(rt, &case)?;
+            let right = is_right(rt, &case, &mut store)?;
+            if !right || !is_left(&store, whole, count, begun) {
+                return Ok(false);
+            }
+        }
+    }
+    Ok(true)
+}
+
+#[test]
+fn starts_and_appends_that_fail(rt: HostRuntime) -> Result<(), OutOfMemory> {
+    let mut whole = store_of(&rt, &RUN)?;
+    assert!(rt; is_right(&rt, &RUN, &mut whole)?);
+    for words in RUNS {
+        assert!(rt; files_are_left(&rt, words, &whole)?);
+        let silent = Case {
+            words,
+            write: 1,
+            status: 5,
+            said: "",
+            ..RUN
+        };
+        let mut store = store_of(&rt, &silent)?;
+        assert!(rt; is_right(&rt, &silent, &mut store)?);
+        assert!(rt; holds_one_frame(&store));
+    }
+    Ok(())
+}
+
+/// A state that isn't begun, one that is begun alone, and one that is written before the last line can't be.
+#[test]
+fn stops_that_fail(rt: HostRuntime) -> Result<(), OutOfMemory> {
+    let stop = Case {
+        words: &["stop", "l.toml", "new", "0"],
+        status: 5,
+        said: "",
+        ..RUN
+    };
+    let begun = Case { start: 1, ..stop };
+    let mut store = store_of(&rt, &begun)?;
+    assert!(rt; is_right(&rt, &begun, &mut store)?);
+    assert!(rt; store.get("new.state").is_none());
+    let filled = Case { append: 1, ..stop };
+    let mut store = store_of(&rt, &filled)?;
+    assert!(rt; is_right(&rt, &filled, &mut store)?);
+    assert!(rt; holds(&store, "new.state", ""));
+    let said = Case { write: 1, ..stop };
+    let mut store = store_of(&rt, &said)?;
+    assert!(rt; is_right(&rt, &said, &mut store)?);
+    assert!(rt; holds(&store, "new.state", STATE));
+    Ok(())
+}

@@ -1,0 +1,5 @@
+pub mod StationCaptures
+pub mod Crossings
+pub mod PartsOneByOne
+pub mod ParcelsOnTheirWay
+pub mod ExchangedParcels

@@ -1,0 +1,33 @@
+use Rattle.std.proofs.Common.{◌≡◌, ◌<◌, length, get_or, sym, ap, ap₂, arith, ◌∙◌}
+use Rattle.net_parts.specs.RepeaterParts.{edges_before}
+use Rattle.net_parts.proofs.EdgeNumbers.{none_before, one_more_before}
+use Rattle.turn_run.proofs.ParcelsOnTheirWay.{before_all}
+use Rattle.turn_run.proofs.first.count_ports.Goals as goal
+
+pub loop-k-init : goal.loop-k-init
+loop-k-init c = record { so_far = sym (none_before c.as_slice-repeaters.result.now); few = omega arith }
+
+pub loop-k-preserved : goal.loop-k-preserved
+loop-k-preserved c =
+    let rs = c.as_slice-repeaters.result.now in
+    let l = c.args.layout.now in
+    let d = c.index-repeaters-k.result in
+    let k = c.loop-k.k in
+    let same = ap length c.as_slice-repeaters.ensures in
+    let in' = c.loop-k-test.true in
+    let in_it : k < length l.repeaters = omega (arith, in', same) in
+    let row = c.requires.repeaters k d in_it in
+    let most = row.ports_most in
+    let one = one_more_before rs k d (omega (arith, in_it, same)) in
+    let port = ap (λ xs. length (get_or xs k d).ports) c.as_slice-repeaters.ensures in
+    let count = c.len.ensures in
+    let so_far = c.loop-k.invariant.so_far in
+    let few = c.loop-k.invariant.few in
+    record { so_far = omega (arith, one, so_far, count); few = omega (arith, most, port, count, few) }
+
+pub returns-clause-value : goal.returns-clause-value
+returns-clause-value c =
+    let l = c.args.layout.now in
+    let same = ap length c.as_slice-repeaters.ensures in
+    let all : c.loop-k.k ≡ length l.repeaters = let low = c.loop-k-test.false in let high = c.loop-k.auto.k-end in omega (arith, low, high, same) in
+    c.loop-k.invariant.so_far ∙ ap₂ edges_before c.as_slice-repeaters.ensures all ∙ before_all l.repeaters
