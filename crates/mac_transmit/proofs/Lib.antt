@@ -6,5 +6,4 @@ pub mod StartGaps
 pub mod SignalSendings
 pub mod LawfulAttempts
 pub mod CalmEmissions
-pub mod SendingPieces
 pub mod EndedSendings

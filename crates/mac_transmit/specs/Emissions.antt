@@ -1,7 +1,6 @@
 -- What a sender emits over half bits in which nothing happens to it (IEEE 802.3, 4.2.8: the line text, or the jam after
 -- a collision; that it is known for many half bits at once is profile).
-use Rattle.std.specs.Prelude.{ℕ, ◌≡◌, ◌+◌, ◌-◌, ◌<◌, ◌≤◌, Bool, true, List, length, map}
-use Rattle.std.specs.List.{range_with_len}
+use Rattle.std.specs.Prelude.{ℕ, ◌≡◌, ◌+◌, ◌-◌, ◌<◌, ◌≤◌, Bool, true, List, length}
 use Rattle.manchester_line.specs.declared.Sym.{Sym}
 use Rattle.manchester_line.specs.declared.Sym.TheVariants.{Idle}
 use Rattle.manchester_line.specs.Line.{is_signal}
@@ -15,10 +14,6 @@ use Rattle.mac_transmit.specs.Calm.{after_all, AllHeardAs, calm_of}
 abbrev pub emission_by : Sender → ℕ → Phase → Sym
 emission_by s j (Sending start hit) = symbol_of (frame_at s.queue s.place) hit (s.t + j - start)
 emission_by s j _ = Idle
-
--- what it emits in the n half bits from now on, in order, if nothing happens to it until then
-abbrev pub emissions : Sender → ℕ → List Sym
-emissions s n = map (λ j. emission_by s j s.phase) (range_with_len 0 n)
 
 -- In this phase a sending is under way, and at least n half bits from now on are left of it.
 abbrev pub IsSendingFor : Sender → ℕ → Phase → Type 0

@@ -5,7 +5,6 @@ mod cases;
 mod deference;
 mod laws;
 mod phase;
-mod pieces;
 mod state;
 mod transmitter;
 mod turn;

@@ -8,7 +8,6 @@ ghost use Rattle.mac_transmit.specs.Calm.{up_to_most};
 
 use crate::cases::{carrier_leapt, carrier_since, length_with, new_hit, phase_with_hit, symbol_at};
 use crate::deference::{defer_leapt, gap_to_wait};
-use crate::pieces::put_sending;
 use crate::turn::take_turn;
 use crate::{Defer, Phase, SenderState};
 use backoff_draw::Draws;
@@ -104,8 +103,7 @@ impl Transmitter {
     ghost use Rattle.mac_transmit.specs.Laws.{end_after, carrier_after, StartsAt, IsAway, IsLongEnough};
     ghost use Rattle.mac_transmit.specs.Calm.{change_in, calm_of, AllHeardAs, AreCalm, after_all, leapt};
     ghost use Rattle.std.specs.Prelude.{List};
-    ghost use Rattle.mac_transmit.specs.Emissions.{emission_by, emissions, IsSendingFor};
-    ghost use Rattle.manchester_line.specs.Line.{line};
+    ghost use Rattle.mac_transmit.specs.Emissions.{emission_by};
     ghost use Rattle.mac_transmit.specs.Resuming.{state_of, resumed_sender, IsStateOf};
     ghost use Rattle.mac_transmit.specs.Sender.{new_sender, finished, event_from, promoted, after_turn, emitted_from, emitting, sender_step, cut_of, frame_at, ready_at, is_sending, IsSender};
     ghost use Rattle.manchester_line.specs.Line.{is_signal};
@@ -355,25 +353,11 @@ impl Transmitter {
         ensures state { (hs : List Sym) → AllHeardAs carrier hs → length hs ≡ n → self.new ≡ after_all self.old hs }
         ensures phase { self.new.phase ≡ self.old.phase }
         ensures time { self.new.t ≡ self.old.t + n }
-        // In each of them it emits what it would if nothing happened to it, as `piece` writes it.
+        // In each of them it emits what it would if nothing happened to it.
         ensures emits { (hs : List Sym) (h : Sym) → AllHeardAs carrier hs → is_signal h ≡ carrier → length hs < n →
             (sender_step (after_all self.old hs) h).emitted ≡ emission_by self.old (length hs) self.old.phase }
     {
         self.leap_over(t, n, carrier);
-    }
-
-    /// Writes what is emitted in as many half bits from `t` on, the one after the last that was stepped or leapt, as
-    /// `out` has places, given the line text of the frame that is being sent, whose sending is to last for all of them.
-    /// The steps emit this where the half bits are calm: a hit may stand already, but none of them brings a new one.
-    pub fn piece(&self, t: u64, text: &[Sym], out: &mut [Sym])
-        requires time { t ≡ self.now.t }
-        requires text { text.now ≡ line (frame_at self.now.queue self.now.place) }
-        requires sending { IsSendingFor self.now (length out.old) self.now.phase }
-        ensures { out.new ≡ emissions self.now (length out.old) }
-    {
-        if let Phase::Sending { start, hit } = self.phase {
-            put_sending(text, hit, t.saturating_sub(start) as usize, out);
-        }
     }
 
     /// The row of the sending that is under way; none exactly where no sending is.

@@ -9,4 +9,3 @@ mod RepeaterPays
 mod SendingBounds
 mod SendingGaps
 mod StationCaptures
-mod WindowTold

@@ -1,5 +1,5 @@
 -- Captures of one station beside those of others.
-use Rattle.std.proofs.Common.{◌≡◌, ℕ, zero, suc, ◌<◌, List, [], ◌∷◌, ◌++◌, length, ap, arith, append_assoc, append-nil}
+use Rattle.std.proofs.Common.{◌≡◌, ℕ, zero, suc, ◌<◌, List, [], ◌∷◌, ◌++◌, length, ap, arith, append-nil}
 use Rattle.std.specs.Prelude.{slice_index_or}
 use Rattle.std.proofs.lemmas.List.{length-set}
 use Rattle.network.specs.declared.outputs.Taken.{Taken}
@@ -9,11 +9,6 @@ pub same_captures : (k : ℕ) (cs : List (List Taken)) → k < length cs → cap
 same_captures k [] l = absurd (omega (arith, l))
 same_captures zero (c ∷ cs) l = ap (λ x. x ∷ cs) (append-nil c)
 same_captures (suc k) (c ∷ cs) l = ap (λ x. c ∷ x) (same_captures k cs (omega (arith, l)))
-
-pub more_captures : (k : ℕ) (xs ys : List Taken) (cs : List (List Taken)) → k < length cs → captures_with k ys (captures_with k xs cs) ≡ captures_with k (xs ++ ys) cs
-more_captures k xs ys [] l = absurd (omega (arith, l))
-more_captures zero xs ys (c ∷ cs) l = ap (λ x. x ∷ cs) (append_assoc c xs ys)
-more_captures (suc k) xs ys (c ∷ cs) l = ap (λ x. c ∷ x) (more_captures k xs ys cs (omega (arith, l)))
 
 pub length_with : (k : ℕ) (xs : List Taken) (cs : List (List Taken)) → length (captures_with k xs cs) ≡ length cs
 length_with k xs cs = length-set cs k (slice_index_or cs k [] ++ xs)

@@ -1,7 +1,6 @@
 pub mod FreshFrames
 pub mod FreshRows
 pub mod NeededRoom
-pub mod ReceivedWindows
 pub mod Receptions
 pub mod RepeaterRows
 pub mod Rooms

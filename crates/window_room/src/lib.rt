@@ -7,7 +7,5 @@ mod receive;
 mod room;
 mod rows;
 
-pub use receive::{
-    keep_reception, log_event, receive_one, receive_window, reserve_repeater, reserve_stations,
-};
+pub use receive::{keep_reception, log_event, receive_one, reserve_repeater, reserve_stations};
 pub use room::RowRoom;

@@ -2,13 +2,12 @@
 ghost use Rattle.std.specs.Prelude.{◌≡◌, ◌+◌, ◌<◌, ◌≤◌, ℕ, suc, List, ◌++◌, length, Option, Some, OnOk};
 ghost use Rattle.collision_log.specs.declared.row.Body.TheVariants.{Received};
 ghost use Rattle.mac_receive.specs.KeptReceiver.{Hears, IsReceiver, kept_octets};
-ghost use Rattle.mac_receive.specs.Receiver.{Receiving, receiver_step, receiver_after};
+ghost use Rattle.mac_receive.specs.Receiver.{Receiving, receiver_step};
 ghost use Rattle.mac_transmit.specs.Sender.{Sender};
 ghost use Rattle.network.specs.Captures.{taken_by};
 ghost use Rattle.network.specs.Rows.{row_of};
 ghost use Rattle.window_room.specs.NeededRoom.{Covers, Demand, both_demands, demand_times, event_demand, receiver_demand, row_demand, station_demand};
 ghost use Rattle.window_room.specs.RepeaterRows.{repeater_window_rows};
-ghost use Rattle.window_room.specs.ReceivedWindows.{frames_taken, rows_received};
 ghost use Rattle.window_room.specs.Rooms.{KeepsRoom, SameLists, captures_with};
 
 use crate::RowRoom;
@@ -155,45 +154,4 @@ pub fn receive_one(
 {
     let event = receiver.step(heard, sending);
     keep_reception(room, station, t, device, event, receiver.octets());
-}
-
-/// The half bits from `t` on of a station's receiver, in which these symbols are heard while its station sends all the
-/// time or not at all. With the room that so many half bits can need it takes no memory, and leaves what the later ones
-/// can need.
-pub fn receive_window(
-    receiver: &mut Receiver,
-    room: &mut RowRoom,
-    station: usize,
-    t: u64,
-    device: u32,
-    heard: &[Sym],
-    sending: bool,
-)
-    requires steps { receiver.old.steps + length heard.now ≤ 2000000000 }
-    requires time { t + length heard.now ≤ 2000000000 }
-    requires hears { IsReceiver receiver.old }
-    requires station { station < length room.old.captures }
-    requires room { Covers (receiver_demand (length heard.now) receiver.old) room.old }
-    ensures state { (r : Receiving) → Hears r receiver.old → Hears (receiver_after r heard.now sending) receiver.new }
-    ensures rows { (r : Receiving) → Hears r receiver.old →
-        room.new.rows ≡ room.old.rows ++ rows_received t device r heard.now sending }
-    ensures captures { (r : Receiving) → Hears r receiver.old →
-        room.new.captures ≡ captures_with station (frames_taken t r heard.now sending) room.old.captures }
-    ensures left { (n : ℕ) (other : Demand) →
-        Covers (both_demands other (receiver_demand (length heard.now + n) receiver.old)) room.old →
-        Covers (both_demands other (receiver_demand n receiver.new)) room.new }
-    ensures stations { length room.new.captures ≡ length room.old.captures }
-    ensures steps { receiver.new.steps ≡ receiver.old.steps + length heard.now }
-{
-    for i in 0..heard.len() {
-        receive_one(
-            receiver,
-            room,
-            station,
-            t + i as u64,
-            device,
-            heard[i],
-            sending,
-        );
-    }
 }
