@@ -8,8 +8,10 @@ import shutil
 import struct
 import subprocess
 import typing
+import unittest.mock
 
 import command
+import loads
 import runs
 import study
 
@@ -217,7 +219,7 @@ def refusals(folder):
              "--weights 1,1", "--weights 0,0,0", "--weights 1,1,x", "--topology ring", "--topology repeater:1",
              "--topology repeater:33", "--delay 20", "--topology repeater:2 --delay 201", "--apart 0", "--apart 1001",
              "--stations 501 --apart 1 --seconds 1", "--stations 401 --seconds 0.1 --apart 6", "--weights 1,2,3,4",
-             "--octets 1518 --share 100 --seconds 100", "--sha 0.6", "--speed 100", "more")
+             "--sha 0.6", "--speed 100", "more")
     out = folder / "refused"
     out.mkdir(parents=True, exist_ok=True)
     for words in ("", "--stations 3", "--share 0.6", *(f"--stations 3 --share 0.6 {words}" for words in wrong)):
@@ -230,6 +232,10 @@ def refusals(folder):
     words = "--stations 3 --share 0.6"
     expect("a folder that is there already, status", 2, traffic(words, out)[0])
     expect("a folder in a folder that isn't there, status", 3, traffic(words, out / "not" / "there")[0])
+    # What netsim reads of one load, and of all, is less here; the loads have some 125,000 octets each.
+    for limit, most in (("MOST_OCTETS", 100_000), ("MOST_OF_ALL", 300_000)):
+        with unittest.mock.patch.object(loads, limit, most):
+            expect(f"loads beyond {limit}, status", 2, traffic(words, out / "l")[0])
     expect("what is written after refusals", [], os.listdir(out))
 
 
