@@ -119,6 +119,21 @@ def many_lines(count: str) -> bytes:
     return ''.join(log_line(t) + '\n' for t in range(1, int(count) + 1)).encode()
 
 
+@maker
+def many_names(count: str) -> bytes:
+    """A log in which each of so many stations receives a frame, all in half bit 1."""
+    return ''.join(f'1 station s{k} received octets 64\n' for k in range(int(count))).encode()
+
+
+@maker
+def figures_of_names(count: str) -> bytes:
+    """Its figures, in the order of the names' octets."""
+    names = sorted(f's{k}' for k in range(int(count)))
+    return (f'rows {count} sending 0\n' + ''.join(
+        f'station {name} sent 0 collided 0 given_up 0 cut 0 received 1 dropped 0 half_bits 0 share 0 longest 0\n'
+        for name in names)).encode()
+
+
 def mark(t: int) -> str:
     """The mark of a line in a picture from half bit 1 on, in which a half bit is one unit wide: docs/formats.md says which
     shapes it has."""

@@ -1,1 +1,2 @@
 pub mod ToldBodiesExample
+pub mod SoundSends
