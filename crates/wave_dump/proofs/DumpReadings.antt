@@ -1,5 +1,5 @@
 -- A reader of a dump gets back what was heard.
-use Rattle.std.proofs.Common.{◌≡◌, ℕ, zero, suc, ◌+◌, ◌-◌, ◌*◌, ◌<◌, ◌≤◌, ◌^◌, ◌||◌, ◌&&◌, not, Bool, true, false, cond, List, [], ◌∷◌, ◌++◌, length, map, take, get_or, replicate, flat_map, codes, Some, None, refl, sym, ap, subst, ◌∙◌, arith, append_assoc, append-nil}
+use Rattle.std.proofs.Common.{◌≡◌, ℕ, zero, suc, ◌+◌, ◌-◌, ◌*◌, ◌<◌, ◌≤◌, ◌^◌, Bool, true, false, cond, List, [], ◌∷◌, ◌++◌, length, map, take, replicate, flat_map, codes, Some, None, refl, sym, ap, subst, ◌∙◌, arith, append_assoc, append-nil}
 use Rattle.std.specs.Prelude.{Option, decimal}
 use Rattle.std.specs.List.{AllByRecursion, filter, list_any, range_with_len}
 use Rattle.std.proofs.Math.Seq.{take-suc}
@@ -8,9 +8,9 @@ use Rattle.std.proofs.lemmas.List.Sums.{fold-append}
 use Rattle.mac_parameters.specs.Parameters.{nanoseconds_a_half_bit}
 use Rattle.manchester_line.specs.declared.Sym.{Sym}
 use Rattle.manchester_line.specs.declared.Sym.TheVariants.{Idle}
-use Rattle.wave_dump.specs.Changes.{all_values, changed_values, changing_half_bits, do_differ, is_changed, symbol_in}
-use Rattle.wave_dump.specs.Dump.{dump_of_waves, first_moment, head_of_dump, lines_of_stretch, lines_of_variables, told_moment}
-use Rattle.wave_dump.specs.Reading.{NoCommand, Passed, ReadDump, TapReader, WordReader, after_dump_octet, after_dump_octets, after_half_bits, first_word_reader, half_bits_of_symbol, known_of_dump, read_dump}
+use Rattle.wave_dump.specs.Changes.{is_changed, symbol_in}
+use Rattle.wave_dump.specs.Dump.{first_moment, head_of_dump, lines_of_stretch, lines_of_variables, told_moment}
+use Rattle.wave_dump.specs.Reading.{NoCommand, Passed, TapReader, WordReader, after_dump_octet, after_dump_octets, after_half_bits, first_word_reader, half_bits_of_symbol, known_of_dump, read_dump}
 use Rattle.wave_dump.specs.WaveLaws.{DumpsAreRead, DumpsOfPlansAreRead, IsDumpName}
 use Rattle.wave_dump.specs.Heard.{all_heard}
 use Rattle.load_plan.specs.declared.plan.Plan.{Plan}

@@ -1,5 +1,5 @@
 -- How the reader of dumps goes over words and lines.
-use Rattle.std.proofs.Common.{◌≡◌, ◌≢◌, ℕ, ◌+◌, ◌-◌, ◌*◌, ◌/◌, ◌%◌, ◌<◌, ◌≤◌, ◌^◌, ◌==◌, ◌&&◌, ◌||◌, not, Bool, true, false, cond, List, [], ◌∷◌, ◌++◌, map, fold, codes, Some, None, refl, sym, ap, subst, ◌∙◌, arith, append_assoc, append-nil}
+use Rattle.std.proofs.Common.{◌≡◌, ◌≢◌, ℕ, ◌+◌, ◌-◌, ◌*◌, ◌/◌, ◌%◌, ◌<◌, ◌≤◌, ◌^◌, ◌==◌, ◌&&◌, not, Bool, true, false, cond, List, [], ◌∷◌, ◌++◌, map, codes, None, refl, sym, ap, ◌∙◌, arith, append_assoc, append-nil}
 use Rattle.std.specs.Prelude.{decimal}
 use Rattle.std.specs.List.{list_all}
 use Rattle.std.proofs.lemmas.Bool.{and_parts, ne_eqb, not-true}
@@ -9,10 +9,10 @@ use Rattle.std.proofs.lemmas.List.Sums.{fold-append}
 use Rattle.mac_parameters.specs.Parameters.{nanoseconds_a_half_bit}
 use Rattle.manchester_line.specs.declared.Sym.{Sym}
 use Rattle.manchester_line.specs.declared.Sym.TheVariants.{Idle, Hi, Lo, Clash}
-use Rattle.wave_dump.specs.Dump.{head_of_dump, line_of_variable, lines_of_stretch, lines_of_variables}
-use Rattle.wave_dump.specs.Reading.{Declared, NoCommand, OpenCommand, Passed, TapReader, WordReader, after_declaration, after_dump_octet, after_dump_octets, after_half_bits, after_symbol, after_time, after_dump_word, ends_command, ends_word, is_dollar, number_of_digits}
+use Rattle.wave_dump.specs.Dump.{line_of_variable}
+use Rattle.wave_dump.specs.Reading.{Declared, NoCommand, OpenCommand, Passed, TapReader, WordReader, after_declaration, after_dump_octet, after_dump_octets, after_half_bits, after_symbol, after_dump_word, ends_command, ends_word, is_dollar, number_of_digits}
 use Rattle.wave_dump.specs.WaveLaws.{IsDumpName}
-use Rattle.wave_dump.specs.Values.{code_of_tap, line_of_time, line_of_value, value_of_symbol}
+use Rattle.wave_dump.specs.Values.{code_of_tap, line_of_time, line_of_value}
 
 -- from reader r these octets lead to reader s
 pub record Leads (r : WordReader) (octets : List ℕ) (s : WordReader) : Type 0 where
