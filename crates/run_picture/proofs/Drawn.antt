@@ -1,5 +1,5 @@
 -- What marks draw stands in the picture.
-use Rattle.std.proofs.Common.{◌≡◌, ℕ, zero, suc, ◌+◌, ◌-◌, ◌*◌, ◌/◌, ◌<◌, ◌≤◌, ◌==◌, ◌&&◌, Bool, true, false, cond, List, [], ◌∷◌, ◌++◌, flat_map, codes, Some, None, refl, sym, ap, subst, ◌∙◌, arith, append_assoc, append-nil, length}
+use Rattle.std.proofs.Common.{◌≡◌, ℕ, zero, suc, ◌+◌, ◌<◌, ◌≤◌, Bool, true, false, cond, List, [], ◌∷◌, ◌++◌, flat_map, codes, Some, None, refl, sym, ap, subst, ◌∙◌, arith, append_assoc, append-nil, length}
 use Rattle.std.specs.Prelude.{Option, Contains, slice_get, slice_index_or, nat_le, nat_lt, max, min, decimal}
 use Rattle.std.proofs.lemmas.Bool.{and_from, eq-eqb, le-leb, lt-ltb}
 use Rattle.collision_log.specs.declared.row.Body.{Body}
@@ -8,18 +8,17 @@ use Rattle.layout.specs.declared.lines.Layout.{Layout}
 use Rattle.layout.specs.declared.lines.PortLine.{PortLine}
 use Rattle.layout.specs.declared.lines.RepeaterLine.{RepeaterLine}
 use Rattle.layout.specs.declared.lines.StationLine.{StationLine}
-use Rattle.layout.specs.declared.ways.Tap.TheVariants.{Station, Port}
+use Rattle.layout.specs.declared.ways.Tap.TheVariants.{Port}
 use Rattle.log_meter.specs.declared.line.LogLine.{LogLine}
 use Rattle.run_picture.specs.Axis.{axis}
 use Rattle.run_picture.specs.Bands.{bands_text}
-use Rattle.run_picture.specs.Elements.{HasInMark, HitsHaveSigns, IsLaneOfPort, IsLaneOfStation, PortsHaveSigns, ReceptionsHaveSigns, SendingsHaveBars, TellsOfHit, TellsOfPort, TellsOfReception, TellsOfSending, bar_element, place_of_half_bit, sign_element}
+use Rattle.run_picture.specs.Elements.{HasInMark, HitsHaveSigns, IsLaneOfStation, PortsHaveSigns, ReceptionsHaveSigns, SendingsHaveBars, TellsOfHit, TellsOfPort, TellsOfReception, TellsOfSending, bar_element, sign_element}
 use Rattle.run_picture.specs.Head.{head}
 use Rattle.run_picture.specs.Lanes.{page_of}
 use Rattle.run_picture.specs.Marks.{lane_of, lane_shapes, lanes_of_segment, mark, mark_of_line, marks, port_shapes, reception, repeater_shapes, shapes_at_station, shapes_of_line, shapes_on_lane, shown, sign_of_port, signs_of_ports, station_shapes, title_of, word_of_drop}
-use Rattle.run_picture.specs.Pictures.{picture_of, picture_on}
+use Rattle.run_picture.specs.Pictures.{picture_on}
 use Rattle.run_picture.specs.Sendings.{does_meet, does_sending_meet, hit_sign, hit_sign_at, is_in_window, last_wave, sending_of, sending_shapes}
-use Rattle.run_picture.specs.Signs.{bar, sending_word, sign, sign_path, sign_word}
-use Rattle.run_picture.specs.Strangers.{number_of_repeater, number_of_station}
+use Rattle.run_picture.specs.Signs.{bar, sending_word, sign, sign_word}
 use Rattle.run_picture.specs.Times.{x_of}
 use Rattle.run_picture.specs.Waves.{wave}
 use Rattle.run_picture.specs.declared.lanes.Band.{Band}

@@ -7,3 +7,4 @@ pub mod ProbedTaps
 pub mod WordReadings
 pub mod TapReadings
 pub mod DumpReadings
+pub mod TapNames

@@ -2,6 +2,9 @@
 use Rattle.std.specs.Prelude.{◌≡◌, ◌≢◌, ℕ, ◌-◌, ◌*◌, ◌<◌, ◌≤◌, ◌^◌, ◌&&◌, not, true, false, List, [], ◌∷◌, ◌++◌, All, length}
 use Rattle.std.specs.List.{AllByRecursion, list_all, list_any}
 use Rattle.std.specs.List.Sorted.{IsStrictlyIncreasing}
+use Rattle.layout.specs.Sound.{IsSound}
+use Rattle.layout.specs.declared.lines.Layout.{Layout}
+use Rattle.line_probe.specs.Taps.{IsWordOf}
 use Rattle.line_probe.specs.declared.tap.Tap.{Tap}
 use Rattle.load_plan.specs.declared.plan.Plan.{Plan}
 use Rattle.mac_parameters.specs.Parameters.{nanoseconds_a_half_bit}
@@ -53,3 +56,7 @@ DumpsOfPlansAreRead =
     → nanoseconds_a_half_bit * to < 2 ^ 64 → AllByRecursion IsDumpName names → length names ≡ length taps
     → read_dump (waves_of_plan plan names taps from to)
     ≡ record { names = names; heard = all_heard plan taps from to; to = to }
+
+-- the words by which taps of a layout are named are such names
+abbrev pub TapWordsAreNames : Type 0
+TapWordsAreNames = (l : Layout) (word : List ℕ) (tap : Tap) → IsSound l → IsWordOf l word tap → IsDumpName word
