@@ -1,17 +1,14 @@
 -- The words by which taps are named stand as one word each in a dump.
-use Rattle.std.proofs.Common.{◌≡◌, ◌≢◌, ℕ, zero, suc, ◌+◌, ◌-◌, ◌<◌, ◌≤◌, ◌^◌, ◌==◌, ◌||◌, ◌&&◌, not, Bool, true, false, List, [], ◌∷◌, ◌++◌, length, map, codes, Some, None, inl, inr, refl, sym, ap, subst, ◌∙◌, arith}
+use Rattle.std.proofs.Common.{◌≡◌, ◌≢◌, ℕ, zero, suc, ◌+◌, ◌-◌, ◌<◌, ◌≤◌, ◌^◌, ◌==◌, ◌&&◌, not, true, false, List, [], ◌∷◌, ◌++◌, length, map, codes, Some, inl, inr, refl, sym, ap, subst, arith}
 use Rattle.std.specs.Prelude.{decimal, slice_get}
 use Rattle.std.specs.List.{AllByRecursion, list_all}
 use Rattle.std.proofs.lemmas.Bool.{ne_eqb}
 use Rattle.std.proofs.lemmas.List.Elements.{recursion_from_All}
 use Rattle.layout.specs.NameOctets.{is_name_octet}
-use Rattle.layout.specs.Sound.{IsName, IsSound, IsSoundRepeater, IsSoundStation}
-use Rattle.layout.specs.declared.lines.Layout.{Layout}
+use Rattle.layout.specs.Sound.{IsName, IsSoundRepeater, IsSoundStation}
 use Rattle.layout.specs.declared.lines.RepeaterLine.{RepeaterLine}
 use Rattle.layout.specs.declared.lines.StationLine.{StationLine}
-use Rattle.line_probe.specs.Taps.{IsPortOf, IsPortWord, IsStationWord, IsWordOf}
-use Rattle.line_probe.specs.declared.tap.Tap.{Tap}
-use Rattle.mac_parameters.specs.Parameters.{most_ports}
+use Rattle.line_probe.specs.Taps.{IsPortOf}
 use Rattle.wave_dump.specs.Reading.{ends_word, is_dollar}
 use Rattle.wave_dump.specs.WaveLaws.{IsDumpName, TapWordsAreNames}
 use Rattle.wave_dump.proofs.WordReadings.{more_of_name, number_is_name}
