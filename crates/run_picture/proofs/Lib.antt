@@ -10,3 +10,5 @@ pub mod PieceReadings
 pub mod MarkReadings
 pub mod WholePictures
 pub mod Numbers
+pub mod Drawn
+pub mod LanesFound

@@ -12,3 +12,4 @@ pub mod Head
 pub mod Pictures
 pub mod Markup
 pub mod PictureLaws
+pub mod Elements

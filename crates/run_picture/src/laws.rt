@@ -1,4 +1,5 @@
 //! Laws of pictures: calls without a body, whose contracts are the laws.
+ghost use Rattle.run_picture.specs.Elements.{HitsHaveSigns, PortsHaveLanes, PortsHaveSigns, ReceptionsHaveSigns, SendingsHaveBars, StationsHaveLanes};
 ghost use Rattle.run_picture.specs.PictureLaws.{IsAMicrosecond, IsATenth, LinesAreFew, LinesAreTitles, PicturesAreClosed, TitlesAreLines};
 
 /// The titles of a picture are the lines of the log that meet its window, without their line feeds, in their order,
@@ -23,4 +24,24 @@ pub fn lines_are_few()
 pub fn times_are_microseconds()
     ensures microsecond { IsAMicrosecond }
     ensures tenth { IsATenth }
+{}
+
+/// In the mark of a sending that meets the window stands its bar, on its station's lane, from the half bit in which it
+/// began to that in which it ended, cut at the window's edges; and the sign of its hit, where that is in the window.
+pub fn sendings_have_bars()
+    ensures bars { SendingsHaveBars }
+    ensures hits { HitsHaveSigns }
+{}
+
+/// In the mark of each other line that meets the window stands its sign at its half bit: of a reception on its station's
+/// lane, of what a repeater tells on the lane of each port that it concerns.
+pub fn lines_have_signs()
+    ensures receptions { ReceptionsHaveSigns }
+    ensures ports { PortsHaveSigns }
+{}
+
+/// Each station, and each port of a repeater, has its lane among those of its segment, with its place.
+pub fn taps_have_lanes()
+    ensures stations { StationsHaveLanes }
+    ensures ports { PortsHaveLanes }
 {}

@@ -4,3 +4,7 @@ pub mod Standing
 pub mod SoFar
 pub mod RisingTimes
 pub mod ProbedTaps
+pub mod WordReadings
+pub mod TapReadings
+pub mod DumpReadings
+pub mod TapNames

@@ -6,7 +6,8 @@ use Rattle.line_probe.specs.declared.run.Run.{Run}
 use Rattle.line_probe.specs.declared.tap.Tap.{Tap}
 use Rattle.wave_dump.specs.Heard.{AreTapRuns, all_heard}
 
-length-heard_from : (plan : Plan) (tap : Tap) (from n : ℕ) → length (heard_from plan tap from n) ≡ n
+-- a tap hears one symbol in each half bit
+pub length-heard_from : (plan : Plan) (tap : Tap) (from n : ℕ) → length (heard_from plan tap from n) ≡ n
 length-heard_from plan tap from zero = refl
 length-heard_from plan tap from (suc n) = ap suc (length-heard_from plan tap (from + 1) n)
 

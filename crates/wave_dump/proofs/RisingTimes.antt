@@ -56,7 +56,7 @@ all_pass p (x ∷ xs) = one_passes p x (filter p xs) (p x) refl (all_pass p xs)
 pub each_changes : OnlyChangesAreTold
 each_changes from to heard = all_pass (λ t. list_any (is_changed from t) heard) (range_with_len (from + 1) (to - (from + 1)))
 
-no_difference : (a b : Sym) → do_differ a b ≡ false → a ≡ b
+pub no_difference : (a b : Sym) → do_differ a b ≡ false → a ≡ b
 no_difference a b h =
     elim (cases_Bool (sameb the_type a b)) [
       | inl same ↦ same_symbols a b same

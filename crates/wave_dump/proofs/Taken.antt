@@ -27,11 +27,11 @@ none_left : (t : ℕ) (runs : List Run) → does_begin t runs ≡ false → runs
 none_left t [] h = refl
 none_left t (r ∷ rs) h = ap (λ b. cond b rs (r ∷ rs)) h
 
-or_first : (a b : Bool) → (a || b) ≡ false → a ≡ false
+pub or_first : (a b : Bool) → (a || b) ≡ false → a ≡ false
 or_first true b h = h
 or_first false b h = refl
 
-or_second : (a b : Bool) → (a || b) ≡ false → b ≡ false
+pub or_second : (a b : Bool) → (a || b) ≡ false → b ≡ false
 or_second true b h = cc h
 or_second false b h = h
 

@@ -3,4 +3,5 @@ pub mod Changes
 pub mod Dump
 pub mod Waiting
 pub mod Heard
+pub mod Reading
 pub mod WaveLaws

@@ -1,5 +1,5 @@
 //! Laws of dumps: calls without a body, whose contracts are the laws.
-ghost use Rattle.wave_dump.specs.WaveLaws.{OnlyChangesAreTold, TimesRise, ValuesLast};
+ghost use Rattle.wave_dump.specs.WaveLaws.{DumpsAreRead, DumpsOfPlansAreRead, OnlyChangesAreTold, TapWordsAreNames, TimesRise, ValuesLast};
 
 /// The times that a dump tells rise strictly, and after the first and before the last it tells only half bits in which
 /// something changes.
@@ -12,4 +12,12 @@ pub fn times_rise()
 /// both.
 pub fn values_last()
     ensures { ValuesLast }
+{}
+
+/// A reader that goes over a dump word by word gets back the names of the taps, for each of them the symbols that it
+/// hears, and the half bit after the last of these. The words that name taps of a layout are names that it reads.
+pub fn dumps_are_read()
+    ensures heard { DumpsAreRead }
+    ensures plan { DumpsOfPlansAreRead }
+    ensures words { TapWordsAreNames }
 {}
