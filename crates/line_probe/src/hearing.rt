@@ -30,9 +30,7 @@ pub fn heard_at_taps(
     ensures { IfOk result (λ heard. heard ≡ rows_of_taps plan.now taps.now from (to - from)) }
 {
     let mut whole = PlainNet::new(alloc, plan)?;
-    'ahead: for t in 0..from {
-        whole.step()?;
-    }
+    whole.go_to(from)?;
     let mut heard = List::new(alloc);
     'probed: for t in from..to {
         'taps: for tap in taps {

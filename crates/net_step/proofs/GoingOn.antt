@@ -1,5 +1,5 @@
 -- Networks that go on from a state, and to the end of a run.
-use Rattle.std.proofs.Common.{◌≡◌, ℕ, suc, ◌+◌, ◌-◌, ◌≤◌, List, [], ◌∷◌, ◌++◌, map, drop, sum_by, replicate, length, length-append, length-drop, length-take-le, refl, sym, subst, ap, ap₂, ◌∙◌, arith}
+use Rattle.std.proofs.Common.{◌≡◌, ℕ, zero, suc, ◌+◌, ◌-◌, ◌≤◌, List, [], ◌∷◌, ◌++◌, map, drop, sum_by, replicate, length, length-append, length-drop, length-take-le, refl, sym, subst, ap, ap₂, ◌∙◌, arith}
 use Rattle.std.specs.List.{flat_map}
 use Rattle.std.proofs.lemmas.List.{length-replicate}
 use Rattle.std.proofs.lemmas.List.Sums.{sum_by-cons}
@@ -8,8 +8,8 @@ use Rattle.layout.specs.declared.lines.RepeaterLine.{RepeaterLine}
 use Rattle.load_plan.specs.declared.plan.Plan.{Plan}
 use Rattle.mac_transmit.specs.Sender.{Sender}
 use Rattle.port_partition.specs.Guard.{Guard, new_guard}
-use Rattle.network.specs.Net.{Net, new_repeater, next}
-use Rattle.network.specs.Outputs.{cut_rows, half_bits}
+use Rattle.network.specs.Net.{Net, net, new_repeater, next}
+use Rattle.network.specs.Outputs.{captures, cut_rows, half_bits, rows}
 use Rattle.quiet_state.specs.Resumed.{captures_from, captures_to, later_net, net_of, resumed_repeaters, rows_from, rows_to}
 use Rattle.quiet_state.specs.declared.state.NetState.{NetState}
 use Rattle.net_step.specs.KeptNet.{KeptNet, Stands}
@@ -60,3 +60,36 @@ rows_are_from plan s = refl
 pub captures_are_from : (plan : Plan) (s : NetState) → captures_to (half_bits plan) (net_of plan s) ≡ captures_from plan s
 unfolding captures_from
 captures_are_from plan s = refl
+
+-- the network of a plan itself
+pub later_of_plan : (plan : Plan) (t : ℕ) → later_net (net plan 0) t ≡ net plan t
+later_of_plan plan zero = refl
+later_of_plan plan (suc t) = ap next (later_of_plan plan t)
+
+pub at_time : (plan : Plan) (k : KeptNet) (t from to : ℕ) → from ≡ 0 → t ≡ to → Stands (later_net (net plan 0) (t - from)) k → Stands (net plan to) k
+at_time plan k t from to begin same h =
+    let is : t - from ≡ to = omega (arith, begin, same) in
+    subst (λ (n : Net). Stands n k) (ap (later_net (net plan 0)) is ∙ later_of_plan plan to) h
+
+-- a leap or a step, and what comes after it
+pub later_sum : (n : Net) (a b : ℕ) → later_net (later_net n a) b ≡ later_net n (a + b)
+later_sum n a zero = let none : a ≡ a + 0 = omega arith in ap (later_net n) none
+later_sum n a (suc b) = ap next (later_sum n a b) ∙ (let more : suc (a + b) ≡ a + suc b = omega arith in ap (later_net n) more)
+
+pub later_on : (n : Net) (k : KeptNet) (from t to : ℕ) → from ≤ t → t ≤ to → Stands (later_net (later_net n (t - from)) (to - t)) k → Stands (later_net n (to - from)) k
+later_on n k from t to l m h =
+    let sum : t - from + (to - t) ≡ to - from = omega (arith, l, m) in
+    subst (λ (x : Net). Stands x k) (later_sum n (t - from) (to - t) ∙ ap (later_net n) sum) h
+
+-- m half bits after half bit t
+pub later_by : (n : Net) (k : KeptNet) (t m now : ℕ) → now ≡ t → Stands (later_net n m) k → Stands (later_net n (now + m - t)) k
+later_by n k t m now same h = let is : m ≡ now + m - t = omega (arith, same) in subst (λ u. Stands (later_net n u) k) is h
+
+-- what the run of a plan gives
+pub rows_of_plan : (plan : Plan) (k : KeptNet) → Stands (net plan (half_bits plan)) k → k.t ≡ half_bits plan → k.rows ++ cut_rows k.t 0 k.senders ≡ rows plan
+unfolding rows
+rows_of_plan plan k st e = ap₂ (λ (xs ys : List Row). xs ++ ys) st.rows (ap₂ (λ m (ss : List Sender). cut_rows m 0 ss) e st.senders)
+
+pub captures_of_plan : (plan : Plan) (k : KeptNet) → Stands (net plan (half_bits plan)) k → k.captures ≡ captures plan
+unfolding captures
+captures_of_plan plan k st = st.captures

@@ -9,3 +9,8 @@ pub mod QuietAndKept
 pub mod GoingOn
 pub mod ResumedDevices
 pub mod StoppedRuns
+pub mod SilentRelays
+pub mod IdleHistory
+pub mod CalmHalfBit
+pub mod CalmHalfBits
+pub mod LeapsStand

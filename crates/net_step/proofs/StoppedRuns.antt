@@ -22,11 +22,7 @@ none_more plan from t none not u reached before q = elim (cases_lt u t) [
   | inr later ↦ (let same : u ≡ t = omega (arith, before, later) in not (omega (arith, reached, before)) (subst (IsQuiet plan) same q))
 ]
 
--- before `from` none is looked for
-pub none_early : (plan : Plan) (from t : ℕ) → t < from → NoneBefore plan from t → NoneBefore plan from (t + 1)
-none_early plan from t early none = none_more plan from t none (λ l q. absurd (omega (arith, early, l)))
-
--- and from then on each is told
+-- from `from` on each is told
 pub none_loud : (plan : Plan) (from t : ℕ) → (IsQuietAsKept (net plan t) → ⊥) → NoneBefore plan from t → NoneBefore plan from (t + 1)
 none_loud plan from t loud none = none_more plan from t none (λ l q. loud ((quiet_as_kept plan t q.within).0 q))
 

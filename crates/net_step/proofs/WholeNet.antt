@@ -37,10 +37,10 @@ ports_are (r ∷ rs) ns e =
     ∙ ap (sum_by (λ n. n)) e
 
 -- repeaters with the same ports
-ports_alike : (rs qs : List State) → map (λ r. length r.guards) rs ≡ map (λ r. length r.guards) qs → ports_of rs ≡ ports_of qs
+pub ports_alike : (rs qs : List State) → map (λ r. length r.guards) rs ≡ map (λ r. length r.guards) qs → ports_of rs ≡ ports_of qs
 ports_alike rs qs e = ports_are rs _ e ∙ sym (ports_are qs _ refl)
 
-many_alike : (rs qs : List State) → map (λ r. length r.guards) rs ≡ map (λ r. length r.guards) qs → length rs ≡ length qs
+pub many_alike : (rs qs : List State) → map (λ r. length r.guards) rs ≡ map (λ r. length r.guards) qs → length rs ≡ length qs
 many_alike rs qs e = sym (length-map rs (λ (r : State). length r.guards)) ∙ ap length e ∙ length-map qs (λ (r : State). length r.guards)
 
 placed_after : (row : List Sym) (wires : List Wire) (places : List Place) → All (IsPlaced wires) places → All (IsPlaced (map (carried row) wires)) places
@@ -90,7 +90,7 @@ whole_next k kn row h e p c r s v n h' e' p' c' r' s' v' n' w places wires sende
     }
 
 -- the places of taps, one by one
-length-places : (p : ℕ) (all xs : List PortLine) → length (places_from p all xs) ≡ length xs
+pub length-places : (p : ℕ) (all xs : List PortLine) → length (places_from p all xs) ≡ length xs
 length-places p all [] = refl
 length-places p all (x ∷ xs) = ap suc (length-places (p + 1) all xs)
 

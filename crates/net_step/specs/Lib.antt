@@ -1,3 +1,4 @@
 pub mod Wires
 pub mod KeptNet
+pub mod CalmNets
 pub mod Stops

@@ -2,6 +2,7 @@
 #![tactic(auto)]
 
 mod devices;
+mod leaps;
 mod passes;
 mod places;
 mod plain;

@@ -9,6 +9,9 @@ use crate::devices::{
     new_receivers, new_relays, new_segments, new_transmitters, no_captures, resumed_captures,
     resumed_receivers, resumed_relays, resumed_transmitters,
 };
+use crate::leaps::{
+    calm_relays, calm_senders, leap_receivers, leap_relays, leap_senders, none_receives,
+};
 use crate::passes::{capture_all, carry_all, hear_all, join, relay_all, step_stations};
 use crate::places::{Place, places_of};
 use crate::relay::Relay;
@@ -20,7 +23,7 @@ use collision_log::{Body, Rows};
 use kept_devices::taps_of;
 use lists::OutOfMemory;
 use load_plan::Plan;
-use mac_parameters::{HALF_BITS_A_BIT, most_octets};
+use mac_parameters::{GREATEST_PLACE, HALF_BITS_A_BIT, most_octets};
 use mac_receive::Receiver;
 use mac_transmit::Transmitter;
 use manchester_line::Sym;
@@ -119,10 +122,11 @@ impl PlainNet {
     ghost use Rattle.manchester_line.specs.declared.Sym.TheVariants.{Idle};
     ghost use Rattle.network.specs.Net.{Net, net, next, heard_in};
     ghost use Rattle.network.specs.Outputs.{cut_rows};
+    ghost use Rattle.net_step.specs.CalmNets.{IsCalmNet};
     ghost use Rattle.net_step.specs.KeptNet.{IsNextKept, IsSilentNet, Stands, IsKeptTap, kept_tap_number};
     ghost use Rattle.quiet_state.specs.LastSignals.{IsQuietAsKept};
     ghost use Rattle.quiet_state.specs.PlanStates.{IsResumable};
-    ghost use Rattle.quiet_state.specs.Resumed.{captures_to, net_of, net_state, rows_to};
+    ghost use Rattle.quiet_state.specs.Resumed.{captures_to, later_net, net_of, net_state, rows_to};
 
     /// The network of a plan with these devices before half bit `t`, in which all earlier symbols were Idle.
     fn with_devices(
@@ -284,6 +288,70 @@ impl PlainNet {
         self.go_on()
     }
 
+    /// For how many half bits, at most `most`, nothing happens in the whole network; 0 says nothing.
+    fn calm(&self, most: u64) -> u64
+        requires { self.now.t < 2000000000 }
+        ensures within { result ≤ most }
+        ensures calm { 0 < result → IsCalmNet result self.now }
+    {
+        let heard_from = self.t.saturating_sub(u64::from(GREATEST_PLACE));
+        if heard_from < self.settling.settled {
+            return 0;
+        }
+        if !none_receives(&self.receivers) {
+            return 0;
+        }
+        let calm = calm_senders(self.t, &self.senders, most);
+        calm_relays(&self.relays, calm)
+    }
+
+    /// Goes over so many half bits in which nothing happens.
+    fn leap(&mut self, count: u64)
+        requires calm { IsCalmNet count self.old }
+        requires in_time { self.old.t + count ≤ 2000000000 }
+        ensures stands { (n : Net) → Stands n self.old → Stands (later_net n count) self.new }
+        ensures time { self.new.t ≡ self.old.t + count }
+    {
+        let t = self.t;
+        leap_senders(t, count, &mut self.senders);
+        leap_receivers(t, count, &mut self.receivers);
+        leap_relays(count, &mut self.relays);
+        self.t = t + count;
+    }
+
+    /// Goes on by a half bit, or over all half bits at once in which nothing happens, but not beyond half bit `until`:
+    /// the half bit before which the net is then. After an `Err` the net is only dropped.
+    fn advance(&mut self, until: u64) -> Result<u64, OutOfMemory>
+        requires before { self.old.t < until }
+        requires short { until ≤ 2000000000 }
+        ensures stands { IfOk result (λ t. (n : Net) → Stands n self.old → Stands (later_net n (t - self.old.t)) self.new) }
+        ensures time { IfOk result (λ t. self.new.t ≡ t) }
+        ensures later { IfOk result (λ t. self.old.t < t) }
+        ensures within { IfOk result (λ t. t ≤ until) }
+    {
+        let t = self.t;
+        let count = self.calm(until - t);
+        if count > 0 {
+            self.leap(count);
+            return Ok(t + count);
+        }
+        self.step()?;
+        Ok(t + 1)
+    }
+
+    /// Goes on to before half bit `until`. A net that stands for a state of the network stands for the one as many half
+    /// bits later; half bits in which nothing happens are passed over many at once. After an `Err` the net is only
+    /// dropped.
+    pub fn go_to(&mut self, until: u64) -> Result<(), OutOfMemory>
+        requires begun { self.old.t ≤ until }
+        requires short { until ≤ 2000000000 }
+        ensures stands { (n : Net) → Stands n self.old → OnOk result (Stands (later_net n (until - self.old.t)) self.new) }
+        ensures time { OnOk result (self.new.t ≡ until) }
+    {
+        let t = self.t;
+        run_to(self, t, until)
+    }
+
     /// Whether the half bit that the next step makes is quiet: nothing is under way at any device, on any cable or in
     /// any repeater's delay.
     pub fn quiet(&self) -> bool
@@ -332,25 +400,25 @@ impl PlainNet {
         ensures rows { (n : Net) → Stands n self → IfOk result (λ outputs. outputs.rows ≡ rows_to half_bits n) }
         ensures captures { (n : Net) → Stands n self → IfOk result (λ outputs. outputs.captures ≡ captures_to half_bits n) }
     {
-        let t = self.t;
-        let whole = run_to(self, t, half_bits)?;
+        let mut whole = self;
+        whole.go_to(half_bits)?;
         whole.outputs()
     }
 }
 
-/// A network before half bit `t`, later before half bit `half_bits`.
-fn run_to(whole: PlainNet, t: u64, half_bits: u64) -> Result<PlainNet, OutOfMemory>
-    requires now { whole.t ≡ t }
-    requires begun { t ≤ half_bits }
-    requires short { half_bits ≤ 2000000000 }
-    ensures stands { IfOk result (λ later. (n : Net) → Stands n whole → Stands (later_net n (half_bits - t)) later) }
-    ensures time { IfOk result (λ later. later.t ≡ half_bits) }
+/// A network before half bit `t` goes on to before half bit `until`.
+fn run_to(whole: &mut PlainNet, t: u64, until: u64) -> Result<(), OutOfMemory>
+    requires now { whole.old.t ≡ t }
+    requires begun { t ≤ until }
+    requires short { until ≤ 2000000000 }
+    ensures stands { (n : Net) → Stands n whole.old → OnOk result (Stands (later_net n (until - t)) whole.new) }
+    ensures time { OnOk result (whole.new.t ≡ until) }
 {
-    let mut later = whole;
-    for _u in t..half_bits {
-        later.step()?;
+    let mut now = t;
+    while now < until {
+        now = whole.advance(until)?;
     }
-    Ok(later)
+    Ok(())
 }
 
 /// Runs a plan to its end.
@@ -360,8 +428,6 @@ pub fn run_plain(alloc: Global, plan: &Plan) -> Result<Outputs, OutOfMemory>
     ensures captures { IfOk result (λ outputs. outputs.captures ≡ captures plan.now) }
 {
     let mut whole = PlainNet::new(alloc, plan)?;
-    for t in 0..HALF_BITS_A_BIT as u64 * plan.layout.until_bits {
-        whole.step()?;
-    }
+    whole.go_to(HALF_BITS_A_BIT as u64 * plan.layout.until_bits)?;
     whole.outputs()
 }

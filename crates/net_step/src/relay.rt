@@ -37,6 +37,8 @@ impl Relay {
     ghost use Rattle.mac_parameters.specs.Parameters.{jabber_rest};
     ghost use Rattle.repeater_core.specs.declared.modes.Mode.TheVariants.{Idle};
     ghost use Rattle.repeater_core.specs.Step.{new_state, resumed_state, after, decided_by, emitted_by};
+    ghost use Rattle.repeater_core.specs.Calm.{IsCalm, silent_step};
+    ghost use Rattle.std.specs.Fn.{iterate};
     ghost use Rattle.network.specs.Rows.{repeater_bodies};
     ghost use Rattle.network.specs.Rows.{told_bodies};
 
@@ -121,6 +123,22 @@ impl Relay {
             delays.push(self.delay)?;
         }
         Ok(())
+    }
+
+    /// The greatest number up to 4,096 of half bits in which every port hears Idle and nothing happens.
+    pub fn calm(&self) -> u64
+        ensures { IsCalm self.now result }
+    {
+        self.repeater.calm()
+    }
+
+    /// Goes over so many half bits in which every port hears Idle and nothing happens.
+    pub fn leap(&mut self, count: u64)
+        requires { IsCalm self.old count }
+        ensures state { self.new ≡ iterate silent_step count self.old }
+        ensures ports { length self.new.guards ≡ length self.old.guards }
+    {
+        self.repeater.leap(count);
     }
 
     /// One half bit, in which its ports hear these symbols: what each emits, what is decided for it, and what happens.

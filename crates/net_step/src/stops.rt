@@ -19,9 +19,12 @@ pub fn stop_run(alloc: Global, plan: &Plan, from: u64) -> Result<Option<NetState
     ensures stopped { IfOk result (λ found. IfSome found (λ s. IsFirstQuiet plan.now from s.t × (s ≡ state_at plan.now s.t))) }
     ensures never { IfOk result (λ found. found ≡ None → HasNoQuiet plan.now from) }
 {
+    let half_bits = HALF_BITS_A_BIT as u64 * plan.layout.until_bits;
+    let begin = from.min(half_bits);
     let mut whole = PlainNet::new(alloc, plan)?;
-    for t in 0..HALF_BITS_A_BIT as u64 * plan.layout.until_bits {
-        if t >= from && whole.quiet() {
+    whole.go_to(begin)?;
+    for _t in begin..half_bits {
+        if whole.quiet() {
             return Ok(Some(whole.state()?));
         }
         whole.step()?;

@@ -4,13 +4,6 @@ use Rattle.net_step.specs.KeptNet.{Stands}
 use Rattle.line_probe.specs.Heard.{tap_heard, rows_of_taps}
 use Rattle.line_probe.proofs.hearing.heard_at_taps.Given as goal
 
-abbrev pub invariant-ahead : goal.invariant-ahead
-invariant-ahead l =
-    record {
-      time : l.whole.t ≡ l.t;
-      stands : Stands (net l.plan l.t) l.whole;
-    }
-
 abbrev pub invariant-probed : goal.invariant-probed
 invariant-probed l =
     record {

@@ -7,7 +7,8 @@ use Rattle.net_step.proofs.stops.stop_run.Given as goal
 -- no half bit so far was quiet
 abbrev pub invariant-loop-t : goal.invariant-loop-t
 invariant-loop-t l = record {
-  time : l.whole.t ≡ l.t;
-  stands : Stands (net l.plan l.t) l.whole;
-  none : (u : ℕ) → l.from ≤ u → u < l.t → IsQuiet l.plan u → ⊥;
+  reached : l.begin ≤ l._t;
+  time : l.whole.t ≡ l._t;
+  stands : Stands (net l.plan l._t) l.whole;
+  none : (u : ℕ) → l.from ≤ u → u < l._t → IsQuiet l.plan u → ⊥;
 }

@@ -1,0 +1,29 @@
+use Rattle.std.proofs.Common.{◌≡◌, ◌<◌, All, length, get_or, sym, subst, ap, ◌∙◌, arith}
+use Rattle.std.specs.Fn.{iterate}
+use Rattle.std.proofs.Math.Seq.{map-set_same}
+use Rattle.repeater_core.specs.Calm.{IsCalm, silent_step}
+use Rattle.repeater_core.specs.Step.{State}
+use Rattle.kept_devices.proofs.ChangedElements.{All-drop-set, All-drop-first}
+use Rattle.net_step.proofs.LeapsStand.{map_step}
+use Rattle.net_step.proofs.leaps.leap_relays.Goals as goal
+
+pub leap-requires : goal.leap-requires
+leap-requires c =
+    let d = c.index-relays-k.result in
+    let test = c.loop-k-test.true in
+    All-drop-first (λ (r : State). IsCalm r c.args.count) c.loop-k.relays c.loop-k.k d (omega (arith, test, c.loop-k.auto.relays)) c.loop-k.invariant.calm
+
+pub loop-k-preserved : goal.loop-k-preserved
+loop-k-preserved c =
+    let k = c.loop-k.k in
+    let rs = c.loop-k.relays in
+    let r = c.index-relays-k.result in
+    let new = c.leap.new.self in
+    let inv = c.loop-k.invariant in
+    let test = c.loop-k-test.true in
+    let h : k < length rs = omega (arith, test, c.loop-k.auto.relays) in
+    record {
+      calm = All-drop-set (λ (x : State). IsCalm x c.args.count) rs k new inv.calm;
+      states = map_step (iterate silent_step c.args.count) rs k new r h c.leap.ensures.state ∙ inv.states;
+      ports = map-set_same (λ (x : State). length x.guards) rs k new r c.leap.ensures.ports ∙ inv.ports;
+    }
