@@ -1,22 +1,24 @@
 //! The program: the words of the command line, over real files and the standard output. Standard error shows the forms
-//! where the words are none of them, and how much of a run is done.
+//! where there are no words, what went wrong and how it is mended, and how much of a run is done.
 #![tactic(auto)]
 
 mod progress;
 
+use fault_hints::{WatchedFiles, WatchedOut, hints};
+use input_hints::Ended;
 use lists::{OutOfMemory, Text};
 use netsim::{HELP, Words, netsim};
-use outside::{FolderStore, OutSink};
 use progress::Progress;
 use std::io::IsTerminal;
 use std::process::ExitCode;
+use std::rt::Files;
 use std::{env, io};
-
-/// The status for words that are none of the forms.
-const WORDS: u8 = 1;
 
 /// The status for want of memory.
 const MEMORY: u8 = 6;
+
+/// What is said where memory is wanting for anything else.
+const NO_MEMORY: &str = "netsim: there was not enough memory\n";
 
 /// The words after the program's name. A word that is no text makes them none, which is no form of words.
 fn read_words(rt: &HostRuntime) -> Result<Words, OutOfMemory> {
@@ -40,18 +42,44 @@ fn is_watched(rt: &HostRuntime) -> bool {
         || env::var(rt, "NETSIM_PROGRESS").is_ok_and(|value| value.as_str() == "1")
 }
 
+/// Says on standard error what there is to say of a run that ended: without words the forms, else what went wrong.
+fn tell<R: Files + Drop, P: Print + Drop>(
+    rt: &HostRuntime,
+    words: &Words,
+    status: u8,
+    store: &mut WatchedFiles<R>,
+    out: &mut WatchedOut<P>,
+) {
+    if words.as_slice().is_empty() {
+        let _ = eprint!(rt; "{HELP}");
+        return;
+    }
+    let failure = store.take_failure().or(out.take_failure());
+    let ended = Ended {
+        help: HELP,
+        words: words.as_slice(),
+        status,
+        said: str::from_utf8(out.said()).unwrap_or(""),
+    };
+    let _ = match hints(rt.alloc(), &ended, failure.as_ref(), store) {
+        Ok(text) => eprint!(rt; "{text}"),
+        Err(OutOfMemory) => eprint!(rt; "{NO_MEMORY}"),
+    };
+}
+
 fn main(rt: HostRuntime) -> ExitCode {
     let words = match read_words(&rt) {
         Ok(words) => words,
-        Err(OutOfMemory) => return ExitCode::from(MEMORY),
+        Err(OutOfMemory) => {
+            let _ = eprint!(rt; "{NO_MEMORY}");
+            return ExitCode::from(MEMORY);
+        }
     };
-    let mut store = FolderStore::new(&rt);
-    let mut out = OutSink::new(&rt);
+    let mut store = WatchedFiles::new(&rt, rt.alloc());
+    let mut out = WatchedOut::new(&rt, rt.alloc());
     let progress = Progress::new(&rt, is_watched(&rt));
     let status = netsim(&rt, rt.alloc(), &words, &mut store, &mut out, &progress);
     progress.clear();
-    if status == WORDS {
-        let _ = eprint!(rt; "{HELP}");
-    }
+    tell(&rt, &words, status, &mut store, &mut out);
     ExitCode::from(status)
 }

@@ -1,0 +1,78 @@
+//! What is told of a run, by its status.
+
+use crate::failures::tell_failure;
+use crate::logs::{tell_log, tell_no_quiet, tell_state, tell_stranger};
+use crate::watched::Failure;
+use crate::words::tell_words;
+use input_hints::{Ended, after, show, tell_layout, tell_load, tell_range, tell_tap, word_at};
+use lists::OutOfMemory;
+use outside::Store;
+use std::alloc::Global;
+
+fn number_after(line: &str, word: &str) -> u64 {
+    after(line, word)
+        .and_then(|number| number.parse::<u64>().ok())
+        .unwrap_or(0)
+}
+
+/// What a run that is done has to warn of: a round trip that is too long, and late collisions.
+fn tell_warnings(out: &mut String, ended: &Ended<'_>) -> Result<(), OutOfMemory> {
+    if !matches!(word_at(ended.words, 0), "plain" | "run" | "resume") {
+        return Ok(());
+    }
+    for line in ended.said.lines() {
+        if let Some(over) = line.strip_prefix("over ") {
+            tell_over(out, ended, over)?;
+        }
+        let late = number_after(line, "late");
+        if line.starts_with("sent ") && late > 0 {
+            write!(
+                out,
+                "netsim: late collisions: {late}, heard after the slot time of 1024 half bits\n"
+            )?;
+        }
+    }
+    Ok(())
+}
+
+fn tell_over(out: &mut String, ended: &Ended<'_>, over: &str) -> Result<(), OutOfMemory> {
+    let layout = word_at(ended.words, 1);
+    write!(
+        out,
+        "netsim: over {over}: this round trip isn't below the slot time of 1024 half bits, so a collision can go unnoticed; 'netsim slack "
+    )?;
+    show(out, layout)?;
+    out.push_str("' tells more\n")?;
+    Ok(())
+}
+
+/// The lines for standard error: each begins with `netsim: `, and what can't be found out is left unsaid.
+pub fn hints<S: Store>(
+    alloc: Global,
+    ended: &Ended<'_>,
+    failure: Option<&Failure>,
+    store: &mut S,
+) -> Result<String, OutOfMemory> {
+    let mut out = String::new(alloc);
+    match ended.status {
+        0 => tell_warnings(&mut out, ended)?,
+        1 => tell_words(alloc, &mut out, ended.help, ended.words)?,
+        2 => tell_layout(alloc, &mut out, ended, store)?,
+        3 => tell_load(alloc, &mut out, ended, store)?,
+        4 | 5 => {
+            if let Some(failure) = failure {
+                tell_failure(&mut out, ended.words, failure)?;
+            }
+        }
+        7 if ended.said.starts_with("probe fault range") => tell_range(
+            alloc, &mut out, ended, store,
+        )?,
+        7 => tell_tap(alloc, &mut out, ended, store)?,
+        8 => tell_log(alloc, &mut out, ended, store)?,
+        9 => tell_no_quiet(&mut out, ended)?,
+        10 => tell_state(alloc, &mut out, ended, store)?,
+        11 => tell_stranger(alloc, &mut out, ended, store)?,
+        _ => out.push_str("netsim: there was not enough memory\n")?,
+    }
+    Ok(out)
+}

@@ -1,0 +1,91 @@
+//! Files that are read again to say more.
+
+use lists::{List, OutOfMemory};
+use outside::Store;
+use std::alloc::Global;
+
+/// How many octets are read at a time, and how many pieces of a file at most.
+const PIECE: usize = 16_384;
+
+const MOST_PIECES: u32 = 16_400;
+
+/// The most octets of a line that are kept: one more than is shown.
+const MOST_OF_LINE: usize = 81;
+
+/// A file, or a front of it of some 256 MiB; nothing where it can't be read.
+pub fn read_file<S: Store>(
+    alloc: Global,
+    store: &mut S,
+    name: &str,
+    most: usize,
+) -> Result<Option<List<u8>>, OutOfMemory> {
+    let mut octets = List::new(alloc);
+    let mut room = [0u8; PIECE];
+    for _piece in 0..MOST_PIECES {
+        let from = octets.len() as u64;
+        let Ok(count) = store.read(name, from, &mut room) else {
+            return Ok(None);
+        };
+        octets.extend(room.get(..count).unwrap_or(&[]))?;
+        if count == 0 || octets.len() > most {
+            break;
+        }
+    }
+    Ok(Some(octets))
+}
+
+/// A line that is found while a file goes by.
+#[derive(Drop)]
+struct LineAt {
+    line: List<u8>,
+    before: u64,
+}
+
+impl LineAt {
+    /// Takes a piece, and says whether the line has ended.
+    fn take_in(&mut self, piece: &[u8]) -> Result<bool, OutOfMemory> {
+        for octet in piece {
+            if self.before > 0 {
+                if *octet == b'\n' {
+                    self.before -= 1;
+                }
+            } else if *octet == b'\n' || self.line.len() >= MOST_OF_LINE {
+                return Ok(true);
+            } else {
+                self.line.push(*octet)?;
+            }
+        }
+        Ok(false)
+    }
+}
+
+/// The front of a line of a file, from 1; nothing where it isn't there.
+pub fn read_line<S: Store>(
+    alloc: Global,
+    store: &mut S,
+    name: &str,
+    number: u64,
+) -> Result<Option<List<u8>>, OutOfMemory> {
+    let mut found = LineAt {
+        line: List::new(alloc),
+        before: number.saturating_sub(1),
+    };
+    let mut room = [0u8; PIECE];
+    let mut from = 0u64;
+    for _piece in 0..MOST_PIECES {
+        let Ok(count) = store.read(name, from, &mut room) else {
+            return Ok(None);
+        };
+        if count == 0 {
+            break;
+        }
+        if found.take_in(room.get(..count).unwrap_or(&[]))? {
+            break;
+        }
+        from = from.saturating_add(count as u64);
+    }
+    if found.before > 0 {
+        return Ok(None);
+    }
+    Ok(Some(found.line))
+}

@@ -1,0 +1,74 @@
+//! Words and lines of others, as a terminal may be given them.
+
+use lists::OutOfMemory;
+
+/// The most octets of a line that are shown.
+const MOST_SHOWN: usize = 80;
+
+/// Whether a character would act on a terminal in place of being seen.
+fn acts(sign: char) -> bool {
+    sign.is_control()
+        || matches!(sign, '\u{200e}'..='\u{200f}' | '\u{2028}'..='\u{202e}' | '\u{2066}'..='\u{2069}')
+}
+
+fn show_octet(out: &mut String, octet: u8) -> Result<(), OutOfMemory> {
+    write!(out, "\\x{octet:02x}")?;
+    Ok(())
+}
+
+fn show_sign(out: &mut String, sign: char) -> Result<(), OutOfMemory> {
+    match sign {
+        '\n' => out.push_str("\\n")?,
+        '\t' => out.push_str("\\t")?,
+        '\r' => out.push_str("\\r")?,
+        _ => {
+            if acts(sign) {
+                let code = u32::from(sign);
+                write!(out, "\\u{{{code:x}}}")?;
+            } else {
+                out.push(sign)?;
+            }
+        }
+    }
+    Ok(())
+}
+
+/// Shows a text, with its control characters escaped.
+pub fn show(out: &mut String, text: &str) -> Result<(), OutOfMemory> {
+    for sign in text.chars() {
+        show_sign(out, sign)?;
+    }
+    Ok(())
+}
+
+/// Shows octets, with all that is no UTF-8 escaped too.
+pub fn show_octets(out: &mut String, octets: &[u8]) -> Result<(), OutOfMemory> {
+    for chunk in octets.utf8_chunks() {
+        show(out, chunk.valid())?;
+        for octet in chunk.invalid() {
+            show_octet(out, *octet)?;
+        }
+    }
+    Ok(())
+}
+
+/// Shows a front of a line of at most 80 octets, between quotes.
+pub fn show_front(out: &mut String, line: &[u8]) -> Result<(), OutOfMemory> {
+    out.push_str("'")?;
+    match line.get(..MOST_SHOWN) {
+        Some(front) if line.len() > MOST_SHOWN => {
+            show_octets(out, front)?;
+            out.push_str("' ..")?;
+        }
+        _ => {
+            show_octets(out, line)?;
+            out.push_str("'")?;
+        }
+    }
+    Ok(())
+}
+
+/// Shows a word between quotes, of a long one a front.
+pub fn show_word(out: &mut String, word: &str) -> Result<(), OutOfMemory> {
+    show_front(out, word.as_bytes())
+}
