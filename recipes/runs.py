@@ -5,6 +5,7 @@ finished. A recipe that is called again names what was cut off or failed, and ru
 run again. The program is the one that the variable NETSIM names, or ../netsim, or else netsim on the PATH."""
 import concurrent.futures
 import fcntl
+import functools
 import os
 import pathlib
 import shutil
@@ -12,6 +13,7 @@ import signal
 import struct
 import subprocess
 import sys
+import tempfile
 import typing
 
 BUILT = pathlib.Path(__file__).resolve().parent.parent / "netsim"
@@ -43,6 +45,16 @@ def figures(folder, name):
     return {row[1]: {word: int(count) for word, count in zip(row[2::2], row[3::2])} for row in rows if row[0] == "station"}
 
 
+@functools.cache
+def be_ready():
+    """Judges a layout. Where the program has to be built, it is built here, once, and shows how far it is."""
+    with tempfile.NamedTemporaryFile("w", suffix=".toml") as layout:
+        layout.write('format = 1\nseed = 1\nuntil_bits = 1\n[[segment]]\nname = "x"\n')
+        layout.flush()
+        if subprocess.run([PROGRAM, "check", layout.name], stdout=subprocess.DEVNULL).returncode != 0:
+            sys.exit(f"{PROGRAM} doesn't run")
+
+
 def finish(runs, folder, jobs):
     """Does the runs that aren't finished, so many at a time. Ends the recipe where one of them fails."""
     folder.mkdir(parents=True, exist_ok=True)
@@ -51,9 +63,7 @@ def finish(runs, folder, jobs):
         fcntl.flock(lock, fcntl.LOCK_EX | fcntl.LOCK_NB)
     except OSError:
         sys.exit(f"another recipe is at work in {folder}")
-    # Where the program has to be built, it is built here, once: it reads an empty layout, which has a fault.
-    if subprocess.run([PROGRAM, "check", os.devnull], stdout=subprocess.DEVNULL).returncode != 2:
-        sys.exit(f"{PROGRAM} doesn't run")
+    be_ready()
     clear(folder)
     todo = [run for run in runs if not (folder / run.name).exists()]
     signal.signal(signal.SIGTERM, lambda number, frame: sys.exit(128 + number))

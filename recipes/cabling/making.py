@@ -1,6 +1,7 @@
 """From the octets of a plan to its layout and report."""
 import pathlib
 import subprocess
+import sys
 import tempfile
 import typing
 
@@ -49,18 +50,20 @@ def verdict_of(survey):
 
 
 def check(plan, written):
-    """The line that netsim prints of a layout."""
+    """The line that netsim prints of a layout. What it says of a fault is of the layout, and not of the plan."""
     try:
+        runs.be_ready()
         with tempfile.TemporaryDirectory() as folder:
             pathlib.Path(folder, "l.toml").write_text(written, encoding="utf-8")
             done = subprocess.run([runs.PROGRAM, "check", "l.toml"], cwd=folder, stdin=subprocess.DEVNULL,
-                                  stdout=subprocess.PIPE, text=True)
+                                  stdout=subprocess.PIPE, stderr=subprocess.PIPE, text=True)
     except OSError as error:
         raise Wanting(f"{runs.PROGRAM} can't be run on the layout: {error.strerror}") from None
     said = done.stdout.strip()
     if done.returncode == 2:
         raise fault_of(plan, said)
     if done.returncode:
+        sys.stderr.write(done.stderr)
         raise Wanting(f"{runs.PROGRAM} ended with status {done.returncode}: {said}")
     return said
 
