@@ -2,6 +2,7 @@
 
 It knows nothing of the program's code. `judge` answers what `check` has to say of the octets of a layout file. The two
 readers of TOML differ by design in some forms of text, which `excuse` names (README.md lists them)."""
+import math
 import re
 import tomllib
 
@@ -60,6 +61,14 @@ def as_older_toml(text):
     return re.sub(r"\\(\\|e|x[0-9a-fA-F]{2})", lambda m: spelled.get(m[0], m[0].replace("\\x", "\\u00")), text)
 
 
+def decimal_number(digits):
+    """A decimal number; a ValueError where it is beyond 64 bits."""
+    number = float(digits)
+    if math.isinf(number) and "inf" not in digits:
+        raise ValueError(digits)
+    return number
+
+
 def read_toml(octets):
     """The tree of a document, or None."""
     try:
@@ -68,7 +77,7 @@ def read_toml(octets):
         return None
     for spelling in dict.fromkeys((text, as_older_toml(text))):
         try:
-            tree = tomllib.loads(spelling)
+            tree = tomllib.loads(spelling, parse_float=decimal_number)
         except (ValueError, RecursionError, OverflowError):
             continue
         return None if has_wide_number(tree) else tree

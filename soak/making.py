@@ -200,7 +200,10 @@ def mix_rows(dice, tree, change):
 
 
 def crowd(dice, tree):
-    """Makes one kind of row as many as can be, or one more."""
+    """Makes one kind of row as many as can be, or one more. What a fault left of lists of rows is put aside."""
+    for table in ("segment", "station", "repeater"):
+        if not isinstance(tree.get(table), list):
+            tree[table] = []
     kind = dice.choice(["segment", "station", "repeater", "port", "product", "file"])
     more = dice.choice([0, 1])
     if kind == "segment":
