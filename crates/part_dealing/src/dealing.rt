@@ -155,7 +155,8 @@ fn work_of(layout: &Layout, part: usize) -> u64 {
 
 /// How many edges there are.
 pub fn count_edges(plan: &Plan) -> u32
-    ensures { result ≡ edges_before plan.now.layout.repeaters (length plan.now.layout.repeaters) }
+    ensures value { result ≡ edges_before plan.now.layout.repeaters (length plan.now.layout.repeaters) }
+    ensures few { result ≤ 4096 }
 {
     let repeaters = plan.layout.repeaters.as_slice();
     let mut count = 0u32;

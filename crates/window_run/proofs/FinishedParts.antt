@@ -1,5 +1,5 @@
 -- Parts that have made all their windows are at the window behind the last, as those of a run on one thread are.
-use Rattle.std.proofs.Common.{◌≡◌, ℕ, ◌<◌, List, All, map, length, refl}
+use Rattle.std.proofs.Common.{◌≡◌, ℕ, List, All, map, refl}
 use Rattle.load_plan.specs.declared.plan.Plan.{Plan}
 use Rattle.net_parts.specs.Machines.{span}
 use Rattle.net_parts.specs.Windows.{windows}

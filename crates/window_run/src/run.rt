@@ -1,5 +1,5 @@
 //! The run of a plan by windows.
-ghost use Rattle.std.specs.Prelude.{◌≡◌, ◌<◌, ◌≤◌, ◌+◌, IfOk, length};
+ghost use Rattle.std.specs.Prelude.{◌≡◌, ◌<◌, ◌≤◌, ◌+◌, IfOk, IfSome, length};
 ghost use Rattle.network.specs.Outputs.{captures, rows};
 
 use crate::parts::collect_parts;
@@ -18,7 +18,8 @@ use turn_run::{Kind, gather_outputs, run_in_turn};
 use worker_gate::{Gated, run_planned};
 
 /// Runs a plan to its end by 1 to 64 workers, the caller being one of them. Each part passes the gate at the beginning
-/// of each of its windows. It may wait. Alone the caller runs the parts in turn, without mailboxes.
+/// of each of its windows. It may wait. Alone the caller runs the parts in turn, without mailboxes; so it does anew, and
+/// the gate is told that a run begins, where the workers' parts aren't whole at the end.
 pub fn run_by_windows<G: Gate, X: Threads + Wait + Sync>(
     rt: &X,
     alloc: Global,
@@ -31,32 +32,36 @@ pub fn run_by_windows<G: Gate, X: Threads + Wait + Sync>(
     ensures rows { IfOk result (λ outputs. outputs.rows ≡ rows plan.now) }
     ensures captures { IfOk result (λ outputs. outputs.captures ≡ captures plan.now) }
 {
-    if workers == 1 {
-        return run_in_turn(alloc, plan, gate);
+    if workers > 1 {
+        if let Some(outputs) = run_parts::<SegmentPart, RepeaterPart, G, X>(
+            rt, alloc, plan, workers, gate,
+        )? {
+            return Ok(outputs);
+        }
     }
-    run_parts::<SegmentPart, RepeaterPart, G, X>(rt, alloc, plan, workers, gate)
+    run_in_turn(alloc, plan, gate)
 }
 
-/// The same on segments and repeaters of these kinds.
+/// The same by the workers, on segments and repeaters of these kinds; nothing where these aren't whole at the end.
 fn run_parts<S: Kind, R: Kind, G: Gate, X: Threads + Wait + Sync>(
     rt: &X,
     alloc: Global,
     plan: &Plan,
     workers: u32,
     gate: &G,
-) -> Result<Outputs, OutOfMemory>
+) -> Result<Option<Outputs>, OutOfMemory>
     requires least { 1 ≤ workers }
     requires most { workers ≤ 64 }
     requires segments { S.many plan.now ≡ length plan.now.layout.segments }
     requires first_segment { S.first plan.now ≡ 0 }
     requires repeaters { R.many plan.now ≡ length plan.now.layout.repeaters }
     requires first_repeater { R.first plan.now ≡ length plan.now.layout.segments }
-    ensures rows { IfOk result (λ outputs. outputs.rows ≡ rows plan.now) }
-    ensures captures { IfOk result (λ outputs. outputs.captures ≡ captures plan.now) }
+    ensures rows { IfOk result (λ o. IfSome o (λ outputs. outputs.rows ≡ rows plan.now)) }
+    ensures captures { IfOk result (λ o. IfSome o (λ outputs. outputs.captures ≡ captures plan.now)) }
 {
     let reckoned = Pace::of(plan);
     let pace = &reckoned;
-    let (segments, repeaters) = run_planned(
+    let planned = run_planned(
         rt,
         alloc,
         plan,
@@ -71,11 +76,14 @@ fn run_parts<S: Kind, R: Kind, G: Gate, X: Threads + Wait + Sync>(
             requires paced { pace.now.plan.value ≡ plan.now }
         { gated(alloc, plan, pace, i, gate) },
     )?;
+    let Some((segments, repeaters)) = planned else {
+        return Ok(None);
+    };
     let mut logs = RowsList::new(alloc);
     let mut of_parts = Vec::new(alloc);
     collect_parts(segments, &mut logs, &mut of_parts)?;
     collect_parts(repeaters, &mut logs, &mut of_parts)?;
-    gather_outputs(alloc, plan, logs, of_parts)
+    Ok(Some(gather_outputs(alloc, plan, logs, of_parts)?))
 }
 
 /// A part of a kind behind the gate.

@@ -5,7 +5,7 @@ use Rattle.load_plan.specs.declared.plan.Plan.{Plan}
 use Rattle.net_parts.specs.declared.parcel.Parcel.{Parcel}
 use Rattle.net_parts.specs.Parcels.{IsTrueParcel, arrived}
 use Rattle.exchange_core.specs.Holdings.{Holding, IsHoldingReady, IsHoldingClean, MayBeSpoiled, reserved_holding, refused_holding, run_holding, spoil_holding, vacate_holding, take_holding}
-use Rattle.exchange_core.specs.Shares.{Rack, Held, nothing_held, AreParcelsFor, rack_of_way, has_place_for, IsOfPlan, part_on, part_of, owns, is_owned, changed, change, change_on, has_place, change_first, change_edge, may_post, first_with_edge, is_refilled, posted_parcel, post_held, take_held, received, carry_held, take_of_way, add_on, with_segment, with_repeater}
+use Rattle.exchange_core.specs.Shares.{Rack, Held, nothing_held, AreParcelsFor, rack_of_way, has_place_for, IsOfPlan, part_on, part_of, is_owned, changed, change, change_on, has_place, change_first, change_edge, may_post, first_with_edge, is_refilled, posted_parcel, post_held, take_held, received, carry_held, take_of_way, add_on, with_segment, with_repeater}
 use Rattle.exchange_core.proofs.ChangedRacks.{comes_of, some_same, none_not_some}
 use Rattle.exchange_core.proofs.GrownShares.{added_on}
 use Rattle.exchange_core.proofs.ShareLaws.{parts_change, parcels_serve}
@@ -115,22 +115,12 @@ module _ (f : Holding → Holding) (u : ℕ) (s s' : Held) (is : s' ≡ change f
   part_after : part_of u s' ≡ changed f (part_of u s)
   part_after = ap (part_of u) is ∙ parts_change f u s
 
-  pub owned_after : owns u s ≡ true → owns u s' ≡ true
-  owned_after has = ap is_owned part_after ∙ of (part_of u s) has
-    where
-      of : (o : Option Holding) → is_owned o ≡ true → is_owned (changed f o) ≡ true
-      of None has' = has'
-      of (Some h) has' = refl
-
   pub after : (P Q : Holding → Type 0) → ((h : Holding) → P h → Q (f h)) → IfSome (part_of u s) P → IfSome (part_of u s') Q
   after P Q goes p = subst (λ o. IfSome o Q) (sym part_after) (of (part_of u s) p)
     where
       of : (o : Option Holding) → IfSome o P → IfSome (changed f o) Q
       of None p' = tt
       of (Some h) p' = goes h p'
-
-pub ready_reserved : (u : ℕ) (s s' : Held) → s' ≡ change reserved_holding u s → IfSome (part_of u s) IsHoldingReady → IfSome (part_of u s') IsHoldingReady
-ready_reserved u s s' is = after reserved_holding u s s' is IsHoldingReady IsHoldingReady (λ h p. p)
 
 pub clean_reserved : (u : ℕ) (s s' : Held) → s' ≡ change reserved_holding u s → IfSome (part_of u s) IsHoldingClean → IfSome (part_of u s') IsHoldingClean
 clean_reserved u s s' is = after reserved_holding u s s' is IsHoldingClean IsHoldingClean (λ h p. p)

@@ -107,11 +107,8 @@ fn deal_segments<P: Planned, S: Part, R: Part, F: Fn(u32) -> Result<S, OutOfMemo
     requires paced { pace.now.plan.value ≡ plan.now }
     requires segments { MakesSegments S.plan S.number S.at plan.now (F.pre segment.now) (F.post segment.now) }
 {
-    let Ok(count) = u32::try_from(plan.layout.segments.len()) else {
-        return Err(OutOfMemory);
-    };
     let mut segments = Segments::new(alloc);
-    for i in 0..count {
+    for i in 0..plan.layout.segments.len() as u32 {
         if owner_of(owners, i as usize) != number {
             continue;
         }
@@ -136,12 +133,9 @@ fn deal_repeaters<P: Planned, S: Part, R: Part, H: Fn(u32) -> Result<R, OutOfMem
     requires boxed { Some plan.now ≡ P.plan }
     requires repeaters { MakesRepeaters R.plan R.number R.at plan.now (H.pre repeater.now) (H.post repeater.now) }
 {
-    let Ok(count) = u32::try_from(plan.layout.repeaters.len()) else {
-        return Err(OutOfMemory);
-    };
     let segments = plan.layout.segments.len();
-    for i in 0..count {
-        if owner_of(owners, segments.saturating_add(i as usize)) != number {
+    for i in 0..plan.layout.repeaters.len() as u32 {
+        if owner_of(owners, segments + i as usize) != number {
             continue;
         }
         let part = repeater(i)?;

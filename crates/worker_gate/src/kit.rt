@@ -74,16 +74,6 @@ impl<P: Planned + Send, S: Part, R: Part> Kit<P, S, R> {
         turn(rt, &mut self.desk, &self.duties, self.number, ports)
     }
 
-    /// Makes all windows where all parts are this worker's.
-    pub fn run_alone(&mut self)
-        ensures windows { self.new.windows ≡ self.old.windows }
-        ensures duties { self.new.duties ≡ self.old.duties }
-    {
-        for _window in 0..self.windows {
-            turn_alone(&mut self.desk, &self.duties);
-        }
-    }
-
     /// Puts a parcel to its part, if that is here, and drops it otherwise.
     pub fn take(&mut self, parcel: Parcel)
         requires { IfSome P.plan (λ plan. IsTrueParcel plan parcel) }
@@ -161,16 +151,6 @@ fn turn<P: Planned + Send, S: Part, R: Part, X: Wait>(
     made
 }
 
-/// The same where all parts are this worker's.
-fn turn_alone<P: Planned, S: Part, R: Part>(desk: &mut Desk<P, S, R>, duties: &Duties) {
-    for i in 0..duties.turns.len() {
-        let duty = duties.turns[i];
-        if desk.step(duty.part) {
-            hand_over(desk, duty, duties.outlets.as_slice());
-        }
-    }
-}
-
 /// Brings the parcels of a part that leave to the workers of their parts.
 fn hand_on<P: Planned + Send, S: Part, R: Part, X: Wait>(
     rt: &X,
@@ -202,16 +182,5 @@ fn send_to<P: Planned + Send, S: Part, R: Part, X: Wait>(
 {
     if let Some(port) = ports.get_mut(worker as usize) {
         port.send(rt, Mail::Parcel(parcel));
-    }
-}
-
-/// Brings the parcels of a part that leave to the parts here.
-fn hand_over<P: Planned, S: Part, R: Part>(
-    desk: &mut Desk<P, S, R>,
-    duty: Duty,
-    outlets: &[Outlet],
-) {
-    for k in duty.first..duty.end.min(outlets.len()) {
-        desk.carry(outlets[k].edge, duty.is_segment());
     }
 }

@@ -3,7 +3,6 @@ ghost use Rattle.std.specs.Prelude.{◌≡◌, ◌<◌, ◌≤◌, ◌+◌, IfOk
 ghost use Rattle.worker_gate.specs.FinishedParts.{AreFinished};
 ghost use Rattle.worker_gate.specs.PartMakers.{MakesSegments, MakesRepeaters};
 
-use crate::crew::make_kits;
 use crate::gather::{gather, put_parts};
 use crate::kit::Kit;
 use crate::threads::run_threads;
@@ -21,7 +20,8 @@ use window_exchange::Planned;
 
 /// Runs a plan by 1 to 64 workers, the caller being one of them, on parts that closures make: `make_segment` and
 /// `make_repeater` are told the number of a segment and of a repeater, from 0. The gate is told that the run begins.
-/// Answers the parts, each once, in order of numbers, each with all its windows made, or want of memory. It may wait.
+/// Answers the parts, each once, in order of numbers, each with all its windows made; none where the workers' parts
+/// aren't whole at the end; or want of memory. It may wait.
 pub fn run_planned<
     S: Part,
     R: Part,
@@ -37,34 +37,23 @@ pub fn run_planned<
     gate: &G,
     make_segment: &F,
     make_repeater: &H,
-) -> Result<(PartList<S>, PartList<R>), OutOfMemory>
+) -> Result<Option<(PartList<S>, PartList<R>)>, OutOfMemory>
     requires least { 1 ≤ workers }
     requires most { workers ≤ 64 }
     requires segments { MakesSegments S.plan S.number S.at plan.now (F.pre make_segment.now) (F.post make_segment.now) }
     requires repeaters { MakesRepeaters R.plan R.number R.at plan.now (H.pre make_repeater.now) (H.post make_repeater.now) }
-    ensures segments { IfOk result (λ r. AreFinished S.plan S.number S.at plan.now 0 (length plan.now.layout.segments) r.0.items) }
-    ensures repeaters { IfOk result (λ r. AreFinished R.plan R.number R.at plan.now (length plan.now.layout.segments) (length plan.now.layout.repeaters) r.1.items) }
+    ensures segments { IfOk result (λ o. IfSome o (λ r. AreFinished S.plan S.number S.at plan.now 0 (length plan.now.layout.segments) r.0.items)) }
+    ensures repeaters { IfOk result (λ o. IfSome o (λ r. AreFinished R.plan R.number R.at plan.now (length plan.now.layout.segments) (length plan.now.layout.repeaters) r.1.items)) }
 {
-    let parts = plan
-        .layout
-        .segments
-        .len()
-        .saturating_add(plan.layout.repeaters.len());
-    let half_bits = plan
-        .layout
-        .until_bits
-        .saturating_mul(u64::from(HALF_BITS_A_BIT));
+    let layout = &plan.layout;
+    let parts = layout.segments.len() as u32 + layout.repeaters.len() as u32;
+    let half_bits = layout.until_bits * u64::from(HALF_BITS_A_BIT);
     let pace = Pace::of(plan);
-    gate.begin(
-        u32::try_from(parts).unwrap_or(u32::MAX),
-        pace.windows,
-        half_bits,
-    );
+    gate.begin(parts, pace.windows, half_bits);
     run_boxed::<Brand, S, R, F, H, X>(rt, alloc, plan, &pace, workers, make_segment, make_repeater)
 }
 
-/// The same for a plan that a type carries, without the gate. Where the workers' parts aren't whole, they are made anew
-/// and run alone.
+/// The same for a plan that a type carries, without the gate.
 fn run_boxed<
     P: Planned + Send,
     S: Part,
@@ -80,53 +69,17 @@ fn run_boxed<
     workers: u32,
     segment: &F,
     repeater: &H,
-) -> Result<(Vec<S>, Vec<R>), OutOfMemory>
+) -> Result<Option<(Vec<S>, Vec<R>)>, OutOfMemory>
+    requires least { 1 ≤ workers }
     requires boxed { Some plan.now ≡ P.plan }
     requires paced { pace.now.plan.value ≡ plan.now }
     requires segments { MakesSegments S.plan S.number S.at plan.now (F.pre segment.now) (F.post segment.now) }
     requires repeaters { MakesRepeaters R.plan R.number R.at plan.now (H.pre repeater.now) (H.post repeater.now) }
-    ensures segments { IfOk result (λ r. AreFinished S.plan S.number S.at plan.now 0 (length plan.now.layout.segments) r.0.items) }
-    ensures repeaters { IfOk result (λ r. AreFinished R.plan R.number R.at plan.now (length plan.now.layout.segments) (length plan.now.layout.repeaters) r.1.items) }
+    ensures segments { IfOk result (λ o. IfSome o (λ r. AreFinished S.plan S.number S.at plan.now 0 (length plan.now.layout.segments) r.0.items)) }
+    ensures repeaters { IfOk result (λ o. IfSome o (λ r. AreFinished R.plan R.number R.at plan.now (length plan.now.layout.segments) (length plan.now.layout.repeaters) r.1.items)) }
 {
-    if workers > 1 {
-        let kits = run_threads::<P, S, R, F, H, X>(
-            rt, alloc, plan, pace, workers, segment, repeater,
-        )?;
-        if let Some(parts) = whole::<P, S, R>(alloc, plan, kits)? {
-            return Ok(parts);
-        }
-    }
-    let kits = run_alone::<P, S, R, F, H>(alloc, plan, pace, segment, repeater)?;
-    match whole::<P, S, R>(alloc, plan, kits)? {
-        Some(parts) => Ok(parts),
-        None => Err(OutOfMemory),
-    }
-}
-
-/// One worker's run, without a box and without a thread.
-fn run_alone<
-    P: Planned + Send,
-    S: Part,
-    R: Part,
-    F: Fn(u32) -> Result<S, OutOfMemory>,
-    H: Fn(u32) -> Result<R, OutOfMemory>,
->(
-    alloc: Global,
-    plan: &Plan,
-    pace: &Pace,
-    segment: &F,
-    repeater: &H,
-) -> Result<Vec<Kit<P, S, R>>, OutOfMemory>
-    requires boxed { Some plan.now ≡ P.plan }
-    requires paced { pace.now.plan.value ≡ plan.now }
-    requires segments { MakesSegments S.plan S.number S.at plan.now (F.pre segment.now) (F.post segment.now) }
-    requires repeaters { MakesRepeaters R.plan R.number R.at plan.now (H.pre repeater.now) (H.post repeater.now) }
-{
-    let mut kits = make_kits::<P, S, R, F, H>(alloc, plan, pace, 1, segment, repeater)?;
-    for i in 0..kits.len() {
-        kits[i].run_alone();
-    }
-    Ok(kits)
+    let kits = run_threads::<P, S, R, F, H, X>(rt, alloc, plan, pace, workers, segment, repeater)?;
+    whole::<P, S, R>(alloc, plan, kits)
 }
 
 /// All parts of the kits in order; none where one isn't there or hasn't made all windows. Where a part was given up,
@@ -140,15 +93,8 @@ fn whole<P: Planned + Send, S: Part, R: Part>(
     ensures segments { IfOk result (λ o. IfSome o (λ r. AreFinished S.plan S.number S.at plan.now 0 (length plan.now.layout.segments) r.0.items)) }
     ensures repeaters { IfOk result (λ o. IfSome o (λ r. AreFinished R.plan R.number R.at plan.now (length plan.now.layout.segments) (length plan.now.layout.repeaters) r.1.items)) }
 {
-    let Ok(first) = u32::try_from(plan.layout.segments.len()) else {
-        return Err(OutOfMemory);
-    };
-    let Ok(others) = u32::try_from(plan.layout.repeaters.len()) else {
-        return Err(OutOfMemory);
-    };
-    if first.checked_add(others).is_none() {
-        return Err(OutOfMemory);
-    }
+    let first = plan.layout.segments.len() as u32;
+    let others = plan.layout.repeaters.len() as u32;
     let mut segments = Vec::new(alloc);
     let mut repeaters = Vec::new(alloc);
     for kit in kits {

@@ -1,5 +1,5 @@
 //! Workers in threads of their own, and the caller among them.
-ghost use Rattle.std.specs.Prelude.{◌≡◌, ◌<◌, ◌+◌, Some};
+ghost use Rattle.std.specs.Prelude.{◌≡◌, ◌<◌, ◌≤◌, ◌+◌, Some};
 ghost use denote.Param.Send.{IsSend};
 ghost use Rattle.worker_gate.specs.PartMakers.{MakesSegments, MakesRepeaters};
 
@@ -152,18 +152,14 @@ pub(crate) fn run_threads<
     segment: &F,
     repeater: &H,
 ) -> Result<Vec<Kit<P, S, R>>, OutOfMemory>
+    requires least { 1 ≤ workers }
     requires boxed { Some plan.now ≡ P.plan }
     requires paced { pace.now.plan.value ≡ plan.now }
     requires segments { MakesSegments S.plan S.number S.at plan.now (F.pre segment.now) (F.post segment.now) }
     requires repeaters { MakesRepeaters R.plan R.number R.at plan.now (H.pre repeater.now) (H.post repeater.now) }
 {
-    let Some(room) = count_edges(plan).checked_add(1) else {
-        return Err(OutOfMemory);
-    };
+    let room = count_edges(plan) + 1;
     let mut rows = make_ports::<P, Kit<P, S, R>>(alloc, workers, room)?;
-    if rows.is_empty() {
-        return Err(OutOfMemory);
-    }
     let mine = rows.remove(0);
     let handles = Vec::with_capacity(alloc, rows.len())?;
     let kits = Vec::with_capacity(alloc, workers as usize)?;
