@@ -1,1 +1,2 @@
+pub mod CalmSenderExample
 pub mod WithinExample

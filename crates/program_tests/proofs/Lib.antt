@@ -1,1 +1,3 @@
+pub mod BarExample
 pub mod DoneExample
+pub mod ReadDumpExample

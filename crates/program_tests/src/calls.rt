@@ -75,6 +75,15 @@ fn layout<R: AllocGlobal>(rt: &R, load: &str) -> Result<String, OutOfMemory> {
     Ok(text)
 }
 
+/// The same with a station c at 20, which has a load of its own.
+fn two_loads<R: AllocGlobal>(rt: &R) -> Result<String, OutOfMemory> {
+    let first = layout(rt, "b.pcap")?;
+    let text = format!(in rt.alloc();
+        "{first}[[station]]\nname = \"c\"\nsegment = \"x\"\nat = 20\nload = \"c.pcap\"\n"
+    )?;
+    Ok(text)
+}
+
 /// A store with the files of all forms, and with a layout, a load, a log and a state that are refused.
 pub fn store_of<R: AllocGlobal>(rt: &R, case: &Case<'_>) -> Result<MemoryStore, OutOfMemory> {
     let mut store = MemoryStore::with_failing(
@@ -84,7 +93,9 @@ pub fn store_of<R: AllocGlobal>(rt: &R, case: &Case<'_>) -> Result<MemoryStore, 
         &[case.append],
     )?;
     store.put("l.toml", layout(rt, "b.pcap")?.as_bytes())?;
+    store.put("two.toml", two_loads(rt)?.as_bytes())?;
     store.put("b.pcap", &CAPTURE)?;
+    store.put("c.pcap", &CAPTURE)?;
     store.put("m.log", LOG.as_bytes())?;
     store.put("out.state", STATE.as_bytes())?;
     store.put("none", b"")?;

@@ -7,12 +7,18 @@ use std::sync::Wait;
 use std::thread::Threads;
 
 /// Forms with the names of the files that they read, a piece and then the end of each.
-const READS: [(&[&str], &[&str]); 13] = [
+const READS: [(&[&str], &[&str]); 14] = [
     (&["check", "l.toml"], &["l.toml", "l.toml"]),
     (&["slack", "l.toml"], &["l.toml", "l.toml"]),
     (
         &["plain", "l.toml", "out"],
         &["l.toml", "l.toml", "b.pcap", "b.pcap"],
+    ),
+    (
+        &["plain", "two.toml", "out"],
+        &[
+            "two.toml", "two.toml", "b.pcap", "b.pcap", "c.pcap", "c.pcap",
+        ],
     ),
     (
         &["run", "l.toml", "out", "1"],

@@ -101,34 +101,34 @@ gap_next s h k g =
     (sent_keeps (λ x. (x ≡ s.t) ⊎ IsAway last interframe_gap x) s h (inl refl)
     (λ e. subst P (sym (k.end ∙ ap (end_after s.last_end s.t) e)) (weaker s.t s.last_end s.phase (g e))))
 
--- an event comes at least 320 half bits after the last end
-far_from : (s : Sender) (p : Phase) (y : ℕ) (b : Body) → s.last_end ≡ Some y → Starts (IsAway s.last_end interframe_gap) p → event_from (record s { phase = p }) p ≡ Some b → y + 320 ≤ s.t
+-- an event comes at least least_turn half bits after the last end
+far_from : (s : Sender) (p : Phase) (y : ℕ) (b : Body) → s.last_end ≡ Some y → Starts (IsAway s.last_end interframe_gap) p → event_from (record s { phase = p }) p ≡ Some b → y + least_turn ≤ s.t
 unfolding event_from
 far_from s Rest y b e g is = absurd (none-some b is)
 far_from s Waiting y b e g is = absurd (none-some b is)
 far_from s (Backoff until) y b e g is = absurd (none-some b is)
 far_from s (Sending start hit) y b e g is = far (leb (start + sending_length (frame_at s.queue s.place) hit) s.t) refl is
   where
-    far : (c : Bool) → leb (start + sending_length (frame_at s.queue s.place) hit) s.t ≡ c → (if c then Some (end_event (record s { phase = Sending start hit }) start hit) else None) ≡ Some b → y + 320 ≤ s.t
+    far : (c : Bool) → leb (start + sending_length (frame_at s.queue s.place) hit) s.t ≡ c → (if c then Some (end_event (record s { phase = Sending start hit }) start hit) else None) ≡ Some b → y + least_turn ≤ s.t
     far true l i =
         let over : start + sending_length (frame_at s.queue s.place) hit ≤ s.t = leb-true (start + sending_length (frame_at s.queue s.place) hit) s.t l in
         let away : y + interframe_gap ≤ start = subst (λ o. IsAway o interframe_gap start) e g in
         omega (arith, over, away, length_least (frame_at s.queue s.place) hit)
     far false l i = absurd (none-some b i)
 
-far : (s : Sender) (h : Sym) (y : ℕ) (b : Body) → s.last_end ≡ Some y → IsGapKept s → (sender_step s h).event ≡ Some b → y + 320 ≤ s.t
+far : (s : Sender) (h : Sym) (y : ℕ) (b : Body) → s.last_end ≡ Some y → IsGapKept s → (sender_step s h).event ≡ Some b → y + least_turn ≤ s.t
 unfolding sender_step
 far s h y b e g is = far_from s s.phase y b e g is
 
 -- the events of half bits after an end in half bit y
 abbrev Few : List Sym → Sender → ℕ → Type 0
-Few hs s y = 320 * length (sending_bodies s hs) + y ≤ length hs + s.t
+Few hs s y = least_turn * length (sending_bodies s hs) + y ≤ length hs + s.t
 
 abbrev FewAfter : List Sym → Sender → Type 0
 FewAfter hs s = (y : ℕ) → s.last_end ≡ Some y → y ≤ s.t → IsGapKept s → Few hs s y
 
 after_event : (hs : List Sym) (s : Sender) (h : Sym) (y : ℕ) (o : Option Body) → (sender_step s h).event ≡ o → going.Steps s h → s.last_end ≡ Some y → y ≤ s.t → IsGapKept s → FewAfter hs (sender_step s h).state
-    → 320 * length (with_event o (sending_bodies (sender_step s h).state hs)) + y ≤ suc (length hs) + s.t
+    → least_turn * length (with_event o (sending_bodies (sender_step s h).state hs)) + y ≤ suc (length hs) + s.t
 after_event hs s h y None is k e m g few =
     let time : (sender_step s h).state.t ≡ s.t + 1 = k.time in
     let rest : Few hs (sender_step s h).state y = few y (k.end ∙ ap (end_after s.last_end s.t) is ∙ e) (omega (arith, m, time)) (gap_next s h k (λ _. g)) in
@@ -146,15 +146,15 @@ after_end (h ∷ hs) s y v l e m g =
     after_event hs s h y (sender_step s h).event refl k e m g (λ z e' m' g'. after_end hs (sender_step s h).state z k.valid (omega (arith, l, time)) e' m' g')
 
 -- from any state
-any_event : (hs : List Sym) (s : Sender) (h : Sym) (o : Option Body) → (sender_step s h).event ≡ o → going.Steps s h → FewAfter hs (sender_step s h).state → 320 * length (sending_bodies (sender_step s h).state hs) ≤ length hs + 320
-    → 320 * length (with_event o (sending_bodies (sender_step s h).state hs)) ≤ suc (length hs) + 320
+any_event : (hs : List Sym) (s : Sender) (h : Sym) (o : Option Body) → (sender_step s h).event ≡ o → going.Steps s h → FewAfter hs (sender_step s h).state → least_turn * length (sending_bodies (sender_step s h).state hs) ≤ length hs + least_turn
+    → least_turn * length (with_event o (sending_bodies (sender_step s h).state hs)) ≤ suc (length hs) + least_turn
 any_event hs s h None is k few any = omega (arith, any)
 any_event hs s h (Some b) is k few any =
     let time : (sender_step s h).state.t ≡ s.t + 1 = k.time in
     let rest : Few hs (sender_step s h).state s.t = few s.t (k.end ∙ ap (end_after s.last_end s.t) is) (omega (arith, time)) (gap_next s h k (λ e. absurd (none-some b (sym e ∙ is)))) in
     omega (arith, rest, time)
 
-any_state : (hs : List Sym) (s : Sender) → IsSender s → s.t + length hs ≤ 2000000000 → 320 * length (sending_bodies s hs) ≤ length hs + 320
+any_state : (hs : List Sym) (s : Sender) → IsSender s → s.t + length hs ≤ 2000000000 → least_turn * length (sending_bodies s hs) ≤ length hs + least_turn
 any_state [] s v l = omega arith
 any_state (h ∷ hs) s v l =
     let k = going.steps s h v (omega (arith, l)) in
