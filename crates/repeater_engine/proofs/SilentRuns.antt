@@ -1,8 +1,8 @@
 -- Runs of a repeater over half bits in which every port hears Idle and nothing happens.
-use Rattle.std.proofs.Common.{◌≡◌, ℕ, zero, suc, ◌+◌, ◌*◌, ◌<◌, ◌≤◌, All, Bool, true, false, List, [], ◌∷◌, ◌++◌, map, length, replicate, get_or, refl, sym, subst, ap, ap₂, ◌∙◌, arith, append-nil}
+use Rattle.std.proofs.Common.{◌≡◌, ℕ, zero, suc, ◌+◌, ◌*◌, ◌/◌, ◌<◌, ◌≤◌, All, Bool, true, false, List, [], ◌∷◌, ◌++◌, map, length, replicate, get_or, refl, sym, subst, ap, ap₂, ◌∙◌, arith, append-nil, mul-le-mul_right}
 use Rattle.std.specs.Fn.{iterate}
 use Rattle.std.proofs.lemmas.List.{get_or-map}
-use Rattle.std.proofs.lemmas.Nat.{pow_pos}
+use Rattle.std.proofs.lemmas.Nat.{pow_pos, div-add-mod'}
 use Rattle.manchester_line.specs.declared.Sym.{Sym}
 use Rattle.manchester_line.specs.declared.Sym.TheVariants.{Idle}
 use Rattle.collision_log.specs.declared.row.Body.TheVariants.{Clash, Halted}
@@ -18,9 +18,13 @@ use Rattle.network.specs.Times.{decided}
 use Rattle.net_parts.specs.Machines.{span}
 use Rattle.net_parts.specs.RepeaterParts.{RepeaterState, repeater_step, edges_before, edges_in, edges_at}
 use Rattle.net_parts.specs.Standing.{port_hears, repeater_state, repeater_at}
+use Rattle.net_parts.specs.Parts.{edges_of_part}
+use Rattle.net_parts.specs.Windows.{lookahead, time, windows}
 use Rattle.net_parts.proofs.NetworkFacts.{repeater_facts}
 use Rattle.net_parts.proofs.RepeaterSteps.{length-span, repeaters_go_on}
+use Rattle.net_parts.proofs.WindowTimes.{begins_in_run}
 use Rattle.repeater_engine.specs.CalmWindows.{PortsHearIdle, AreDecidedIdle}
+use Rattle.repeater_engine.specs.RepeaterNumbers.{edges_at_part}
 
 -- nothing happens where no flag is set
 flag_off : (p : ℕ) (b : Bool) (bs : List Bool) → mask_from p (b ∷ bs) ≡ 0 → b ≡ false
@@ -123,3 +127,39 @@ module _ (plan : Plan) (i : ℕ) (some : i < length plan.layout.repeaters) where
       let r = repeater_state plan i t in
       let there = later j t r refl (λ k k'. calm.uneventful k (omega (arith, k', l))) (λ q k h' l'. idle q k h' (omega (arith, l', l))) in
       decided_now (t + j) (iterate silent_step j r) (ap (λ (s : RepeaterState). s.repeater) there) (calm.uneventful j l) (λ q h'. idle q j h' l) p h
+
+-- windows of calm have no more half bits than it lasts
+pub windows_within : (n c L : ℕ) → n ≤ c / L → n * L ≤ c
+windows_within n c L few =
+    let whole = div-add-mod' c L in
+    let more : n * L ≤ c / L * L = mul-le-mul_right L few in
+    omega (arith, whole, more)
+
+-- the repeater of a part that stands at a window
+module _ (plan : Plan) (u i w : ℕ) (is : u ≡ length plan.layout.segments + i) (some : i < length plan.layout.repeaters) (below : w < windows plan) (s : RepeaterState) (stands : s ≡ repeater_at plan i (time plan w)) where
+  abbrev L : ℕ
+  L = lookahead plan.layout
+
+  starts : time plan w ≡ w * L
+  starts = let b = begins_in_run plan w below in omega (arith, b)
+
+  stands_here : s ≡ repeater_at plan i (w * L)
+  stands_here = stands ∙ ap (repeater_at plan i) starts
+
+  pub part_decides : (n : ℕ) → IsCalm s.repeater n → PortsHearIdle plan (edges_of_part plan u) (w * L) n → AreDecidedIdle plan (edges_of_part plan u) (w * L) n
+  part_decides n calm =
+      let here : IsCalm (repeater_state plan i (w * L)) n = subst (λ (x : RepeaterState). IsCalm x.repeater n) stands_here calm in
+      subst (λ xs. PortsHearIdle plan xs (w * L) n → AreDecidedIdle plan xs (w * L) n) (sym (edges_at_part plan u i is)) (decides_idle plan i some n (w * L) here)
+
+  pub part_later : (count m : ℕ) (s' : RepeaterState) → w + count < windows plan → m ≡ count * L → IsCalm s.repeater (count * L) → PortsHearIdle plan (edges_of_part plan u) (w * L) (count * L)
+      → s' ≡ record { t = s.t + m; repeater = iterate silent_step m s.repeater; rows = s.rows } → s' ≡ repeater_at plan i (time plan (w + count))
+  part_later count m s' last many calm idle is' =
+      let b = begins_in_run plan (w + count) last in
+      let all : (w + count) * L ≡ w * L + count * L = omega arith in
+      let ends : w * L + count * L ≡ time plan (w + count) = omega (arith, b, all) in
+      let here : IsCalm (repeater_state plan i (w * L)) (count * L) = subst (λ (x : RepeaterState). IsCalm x.repeater (count * L)) stands_here calm in
+      let hear = subst (λ xs. PortsHearIdle plan xs (w * L) (count * L)) (edges_at_part plan u i is) idle in
+      is'
+      ∙ ap₂ (λ (n : ℕ) (x : RepeaterState). let y : RepeaterState = record { t = x.t + n; repeater = iterate silent_step n x.repeater; rows = x.rows } in y) many stands_here
+      ∙ sym (stands_later plan i some (count * L) (w * L) here hear)
+      ∙ ap (repeater_at plan i) ends

@@ -25,3 +25,4 @@ pub mod FirstRows
 pub mod FirstReceptions
 pub mod PieceRoom
 pub mod SilentLines
+pub mod SilentParts
