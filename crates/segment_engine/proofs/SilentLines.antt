@@ -178,7 +178,7 @@ module _ (plan : Plan) (w : Wiring) (L t m : ℕ) (ls : List TapLine) (are : Are
       → ((r : ℕ) → r < length ls → get_or ls' r no_line ≡ passed m (get_or ls r no_line)) → AreLinesAt plan w L (t + m) (t + m) ls'
   lines_passed emit ls' len new =
       let many = are.many in
-      let of : (f : TapLine → ℕ) → ((l : TapLine) → f (passed m l) ≡ f l) → (r : ℕ) → r < length ls → f (get_or ls' r no_line) ≡ f (get_or ls r no_line) = λ f same r h. ap f (new r h) ∙ same (get_or ls r no_line) in
+      let keeps : (f : TapLine → ℕ) → ((l : TapLine) → f (passed m l) ≡ f l) → (r : ℕ) → r < length ls → f (get_or ls' r no_line) ≡ f (get_or ls r no_line) = λ f same r h. ap f (new r h) ∙ same (get_or ls r no_line) in
       let a = length-map ls (λ (l : TapLine). l.at) in
       let b = length-map ls' (λ (l : TapLine). l.at) in
       record {
@@ -186,11 +186,11 @@ module _ (plan : Plan) (w : Wiring) (L t m : ℕ) (ls : List TapLine) (are : Are
         places =
             same_number_lists (map (λ (l : TapLine). l.at) ls') (map (λ (l : TapLine). l.at) ls) (b ∙ len ∙ sym a) (λ k h.
             get_or-map (λ (l : TapLine). l.at) ls' k no_line 0 (omega (arith, h, b))
-            ∙ of (λ (l : TapLine). l.at) (λ l. refl) k (omega (arith, h, b, len))
+            ∙ keeps (λ (l : TapLine). l.at) (λ l. refl) k (omega (arith, h, b, len))
             ∙ sym (get_or-map (λ (l : TapLine). l.at) ls k no_line 0 (omega (arith, h, b, len))))
             ∙ are.places;
-        no_delays = λ r h. of (λ (l : TapLine). l.delay) (λ l. refl) r (omega (arith, h, many)) ∙ are.no_delays r h;
-        delays = λ p h. of (λ (l : TapLine). l.delay) (λ l. refl) (n + p) (omega (arith, h, many)) ∙ are.delays p h;
+        no_delays = λ r h. keeps (λ (l : TapLine). l.delay) (λ l. refl) r (omega (arith, h, many)) ∙ are.no_delays r h;
+        delays = λ p h. keeps (λ (l : TapLine). l.delay) (λ l. refl) (n + p) (omega (arith, h, many)) ∙ are.delays p h;
         emissions = λ r h.
             let f = emitted plan (get_or w.stations r 0) in
             subst (IsLineOf f (t + m) (t + m)) (sym (new r (omega (arith, h, many)))) (line_passed f t m (get_or ls r no_line) (are.emissions r h) (λ j l. emit r j h l));
@@ -202,8 +202,8 @@ module _ (plan : Plan) (w : Wiring) (L t m : ℕ) (ls : List TapLine) (are : Are
         near = λ p r hp hr.
             let in_it : r < length ls = omega (arith, hr, len) in
             let same = are.near p r hp in_it in
-            let delay = of (λ (l : TapLine). l.delay) (λ l. refl) r in_it in
-            let backlog = of (λ (l : TapLine). l.backlog) (λ l. refl) r in_it in
+            let delay = keeps (λ (l : TapLine). l.delay) (λ l. refl) r in_it in
+            let backlog = keeps (λ (l : TapLine). l.backlog) (λ l. refl) r in_it in
             omega (arith, same, delay, backlog);
       }
 

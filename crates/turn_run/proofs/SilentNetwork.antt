@@ -148,9 +148,6 @@ symbols_of plan v e below =
     let many : min L (half_bits plan + L - v * L) ≡ L = omega (arith, b) in
     ap (span (arrives plan L e) (v * L)) many
 
-all_at : {X : Type 0} (P : X → Type 0) (xs : List X) (k : ℕ) (d : X) → k < length xs → All P xs → P (get_or xs k d)
-all_at P xs k d h all = all k d h
-
 -- parcels that are idle say so of what comes in
 pub first_idle : (plan : Plan) (w : ℕ) (ps : List Parcel) → w < windows plan → ps ≡ all_parcels plan false w → All (λ p. All (λ s. s ≡ Idle) p.symbols) ps
     → AllIdle plan (arrives plan (lookahead plan.layout)) (w * lookahead plan.layout) (lookahead plan.layout)
@@ -222,11 +219,8 @@ module _ {S : Type 0} (plan_of : S → Plan) (number at : S → ℕ) (plan : Pla
         }
 
     module _ (comes goes : Plan → ℕ → ℕ → Sym) (f g : ℕ → ℕ → Sym) (comes_is : (e u : ℕ) → comes plan e u ≡ f e u) (goes_is : (e u : ℕ) → goes plan e u ≡ g e u) where
-      abbrev L : ℕ
-      L = lookahead plan.layout
-
       pub each_stays : All (λ s. StaysIdle (comes (plan_of s)) (goes (plan_of s)) (edges_of_part (plan_of s) (number s)) (at s * lookahead (plan_of s).layout) (n * lookahead (plan_of s).layout)) ss
-          → (k : ℕ) → k < count → StaysIdle f g (edges_of_part plan (first + k)) (w * L) (n * L)
+          → (k : ℕ) → k < count → StaysIdle f g (edges_of_part plan (first + k)) (w * lookahead plan.layout) (n * lookahead plan.layout)
       each_stays all k h m few idle p j in' l =
           let long = are.long in
           let d = an_element ss (omega (arith, h, long)) in
@@ -236,9 +230,9 @@ module _ {S : Type 0} (plan_of : S → Plan) (number at : S → ℕ) (plan : Pla
           let x : P (plan_of s) (number s) (at s) = all k d (omega (arith, h, long)) in
           let y : P plan (first + k) w = subst (λ q. P q (first + k) w) is.0 (subst (λ u. P (plan_of s) u w) is.1 (subst (λ v. P (plan_of s) (number s) v) is.2 x)) in
           let es = edges_of_part plan (first + k) in
-          sym (goes_is (get_or es p 0) (w * L + j)) ∙ y m few (λ q i hq hi. comes_is (get_or es q 0) (w * L + i) ∙ idle q i hq hi) p j in' l
+          sym (goes_is (get_or es p 0) (w * lookahead plan.layout + j)) ∙ y m few (λ q i hq hi. comes_is (get_or es q 0) (w * lookahead plan.layout + i) ∙ idle q i hq hi) p j in' l
 
-      pub each_idle : ((k : ℕ) → k < count → IsIdleOver f (edges_of_part plan (first + k)) (w * L) (n * L))
+      pub each_idle : ((k : ℕ) → k < count → IsIdleOver f (edges_of_part plan (first + k)) (w * lookahead plan.layout) (n * lookahead plan.layout))
           → All (λ s. IsIdleOver (comes (plan_of s)) (edges_of_part (plan_of s) (number s)) (at s * lookahead (plan_of s).layout) (n * lookahead (plan_of s).layout)) ss
       each_idle idle k d h =
           let long = are.long in
@@ -246,5 +240,5 @@ module _ {S : Type 0} (plan_of : S → Plan) (number at : S → ℕ) (plan : Pla
           let s = get_or ss k d in
           let is = are.each k d in' in
           let P : Plan → ℕ → ℕ → Type 0 = λ q u v. IsIdleOver (comes q) (edges_of_part q u) (v * lookahead q.layout) (n * lookahead q.layout) in
-          let y : P plan (first + k) w = λ p j hp l. comes_is (get_or (edges_of_part plan (first + k)) p 0) (w * L + j) ∙ idle k in' p j hp l in
+          let y : P plan (first + k) w = λ p j hp l. comes_is (get_or (edges_of_part plan (first + k)) p 0) (w * lookahead plan.layout + j) ∙ idle k in' p j hp l in
           subst (λ v. P (plan_of s) (number s) v) (sym is.2) (subst (λ u. P (plan_of s) u w) (sym is.1) (subst (λ q. P q (first + k) w) (sym is.0) y))
