@@ -1,5 +1,5 @@
 -- Runs of a repeater over half bits in which every port hears Idle and nothing happens.
-use Rattle.std.proofs.Common.{◌≡◌, ℕ, zero, suc, ◌+◌, ◌*◌, ◌/◌, ◌<◌, ◌≤◌, All, Bool, true, false, List, [], ◌∷◌, ◌++◌, map, length, replicate, get_or, refl, sym, subst, ap, ap₂, ◌∙◌, arith, append-nil, mul-le-mul_right}
+use Rattle.std.proofs.Common.{◌≡◌, ℕ, zero, suc, ◌+◌, ◌*◌, ◌/◌, ◌<◌, ◌≤◌, min, All, Bool, true, false, List, [], ◌∷◌, ◌++◌, map, length, replicate, get_or, refl, sym, subst, ap, ap₂, ◌∙◌, arith, append-nil, mul-le-mul_right}
 use Rattle.std.specs.Fn.{iterate}
 use Rattle.std.proofs.lemmas.List.{get_or-map}
 use Rattle.std.proofs.lemmas.Nat.{pow_pos, div-add-mod'}
@@ -134,6 +134,9 @@ windows_within n c L few =
     let whole = div-add-mod' c L in
     let more : n * L ≤ c / L * L = mul-le-mul_right L few in
     omega (arith, whole, more)
+
+pub least_of_two : (r d m : ℕ) → r ≡ min d m → r ≤ d
+least_of_two r d m is = omega (arith, is)
 
 -- the repeater of a part that stands at a window
 module _ (plan : Plan) (u i w : ℕ) (is : u ≡ length plan.layout.segments + i) (some : i < length plan.layout.repeaters) (below : w < windows plan) (s : RepeaterState) (stands : s ≡ repeater_at plan i (time plan w)) where

@@ -29,7 +29,7 @@ quiet_for_fewer m n a h q = record {
 }
 
 -- m times Idle on all lines but the first n
-pub told : ℕ → ℕ → List TapLine → List TapLine
+abbrev pub told : ℕ → ℕ → List TapLine → List TapLine
 told m zero ls = map (λ l. line_extended l (replicate m Idle)) ls
 told m (suc n) [] = []
 told m (suc n) (l ∷ ls) = l ∷ told m n ls
@@ -215,7 +215,7 @@ module _ (plan : Plan) (s m : ℕ) (a : Running) (at : IsRunningAt plan s a.t a)
   abbrev L : ℕ
   L = lookahead plan.layout
 
-  abbrev ahead_lines : List TapLine
+  abbrev pub ahead_lines : List TapLine
   ahead_lines = told m (length w.stations) a.lines.items
 
   pub ahead_are : AreLinesAt plan w L a.t (a.t + m) ahead_lines

@@ -1,5 +1,5 @@
 -- A segment that stands at a window, and the windows after it in which nothing happens.
-use Rattle.std.proofs.Common.{◌≡◌, ℕ, true, ◌+◌, ◌*◌, ◌/◌, ◌<◌, ◌≤◌, List, length, sym, subst, ap, ◌∙◌, arith, mul-le-mul_right}
+use Rattle.std.proofs.Common.{◌≡◌, ℕ, true, ◌+◌, ◌*◌, ◌/◌, ◌<◌, ◌≤◌, min, List, length, sym, subst, ap, ◌∙◌, arith, mul-le-mul_right}
 use Rattle.std.proofs.lemmas.Bool.Decides.{nat_tests}
 use Rattle.std.proofs.lemmas.Nat.{div-add-mod'}
 use Rattle.load_plan.specs.declared.plan.Plan.{Plan}
@@ -22,6 +22,9 @@ windows_within n c L few =
     let whole = div-add-mod' c L in
     let more : n * L ≤ c / L * L = mul-le-mul_right L few in
     omega (arith, whole, more)
+
+pub least_of_two : (r d m : ℕ) → r ≡ min d m → r ≤ d
+least_of_two r d m is = omega (arith, is)
 
 module _ (plan : Plan) (s wd l : ℕ) (a : Running) (length_is : l ≡ lookahead plan.layout) (stands : StandsInNetwork plan s (wd * l) a) (at : a.t ≡ time plan wd) (below : wd < windows plan) where
   abbrev L : ℕ

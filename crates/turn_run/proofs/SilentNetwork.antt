@@ -11,6 +11,7 @@ use Rattle.layout.specs.declared.lines.RepeaterLine.{RepeaterLine}
 use Rattle.load_plan.specs.declared.plan.Plan.{Plan}
 use Rattle.load_plan.proofs.PlansAreSound.{sound_of_plan}
 use Rattle.network.specs.Outputs.{half_bits}
+use Rattle.network.proofs.RunnablePlans.{runnable_plan}
 use Rattle.network.specs.TapsOnSegments.{count_on}
 use Rattle.network.specs.Times.{decided}
 use Rattle.net_parts.specs.declared.parcel.Parcel.{Parcel}
@@ -109,7 +110,7 @@ module _ (plan : Plan) (w n : ℕ)
   ]
 
   come : (k : ℕ) → k ≤ n → AllIdle plan (arrives plan L) t (k * L + L)
-  come zero few e j h l = first e j h (omega (arith, l))
+  come zero few = λ e j h l. first e j h (omega (arith, l))
   come (suc k) few =
       let more : suc k * L ≡ k * L + L = (let z : suc k ≡ k + 1 = omega arith in ap (λ x. x * L) z ∙ omega arith) in
       let within : k * L + L ≤ n * L = (let all : suc k * L ≤ n * L = mul-le-mul_right L few in omega (arith, all, more)) in
@@ -138,6 +139,16 @@ module _ (plan : Plan) (w n : ℕ)
       let p_in : p < c = omega (arith, h, long) in
       let most = before_most rs i in
       ap (λ x. port_hears plan x (t + j)) (ap (λ xs. get_or xs p 0) es_are ∙ span_at b c p 0 p_in) ∙ all_heard (b + p) j (omega (arith, most, p_in)) l
+
+-- a run has few windows
+pub few_windows : (plan : Plan) (v : ℕ) → v < windows plan → v < 2000000000
+few_windows plan v below =
+    let L = lookahead plan.layout in
+    let lead = some_lead plan in
+    let begins = begins_in_run plan v below in
+    let short = (runnable_plan plan).short in
+    let wide : 1 * v ≤ L * v = mul-le-mul_right v lead in
+    omega (arith, begins, short, wide)
 
 -- what a parcel brings to its segment
 symbols_of : (plan : Plan) (v e : ℕ) → v < windows plan → true_symbols plan false e v ≡ span (arrives plan (lookahead plan.layout) e) (v * lookahead plan.layout) (lookahead plan.layout)
@@ -242,3 +253,35 @@ module _ {S : Type 0} (plan_of : S → Plan) (number at : S → ℕ) (plan : Pla
           let P : Plan → ℕ → ℕ → Type 0 = λ q u v. IsIdleOver (comes q) (edges_of_part q u) (v * lookahead q.layout) (n * lookahead q.layout) in
           let y : P plan (first + k) w = λ p j hp l. comes_is (get_or (edges_of_part plan (first + k)) p 0) (w * lookahead plan.layout + j) ∙ idle k in' p j hp l in
           subst (λ v. P (plan_of s) (number s) v) (sym is.2) (subst (λ u. P (plan_of s) u w) (sym is.1) (subst (λ q. P q (first + k) w) (sym is.0) y))
+
+-- a run before window w, of whose parts nothing happens at any in n windows as long as nothing but Idle comes to it, and
+-- whose parcels bring nothing else
+module _ {S R : Type 0} (plan_s : S → Plan) (number_s at_s : S → ℕ) (comes_s goes_s : Plan → ℕ → ℕ → Sym) (plan_r : R → Plan) (number_r at_r : R → ℕ) (comes_r goes_r : Plan → ℕ → ℕ → Sym) (plan : Plan) (w n : ℕ)
+    (arrive : (e u : ℕ) → comes_s plan e u ≡ arrives plan (lookahead plan.layout) e u) (heard : (e u : ℕ) → goes_s plan e u ≡ port_hears plan e u)
+    (hear : (e u : ℕ) → comes_r plan e u ≡ port_hears plan e u) (decide : (e u : ℕ) → goes_r plan e u ≡ decided plan e u)
+    (ss : List S) (rs : List R) (segments : AreAtWindow plan_s number_s at_s plan 0 (length plan.layout.segments) w ss) (repeaters : AreAtWindow plan_r number_r at_r plan (length plan.layout.segments) (length plan.layout.repeaters) w rs)
+    (silent_s : All (λ s. StaysIdle (comes_s (plan_s s)) (goes_s (plan_s s)) (edges_of_part (plan_s s) (number_s s)) (at_s s * lookahead (plan_s s).layout) (n * lookahead (plan_s s).layout)) ss)
+    (silent_r : All (λ s. StaysIdle (comes_r (plan_r s)) (goes_r (plan_r s)) (edges_of_part (plan_r s) (number_r s)) (at_r s * lookahead (plan_r s).layout) (n * lookahead (plan_r s).layout)) rs)
+    (ps : List Parcel) (below : w < windows plan) (parcels : ps ≡ all_parcels plan false w) (idle : All (λ p. All (λ s. s ≡ Idle) p.symbols) ps) where
+  stay_segments : (s : ℕ) → s < length plan.layout.segments → StaysIdle (arrives plan (lookahead plan.layout)) (port_hears plan) (edges_of_part plan s) (w * lookahead plan.layout) (n * lookahead plan.layout)
+  stay_segments s h =
+      let z : 0 + s ≡ s = omega arith in
+      subst (λ u. StaysIdle (arrives plan (lookahead plan.layout)) (port_hears plan) (edges_of_part plan u) (w * lookahead plan.layout) (n * lookahead plan.layout)) z
+      (each_stays plan_s number_s at_s plan 0 (length plan.layout.segments) w ss segments n comes_s goes_s (arrives plan (lookahead plan.layout)) (port_hears plan) arrive heard silent_s s h)
+
+  stay_repeaters : (i : ℕ) → i < length plan.layout.repeaters → StaysIdle (port_hears plan) (decided plan) (edges_of_part plan (length plan.layout.segments + i)) (w * lookahead plan.layout) (n * lookahead plan.layout)
+  stay_repeaters = each_stays plan_r number_r at_r plan (length plan.layout.segments) (length plan.layout.repeaters) w rs repeaters n comes_r goes_r (port_hears plan) (decided plan) hear decide silent_r
+
+  begins : AllIdle plan (arrives plan (lookahead plan.layout)) (w * lookahead plan.layout) (lookahead plan.layout)
+  begins = first_idle plan w ps below parcels idle
+
+  pub idle_segments : All (λ s. IsIdleOver (comes_s (plan_s s)) (edges_of_part (plan_s s) (number_s s)) (at_s s * lookahead (plan_s s).layout) (n * lookahead (plan_s s).layout)) ss
+  idle_segments = each_idle plan_s number_s at_s plan 0 (length plan.layout.segments) w ss segments n comes_s goes_s (arrives plan (lookahead plan.layout)) (port_hears plan) arrive heard (λ s h.
+      let z : s ≡ 0 + s = omega arith in
+      subst (λ u. IsIdleOver (arrives plan (lookahead plan.layout)) (edges_of_part plan u) (w * lookahead plan.layout) (n * lookahead plan.layout)) z (comes_to_segments plan w n stay_segments stay_repeaters begins s h))
+
+  pub idle_repeaters : All (λ s. IsIdleOver (comes_r (plan_r s)) (edges_of_part (plan_r s) (number_r s)) (at_r s * lookahead (plan_r s).layout) (n * lookahead (plan_r s).layout)) rs
+  idle_repeaters = each_idle plan_r number_r at_r plan (length plan.layout.segments) (length plan.layout.repeaters) w rs repeaters n comes_r goes_r (port_hears plan) (decided plan) hear decide (comes_to_repeaters plan w n stay_segments stay_repeaters begins)
+
+  pub parcels_later : w + n < windows plan → map (stamped (w + n)) ps ≡ all_parcels plan false (w + n)
+  parcels_later last = stamped_later plan w n ps last parcels (all_come plan w n stay_segments stay_repeaters begins)

@@ -37,3 +37,9 @@ loop-k-preserved g c =
                 subst (λ k. P more (get_or c.args.parts.now k d)) e (subst (P more) (is d) c.quiet_windows-calm.ensures.silent)
           ];
     }
+
+pub returns-clause-silent : goal.returns-clause-silent
+returns-clause-silent g c = λ k d h.
+    let over = c.loop-k-test.false in
+    let end = c.loop-k.auto.k-end in
+    c.loop-k.invariant.silent k d (omega (arith, h, over, end))
