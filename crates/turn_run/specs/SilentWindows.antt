@@ -4,8 +4,8 @@ use Rattle.manchester_line.specs.declared.Sym.{Sym}
 use Rattle.manchester_line.specs.declared.Sym.TheVariants.{Idle}
 use Rattle.net_parts.specs.declared.parcel.Parcel.{Parcel}
 
--- Nothing but Idle goes over these edges in the n half bits from t on, where f says what goes over an edge in a half bit
--- (profile).
+-- Nothing but Idle goes over these edges in the n half bits from t on, where f says what goes over an edge in a half
+-- bit (profile).
 abbrev pub IsIdleOver : (ℕ → ℕ → Sym) → List ℕ → ℕ → ℕ → Type 0
 IsIdleOver f es t n = (p j : ℕ) → p < length es → j < n → f (slice_index es p) (t + j) ≡ Idle
 
