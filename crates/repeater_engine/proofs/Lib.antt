@@ -6,3 +6,4 @@ pub mod SteadyRuns
 pub mod ClassesOfRows
 pub mod LeapedHalfBits
 pub mod SteadyExample
+pub mod SilentRuns

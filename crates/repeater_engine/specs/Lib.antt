@@ -3,3 +3,4 @@ pub mod KeptRepeaters
 pub mod LeapedHalfBits
 pub mod Logging
 pub mod RepeaterNumbers
+pub mod CalmWindows

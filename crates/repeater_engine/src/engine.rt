@@ -1,9 +1,11 @@
 //! A repeater that makes half bits, with its rows.
+ghost use Rattle.std.specs.Fn.{iterate};
 ghost use Rattle.std.specs.Prelude.{◌≡◌, ◌<◌, ◌≤◌, ◌+◌, ◌-◌, ◌^◌, [], All, length, IfOk, OnOk};
 ghost use Rattle.load_plan.specs.declared.plan.Plan.{Plan};
 ghost use Rattle.mac_parameters.specs.Parameters.{greatest_delay, most_ports};
 ghost use Rattle.net_parts.specs.RepeaterParts.{repeater_step};
 ghost use Rattle.net_parts.specs.Standing.{repeater_at};
+ghost use Rattle.repeater_core.specs.Calm.{IsCalm, silent_step};
 ghost use Rattle.repeater_core.specs.Limits.{most_calm};
 ghost use Rattle.repeater_core.specs.Step.{decided_by, new_state};
 ghost use Rattle.repeater_core.specs.Steady.{IsSteady};
@@ -66,7 +68,9 @@ impl Model for RepeaterEngine {
 impl RepeaterEngine {
     ghost use Rattle.std.specs.Prelude.{◌≡◌, ◌<◌, ◌≤◌, ◌+◌, ◌-◌, ◌^◌, [], All, length, IfOk, OnOk};
     ghost use Rattle.mac_parameters.specs.Parameters.{greatest_delay, most_ports};
+    ghost use Rattle.std.specs.Fn.{iterate};
     ghost use Rattle.net_parts.specs.RepeaterParts.{repeater_step};
+    ghost use Rattle.repeater_core.specs.Calm.{IsCalm, silent_step};
     ghost use Rattle.repeater_core.specs.Limits.{most_calm};
     ghost use Rattle.repeater_core.specs.Step.{decided_by, new_state};
     ghost use Rattle.repeater_core.specs.Steady.{IsSteady};
@@ -240,6 +244,26 @@ impl RepeaterEngine {
         }
         self.leap(parcels, k, m, n);
         m
+    }
+
+    /// For how many half bits, at most 4,096, nothing happens where every port hears Idle.
+    pub fn calm(&self) -> u64
+        ensures { IsCalm self.now.state.repeater result }
+    {
+        self.repeater.calm()
+    }
+
+    /// Goes over so many half bits in which every port hears Idle and nothing happens.
+    pub fn pass(&mut self, count: u64)
+        requires calm { IsCalm self.old.state.repeater count }
+        requires time { self.old.state.t + count < 2 ^ 64 }
+        ensures device { self.new.device ≡ self.old.device }
+        ensures state { self.new.state
+            ≡ record { t = self.old.state.t + count; repeater = iterate silent_step count self.old.state.repeater; rows = self.old.state.rows } }
+    {
+        self.repeater.leap(count);
+        self.steady = 0;
+        self.t += count;
     }
 
     /// The rows so far. It takes memory for those that lie in the room of a window.

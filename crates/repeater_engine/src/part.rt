@@ -1,9 +1,12 @@
 //! A repeater of a plan as one of the parts of its network.
-ghost use Rattle.std.specs.Prelude.{◌≡◌, ◌<◌, ◌≤◌, ◌+◌, [], true, length, IfOk};
+ghost use Rattle.std.specs.Prelude.{◌≡◌, ◌<◌, ◌≤◌, ◌+◌, ◌*◌, ℕ, [], true, length, IfOk};
 ghost use Rattle.load_plan.specs.declared.plan.Plan.{Plan};
 ghost use Rattle.net_parts.specs.OutputsOfParts.{captures_of_part, rows_of_part};
 ghost use Rattle.net_parts.specs.Standing.{repeater_at};
-ghost use Rattle.net_parts.specs.Windows.{size, time, windows};
+ghost use Rattle.net_parts.specs.Parts.{edges_of_part};
+ghost use Rattle.net_parts.specs.Windows.{lookahead, size, time, windows};
+ghost use Rattle.repeater_core.specs.Calm.{IsCalm};
+ghost use Rattle.repeater_engine.specs.CalmWindows.{PortsHearIdle, AreDecidedIdle};
 ghost use Rattle.repeater_engine.specs.KeptRepeaters.{IsRepeatersPart, StandsAt};
 ghost use Rattle.repeater_engine.specs.RowWaits.{HasRowRoom};
 
@@ -86,6 +89,35 @@ impl RepeaterPart {
         let begin = self.window * u64::from(self.lookahead);
         let left = self.half_bits.saturating_sub(begin);
         left.min(u64::from(self.lookahead)) as usize
+    }
+
+    /// For how many windows from its present one on, at most `most`, nothing happens at it and Idle is decided for all
+    /// its ports, as long as they hear nothing but Idle.
+    pub fn calm_windows(&self, most: u64) -> u64
+        requires { self.now.window < windows self.now.plan.value }
+        ensures within { result ≤ most }
+        ensures calm { (n : ℕ) → n ≤ result → IsCalm self.now.engine.state.repeater (n * lookahead self.now.plan.value.layout) }
+        ensures silent { (n : ℕ) → n ≤ result * lookahead self.now.plan.value.layout →
+            PortsHearIdle self.now.plan.value (edges_of_part self.now.plan.value self.now.part) (self.now.window * lookahead self.now.plan.value.layout) n →
+            AreDecidedIdle self.now.plan.value (edges_of_part self.now.plan.value self.now.part) (self.now.window * lookahead self.now.plan.value.layout) n }
+    {
+        let calm = self.engine.calm() / u64::from(self.lookahead);
+        calm.min(most)
+    }
+
+    /// Goes over so many windows, none of them the last, in which its ports hear nothing but Idle and nothing happens.
+    pub fn pass_windows(&mut self, count: u64)
+        requires within { self.old.window + count < windows self.old.plan.value }
+        requires calm { IsCalm self.old.engine.state.repeater (count * lookahead self.old.plan.value.layout) }
+        requires silent { PortsHearIdle self.old.plan.value (edges_of_part self.old.plan.value self.old.part)
+            (self.old.window * lookahead self.old.plan.value.layout) (count * lookahead self.old.plan.value.layout) }
+        ensures plan { self.new.plan.value ≡ self.old.plan.value }
+        ensures number { self.new.part ≡ self.old.part }
+        ensures at { self.new.window ≡ self.old.window + count }
+    {
+        self.engine.pass(count * u64::from(self.lookahead));
+        self.window += count;
+        self.ready = false;
     }
 
     /// Its rows, and the captures of its stations, of which it has none. It takes memory for the rows of its last

@@ -45,7 +45,7 @@ module _ (f : ℕ → Sym) (front t : ℕ) (l : TapLine) (is : IsLineOf f front 
   line_later t' h = let begins = is.begins in record { begins = omega (arith, begins); ahead = is.ahead; holds = is.holds }
 
   -- after its first symbols were dropped
-  dropped_line : (k : ℕ) → k ≤ front - l.base → l.base + k ≤ t - l.backlog → IsLineOf f front t (dropped_from k l)
+  pub dropped_line : (k : ℕ) → k ≤ front - l.base → l.base + k ≤ t - l.backlog → IsLineOf f front t (dropped_from k l)
   dropped_line k few begins =
       let ahead = is.ahead in
       let rest : front - l.base - k ≡ front - (l.base + k) = omega arith in

@@ -24,3 +24,5 @@ pub mod TakenExample
 pub mod FirstRows
 pub mod FirstReceptions
 pub mod PieceRoom
+pub mod SilentLines
+pub mod SilentParts

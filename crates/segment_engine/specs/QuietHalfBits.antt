@@ -1,7 +1,11 @@
 -- Half bits in which nothing happens on a segment: all lines are Idle, no station sends or begins to, and no reception
 -- is under way (profile). Half bits and taps count from 0.
-use Rattle.std.specs.Prelude.{ℕ, ◌≡◌, ◌≤◌, ◌-◌, All, false, List, length}
+use Rattle.std.specs.Prelude.{ℕ, ◌≡◌, ◌<◌, ◌≤◌, ◌+◌, ◌-◌, All, false, List, length, slice_index}
 use Rattle.manchester_line.specs.declared.Sym.{Sym}
+use Rattle.manchester_line.specs.declared.Sym.TheVariants.{Idle}
+use Rattle.load_plan.specs.declared.plan.Plan.{Plan}
+use Rattle.net_parts.specs.Windows.{lookahead}
+use Rattle.net_parts.specs.Standing.{arrives, port_hears}
 use Rattle.mac_receive.specs.KeptReceiver.{Kept}
 use Rattle.mac_transmit.specs.Sender.{Sender, is_sending}
 use Rattle.mac_transmit.specs.Calm.{AllHeardAs, AreCalm, calm_of}
@@ -23,3 +27,13 @@ pub record IsQuietFor (n : ℕ) (a : Running) : Type 0 where
   pub lines : AreIdleFrom (a.t - a.far) a.lines.items
   pub senders : All (IsCalmFor n) a.senders.items
   pub receivers : AreAtRest a.receivers.items
+
+-- Idle comes in for the ports of these edges in the n half bits from t on (profile).
+abbrev pub ComeInIdle : Plan → List ℕ → ℕ → ℕ → Type 0
+ComeInIdle plan es t n =
+    (p j : ℕ) → p < length es → j < n → arrives plan (lookahead plan.layout) (slice_index es p) (t + j) ≡ Idle
+
+-- The ports of these edges hear Idle, which goes out, in the n half bits from t on (profile).
+abbrev pub GoOutIdle : Plan → List ℕ → ℕ → ℕ → Type 0
+GoOutIdle plan es t n =
+    (p j : ℕ) → p < length es → j < n → port_hears plan (slice_index es p) (t + j) ≡ Idle

@@ -1,12 +1,14 @@
 //! A segment as a part.
-ghost use Rattle.std.specs.Prelude.{◌≡◌, ◌<◌, ◌+◌, ◌*◌, ◌++◌, ◌==◌, true, length, IfOk, OnOk};
+ghost use Rattle.std.specs.Prelude.{◌≡◌, ◌<◌, ◌≤◌, ◌+◌, ◌*◌, ◌++◌, ◌==◌, ℕ, true, length, IfOk, OnOk};
 ghost use Rattle.mac_parameters.specs.Parameters.{most_octets as most_octets_of};
 ghost use Rattle.net_parts.specs.OutputsOfParts.{cut_rows_on, rows_of_part, captures_of_part};
-ghost use Rattle.net_parts.specs.Parts.{part_at};
-ghost use Rattle.net_parts.specs.Windows.{time as time_of, windows as windows_of};
+ghost use Rattle.net_parts.specs.Parts.{edges_of_part, part_at};
+ghost use Rattle.net_parts.specs.Windows.{lookahead as lookahead_of, time as time_of, windows as windows_of};
 ghost use Rattle.segment_engine.specs.KeptParts.{KeepsSegment, StandsInNetwork};
+ghost use Rattle.segment_engine.specs.QuietHalfBits.{ComeInIdle, GoOutIdle, IsQuietFor};
 ghost use Rattle.window_room.specs.NeededRoom.{Covers, stations_demand};
 
+use crate::quiet::{pass, quiet_half_bits};
 use crate::running::Running;
 use crate::segment::Segment;
 use crate::start::start;
@@ -20,6 +22,9 @@ use mac_transmit::Transmitter;
 use net_parts::{Pace, Parcel, Part, PartOutputs};
 use std::alloc::Global;
 use window_room::reserve_stations;
+
+/// The most half bits that are passed over at once.
+const MOST_AT_ONCE: u32 = 4_096;
 
 /// A segment with its stations, over a line of symbols for each of its taps.
 #[derive(Drop)]
@@ -85,6 +90,38 @@ impl SegmentPart {
             reserved: false,
             state,
         })
+    }
+
+    /// For how many windows from its present one on, at most `most`, nothing happens at it and its ports hear Idle, as
+    /// long as nothing but Idle comes in for them.
+    pub fn calm_windows(&self, most: u64) -> u64
+        requires { self.now.window < windows_of self.now.segment.plan.value }
+        ensures within { result ≤ most }
+        ensures quiet { (n : ℕ) → 0 < n → n ≤ result → IsQuietFor (n * lookahead_of self.now.segment.plan.value.layout) self.now.state }
+        ensures silent { (n : ℕ) → n ≤ result * lookahead_of self.now.segment.plan.value.layout →
+            ComeInIdle self.now.segment.plan.value (edges_of_part self.now.segment.plan.value self.now.segment.number)
+            (self.now.window * lookahead_of self.now.segment.plan.value.layout) n →
+            GoOutIdle self.now.segment.plan.value (edges_of_part self.now.segment.plan.value self.now.segment.number)
+            (self.now.window * lookahead_of self.now.segment.plan.value.layout) n }
+    {
+        let quiet = quiet_half_bits(&self.state, MOST_AT_ONCE) / self.segment.lookahead;
+        u64::from(quiet).min(most)
+    }
+
+    /// Goes over so many windows, none of them the last, in which nothing happens at it and nothing but Idle comes in.
+    pub fn pass_windows(&mut self, count: u64)
+        requires within { self.old.window + count < windows_of self.old.segment.plan.value }
+        requires quiet { IsQuietFor (count * lookahead_of self.old.segment.plan.value.layout) self.old.state }
+        requires silent { ComeInIdle self.old.segment.plan.value (edges_of_part self.old.segment.plan.value self.old.segment.number)
+            (self.old.window * lookahead_of self.old.segment.plan.value.layout) (count * lookahead_of self.old.segment.plan.value.layout) }
+        ensures plan { self.new.segment.plan.value ≡ self.old.segment.plan.value }
+        ensures number { self.new.segment.number ≡ self.old.segment.number }
+        ensures at { self.new.window ≡ self.old.window + count }
+    {
+        let half_bits = count * u64::from(self.segment.lookahead);
+        pass(&self.segment, half_bits as u32, &mut self.state);
+        self.window += count;
+        self.reserved = false;
     }
 
     /// Its rows and the captures of its stations, in their order; with the Cut rows, when all windows were made.

@@ -7,7 +7,7 @@ ghost use Rattle.mac_transmit.specs.Calm.{after_all};
 ghost use Rattle.mac_transmit.specs.Sender.{Sender, is_sending as is_sending_in};
 ghost use Rattle.net_parts.specs.SegmentParts.{wiring};
 ghost use Rattle.segment_engine.specs.PartStates.{half_filled};
-ghost use Rattle.segment_engine.specs.QuietHalfBits.{AreAtRest, IsCalmFor, IsQuietFor};
+ghost use Rattle.segment_engine.specs.QuietHalfBits.{AreAtRest, ComeInIdle, IsCalmFor, IsQuietFor};
 ghost use Rattle.segment_engine.specs.RunningStates.{IsRunningAt, HaveLinesRoom};
 ghost use Rattle.window_room.specs.NeededRoom.{Covers, stations_demand};
 
@@ -15,7 +15,7 @@ use crate::running::Running;
 use crate::segment::Segment;
 use mac_receive::Receiver;
 use mac_transmit::{Phase, Transmitter};
-use tap_lines::{are_idle_from, rest_all};
+use tap_lines::{are_idle_from, pass_all, rest_all};
 
 /// Whether no reception is under way.
 fn are_at_rest(receivers: &[Receiver]) -> bool
@@ -123,5 +123,22 @@ pub fn leap_quiet(of: &Segment, window: u64, count: u32, state: &mut Running)
     leap_senders(t, count, &mut state.senders);
     leap_receivers(t, count, &mut state.receivers);
     rest_all(&mut state.lines, of.stations.len(), count as usize);
+    state.t = t + u64::from(count);
+}
+
+/// So many half bits in which nothing happens and nothing but Idle comes in for the ports.
+pub fn pass(of: &Segment, count: u32, state: &mut Running)
+    requires at { IsRunningAt of.now.plan.value of.now.number state.old.t state.old }
+    requires in_time { state.old.t + count ≤ 2000000000 }
+    requires quiet { IsQuietFor count state.old }
+    requires silent { ComeInIdle of.now.plan.value (wiring of.now.plan.value.layout of.now.number).edges state.old.t count }
+    ensures at { IsRunningAt of.now.plan.value of.now.number (state.old.t + count) state.new }
+    ensures time { state.new.t ≡ state.old.t + count }
+{
+    let _ = of;
+    let t = state.t;
+    leap_senders(t, count, &mut state.senders);
+    leap_receivers(t, count, &mut state.receivers);
+    pass_all(&mut state.lines, count as usize);
     state.t = t + u64::from(count);
 }

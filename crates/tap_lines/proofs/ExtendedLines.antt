@@ -5,7 +5,7 @@ use Rattle.std.proofs.lemmas.List.{append-nil, length-replicate, drop-replicate,
 use Rattle.std.proofs.lemmas.Bool.Decides.{nat_tests}
 use Rattle.manchester_line.specs.declared.Sym.{Sym}
 use Rattle.manchester_line.specs.declared.Sym.TheVariants.{Idle}
-use Rattle.tap_lines.specs.TapLines.{TapLine, line_extended, slid}
+use Rattle.tap_lines.specs.TapLines.{TapLine, line_extended, dropped_from, slid}
 
 -- a line that is extended twice
 pub extended_more : (l : TapLine) (xs ys : List Sym) → line_extended (line_extended l xs) ys ≡ line_extended l (xs ++ ys)
@@ -27,26 +27,26 @@ drop_both zero xs ys = let e : 0 ≡ 0 - length xs = omega arith in ap (λ n. xs
 drop_both (suc k) [] ys = let e : suc k ≡ suc k - 0 = omega arith in ap (λ n. drop n ys) e
 drop_both (suc k) (x ∷ xs) ys = let e : k - length xs ≡ suc k - suc (length xs) = omega arith in drop_both k xs ys ∙ ap (λ n. drop k xs ++ drop n ys) e
 
--- a line whose Idle at its end isn't written, after it has slid
-pub slid_unwritten : (at delay backlog base room n q q' gone : ℕ) (xs xs' : List Sym) → room < n → gone ≡ length xs + q - backlog →
-    xs' ≡ drop gone xs → q' ≡ q - (gone - min gone (length xs)) → (room' : ℕ) → room' ≡ room + gone →
+-- a line whose Idle at its end isn't written, after its first symbols were dropped
+pub dropped_unwritten : (at delay backlog base room q q' gone : ℕ) (xs xs' : List Sym) → xs' ≡ drop gone xs → q' ≡ q - (gone - min gone (length xs)) → (room' : ℕ) → room' ≡ room + gone →
     ◌≡◌ {A = TapLine} (record { at = at; delay = delay; backlog = backlog; base = base + gone; symbols = xs' ++ replicate q' Idle; room = room' })
-    (slid n (record { at = at; delay = delay; backlog = backlog; base = base; symbols = xs ++ replicate q Idle; room = room }))
-slid_unwritten at delay backlog base room n q q' gone xs xs' less all rest left room' more =
-    let size : length (xs ++ replicate q Idle) ≡ length xs + q = length-append xs (replicate q Idle) ∙ ap (λ m. length xs + m) (length-replicate q Idle) in
-    let k = length (xs ++ replicate q Idle) - backlog in
-    let same : gone ≡ k = omega (arith, all, size) in
+    (dropped_from gone (record { at = at; delay = delay; backlog = backlog; base = base; symbols = xs ++ replicate q Idle; room = room }))
+dropped_unwritten at delay backlog base room q q' gone xs xs' rest left room' more =
     let few : q - (gone - length xs) ≡ q' = omega (arith, left) in
-    let symbols : xs' ++ replicate q' Idle ≡ drop k (xs ++ replicate q Idle) =
+    let symbols : xs' ++ replicate q' Idle ≡ drop gone (xs ++ replicate q Idle) =
     ap (λ ys. ys ++ replicate q' Idle) rest
     ∙ ap (λ m. drop gone xs ++ replicate m Idle) (sym few)
     ∙ ap (λ ys. drop gone xs ++ ys) (sym (drop-replicate (gone - length xs) q Idle))
-    ∙ sym (drop_both gone xs (replicate q Idle))
-    ∙ ap (λ m. drop m (xs ++ replicate q Idle)) same in
-    let test : ltb room n ≡ true = grind (arith, nat_tests) in
-    let base_is : base + gone ≡ base + k = ap (λ m. base + m) same in
-    let room_is : room' ≡ room + k = more ∙ ap (λ m. room + m) same in
-    rw test (λ i. record { at = at; delay = delay; backlog = backlog; base = base_is i; symbols = symbols i; room = room_is i })
+    ∙ sym (drop_both gone xs (replicate q Idle)) in
+    (λ i. record { at = at; delay = delay; backlog = backlog; base = base + gone; symbols = symbols i; room = more i })
+
+-- how many symbols it has
+pub unwritten_size : (q : ℕ) (xs : List Sym) → length (xs ++ replicate q Idle) ≡ length xs + q
+unwritten_size q xs = length-append xs (replicate q Idle) ∙ ap (λ m. length xs + m) (length-replicate q Idle)
+
+-- a line that had less room than it wants has dropped what it needn't keep
+pub slid_less : (n gone : ℕ) (l : TapLine) → l.room < n → gone ≡ length l.symbols - l.backlog → dropped_from gone l ≡ slid n l
+slid_less n gone l less all = let test : ltb l.room n ≡ true = grind (arith, nat_tests) in rw test (ap (λ k. dropped_from k l) all)
 
 -- the line's room after it has slid
 pub slid_room : (n : ℕ) (l : TapLine) → l.backlog + n ≤ length l.symbols + l.room → n ≤ (slid n l).room

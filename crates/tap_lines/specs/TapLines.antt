@@ -1,6 +1,6 @@
 -- The lines of a segment's taps, and what the taps hear by them (profile). The taps of a segment are numbered from 0:
 -- those of its stations in their order, then those of its ports in the order of edges. Half bits count from 0.
-use Rattle.std.specs.Prelude.{ℕ, ◌≡◌, ◌≢◌, ◌+◌, ◌-◌, ◌==◌, ◌<◌, ◌≤◌, true, nat_le, nat_lt, if◌then◌else◌, List, [], ◌∷◌, ◌++◌, length, take, drop, slice_index_or}
+use Rattle.std.specs.Prelude.{ℕ, ◌≡◌, ◌≢◌, ◌+◌, ◌-◌, ◌==◌, ◌<◌, ◌≤◌, true, nat_le, nat_lt, if◌then◌else◌, List, [], ◌∷◌, ◌++◌, length, take, drop, min, replicate, slice_index_or}
 use Rattle.mac_parameters.specs.Distances.{distance}
 use Rattle.manchester_line.specs.declared.Sym.{Sym}
 use Rattle.manchester_line.specs.declared.Sym.TheVariants.{Idle}
@@ -71,6 +71,14 @@ dropped_from k l = record l { base = l.base + k; symbols = drop k l.symbols; roo
 -- A line that has dropped all but the symbols that it keeps, where it had room for fewer than n more (profile).
 abbrev pub slid : ℕ → TapLine → TapLine
 slid n l = if nat_lt l.room n then dropped_from (length l.symbols - l.backlog) l else l
+
+-- A line after n half bits in which nothing but Idle stands on it: of these and of what stood on it before it has no
+-- more than it keeps (profile).
+abbrev pub passed : ℕ → TapLine → TapLine
+passed n l =
+    let kept = min n l.backlog in
+    let rest = dropped_from (min (length l.symbols + n - l.backlog) (length l.symbols)) l in
+    line_extended (record rest { base = rest.base + (n - kept) }) (replicate kept Idle)
 
 -- What tap p hears by these lines in the n half bits from t on, where a window has L half bits (clause 8, profile).
 abbrev pub heard_for : ℕ → ℕ → ℕ → List TapLine → ℕ → List Sym

@@ -12,7 +12,9 @@ mod sources;
 
 pub use classes::classes_ahead;
 pub use line::Line;
-pub use lines::{are_idle_from, cut_all, farthest, hear_all, rest_all, slide_all, take_in, tell};
+pub use lines::{
+    are_idle_from, cut_all, farthest, hear_all, pass_all, rest_all, slide_all, take_in, tell,
+};
 pub use listed::hear_listed;
 pub use loud::LoudTaps;
 pub use sources::piece_of;

@@ -5,7 +5,7 @@ ghost use Rattle.manchester_line.specs.declared.Sym.TheVariants.{Idle};
 ghost use Rattle.manchester_line.specs.Line.{mix_of, is_signal as is_signal_of};
 ghost use Rattle.net_parts.specs.Machines.{span};
 ghost use Rattle.tap_lines.specs.Signals.{signals_end};
-ghost use Rattle.tap_lines.specs.TapLines.{line_cut, IsIdleFrom, IsSignalOver, IsWithinSignals, TapLine, symbol_on, half_bits_back, line_extended, slid};
+ghost use Rattle.tap_lines.specs.TapLines.{line_cut, IsIdleFrom, IsSignalOver, IsWithinSignals, TapLine, symbol_on, half_bits_back, line_extended, slid, dropped_from, passed};
 ghost use Rattle.network.specs.Times.{earlier};
 
 use crate::runs::{end_of_signals, steady_from};
@@ -403,13 +403,34 @@ impl Line {
     {
         let len = self.written + self.quiet;
         if self.buffer.len() - len < room {
-            let gone = len.saturating_sub(self.backlog);
-            let first = gone.min(self.written);
-            self.buffer.copy_within(first..self.written, 0);
-            self.written -= first;
-            self.quiet -= gone - first;
-            self.loud = self.loud.min(self.written);
-            self.base += gone as u64;
+            self.drop_first(len.saturating_sub(self.backlog));
         }
+    }
+
+    /// Drops its first symbols, so many.
+    fn drop_first(&mut self, gone: usize)
+        requires few { gone ≤ length self.old.symbols }
+        requires in_time { self.old.base + length self.old.symbols < 2 ^ 64 }
+        ensures { self.new ≡ dropped_from gone self.old }
+    {
+        let first = gone.min(self.written);
+        self.buffer.copy_within(first..self.written, 0);
+        self.written -= first;
+        self.quiet -= gone - first;
+        self.loud = self.loud.min(self.written);
+        self.base += gone as u64;
+    }
+
+    /// So many half bits pass in which nothing but Idle stands on it, of which it keeps no more than it must.
+    pub fn pass(&mut self, count: usize)
+        requires keeps { self.old.backlog ≤ length self.old.symbols + self.old.room }
+        requires in_time { self.old.base + length self.old.symbols + count < 2 ^ 64 }
+        ensures { self.new ≡ passed count self.old }
+    {
+        let len = self.written + self.quiet;
+        let kept = count.min(self.backlog);
+        self.drop_first((len + count).saturating_sub(self.backlog).min(len));
+        self.base += (count - kept) as u64;
+        self.rest(kept);
     }
 }

@@ -6,7 +6,7 @@ ghost use Rattle.manchester_line.specs.Line.{mix_of};
 ghost use Rattle.net_parts.specs.Machines.{span};
 ghost use Rattle.net_parts.specs.declared.parcel.Parcel.{Parcel};
 ghost use Rattle.network.specs.Times.{earlier};
-ghost use Rattle.tap_lines.specs.TapLines.{AreIdleFrom, TapLine, heard_by_lines, heard_of_line, symbol_on, half_bits_back, IsReachOf, line_extended, slid, line_cut};
+ghost use Rattle.tap_lines.specs.TapLines.{AreIdleFrom, TapLine, heard_by_lines, heard_of_line, symbol_on, half_bits_back, IsReachOf, line_extended, slid, passed, line_cut};
 
 use crate::line::Line;
 use manchester_line::{Sym, mix};
@@ -120,6 +120,20 @@ pub fn slide_all(lines: &mut [Line], room: usize)
 {
     for r in 0..lines.len() {
         lines[r].slide(room);
+    }
+}
+
+/// So many half bits pass in which nothing but Idle stands on any line.
+pub fn pass_all(lines: &mut [Line], count: usize)
+    requires keep { (r : ℕ) (d : TapLine) → r < length lines.old →
+        (slice_index_or lines.old r d).backlog ≤ length (slice_index_or lines.old r d).symbols + (slice_index_or lines.old r d).room }
+    requires in_time { (r : ℕ) (d : TapLine) → r < length lines.old →
+        (slice_index_or lines.old r d).base + length (slice_index_or lines.old r d).symbols + count < 2 ^ 64 }
+    ensures { (r : ℕ) (d : TapLine) → r < length lines.new →
+        slice_index_or lines.new r d ≡ passed count (slice_index_or lines.old r d) }
+{
+    for r in 0..lines.len() {
+        lines[r].pass(count);
     }
 }
 

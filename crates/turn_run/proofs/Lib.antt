@@ -3,3 +3,4 @@ pub mod Crossings
 pub mod PartsOneByOne
 pub mod ParcelsOnTheirWay
 pub mod ExchangedParcels
+pub mod SilentNetwork

@@ -24,7 +24,7 @@ pub length-span : (k n : ℕ) → length (span (λ (e : ℕ). e) k n) ≡ n
 length-span k zero = refl
 length-span k (suc n) = ap suc (length-span (suc k) n)
 
-span_at : (k n i d : ℕ) → i < n → get_or (span (λ (u : ℕ). u) k n) i d ≡ k + i
+pub span_at : (k n i d : ℕ) → i < n → get_or (span (λ (u : ℕ). u) k n) i d ≡ k + i
 span_at k zero i d h = absurd (omega (arith, h))
 span_at k (suc n) zero d h = omega arith
 span_at k (suc n) (suc i) d h = let rest = span_at (suc k) n i d (omega (arith, h)) in omega (arith, rest)
@@ -35,7 +35,7 @@ less a b h = grind (arith, nat_tests)
 not_less : (a b : ℕ) → b ≤ a → ltb a b ≡ false
 not_less a b h = grind (arith, nat_tests)
 
-abbrev no_port : PortLine
+abbrev pub no_port : PortLine
 no_port = record { segment = 0; at = 0 }
 
 -- the edges on a segment
@@ -116,7 +116,7 @@ module _ (plan : Plan) (s : ℕ) (is : s < length plan.layout.segments) where
       let eq = sym (ap (λ es. get_or es i 0) e) ∙ same ∙ ap (λ es. get_or es j 0) e in
       omega (arith, up, eq)
 
-  edge_here : (j : ℕ) → j < length (edges_of_part plan s) → (get_or (edges_of_part plan s) j 0 < edges plan) × (segment_of_edge plan (get_or (edges_of_part plan s) j 0) ≡ s)
+  pub edge_here : (j : ℕ) → j < length (edges_of_part plan s) → (get_or (edges_of_part plan s) j 0 < edges plan) × (segment_of_edge plan (get_or (edges_of_part plan s) j 0) ≡ s)
   edge_here j h =
       let e = edges_of_segment plan s is in
       let x = on_it s 0 (edge_ports plan.layout) j no_port (let m = ap length e in omega (arith, h, m)) in
@@ -139,7 +139,7 @@ module _ (plan : Plan) (s : ℕ) (is : s < length plan.layout.segments) where
   edges_few = let e = ap length (edges_of_segment plan s is) in let few = few_on s 0 (edge_ports plan.layout) in omega (arith, e, few)
 
   -- an edge on the segment has a place among its edges
-  found : (e : ℕ) → e < edges plan → segment_of_edge plan e ≡ s →
+  pub found : (e : ℕ) → e < edges plan → segment_of_edge plan e ≡ s →
       (let j = count_on s (take e (edge_ports plan.layout)) in (j < length (edges_of_part plan s)) × (get_or (edges_of_part plan s) j 0 ≡ e))
   found e h on =
       let ports = edge_ports plan.layout in
@@ -186,7 +186,7 @@ module _ (plan : Plan) (s : ℕ) (is : s < length plan.layout.segments) where
             y.others e d none ∙ x.others e d none
 
 -- all on the way to the segments, and all on the way to the repeaters
-get_all : (plan : Plan) (way : Bool) (w e : ℕ) (d : Parcel) → e < edges plan → get_or (all_parcels plan way w) e d ≡ true_parcel plan way w e
+pub get_all : (plan : Plan) (way : Bool) (w e : ℕ) (d : Parcel) → e < edges plan → get_or (all_parcels plan way w) e d ≡ true_parcel plan way w e
 get_all plan way w e d h =
     let size = length-span 0 (edges plan) in
     let at = span_at 0 (edges plan) e 0 h in
@@ -209,7 +209,7 @@ same_lists [] (y ∷ ys) l each = absurd (omega (arith, l))
 same_lists (x ∷ xs) [] l each = absurd (omega (arith, l))
 same_lists (x ∷ xs) (y ∷ ys) l each = ap₂ ◌∷◌ (each 0 x (omega arith)) (same_lists xs ys (omega (arith, l)) (λ i d h. each (suc i) d (omega (arith, h))))
 
-ports_within : (n : ℕ) (rs : List RepeaterLine) → All (λ r. All (λ (x : PortLine). x.segment < n) r.ports) rs → (e : ℕ) (d : PortLine) → e < length (flat_map (λ (r : RepeaterLine). r.ports) rs)
+pub ports_within : (n : ℕ) (rs : List RepeaterLine) → All (λ r. All (λ (x : PortLine). x.segment < n) r.ports) rs → (e : ℕ) (d : PortLine) → e < length (flat_map (λ (r : RepeaterLine). r.ports) rs)
     → (get_or (flat_map (λ (r : RepeaterLine). r.ports) rs) e d).segment < n
 ports_within n [] all e d h = absurd (omega (arith, h))
 ports_within n (r ∷ rs) all e d h = elim (cases_lt e (length r.ports)) [

@@ -14,6 +14,10 @@ pub record AreAtWindow {S : Type 0} (plan_of : S → Plan) (number at : S → �
   pub long : length parts ≡ count
   pub each : (k : ℕ) (d : S) → k < count → IsAtWindow plan_of number at plan (first + k) w (slice_index_or parts k d)
 
+-- One part is the other, so many windows later (profile).
+abbrev pub IsLater : {S : Type 0} → (S → Plan) → (S → ℕ) → (S → ℕ) → ℕ → S → S → Type 0
+IsLater plan_of number at n s s' = (plan_of s' ≡ plan_of s) × (number s' ≡ number s) × (at s' ≡ at s + n)
+
 -- The same where the first `done` of them have made that window (profile).
 pub record AreBetween {S : Type 0} (plan_of : S → Plan) (number at : S → ℕ) (plan : Plan) (first count w done : ℕ)
     (parts : List S) : Type 0 where

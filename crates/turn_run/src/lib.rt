@@ -8,6 +8,7 @@ mod first;
 mod gathered;
 mod kind;
 mod outputs;
+mod quiet;
 mod repeaters;
 mod run;
 mod segments;

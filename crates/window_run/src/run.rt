@@ -18,8 +18,9 @@ use turn_run::{Kind, gather_outputs, run_in_turn};
 use worker_gate::{Gated, run_planned};
 
 /// Runs a plan to its end by 1 to 64 workers, the caller being one of them. Each part passes the gate at the beginning
-/// of each of its windows. It may wait. Alone the caller runs the parts in turn, without mailboxes; so it does anew, and
-/// the gate is told that a run begins, where the workers' parts aren't whole at the end.
+/// of each of its windows. It may wait. Alone the caller runs the parts in turn, without mailboxes; they don't pass the
+/// gate for windows in which nothing happens anywhere. So it does anew, and the gate is told that a run begins, where the
+/// workers' parts aren't whole at the end.
 pub fn run_by_windows<G: Gate, X: Threads + Wait + Sync>(
     rt: &X,
     alloc: Global,

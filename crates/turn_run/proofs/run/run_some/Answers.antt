@@ -1,6 +1,6 @@
 use Rattle.std.proofs.Common.{length, refl}
 use Rattle.turn_run.proofs.ParcelsOnTheirWay.{none_gone, all_gone}
-use Rattle.turn_run.proofs.run.run_windows.Goals as goal
+use Rattle.turn_run.proofs.run.run_some.Goals as goal
 
 pub run_segments-requires-clause-parcels : goal.run_segments-requires-clause-parcels
 run_segments-requires-clause-parcels g c κs within = none_gone c.args.plan.now c.loop-window.window c.loop-window.parcels c.loop-window.invariant.parcels
