@@ -4,8 +4,6 @@
 mod failures;
 mod logs;
 mod told;
-mod watched;
 mod words;
 
 pub use told::hints;
-pub use watched::{Act, Failure, WatchedFiles, WatchedOut};
