@@ -4,7 +4,7 @@
 
 mod progress;
 
-use fault_hints::hints;
+use fault_hints::{early_warning, hints};
 use input_hints::Ended;
 use lists::{OutOfMemory, Text};
 use netsim::{HELP, Words, netsim};
@@ -78,7 +78,8 @@ fn main(rt: HostRuntime) -> ExitCode {
     };
     let mut store = FolderStore::new(&rt, rt.alloc());
     let mut out = OutSink::new(&rt, rt.alloc());
-    let progress = Progress::new(&rt, is_watched(&rt));
+    let warning = early_warning(&rt, rt.alloc(), words.as_slice()).unwrap_or(None);
+    let progress = Progress::new(&rt, is_watched(&rt), warning);
     let status = netsim(&rt, rt.alloc(), &words, &mut store, &mut out, &progress);
     progress.clear();
     tell(&rt, &words, status, &mut store, &mut out);
