@@ -1,8 +1,8 @@
 //! Which call of the system failed, and why.
 
-use crate::watched::{Act, Failure};
 use input_hints::show;
 use lists::{OutOfMemory, Text};
+use outside::{Act, Failure};
 use std::io::ErrorKind;
 
 /// The system's reason in plain words, where there are any.
@@ -19,6 +19,7 @@ fn reason(act: Act, kind: ErrorKind) -> Option<&'static str> {
         ErrorKind::FileTooLarge => Some("it would be too large"),
         ErrorKind::InvalidFilename => Some("its name is too long"),
         ErrorKind::BrokenPipe => Some("nobody reads it"),
+        ErrorKind::NotSeekable => Some("a pipe or a terminal is read only once"),
         _ => None,
     }
 }
@@ -35,14 +36,17 @@ fn tell_reason(out: &mut String, failure: &Failure) -> Result<(), OutOfMemory> {
     Ok(())
 }
 
+fn is_not_found(failure: &Failure) -> bool {
+    failure
+        .error
+        .is_some_and(|error| error.kind() == ErrorKind::NotFound)
+}
+
 /// How a folder is made that isn't there.
 fn tell_folder(out: &mut String, failure: &Failure) -> Result<(), OutOfMemory> {
-    let is_missing = failure
-        .error
-        .is_some_and(|error| error.kind() == ErrorKind::NotFound);
     if let Some(name) = &failure.name {
         if let Some((folder, _)) = name.as_str().rsplit_once('/') {
-            if is_missing && failure.act == Act::Write {
+            if failure.act == Act::Write && is_not_found(failure) {
                 out.push_str(": mkdir -p ")?;
                 show(out, folder)?;
                 out.push_str(" makes it")?;
@@ -54,15 +58,20 @@ fn tell_folder(out: &mut String, failure: &Failure) -> Result<(), OutOfMemory> {
 
 /// Whether a load is missing: a file that is read and isn't there, and that no word names.
 fn is_load(words: &[Text], failure: &Failure) -> bool {
-    let is_missing = failure
-        .error
-        .is_some_and(|error| error.kind() == ErrorKind::NotFound);
     match &failure.name {
-        Some(name) if is_missing && failure.act == Act::Read => {
+        Some(name) if failure.act == Act::Read && is_not_found(failure) => {
             let name = name.as_str();
             !name.ends_with(".state") && !words.iter().any(|word| word.as_str() == name)
         }
         _ => false,
+    }
+}
+
+/// Whether `-` was to be read, which is a file's name like any other.
+fn is_dash(failure: &Failure) -> bool {
+    match &failure.name {
+        Some(name) => failure.act == Act::Read && is_not_found(failure) && name.as_str() == "-",
+        None => false,
     }
 }
 
@@ -72,6 +81,10 @@ pub fn tell_failure(
     words: &[Text],
     failure: &Failure,
 ) -> Result<(), OutOfMemory> {
+    if is_dash(failure) {
+        out.push_str("netsim: '-' is no name for standard input: use /dev/stdin\n")?;
+        return Ok(());
+    }
     out.push_str("netsim: ")?;
     match &failure.name {
         Some(name) => show(out, name.as_str())?,

@@ -1,11 +1,11 @@
 //! What a person is told on standard error of a run that went wrong, and how it is mended.
 #![tactic(auto)]
 
+mod early;
 mod failures;
 mod logs;
 mod told;
-mod watched;
 mod words;
 
+pub use early::early_warning;
 pub use told::hints;
-pub use watched::{Act, Failure, WatchedFiles, WatchedOut};

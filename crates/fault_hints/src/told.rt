@@ -2,11 +2,10 @@
 
 use crate::failures::tell_failure;
 use crate::logs::{tell_log, tell_no_quiet, tell_state, tell_stranger};
-use crate::watched::Failure;
 use crate::words::tell_words;
 use input_hints::{Ended, after, show, tell_layout, tell_load, tell_range, tell_tap, word_at};
 use lists::OutOfMemory;
-use outside::Store;
+use outside::{Failure, Store};
 use std::alloc::Global;
 
 fn number_after(line: &str, word: &str) -> u64 {

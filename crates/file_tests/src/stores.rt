@@ -1,5 +1,6 @@
 use outside::{
-    FolderStore, Gate, MemorySink, MemoryStore, OpenGate, OutSink, Sink, SinkFail, Store, StoreFail,
+    Act, Failure, FolderStore, Gate, MemorySink, MemoryStore, OpenGate, OutSink, Sink, SinkFail,
+    Store, StoreFail,
 };
 use std::rt::Files;
 use std::test::Fail;
@@ -61,7 +62,7 @@ fn numbered_calls_fail(rt: HostRuntime) -> Result<(), Fail> {
 #[test]
 fn a_folder_keeps_real_files(rt: HostRuntime) -> Result<(), Fail> {
     let path = "/tmp/netsim_outside_a_folder_keeps_real_files";
-    let mut store = FolderStore::new(&rt);
+    let mut store = FolderStore::new(&rt, rt.alloc());
     let (count, room) = fill_and_read(&mut store, path)?;
     assert_eq!(rt; count, 2);
     assert_eq!(rt; room, *b"et\0\0");
@@ -73,9 +74,37 @@ fn a_folder_keeps_real_files(rt: HostRuntime) -> Result<(), Fail> {
     Ok(())
 }
 
+fn is_read_of(failure: Option<Failure>, path: &str) -> bool {
+    let Some(failure) = failure else {
+        return false;
+    };
+    match &failure.name {
+        Some(name) => failure.act == Act::Read && name.as_str() == path,
+        None => false,
+    }
+}
+
+#[test]
+fn a_file_stays_open_while_its_reads_go_on(rt: HostRuntime) -> Result<(), Fail> {
+    let path = "/tmp/netsim_outside_a_file_stays_open_while_its_reads_go_on";
+    let mut store = FolderStore::new(&rt, rt.alloc());
+    store.start(path)?;
+    assert_eq!(rt; store.append(path, b"abc"), Ok(3));
+    let mut room = [0; 1];
+    assert_eq!(rt; store.read(path, 0, &mut room), Ok(1));
+    rt.remove_file(path)?;
+    assert_eq!(rt; store.read(path, 1, &mut room), Ok(1));
+    assert_eq!(rt; room, *b"b");
+    assert!(rt; store.take_failure().is_none());
+    assert_eq!(rt; store.read(path, 1, &mut room), Err(StoreFail::Failed));
+    assert_eq!(rt; store.append("/", b"x"), Err(StoreFail::Failed));
+    assert!(rt; is_read_of(store.take_failure(), path));
+    Ok(())
+}
+
 #[test]
 fn the_standard_output_takes_a_piece(rt: HostRuntime) {
-    let mut sink = OutSink::new(&rt);
+    let mut sink = OutSink::new(&rt, rt.alloc());
     assert_eq!(rt; sink.write(b"netsim\n"), Ok(7));
     OpenGate.begin(1, 2, 3000);
     OpenGate.enter(0, 1);

@@ -97,6 +97,13 @@ pub fn begin_at(out: &mut String, file: &str, spot: Option<Spot>) -> Result<(), 
     Ok(())
 }
 
+/// Tells that no more can be told of a file, since a pipe is read only once.
+pub fn tell_unread(out: &mut String, file: &str) -> Result<(), OutOfMemory> {
+    begin_at(out, file, None)?;
+    out.push_str("it can't be read again to say more: save it as a file\n")?;
+    Ok(())
+}
+
 fn is_listed(keys: &str, key: &str) -> bool {
     keys.split_whitespace().any(|known| known == key)
 }
@@ -353,7 +360,7 @@ pub fn tell_layout<S: Store>(
         return Ok(());
     };
     let Some(octets) = read_file(alloc, store, file, LONGEST_FILE)? else {
-        return Ok(());
+        return tell_unread(out, file);
     };
     if octets.len() > LONGEST_FILE {
         begin_at(out, file, None)?;

@@ -2,7 +2,7 @@
 
 use crate::asked::{Ended, after, word_at};
 use crate::files::read_file;
-use crate::layouts::{document_of, text_at};
+use crate::layouts::{document_of, tell_unread, text_at};
 use crate::shown::show;
 use lists::OutOfMemory;
 use outside::Store;
@@ -135,14 +135,15 @@ pub fn tell_load<S: Store>(
     store: &mut S,
 ) -> Result<(), OutOfMemory> {
     let station = after(ended.said, "station").unwrap_or("");
-    let Some(document) = document_of(alloc, word_at(ended.words, 1), store)? else {
-        return Ok(());
+    let layout = word_at(ended.words, 1);
+    let Some(document) = document_of(alloc, layout, store)? else {
+        return tell_unread(out, layout);
     };
     let Some(load) = load_of(&document, station) else {
         return Ok(());
     };
     let Some(octets) = read_file(alloc, store, load, HEAD)? else {
-        return Ok(());
+        return tell_unread(out, load);
     };
     out.push_str("netsim: ")?;
     show(out, load)?;

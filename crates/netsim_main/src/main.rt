@@ -4,10 +4,11 @@
 
 mod progress;
 
-use fault_hints::{WatchedFiles, WatchedOut, hints};
+use fault_hints::{early_warning, hints};
 use input_hints::Ended;
 use lists::{OutOfMemory, Text};
 use netsim::{HELP, Words, netsim};
+use outside::{FolderStore, OutSink};
 use progress::Progress;
 use std::io::IsTerminal;
 use std::process::ExitCode;
@@ -47,8 +48,8 @@ fn tell<R: Files + Drop, P: Print + Drop>(
     rt: &HostRuntime,
     words: &Words,
     status: u8,
-    store: &mut WatchedFiles<R>,
-    out: &mut WatchedOut<P>,
+    store: &mut FolderStore<R>,
+    out: &mut OutSink<P>,
 ) {
     if words.as_slice().is_empty() {
         let _ = eprint!(rt; "{HELP}");
@@ -75,9 +76,10 @@ fn main(rt: HostRuntime) -> ExitCode {
             return ExitCode::from(MEMORY);
         }
     };
-    let mut store = WatchedFiles::new(&rt, rt.alloc());
-    let mut out = WatchedOut::new(&rt, rt.alloc());
-    let progress = Progress::new(&rt, is_watched(&rt));
+    let mut store = FolderStore::new(&rt, rt.alloc());
+    let mut out = OutSink::new(&rt, rt.alloc());
+    let warning = early_warning(&rt, rt.alloc(), words.as_slice()).unwrap_or(None);
+    let progress = Progress::new(&rt, is_watched(&rt), warning);
     let status = netsim(&rt, rt.alloc(), &words, &mut store, &mut out, &progress);
     progress.clear();
     tell(&rt, &words, status, &mut store, &mut out);

@@ -1,4 +1,4 @@
-//! A gate that lets every part pass at once, and shows on a terminal how much of a run is done.
+//! A gate that lets every part pass at once, warns before a long run, and shows on a terminal how much of it is done.
 
 use outside::Gate;
 use std::sync::atomic::{AtomicU64, Ordering};
@@ -6,6 +6,9 @@ use std::time::Clock;
 
 /// How often a run looks at the clock, at most.
 const MOST_LOOKS: u64 = 4_096;
+
+/// From how many half bits on, of all parts together, a run may take a second and more.
+const LONG: u64 = 100_000_000;
 
 /// The least time between two lines, in milliseconds.
 const BETWEEN_LINES: u64 = 200;
@@ -16,6 +19,8 @@ const BETWEEN_LINES: u64 = 200;
 pub struct Progress<R> {
     rt: R,
     is_shown: bool,
+    /// What is said before a long run begins, where there is anything.
+    warning: Option<String>,
     windows: AtomicU64,
     half_bits: AtomicU64,
     /// The window in which part 0 looks at the clock next.
@@ -28,11 +33,12 @@ pub struct Progress<R> {
 }
 
 impl<R: Eprint + Clock> Progress<R> {
-    /// Shows nothing before a run begins, and nothing at all unless it is to be shown.
-    pub fn new(rt: R, is_shown: bool) -> Progress<R> {
+    /// Shows nothing before a run begins, and how much is done only if it is to be shown.
+    pub fn new(rt: R, is_shown: bool, warning: Option<String>) -> Progress<R> {
         Progress {
             rt,
             is_shown,
+            warning,
             windows: AtomicU64::new(0),
             half_bits: AtomicU64::new(0),
             due: AtomicU64::new(u64::MAX),
@@ -97,7 +103,12 @@ fn share_of(number: u64, part: u64, whole: u64) -> u64 {
 }
 
 impl<R: Eprint + Clock + Sync> Gate for Progress<R> {
-    fn begin(&self, _parts: u32, windows: u64, half_bits: u64) {
+    fn begin(&self, parts: u32, windows: u64, half_bits: u64) {
+        if let Some(warning) = &self.warning {
+            if half_bits.saturating_mul(u64::from(parts)) >= LONG {
+                let _ = eprint!(self.rt; "{warning}");
+            }
+        }
         if self.is_shown {
             let now = self.now();
             self.windows.store(windows, Ordering::SeqCst);

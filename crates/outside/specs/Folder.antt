@@ -1,7 +1,7 @@
 -- The counts of faults of the store of real files and of the standard output (profile).
 use Rattle.std.specs.Prelude.{ℕ}
 use Rattle.outside.specs.declared.folder.FolderStore.{FolderStore}
-use Rattle.outside.specs.declared.folder.OutSink.{OutSink}
+use Rattle.outside.specs.declared.out.OutSink.{OutSink}
 
 -- how many reads failed
 abbrev pub read_faults_of : {R F M : Type 0} → FolderStore R F M → ℕ

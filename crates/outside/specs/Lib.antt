@@ -2,4 +2,5 @@ pub mod Calls
 pub mod Files
 pub mod Folder
 pub mod Memory
+pub mod Reads
 pub mod Sinks

@@ -2,12 +2,17 @@
 #![tactic(auto)]
 
 mod calls;
+mod failure;
 mod folder;
 mod memory;
+mod out;
+mod reads;
 mod sink;
 mod store;
 
-pub use folder::{FolderStore, OutSink};
+pub use failure::{Act, Failure};
+pub use folder::FolderStore;
 pub use memory::{File, MemoryStore};
+pub use out::OutSink;
 pub use sink::MemorySink;
 pub use store::{Gate, OpenGate, Sink, SinkFail, Store, StoreFail};
