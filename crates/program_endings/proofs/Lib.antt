@@ -9,6 +9,7 @@ pub mod ProbesAreTold
 pub mod PicturesAreTold
 pub mod StopsAreTold
 pub mod StopsAreLeft
+pub mod OutputsAreTold
 pub mod AnswersAreReliable
 pub mod DoneByForm
 pub mod DetectionFoundations
