@@ -72,10 +72,9 @@ pub(crate) fn read_plan<S: Store, K: Sink>(
         Err(ended) => return Err(ended),
     };
     match judge_names(alloc, layout, written, &network, out) {
-        Ok(()) => {}
-        Err(ended) => return Err(ended),
+        Ok(()) => plan_network(alloc, network, store, out),
+        Err(ended) => Err(ended),
     }
-    plan_network(alloc, network, store, out)
 }
 
 /// So many loads without a record.

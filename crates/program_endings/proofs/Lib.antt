@@ -18,5 +18,6 @@ pub mod LinesOfRows
 pub mod LogAmongFiles
 pub mod OnePlan
 pub mod StoppedRunsAreWhole
+pub mod InputsAreKept
 pub mod DetectedInTheLog
 pub mod CollisionsAreTold

@@ -134,8 +134,8 @@ IsUnloadedSaid network before after ending.Unquiet = ⊥
 IsUnloadedSaid network before after ending.State = ⊥
 IsUnloadedSaid network before after ending.Output = ⊥
 
--- what is said of a file to be written that has the name of the layout or of a load: the line of the first such name, and
--- nothing without memory; the last two numbers count what the sink refused
+-- what is said of a file to be written that has the name of the layout or of a load: the line of the first such name,
+-- and nothing without memory; the last two numbers count what the sink refused
 abbrev pub IsTakenEnd :
     List ℕ → ToWrite → Layout → Option (List ℕ) → Option (List ℕ) → ℕ → ℕ → Ending → Type 0
 IsTakenEnd layout outputs network written now refused risen ending.Output =
@@ -268,8 +268,8 @@ pub record IsUnstopped (layout prefix : List ℕ) (from : ℕ) (before after : M
   pub said : IsUnquietEnd before after e
   pub held : after.held ≡ before.held
 
--- the layout and its loads have no fault, the file of the state has the name of none of them, and the network was run to
--- the first quiet half bit at or after this one
+-- the layout and its loads have no fault, the file of the state has the name of none of them, and the network was run
+-- to the first quiet half bit at or after this one
 pub record HasStopped (layout prefix : List ℕ) (from : ℕ) (before after : Moment) (e : Ending) : Type 0 where
   pub plan : Plan
   pub planned : IsPlanned layout before.held plan

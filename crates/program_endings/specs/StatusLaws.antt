@@ -58,8 +58,8 @@ DoLoadFaultsDecide =
     (station : ℕ) (f : CaptureFault) → HasLoadFault layout outputs (Some files) station f
     → IsFaultStatus 3 status entry.reads exit.reads)))
 
--- where no file to be written has the name of an input and a load of a layout without fault is the first that isn't held
--- the status is 4, but for want of memory
+-- where no file to be written has the name of an input and a load of a layout without fault is the first that isn't
+-- held the status is 4, but for want of memory
 abbrev pub DoAbsentLoadsDecide : Type 0
 DoAbsentLoadsDecide =
     OfAnswers (λ words entry exit status.

@@ -27,8 +27,8 @@ AreUnquietSaid =
     IsPlannedWith layout entry.held (λ plan. HasNoQuiet plan from × Says line_of_no_quiet entry exit)))
 
 -- where the layout and the loads held at entry have no fault, the file of the state has the name of none of them, and
--- their run has no quiet half bit at or after the one that was asked for the status is 9, but for a failed read and want
--- of memory
+-- their run has no quiet half bit at or after the one that was asked for the status is 9, but for a failed read and
+-- want of memory
 abbrev pub DoUnquietDecide : Type 0
 DoUnquietDecide =
     OfAnswers (λ words entry exit status.

@@ -1,5 +1,5 @@
--- The names of the files that a form writes, and whether one of them is that of a file that it reads (profile). Names are
--- compared octet by octet.
+-- The names of the files that a form writes, and whether one of them is that of a file that it reads (profile). Names
+-- are compared octet by octet.
 use Rattle.std.specs.Prelude.{◌≡◌, ℕ, List, [], ◌∷◌, Bool, true, false, ◌||◌, Option, None, Some, bytes_eq, if◌then◌else◌}
 use Rattle.layout.specs.declared.lines.Layout.{Layout}
 use Rattle.layout.specs.declared.lines.StationLine.{StationLine}

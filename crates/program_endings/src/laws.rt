@@ -1,7 +1,7 @@
 //! What each status says beyond the clauses of the top call: laws of every answer, each a call without a body.
 ghost use Rattle.program_endings.specs.LogLaws.{AreRunCollisionsDetected, IsEmptyLogRefused, IsInfixRefused, IsLateHitRefused};
 ghost use Rattle.program_endings.specs.MeterLaws.{AreLogFaultsSaid, AreMetersComplete, AreMetersCutShort, AreMetersRefused, DoAbsentLogsDecide, DoLogFaultsDecide, DoMetersKeepFiles};
-ghost use Rattle.program_endings.specs.OutputLaws.{AreOutputFaultsSaid, DoOutputFaultsDecide};
+ghost use Rattle.program_endings.specs.OutputLaws.{AreInputsKept, AreOutputFaultsSaid, DoOutputFaultsDecide};
 ghost use Rattle.program_endings.specs.PictureLaws.{ArePicturesComplete, ArePicturesCutShort, ArePicturesRefused, AreStrangersSaid, DoPicturedAbsentLogsDecide, DoPicturedLogFaultsDecide, DoPicturesKeepFiles, DoStrangersDecide};
 ghost use Rattle.program_endings.specs.ProbeLaws.{AreMissesSaid, AreProbesComplete, AreProbesCutShort, AreProbesRefused, DoMissesDecide, DoProbedAbsentLoadsDecide, DoProbedLoadFaultsDecide, DoProbesKeepFiles};
 ghost use Rattle.program_endings.specs.StopLaws.{AreStateFaultsSaid, AreStopFilesWhole, AreStoppedRunsWhole, AreStopsBroken, AreStopsComplete, AreStopsRefused, AreStopsSilent, AreUnquietSaid, DoAbsentStatesDecide, DoStateFaultsDecide, DoUnquietDecide};
@@ -25,6 +25,11 @@ pub fn layout_faults_decide()
 pub fn output_faults_decide()
     ensures said { AreOutputFaultsSaid }
     ensures only { DoOutputFaultsDecide }
+{}
+
+/// Whatever the status of a form that writes files, the layout, if it has no fault, and its loads are as at entry.
+pub fn inputs_are_kept()
+    ensures { AreInputsKept }
 {}
 
 /// Status 3 comes exactly of a load that is the first with a fault where no file to be written has the name of an input,
