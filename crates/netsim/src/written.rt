@@ -20,13 +20,9 @@ use std::alloc::Global;
 #[derive(Clone, Copy, Debug)]
 pub(crate) enum Written<'a> {
     /// Those of a run of this prefix.
-    Run {
-        prefix: &'a str,
-    },
+    Run { prefix: &'a str },
     /// The state of this prefix.
-    State {
-        prefix: &'a str,
-    },
+    State { prefix: &'a str },
 }
 
 /// Whether the load of one of these stations has a name.
@@ -60,7 +56,8 @@ fn taken_capture(
     ensures { IfOk result (λ taken. option_map string_bytes taken ≡
         first_name_of_input layout.now network.now (capture_names prefix.now network.now.stations)) }
 {
-    for station in network.stations.as_slice() {
+    let stations = network.stations.as_slice();
+    for station in stations {
         let name = name_of_capture(alloc, prefix, station.name.as_str())?;
         if is_name_of_input(layout, network, name.as_str()) {
             return Ok(Some(name));

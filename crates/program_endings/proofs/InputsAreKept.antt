@@ -147,7 +147,7 @@ module _ (layout prefix name : List ℕ) (before after : Moment) (files now : Fi
         | inr rest ↦ elim rest [
           | inl un ↦ before_kept un.held
           | inr ran ↦ filed_others name (resumed_files prefix ran.plan ran.state) (IsResumedSummary ran.plan ran.state) before after files now e told left
-            (run_others layout name prefix ran.plan (rows_from ran.plan ran.state) (captures_from ran.plan ran.state) (of_plan layout name files network before.held ran.plan told judged is ran.planned) ran.free) ran.filed
+              (run_others layout name prefix ran.plan (rows_from ran.plan ran.state) (captures_from ran.plan ran.state) (of_plan layout name files network before.held ran.plan told judged is ran.planned) ran.free) ran.filed
         ]
       ]
 

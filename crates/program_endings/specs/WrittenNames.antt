@@ -43,7 +43,7 @@ first_name_of_input layout network (name ∷ names) =
 
 -- the first of the files to be written, in the order of writing, that has the name of the layout or of a load
 unfoldable pub first_taken_name : List ℕ → ToWrite → Layout → Option (List ℕ)
-first_taken_name layout outputs network = first_name_of_input layout network (names_to_write written network)
+first_taken_name layout outputs network = first_name_of_input layout network (names_to_write outputs network)
 
 -- none of the files to be written has the name of the layout or of a load
 abbrev pub AreNamesFree : List ℕ → ToWrite → Layout → Type 0

@@ -4,5 +4,5 @@ use Rattle.netsim.proofs.written.taken_capture.Given as goal
 
 abbrev pub invariant-loop-station : goal.invariant-loop-station
 invariant-loop-station l =
-    first_name_of_input l.layout l.network (capture_names l.prefix l.network.stations)
-    ≡ first_name_of_input l.layout l.network (capture_names l.prefix (drop l.station-index l.network.stations))
+    first_name_of_input l.layout l.network (capture_names l.prefix l.stations)
+    ≡ first_name_of_input l.layout l.network (capture_names l.prefix (drop l.station-index l.stations))
