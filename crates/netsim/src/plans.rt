@@ -52,17 +52,18 @@ pub(crate) fn plan_network<S: Store, K: Sink>(
 pub(crate) fn read_plan<S: Store, K: Sink>(
     alloc: Global,
     layout: &str,
-    written: Written<'_>,
+    written: Written,
+    prefix: &str,
     store: &mut S,
     out: &mut K,
 ) -> Result<Plan, Ending>
     ensures planned { IfOk result (λ plan. IsPlanned layout.now (S.held store.old) plan) }
-    ensures free { IfOk result (λ plan. AreNamesFree layout.now (written_by written) plan.layout) }
+    ensures free { IfOk result (λ plan. AreNamesFree layout.now (written_by written prefix.now) plan.layout) }
     ensures sound { IfOk result (λ plan. IsSound plan.layout) }
     ensures read { OnOk result (HasOnlyRead
         (moment S.held S.read_faults S.write_faults K.written K.faults K.refused store.old out.old)
         (moment S.held S.read_faults S.write_faults K.written K.faults K.refused store.new out.new)) }
-    ensures unplanned { IfErr result (λ e. IsBeforeRun layout.now (written_by written)
+    ensures unplanned { IfErr result (λ e. IsBeforeRun layout.now (written_by written prefix.now)
         (moment S.held S.read_faults S.write_faults K.written K.faults K.refused store.old out.old)
         (moment S.held S.read_faults S.write_faults K.written K.faults K.refused store.new out.new)
         e) }
@@ -71,7 +72,7 @@ pub(crate) fn read_plan<S: Store, K: Sink>(
         Ok(network) => network,
         Err(ended) => return Err(ended),
     };
-    match judge_names(alloc, layout, written, &network, out) {
+    match judge_names(alloc, layout, written, prefix, &network, out) {
         Ok(()) => plan_network(alloc, network, store, out),
         Err(ended) => Err(ended),
     }

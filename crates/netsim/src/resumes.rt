@@ -119,7 +119,7 @@ pub(crate) fn resume<S: Store, K: Sink>(
         (moment S.held S.read_faults S.write_faults K.written K.faults K.refused store.new out.new)
         result }
 {
-    let plan = match read_plan(alloc, layout, Written::Run { prefix }, store, out) {
+    let plan = match read_plan(alloc, layout, Written::Run, prefix, store, out) {
         Ok(plan) => plan,
         Err(ended) => return ended,
     };

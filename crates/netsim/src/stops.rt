@@ -84,7 +84,7 @@ pub(crate) fn stop<S: Store, K: Sink>(
         (moment S.held S.read_faults S.write_faults K.written K.faults K.refused store.new out.new)
         result }
 {
-    let plan = match read_plan(alloc, layout, Written::State { prefix }, store, out) {
+    let plan = match read_plan(alloc, layout, Written::State, prefix, store, out) {
         Ok(plan) => plan,
         Err(ended) => return ended,
     };

@@ -16,13 +16,13 @@ use program_texts::{
 };
 use std::alloc::Global;
 
-/// The files that a form writes.
+/// Which files of a prefix a form writes.
 #[derive(Clone, Copy, Debug)]
-pub(crate) enum Written<'a> {
-    /// Those of a run of this prefix.
-    Run { prefix: &'a str },
-    /// The state of this prefix.
-    State { prefix: &'a str },
+pub(crate) enum Written {
+    /// Those of a run.
+    Run,
+    /// The state.
+    State,
 }
 
 /// Whether the load of one of these stations has a name.
@@ -71,13 +71,14 @@ fn taken_capture(
 fn taken_name(
     alloc: Global,
     layout: &str,
-    written: Written<'_>,
+    written: Written,
+    prefix: &str,
     network: &Layout,
 ) -> Result<Option<String>, OutOfMemory>
-    ensures { IfOk result (λ taken. option_map string_bytes taken ≡ first_taken_name layout.now (written_by written) network.now) }
+    ensures { IfOk result (λ taken. option_map string_bytes taken ≡ first_taken_name layout.now (written_by written prefix.now) network.now) }
 {
     match written {
-        Written::Run { prefix } => {
+        Written::Run => {
             let log = name_of_log(alloc, prefix)?;
             if is_name_of_input(layout, network, log.as_str()) {
                 return Ok(Some(log));
@@ -88,7 +89,7 @@ fn taken_name(
             }
             taken_capture(alloc, layout, network, prefix)
         }
-        Written::State { prefix } => {
+        Written::State => {
             let state = name_of_state(alloc, prefix)?;
             if is_name_of_input(layout, network, state.as_str()) {
                 return Ok(Some(state));
@@ -112,17 +113,18 @@ fn say_taken<K: Sink>(alloc: Global, name: &str, out: &mut K) -> Result<(), OutO
 pub(crate) fn judge_names<K: Sink>(
     alloc: Global,
     layout: &str,
-    written: Written<'_>,
+    written: Written,
+    prefix: &str,
     network: &Layout,
     out: &mut K,
 ) -> Result<(), Ending>
-    ensures free { OnOk result (AreNamesFree layout.now (written_by written) network.now) }
+    ensures free { OnOk result (AreNamesFree layout.now (written_by written prefix.now) network.now) }
     ensures silent { OnOk result (K.written out.new ≡ K.written out.old) }
     ensures faults { OnOk result (K.faults out.new ≡ K.faults out.old) }
     ensures refused { OnOk result (K.refused out.new ≡ K.refused out.old) }
-    ensures taken { IfErr result (λ e. IsTakenEnd layout.now (written_by written) network.now (K.written out.old) (K.written out.new) (K.refused out.old) (K.refused out.new) e) }
+    ensures taken { IfErr result (λ e. IsTakenEnd layout.now (written_by written prefix.now) network.now (K.written out.old) (K.written out.new) (K.refused out.old) (K.refused out.new) e) }
 {
-    let name = match taken_name(alloc, layout, written, network) {
+    let name = match taken_name(alloc, layout, written, prefix, network) {
         Ok(None) => return Ok(()),
         Ok(Some(name)) => name,
         Err(OutOfMemory) => return Err(Ending::Memory),
