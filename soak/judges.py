@@ -14,7 +14,7 @@ import words as forms
 from runs import Wrong, expect
 
 MOST_WORK = 20_000_000
-STATUSES = range(12)
+STATUSES = range(13)
 NAMES_READ = {"check": 1, "slack": 1, "plain": 1, "run": 1, "stop": 1, "resume": 1, "probe": 1, "waves": 1, "meter": 1,
               "picture": 2}
 
@@ -56,7 +56,7 @@ def check_end(outcome):
     if outcome.kilobytes > running.MOST_KILOBYTES:
         raise Wrong("at most 1 GB of memory", f"{outcome.kilobytes >> 10} MB")
     if outcome.status not in STATUSES:
-        raise Wrong("a status of 0 to 11", str(outcome.status))
+        raise Wrong("a status of 0 to 12", str(outcome.status))
 
 
 def told(outcome, status, line, files):
@@ -106,6 +106,8 @@ def judge_layout(runner, case):
         expect("the verdict", layouts.verdict(tree), first)
         views.check_slacks(tree, rest) if words[0] == "slack" else expect("one line", [""], rest)
         expect("no file is begun or changed", case.files, outcome.files)
+    elif (name := runs.taken_name(tree, words)) is not None:
+        told(outcome, 12, f"output fault {name}", case.files)
     else:
         judge_run(case, tree, loads, outcome)
 
@@ -159,6 +161,9 @@ def judge_state(runner, case):
     check_end(outcome)
     if line is not None:
         judge_layout_fault(case, outcome, line)
+        return
+    if (name := runs.taken_name(tree, ["resume", "l.toml", "out"])) is not None:
+        told(outcome, 12, f"output fault {name}", case.files)
         return
     if isinstance(loads, str):
         told(outcome, 4 if loads.startswith("read") else 3, loads, case.files)

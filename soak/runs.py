@@ -40,6 +40,13 @@ def expected_files(tree):
     return [".log", ".counters", *(f".{station['name']}.pcap" for station in tree.get("station", []))]
 
 
+def taken_name(tree, words):
+    """The first file that these words write that has the name of the layout or of a load, if there is one."""
+    inputs = {words[1], *(station["load"] for station in tree.get("station", []) if "load" in station)}
+    ends = [".state"] if words[0] == "stop" else expected_files(tree) if words[0] in ("plain", "run", "resume") else []
+    return next((words[2] + end for end in ends if words[2] + end in inputs), None)
+
+
 def check_order(tree, rows, end):
     """Rows never go back in time, and of one half bit they are in the order of the layout's devices."""
     place = {(False, s["name"]): n for n, s in enumerate(tree.get("station", []))}

@@ -17,6 +17,10 @@ def is_name(word, most=NAMES):
     return 1 <= len(word.encode()) <= most
 
 
+def is_prefix(word):
+    return is_name(word) and not word.endswith("/")
+
+
 def is_range(first, last):
     return number(first, 0, MOST) and number(last, 0, MOST) and 0 < int(last) - int(first) <= TOP
 
@@ -36,9 +40,11 @@ def is_form(words):
     if form == "demo":
         return number(rest[0], 1, 128) and number(rest[1], 1, 64)
     if form == "run":
-        return is_name(rest[0]) and is_name(rest[1]) and number(rest[2], 1, 64)
+        return is_name(rest[0]) and is_prefix(rest[1]) and number(rest[2], 1, 64)
     if form == "stop":
-        return is_name(rest[0]) and is_name(rest[1]) and number(rest[2], 0, MOST)
+        return is_name(rest[0]) and is_prefix(rest[1]) and number(rest[2], 0, MOST)
+    if form in ("plain", "resume"):
+        return is_name(rest[0]) and is_prefix(rest[1])
     if form == "picture":
         return is_name(rest[0]) and is_name(rest[1]) and is_range(*rest[2:])
     return all(is_name(word) for word in rest)
@@ -67,7 +73,7 @@ def answer(words, files):
 
 
 WORDS = ["check", "slack", "plain", "run", "stop", "resume", "demo", "probe", "waves", "meter", "picture", "--help",
-         "--version", "-h", "Check", "", "l.toml", "no.toml", "out", "none/out", "0", "1", "2", "01", "+1", "-1", "1 ",
+         "--version", "-h", "Check", "", "l.toml", "no.toml", "out", "none/out", "none/", "/", "0", "1", "2", "01", "+1", "-1", "1 ",
          "1e3", "64", "65", "128", "129", "2000000000", "2000000001", "1000000", "1000001", "99999999999999999999",
          "a", "b", "a:1", "r1:1", "r1:2", "r1:3", "r1:01", "r1", "r1:0", "x" * 40, "x" * 41, "y" * 200, "z" * 201,
          "\u00e9" * 20, "\u00e9" * 21, "\u0661", "\n", "..", "l.toml\n"]

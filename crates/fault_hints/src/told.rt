@@ -1,7 +1,7 @@
 //! What is told of a run, by its status.
 
 use crate::failures::tell_failure;
-use crate::logs::{tell_log, tell_no_quiet, tell_state, tell_stranger};
+use crate::logs::{tell_log, tell_no_quiet, tell_output, tell_state, tell_stranger};
 use crate::words::tell_words;
 use input_hints::{Ended, after, show, tell_layout, tell_load, tell_range, tell_tap, word_at};
 use lists::OutOfMemory;
@@ -71,6 +71,7 @@ pub fn hints<S: Store>(
         9 => tell_no_quiet(&mut out, ended)?,
         10 => tell_state(alloc, &mut out, ended, store)?,
         11 => tell_stranger(alloc, &mut out, ended, store)?,
+        12 => tell_output(&mut out, ended)?,
         _ => out.push_str("netsim: there was not enough memory\n")?,
     }
     Ok(out)

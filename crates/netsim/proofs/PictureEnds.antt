@@ -34,6 +34,7 @@ unmetered_before log before mid after ending.Log read said = (said.0, rw read.he
 unmetered_before log before mid after ending.Stranger read said = said
 unmetered_before log before mid after ending.Unquiet read said = said
 unmetered_before log before mid after ending.State read said = said
+unmetered_before log before mid after ending.Output read said = said
 
 -- the log could not be read
 pub picture-unlogged : (layout log : List ℕ) (from to : ℕ) (network : Layout) (before mid after : Moment) (e : Ending) → HasOnlyRead before mid → IsJudged layout before.held (Ok network) → after.held ≡ mid.held → IsUnmetered log mid after e

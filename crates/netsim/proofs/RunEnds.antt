@@ -1,5 +1,5 @@
 -- The end of a run, from what was read and what was written.
-use Rattle.std.proofs.Common.{◌≡◌, ℕ, ◌≤◌, Option, Result, Ok, Err, IfOk, IfErr, OnOk, List, ◌∙◌, inl, inr, arith}
+use Rattle.std.proofs.Common.{◌≡◌, ℕ, ◌≤◌, Option, Result, Ok, Err, IfOk, IfErr, OnOk, List, sym, subst, ◌∙◌, inl, inr, arith}
 use Rattle.layout.specs.declared.lines.Layout.{Layout}
 use Rattle.load_plan.specs.declared.plan.Plan.{Plan}
 use Rattle.outside.specs.Files.{Files, Rose}
@@ -7,9 +7,10 @@ use Rattle.outside.specs.declared.memory.File.{File}
 use Rattle.program_endings.specs.declared.endings.Ending.{Ending}
 use Rattle.program_endings.specs.declared.endings.Ending.TheVariants as ending
 use Rattle.program_endings.specs.Moments.{Moment}
-use Rattle.program_endings.specs.Endings.{IsBeforeRun, IsJudged, IsFiledEnd, IsFileEnd, IsPlainEnd, IsPlanned, HasOnlyRead, IsRunEnd, IsText, IsUnloadedSaid, IsUnfiled}
+use Rattle.program_endings.specs.Endings.{IsBeforeRun, IsJudged, IsFiledEnd, IsFileEnd, IsPlainEnd, IsPlanned, HasOnlyRead, IsRunEnd, IsTakenEnd, IsText, IsUnloadedSaid, IsUnfiled}
 use Rattle.program_endings.specs.Writing.{put_all, IsBrokenAmong, IsSaid}
 use Rattle.program_endings.specs.Runs.{IsPlanOf, IsSummary, run_files}
+use Rattle.program_endings.specs.WrittenNames.{AreNamesFree, RunOf, ToWrite}
 
 -- the files are whole, and the text was written
 pub run-filed : (files : List File) (IsRight : List ℕ → Type 0) (before after : Moment) (e : Ending) (right text : List ℕ) → after.held ≡ put_all files before.held → IsRight right → text ≡ right
@@ -29,6 +30,7 @@ unfiled_by files before after ending.Log broken end silent = absurd end
 unfiled_by files before after ending.Stranger broken end silent = absurd end
 unfiled_by files before after ending.Unquiet broken end silent = absurd end
 unfiled_by files before after ending.State broken end silent = absurd end
+unfiled_by files before after ending.Output broken end silent = absurd end
 
 -- a file could not be written
 pub run-unfiled : (files : List File) (IsRight : List ℕ → Type 0) (before after : Moment) (e : Ending) → IsBrokenAmong files before.held after.held → IsFileEnd before.writes after.writes e → after.written ≡ before.written
@@ -52,6 +54,7 @@ unfiled_before files before mid after ending.Log read un = un
 unfiled_before files before mid after ending.Stranger read un = un
 unfiled_before files before mid after ending.Unquiet read un = un
 unfiled_before files before mid after ending.State read un = un
+unfiled_before files before mid after ending.Output read un = un
 
 pub filed_before : (files : List File) (IsRight : List ℕ → Type 0) (before mid after : Moment) (e : Ending) → HasOnlyRead before mid → IsFiledEnd files IsRight mid after e → IsFiledEnd files IsRight before after e
 filed_before files IsRight before mid after e read filed =
@@ -61,11 +64,12 @@ filed_before files IsRight before mid after e read filed =
     ]
 
 -- the run of the plan of a layout that was read with its loads
-pub plain-ran : (layout prefix : List ℕ) (plan : Plan) (before mid after : Moment) (e : Ending) → HasOnlyRead before mid → IsPlanned layout before.held plan → IsRunEnd (run_files prefix plan) (IsSummary plan) mid after e → IsPlainEnd layout prefix before after e
-plain-ran layout prefix plan before mid after e read planned end =
+pub plain-ran : (layout prefix : List ℕ) (plan : Plan) (before mid after : Moment) (e : Ending) → HasOnlyRead before mid → IsPlanned layout before.held plan → AreNamesFree layout (RunOf prefix) plan.layout
+    → IsRunEnd (run_files prefix plan) (IsSummary plan) mid after e → IsPlainEnd layout prefix before after e
+plain-ran layout prefix plan before mid after e read planned free end =
     elim end [
-      | inl unrun ↦ inl (inr (inr (unrun.0, rw read.held at unrun.1, rw read.written at unrun.2)))
-      | inr filed ↦ inr (record { plan = plan; planned = planned; filed = filed_before (run_files prefix plan) (IsSummary plan) before mid after e read filed })
+      | inl unrun ↦ inl (inr (inr (inr (unrun.0, rw read.held at unrun.1, rw read.written at unrun.2))))
+      | inr filed ↦ inr (record { plan = plan; planned = planned; free = free; filed = filed_before (run_files prefix plan) (IsSummary plan) before mid after e read filed })
     ]
 
 pub said_before : (line : List ℕ) (before mid after : Moment) → HasOnlyRead before mid → IsSaid line mid.written after.written mid.refused after.refused → IsSaid line before.written after.written before.refused after.refused
@@ -92,12 +96,23 @@ unloaded_before network before mid after ending.Log read said = said
 unloaded_before network before mid after ending.Stranger read said = said
 unloaded_before network before mid after ending.Unquiet read said = said
 unloaded_before network before mid after ending.State read said = said
+unloaded_before network before mid after ending.Output read said = said
 
 -- the loads of a layout could not be read
-pub plan-unloaded : (layout : List ℕ) (network : Layout) (before mid after : Moment) (e : Ending) → HasOnlyRead before mid → IsJudged layout before.held (Ok network) → after.held ≡ mid.held → IsUnloadedSaid network mid after e
-    → IsBeforeRun layout before after e
-plan-unloaded layout network before mid after e read judged held said =
-    inr (inl (record { network = network; judged = judged; said = unloaded_before network before mid after e read said }, rw read.held at held))
+pub plan-unloaded : (layout : List ℕ) (outputs : ToWrite) (network : Layout) (before mid after : Moment) (e : Ending) → HasOnlyRead before mid → IsJudged layout before.held (Ok network) → AreNamesFree layout outputs network → after.held ≡ mid.held
+    → IsUnloadedSaid network mid after e → IsBeforeRun layout outputs before after e
+plan-unloaded layout outputs network before mid after e read judged free held said =
+    inr (inr (inl (record { network = network; judged = judged; free = free; said = unloaded_before network before mid after e read said }, rw read.held at held)))
+
+taken_before : (layout : List ℕ) (outputs : ToWrite) (network : Layout) (before mid after : Moment) (e : Ending) → HasOnlyRead before mid → IsTakenEnd layout outputs network mid.written after.written mid.refused after.refused e
+    → IsTakenEnd layout outputs network before.written after.written before.refused after.refused e
+taken_before layout outputs network before mid after e read h = rw (read.written, read.refused) at h
+
+-- a file to be written has the name of an input
+pub plan-taken : (layout : List ℕ) (outputs : ToWrite) (network : Layout) (before mid after : Moment) (e : Ending) → HasOnlyRead before mid → IsJudged layout before.held (Ok network) → after.held ≡ mid.held
+    → IsTakenEnd layout outputs network mid.written after.written mid.refused after.refused e → IsBeforeRun layout outputs before after e
+plan-taken layout outputs network before mid after e read judged held said =
+    inr (inl (record { network = network; judged = judged; said = taken_before layout outputs network before mid after e read said }, rw read.held at held))
 
 -- the plan of what is held is that of what was held
 pub plan-before : (held mid : Option Files) (network : Layout) (plan : Plan) → mid ≡ held → IsPlanOf mid network plan → IsPlanOf held network plan
@@ -126,7 +141,12 @@ read-through before mid after (Ok plan) one two = read-twice before mid after on
 read-through before mid after (Err e) one two = tt
 
 -- there is none
-pub unplanned-of : (layout : List ℕ) (network : Layout) (before mid after : Moment) (r : Result Plan Ending) → HasOnlyRead before mid → IsJudged layout before.held (Ok network) → after.held ≡ mid.held
-    → IfErr r (λ e. IsUnloadedSaid network mid after e) → IfErr r (λ e. IsBeforeRun layout before after e)
-unplanned-of layout network before mid after (Ok plan) read judged held said = tt
-unplanned-of layout network before mid after (Err e) read judged held said = plan-unloaded layout network before mid after e read judged held said
+pub unplanned-of : (layout : List ℕ) (outputs : ToWrite) (network : Layout) (before mid after : Moment) (r : Result Plan Ending) → HasOnlyRead before mid → IsJudged layout before.held (Ok network) → AreNamesFree layout outputs network → after.held ≡ mid.held
+    → IfErr r (λ e. IsUnloadedSaid network mid after e) → IfErr r (λ e. IsBeforeRun layout outputs before after e)
+unplanned-of layout outputs network before mid after (Ok plan) read judged free held said = tt
+unplanned-of layout outputs network before mid after (Err e) read judged free held said = plan-unloaded layout outputs network before mid after e read judged free held said
+
+-- the names that are free for a network are so for its plan
+pub free-of : (layout : List ℕ) (outputs : ToWrite) (held : Option Files) (network : Layout) (r : Result Plan Ending) → AreNamesFree layout outputs network → IfOk r (λ plan. IsPlanOf held network plan) → IfOk r (λ plan. AreNamesFree layout outputs plan.layout)
+free-of layout outputs held network (Ok plan) free is = subst (λ n. AreNamesFree layout outputs n) (sym is.layout) free
+free-of layout outputs held network (Err e) free is = tt

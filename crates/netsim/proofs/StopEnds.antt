@@ -20,26 +20,27 @@ use Rattle.program_endings.specs.Endings.{HasOnlyRead, IsBeforeRun, IsFileEnd, I
 use Rattle.program_endings.specs.Moments.{Moment}
 use Rattle.program_endings.specs.Runs.{IsResumedSummary, IsStopLine, IsSummaryOver, output_files, resumed_files, state_files}
 use Rattle.program_endings.specs.Writing.{IsBroken, put_file}
+use Rattle.program_endings.specs.WrittenNames.{AreNamesFree, RunOf, StateOf, ToWrite}
 use Rattle.netsim.proofs.RunEnds.{filed_before, rose-before, run-filed, run-unfiled, said_before}
 
 -- there was no memory after all was read
-pub unrun-before : (layout : List ℕ) (before mid : Moment) → HasOnlyRead before mid → IsBeforeRun layout before mid ending.Memory
-unrun-before layout before mid read = inr (inr (refl, read.held, read.written))
+pub unrun-before : (layout : List ℕ) (outputs : ToWrite) (before mid : Moment) → HasOnlyRead before mid → IsBeforeRun layout outputs before mid ending.Memory
+unrun-before layout outputs before mid read = inr (inr (inr (refl, read.held, read.written)))
 
 -- the run stopped in this half bit
-pub stop-ran : (layout prefix : List ℕ) (from : ℕ) (plan : Plan) (t : ℕ) (before mid after : Moment) (e : Ending) → HasOnlyRead before mid → IsPlanned layout before.held plan → IsFirstQuiet plan from t
+pub stop-ran : (layout prefix : List ℕ) (from : ℕ) (plan : Plan) (t : ℕ) (before mid after : Moment) (e : Ending) → HasOnlyRead before mid → IsPlanned layout before.held plan → AreNamesFree layout (StateOf prefix) plan.layout → IsFirstQuiet plan from t
     → IsRunEnd (state_files prefix plan t) (IsStopLine t) mid after e → IsStopEnd layout prefix from before after e
-stop-ran layout prefix from plan t before mid after e read planned first end =
+stop-ran layout prefix from plan t before mid after e read planned free first end =
     elim end [
-      | inl unrun ↦ inl (inr (inr (unrun.0, rw read.held at unrun.1, rw read.written at unrun.2)))
-      | inr filed ↦ inr (inr (record { plan = plan; planned = planned; t = t; first = first; filed = filed_before (state_files prefix plan t) (IsStopLine t) before mid after e read filed }))
+      | inl unrun ↦ inl (inr (inr (inr (unrun.0, rw read.held at unrun.1, rw read.written at unrun.2))))
+      | inr filed ↦ inr (inr (record { plan = plan; planned = planned; free = free; t = t; first = first; filed = filed_before (state_files prefix plan t) (IsStopLine t) before mid after e read filed }))
     ]
 
 -- it has no quiet half bit
-pub stop-unquiet : (layout prefix : List ℕ) (from : ℕ) (plan : Plan) (before mid after : Moment) → HasOnlyRead before mid → IsPlanned layout before.held plan → HasNoQuiet plan from → after.held ≡ mid.held → (line : List ℕ) → line ≡ line_of_no_quiet → Says line mid after
+pub stop-unquiet : (layout prefix : List ℕ) (from : ℕ) (plan : Plan) (before mid after : Moment) → HasOnlyRead before mid → IsPlanned layout before.held plan → AreNamesFree layout (StateOf prefix) plan.layout → HasNoQuiet plan from → after.held ≡ mid.held → (line : List ℕ) → line ≡ line_of_no_quiet → Says line mid after
     → IsStopEnd layout prefix from before after ending.Unquiet
-stop-unquiet layout prefix from plan before mid after read planned never held line is said =
-    inr (inl (record { plan = plan; planned = planned; never = never; said = said_before line_of_no_quiet before mid after read (subst (λ (xs : List ℕ). Says xs mid after) is said); held = held ∙ read.held }))
+stop-unquiet layout prefix from plan before mid after read planned free never held line is said =
+    inr (inl (record { plan = plan; planned = planned; free = free; never = never; said = said_before line_of_no_quiet before mid after read (subst (λ (xs : List ℕ). Says xs mid after) is said); held = held ∙ read.held }))
 
 -- the state of what is held is that of what was held
 pub state-before : (plan : Plan) (name : List ℕ) (held mid : Option Files) (state : NetState) → mid ≡ held → HasState plan name mid state → HasState plan name held state
@@ -59,22 +60,26 @@ unstated_before plan name before mid after ending.Log read said = said
 unstated_before plan name before mid after ending.Stranger read said = said
 unstated_before plan name before mid after ending.Unquiet read said = said
 unstated_before plan name before mid after ending.State read said = (said.0, rw read.held at said.1, said_before _ before mid after read said.2)
+unstated_before plan name before mid after ending.Output read said = said
 
 -- the state could not be read
-pub resume-unstated : (layout prefix name : List ℕ) (plan : Plan) (before mid after : Moment) (e : Ending) → HasOnlyRead before mid → IsPlanned layout before.held plan → name ≡ name_of_state prefix → after.held ≡ mid.held
+pub resume-unstated : (layout prefix name : List ℕ) (plan : Plan) (before mid after : Moment) (e : Ending) → HasOnlyRead before mid → IsPlanned layout before.held plan → AreNamesFree layout (RunOf prefix) plan.layout → name ≡ name_of_state prefix
+    → after.held ≡ mid.held
     → IsUnstated plan name mid after e → IsResumeEnd layout prefix before after e
-resume-unstated layout prefix name plan before mid after e read planned is held said =
-    inr (inl (record { plan = plan; planned = planned; said = rw is at (unstated_before plan name before mid after e read said); held = held ∙ read.held }))
+resume-unstated layout prefix name plan before mid after e read planned free is held said =
+    inr (inl (record { plan = plan; planned = planned; free = free; said = rw is at (unstated_before plan name before mid after e read said); held = held ∙ read.held }))
 
 -- the run went on from the state
-pub resume-ran : (layout prefix name : List ℕ) (plan : Plan) (state : NetState) (before aimed mid after : Moment) (e : Ending) → HasOnlyRead before aimed → HasOnlyRead before mid → IsPlanned layout before.held plan → name ≡ name_of_state prefix
+pub resume-ran : (layout prefix name : List ℕ) (plan : Plan) (state : NetState) (before aimed mid after : Moment) (e : Ending) → HasOnlyRead before aimed → HasOnlyRead before mid → IsPlanned layout before.held plan
+    → AreNamesFree layout (RunOf prefix) plan.layout → name ≡ name_of_state prefix
     → HasState plan name aimed.held state → IsRunEnd (resumed_files prefix plan state) (IsResumedSummary plan state) mid after e → IsResumeEnd layout prefix before after e
-resume-ran layout prefix name plan state before aimed mid after e first read planned is has end =
+resume-ran layout prefix name plan state before aimed mid after e first read planned free is has end =
     elim end [
-      | inl unrun ↦ inl (inr (inr (unrun.0, rw read.held at unrun.1, rw read.written at unrun.2)))
+      | inl unrun ↦ inl (inr (inr (inr (unrun.0, rw read.held at unrun.1, rw read.written at unrun.2))))
       | inr filed ↦ inr (inr (record {
         plan = plan;
         planned = planned;
+        free = free;
         state = state;
         read = rw is at (state-before plan name before.held aimed.held state first.held has);
         filed = filed_before (resumed_files prefix plan state) (IsResumedSummary plan state) before mid after e read filed;

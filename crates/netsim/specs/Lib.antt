@@ -1,2 +1,3 @@
 pub mod Tellings
 pub mod TapStops
+pub mod WrittenBy

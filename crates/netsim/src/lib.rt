@@ -17,6 +17,7 @@ mod sink_texts;
 mod stops;
 mod tell;
 mod top_call;
+mod written;
 
 pub use program_endings::{Ending, laws};
 pub use program_texts::HELP;

@@ -5,9 +5,12 @@ ghost use Rattle.program_endings.specs.Endings.{IsBeforeRun, IsPlanned, IsUnload
 ghost use Rattle.program_endings.specs.FileLimits.{most_load_records};
 ghost use Rattle.program_endings.specs.Moments.{moment};
 ghost use Rattle.program_endings.specs.Runs.{IsPlanOf};
+ghost use Rattle.program_endings.specs.WrittenNames.{AreNamesFree};
+ghost use Rattle.netsim.specs.WrittenBy.{written_by};
 
 use crate::judge::read_network;
 use crate::loads::read_network_loads;
+use crate::written::{Written, judge_names};
 use layout::Layout;
 use lists::{List, OutOfMemory};
 use load_plan::{Plan, RecordsList, make_plan};
@@ -44,19 +47,23 @@ pub(crate) fn plan_network<S: Store, K: Sink>(
     }
 }
 
-/// Reads a layout file and its loads and makes their plan, or says why there is none.
+/// Reads a layout file, tests that no file to be written has its name or that of a load, reads its loads and makes their
+/// plan, or says why there is none.
 pub(crate) fn read_plan<S: Store, K: Sink>(
     alloc: Global,
     layout: &str,
+    written: Written,
+    prefix: &str,
     store: &mut S,
     out: &mut K,
 ) -> Result<Plan, Ending>
     ensures planned { IfOk result (λ plan. IsPlanned layout.now (S.held store.old) plan) }
+    ensures free { IfOk result (λ plan. AreNamesFree layout.now (written_by written prefix.now) plan.layout) }
     ensures sound { IfOk result (λ plan. IsSound plan.layout) }
     ensures read { OnOk result (HasOnlyRead
         (moment S.held S.read_faults S.write_faults K.written K.faults K.refused store.old out.old)
         (moment S.held S.read_faults S.write_faults K.written K.faults K.refused store.new out.new)) }
-    ensures unplanned { IfErr result (λ e. IsBeforeRun layout.now
+    ensures unplanned { IfErr result (λ e. IsBeforeRun layout.now (written_by written prefix.now)
         (moment S.held S.read_faults S.write_faults K.written K.faults K.refused store.old out.old)
         (moment S.held S.read_faults S.write_faults K.written K.faults K.refused store.new out.new)
         e) }
@@ -65,7 +72,10 @@ pub(crate) fn read_plan<S: Store, K: Sink>(
         Ok(network) => network,
         Err(ended) => return Err(ended),
     };
-    plan_network(alloc, network, store, out)
+    match judge_names(alloc, layout, written, prefix, &network, out) {
+        Ok(()) => plan_network(alloc, network, store, out),
+        Err(ended) => Err(ended),
+    }
 }
 
 /// So many loads without a record.

@@ -16,6 +16,7 @@ use crate::judge::say_read_fault;
 use crate::plans::read_plan;
 use crate::runs::file_run;
 use crate::sink_texts::say;
+use crate::written::Written;
 use lists::OutOfMemory;
 use load_plan::Plan;
 use net_step::resume_run;
@@ -118,7 +119,7 @@ pub(crate) fn resume<S: Store, K: Sink>(
         (moment S.held S.read_faults S.write_faults K.written K.faults K.refused store.new out.new)
         result }
 {
-    let plan = match read_plan(alloc, layout, store, out) {
+    let plan = match read_plan(alloc, layout, Written::Run, prefix, store, out) {
         Ok(plan) => plan,
         Err(ended) => return ended,
     };

@@ -12,6 +12,7 @@ ghost use Rattle.run_texts.specs.Counts.{AreLeft, counts_of};
 use crate::outputs::file_outputs;
 use crate::plans::read_plan;
 use crate::sink_texts::write_line;
+use crate::written::Written;
 use lists::{List, OutOfMemory};
 use load_plan::Plan;
 use network::Outputs;
@@ -109,7 +110,7 @@ pub(crate) fn plain<G: Gate, S: Store, K: Sink>(
         (moment S.held S.read_faults S.write_faults K.written K.faults K.refused store.new out.new)
         result }
 {
-    let plan = match read_plan(alloc, layout, store, out) {
+    let plan = match read_plan(alloc, layout, Written::Run, prefix, store, out) {
         Ok(plan) => plan,
         Err(ended) => return ended,
     };
@@ -135,7 +136,7 @@ pub(crate) fn run<X: Threads + Wait + Sync, G: Gate, S: Store, K: Sink>(
         (moment S.held S.read_faults S.write_faults K.written K.faults K.refused store.new out.new)
         result }
 {
-    let plan = match read_plan(alloc, layout, store, out) {
+    let plan = match read_plan(alloc, layout, Written::Run, prefix, store, out) {
         Ok(plan) => plan,
         Err(ended) => return ended,
     };

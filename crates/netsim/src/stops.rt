@@ -12,6 +12,7 @@ ghost use Rattle.program_endings.specs.Writing.{IsBroken, put_file};
 use crate::outputs::file;
 use crate::plans::read_plan;
 use crate::sink_texts::{say, write_line};
+use crate::written::Written;
 use lists::OutOfMemory;
 use load_plan::Plan;
 use net_step::stop_run;
@@ -83,7 +84,7 @@ pub(crate) fn stop<S: Store, K: Sink>(
         (moment S.held S.read_faults S.write_faults K.written K.faults K.refused store.new out.new)
         result }
 {
-    let plan = match read_plan(alloc, layout, store, out) {
+    let plan = match read_plan(alloc, layout, Written::State, prefix, store, out) {
         Ok(plan) => plan,
         Err(ended) => return ended,
     };

@@ -91,12 +91,13 @@ pub fn run_words<X: Threads + Wait + Sync, S: Store, K: Sink, G: Gate>(
 /// of one symbol and bursts, and `waves LAYOUT FROM TO TAP ..` the same as a value change dump. `meter LOG` writes the
 /// figures of a log to the sink, and `picture LAYOUT LOG FROM TO` what the log tells of the half bits from FROM on and
 /// before TO as a picture. `--help` and `--version` write a fixed text to the sink. LAYOUT, PREFIX and LOG have 1 to
-/// 200 octets, and a TAP 1 to 40; FROM is below TO, which is at most 2,000,000,000 and at most 1,000,000 more, and the
-/// FROM of `stop` is at most 2,000,000,000. The statuses are 0 for done, 1 for words of no form, 2 for a layout with a
-/// fault, 3 for a load with a fault, 4 for a file that can't be read, 5 for a failed write, 6 for want of memory, which
-/// alone is free, 7 for a tap that the layout hasn't or a TO past the run, 8 for a log with a fault, 9 for a run
-/// without a quiet half bit from FROM on, 10 for a state with a fault, and 11 for a log that names what the layout
-/// lacks. The forms `run` and `demo` may wait.
+/// 200 octets, and a TAP 1 to 40; PREFIX doesn't end in a slash; FROM is below TO, which is at most 2,000,000,000 and at
+/// most 1,000,000 more, and the FROM of `stop` is at most 2,000,000,000. The statuses are 0 for done, 1 for words of no
+/// form, 2 for a layout with a fault, 3 for a load with a fault, 4 for a file that can't be read, 5 for a failed write,
+/// 6 for want of memory, which alone is free, 7 for a tap that the layout hasn't or a TO past the run, 8 for a log with
+/// a fault, 9 for a run without a quiet half bit from FROM on, 10 for a state with a fault, 11 for a log that names what
+/// the layout lacks, and 12 for a file to be written that has the name of LAYOUT or of a load. The forms `run` and
+/// `demo` may wait.
 pub fn netsim<X: Threads + Wait + Sync, S: Store, K: Sink, G: Gate>(
     rt: &X,
     alloc: Global,
@@ -129,7 +130,7 @@ pub fn netsim<X: Threads + Wait + Sync, S: Store, K: Sink, G: Gate>(
         (moment S.held S.read_faults S.write_faults K.written K.faults K.refused store.old out.old)
         (moment S.held S.read_faults S.write_faults K.written K.faults K.refused store.new out.new)) }
 
-    // With the statuses 1 to 4 and 7 to 11 every file is as at entry.
+    // With the statuses 1 to 4 and 7 to 12 every file is as at entry.
     ensures refused { IsRefusal result → S.held store.new ≡ S.held store.old }
 
     // Status 5 only where a write to the store or to the sink failed.
@@ -148,8 +149,8 @@ pub fn netsim<X: Threads + Wait + Sync, S: Store, K: Sink, G: Gate>(
         (moment S.held S.read_faults S.write_faults K.written K.faults K.refused store.old out.old)
         (moment S.held S.read_faults S.write_faults K.written K.faults K.refused store.new out.new)) }
 
-    // Complete: for `plain` and `run` a layout and loads that are held without fault, and no count that rose, give
-    // status 0 or 6.
+    // Complete: for `plain` and `run` a layout and loads that are held without fault, none of whose names is that of a
+    // file to be written, and no count that rose, give status 0 or 6.
     ensures complete { IsUnhindered words.now
         (moment S.held S.read_faults S.write_faults K.written K.faults K.refused store.old out.old)
         (moment S.held S.read_faults S.write_faults K.written K.faults K.refused store.new out.new)

@@ -1,5 +1,5 @@
 -- Where what is read has no fault and nothing outside fails, the answer is one to rely on: form by form.
-use Rattle.std.proofs.Common.{◌≡◌, ◌⊎◌, ℕ, Option, None, Some, List, refl, ap, inl, inr}
+use Rattle.std.proofs.Common.{◌≡◌, ◌⊎◌, ℕ, Option, None, Some, Ok, List, refl, ap, inl, inr}
 use Rattle.std.specs.Prelude.{IfSome}
 use Rattle.layout.specs.declared.lines.Layout.{Layout}
 use Rattle.load_plan.specs.declared.plan.Plan.{Plan}
@@ -14,14 +14,15 @@ use Rattle.run_picture.specs.Pictures.{picture_of}
 use Rattle.run_picture.specs.Strangers.{first_stranger}
 use Rattle.program_endings.specs.declared.endings.Ending.{Ending}
 use Rattle.program_endings.specs.declared.endings.Ending.TheVariants as ending
-use Rattle.program_endings.specs.Endings.{IsAimEnd, IsEarly, IsEndOf, IsLoadEnd, IsPictureEnd, IsPlainEnd, IsProbeEnd, IsStopEnd, IsStrangeEnd, IsTellingEnd, status_of}
+use Rattle.program_endings.specs.Endings.{IsAimEnd, IsEarly, IsEndOf, IsJudged, IsPictureEnd, IsPlainEnd, IsProbeEnd, IsStopEnd, IsStrangeEnd, IsTaken, IsTellingEnd, IsUnloadedSaid, status_of}
 use Rattle.program_endings.specs.Moments.{Moment}
 use Rattle.program_endings.specs.Probes.{HasNoAim}
 use Rattle.program_endings.specs.Runs.{IsStopLine, IsSummary, run_files, state_files}
 use Rattle.program_endings.specs.SoundInputs.{AreAnswersReliable, AreInputsSound, IsNotThere}
 use Rattle.program_endings.specs.Statuses.{IsDoneOrMemory, IsNetworkWith}
+use Rattle.program_endings.specs.WrittenNames.{AreNamesFree, RunOf, StateOf, ToWrite}
 use Rattle.program_endings.proofs.EndingsByStatus.{by_demo, by_meter, by_picture, by_probe, by_stop, by_way}
-use Rattle.program_endings.proofs.LoadsDecideStatus.{early_known, early_told, filed_whole, known_telling, telling_known, text_whole, unloaded_known}
+use Rattle.program_endings.proofs.LoadsDecideStatus.{AnyNetwork, early_known, early_told, filed_whole, known_telling, taken_known, telling_known, text_whole, unloaded_known}
 use Rattle.program_endings.proofs.LayoutDecidesStatus.{some_of}
 use Rattle.program_endings.proofs.MetersAreTold.{LogSays, unmetered_whole}
 use Rattle.program_endings.proofs.StopsAreLeft.{WholeDone, done_planned, resume_whole, whole_done}
@@ -32,9 +33,9 @@ if_some : (held : Option Files) (P Q : Files → Type 0) → ((files : Files) �
 if_some None P Q more h = tt
 if_some (Some files) P Q more h = more files h
 
--- whatever plan there is
-abbrev AnyPlan : Files → Plan → Type 0
-AnyPlan files plan = Unit {0}
+-- Q holds of the layout of the plan
+abbrev PlanWith : (Layout → Type 0) → Files → Plan → Type 0
+PlanWith Q files plan = Q plan.layout
 
 -- an ending after which it was said that what a probe aims at isn't there, with its status
 missed_with : (network : Layout) (to : ℕ) (taps : List (List ℕ)) (written now : Option (List ℕ)) (refused risen : ℕ) (e : Ending) → IsAimEnd network to taps written now refused risen e
@@ -51,6 +52,7 @@ missed_with network to taps written now refused risen ending.Log h = absurd h
 missed_with network to taps written now refused risen ending.Stranger h = absurd h
 missed_with network to taps written now refused risen ending.Unquiet h = absurd h
 missed_with network to taps written now refused risen ending.State h = absurd h
+missed_with network to taps written now refused risen ending.Output h = absurd h
 
 -- an ending after which it was said which line of a log names what a network lacks, with its status
 strange_with : (network : Layout) (lines : List LogLine) (written now : Option (List ℕ)) (refused risen : ℕ) (e : Ending) → IsStrangeEnd network lines written now refused risen e
@@ -67,50 +69,59 @@ strange_with network lines written now refused risen ending.Log h = absurd h
 strange_with network lines written now refused risen ending.Stranger h = inr (refl, (h.0, h.1))
 strange_with network lines written now refused risen ending.Unquiet h = absurd h
 strange_with network lines written now refused risen ending.State h = absurd h
+strange_with network lines written now refused risen ending.Output h = absurd h
 
 module _ (entry exit : Moment) (r : ¬ Rose entry.reads exit.reads) (w : ¬ Rose entry.writes exit.writes) (f : ¬ Rose entry.faults exit.faults) where
-  early_done : (layout : List ℕ) (e : Ending) → IsEarly layout entry exit e → IfPlanned layout entry.held AnyPlan (IsDoneOrMemory (status_of e))
-  early_done layout e early =
-      done_planned layout entry.held AnyPlan (status_of e) entry.reads exit.reads r (early_known (WholeDone entry.reads exit.reads) layout entry exit (whole_done entry.reads exit.reads) e early)
+  early_done : (Q : Layout → Type 0) (layout : List ℕ) (e : Ending) → IsEarly layout entry exit e → IfPlanned layout entry.held (PlanWith Q) (IsDoneOrMemory (status_of e))
+  early_done Q layout e early =
+      done_planned Q layout entry.held (PlanWith Q) (status_of e) entry.reads exit.reads (λ files plan so. so) r (early_known Q (WholeDone entry.reads exit.reads) layout entry exit (whole_done entry.reads exit.reads) e early)
 
-  unloaded_done : (layout : List ℕ) (e : Ending) → IsLoadEnd layout entry exit e → IfPlanned layout entry.held AnyPlan (IsDoneOrMemory (status_of e))
-  unloaded_done layout e unloaded =
-      done_planned layout entry.held AnyPlan (status_of e) entry.reads exit.reads r
-      (unloaded_known (WholeDone entry.reads exit.reads) layout entry exit (whole_done entry.reads exit.reads) unloaded.network e unloaded.judged unloaded.said)
+  unloaded_done : (Q : Layout → Type 0) (layout : List ℕ) (network : Layout) (e : Ending) → IsJudged layout entry.held (Ok network) → Q network → IsUnloadedSaid network entry exit e → IfPlanned layout entry.held (PlanWith Q) (IsDoneOrMemory (status_of e))
+  unloaded_done Q layout network e judged so said =
+      done_planned Q layout entry.held (PlanWith Q) (status_of e) entry.reads exit.reads (λ files plan so. so) r
+      (unloaded_known Q (WholeDone entry.reads exit.reads) layout entry exit (whole_done entry.reads exit.reads) network e judged so said)
 
-  always_done : (layout : List ℕ) (n : ℕ) → IsDoneOrMemory n → IfPlanned layout entry.held AnyPlan (IsDoneOrMemory n)
-  always_done layout n done = always_planned layout entry.held AnyPlan (IsDoneOrMemory n) done
+  taken_done : (layout : List ℕ) (outputs : ToWrite) (e : Ending) → IsTaken layout outputs entry exit e → IfPlanned layout entry.held (PlanWith (AreNamesFree layout outputs)) (IsDoneOrMemory (status_of e))
+  taken_done layout outputs e taken =
+      done_planned (AreNamesFree layout outputs) layout entry.held (PlanWith (AreNamesFree layout outputs)) (status_of e) entry.reads exit.reads (λ files plan so. so) r
+      (taken_known (WholeDone entry.reads exit.reads) layout outputs entry exit (whole_done entry.reads exit.reads) taken.network e taken.judged taken.said)
 
-  files_done : (layout prefix : List ℕ) (e : Ending) → IsPlainEnd layout prefix entry exit e → IfPlanned layout entry.held AnyPlan (IsDoneOrMemory (status_of e))
+  always_done : (Q : Layout → Type 0) (layout : List ℕ) (n : ℕ) → IsDoneOrMemory n → IfPlanned layout entry.held (PlanWith Q) (IsDoneOrMemory n)
+  always_done Q layout n done = always_planned layout entry.held (PlanWith Q) (IsDoneOrMemory n) done
+
+  files_done : (layout prefix : List ℕ) (e : Ending) → IsPlainEnd layout prefix entry exit e → IfPlanned layout entry.held (PlanWith (AreNamesFree layout (RunOf prefix))) (IsDoneOrMemory (status_of e))
   files_done layout prefix e h =
-      by_way (IfPlanned layout entry.held AnyPlan (IsDoneOrMemory (status_of e))) layout prefix entry exit e (early_done layout e) (unloaded_done layout e)
-      (λ unrun. always_done layout (status_of e) (inr (unrun_status entry exit e unrun)))
-      (λ run. always_done layout (status_of e) (filed_whole (run_files prefix run.plan) (IsSummary run.plan) entry exit e run.filed w f)) h
+      let Q : Layout → Type 0 = AreNamesFree layout (RunOf prefix) in
+      by_way (IfPlanned layout entry.held (PlanWith Q) (IsDoneOrMemory (status_of e))) layout prefix entry exit e (early_done Q layout e) (taken_done layout (RunOf prefix) e)
+      (λ unloaded. unloaded_done Q layout unloaded.network e unloaded.judged unloaded.free unloaded.said) (λ unrun. always_done Q layout (status_of e) (inr (unrun_status entry exit e unrun)))
+      (λ run. always_done Q layout (status_of e) (filed_whole (run_files prefix run.plan) (IsSummary run.plan) entry exit e run.filed w f)) h
 
   -- the same with a second way to end
-  or_else : (layout : List ℕ) (Y X : Type 0) → IfPlanned layout entry.held AnyPlan X → IfPlanned layout entry.held AnyPlan (X ⊎ Y)
-  or_else layout Y X h = if_some entry.held _ _ (λ files known has. inl (known has)) h
+  or_else : (Q : Layout → Type 0) (layout : List ℕ) (Y X : Type 0) → IfPlanned layout entry.held (PlanWith Q) X → IfPlanned layout entry.held (PlanWith Q) (X ⊎ Y)
+  or_else Q layout Y X h = if_some entry.held _ _ (λ files known has. inl (known has)) h
 
   stop_done : (layout prefix : List ℕ) (from : ℕ) (e : Ending) → IsStopEnd layout prefix from entry exit e
-      → IfPlanned layout entry.held AnyPlan (IsDoneOrMemory (status_of e) ⊎ IsNotThere (Some (Stop layout prefix from)) entry.held (status_of e))
+      → IfPlanned layout entry.held (PlanWith (AreNamesFree layout (StateOf prefix))) (IsDoneOrMemory (status_of e) ⊎ IsNotThere (Some (Stop layout prefix from)) entry.held (status_of e))
   stop_done layout prefix from e h =
+      let Q : Layout → Type 0 = AreNamesFree layout (StateOf prefix) in
       let Y : Type 0 = IsNotThere (Some (Stop layout prefix from)) entry.held (status_of e) in
       let X : Type 0 = IsDoneOrMemory (status_of e) in
-      by_stop (IfPlanned layout entry.held AnyPlan (X ⊎ Y)) layout prefix from entry exit e (λ early. or_else layout Y X (early_done layout e early)) (λ unloaded. or_else layout Y X (unloaded_done layout e unloaded))
-      (λ unrun. always_planned layout entry.held AnyPlan (X ⊎ Y) (inl (inr (unrun_status entry exit e unrun))))
-      (λ un. always_planned layout entry.held AnyPlan (X ⊎ Y) (inr (unquiet_status entry exit e un.said, (un.plan, un.planned, un.never))))
-      (λ ran. always_planned layout entry.held AnyPlan (X ⊎ Y) (inl (filed_whole (state_files prefix ran.plan ran.t) (IsStopLine ran.t) entry exit e ran.filed w f))) h
+      by_stop (IfPlanned layout entry.held (PlanWith Q) (X ⊎ Y)) layout prefix from entry exit e (λ early. or_else Q layout Y X (early_done Q layout e early))
+      (λ taken. or_else Q layout Y X (taken_done layout (StateOf prefix) e taken)) (λ unloaded. or_else Q layout Y X (unloaded_done Q layout unloaded.network e unloaded.judged unloaded.free unloaded.said))
+      (λ unrun. always_planned layout entry.held (PlanWith Q) (X ⊎ Y) (inl (inr (unrun_status entry exit e unrun))))
+      (λ un. always_planned layout entry.held (PlanWith Q) (X ⊎ Y) (inr (unquiet_status entry exit e un.said, (un.plan, un.planned, un.never))))
+      (λ ran. always_planned layout entry.held (PlanWith Q) (X ⊎ Y) (inl (filed_whole (state_files prefix ran.plan ran.t) (IsStopLine ran.t) entry exit e ran.filed w f))) h
 
   probe_done : (told : Hearing) (layout : List ℕ) (from to : ℕ) (taps : List (List ℕ)) (e : Ending) → IsProbeEnd told layout from to taps entry exit e
-      → IfPlanned layout entry.held AnyPlan (IsDoneOrMemory (status_of e) ⊎ IsNotThere (Some (Probe told layout from to taps)) entry.held (status_of e))
+      → IfPlanned layout entry.held (PlanWith AnyNetwork) (IsDoneOrMemory (status_of e) ⊎ IsNotThere (Some (Probe told layout from to taps)) entry.held (status_of e))
   probe_done told layout from to taps e h =
       let Y : Type 0 = IsNotThere (Some (Probe told layout from to taps)) entry.held (status_of e) in
       let X : Type 0 = IsDoneOrMemory (status_of e) in
-      by_probe (IfPlanned layout entry.held AnyPlan (X ⊎ Y)) told layout from to taps entry exit e (λ early. or_else layout Y X (early_done layout e early))
-      (λ missed. always_planned layout entry.held AnyPlan (X ⊎ Y)
+      by_probe (IfPlanned layout entry.held (PlanWith AnyNetwork) (X ⊎ Y)) told layout from to taps entry exit e (λ early. or_else AnyNetwork layout Y X (early_done AnyNetwork layout e early))
+      (λ missed. always_planned layout entry.held (PlanWith AnyNetwork) (X ⊎ Y)
       (elim (missed_with missed.network to taps entry.written exit.written entry.refused exit.refused e missed.missed) [ inl done ↦ inl done | inr miss ↦ inr (miss.0, (missed.network, missed.judged, miss.1)) ]))
-      (λ unprobed. or_else layout Y X (unloaded_done layout e (record { network = unprobed.network; judged = unprobed.judged; said = unprobed.said })))
-      (λ probed. always_planned layout entry.held AnyPlan (X ⊎ Y) (inl (text_whole probed.text entry exit e probed.written f))) h
+      (λ unprobed. or_else AnyNetwork layout Y X (unloaded_done AnyNetwork layout unprobed.network e unprobed.judged tt unprobed.said))
+      (λ probed. always_planned layout entry.held (PlanWith AnyNetwork) (X ⊎ Y) (inl (text_whole probed.text entry exit e probed.written f))) h
 
   telling_done : (Tells : Layout → List ℕ → Type 0) (layout : List ℕ) (e : Ending) → IsTellingEnd Tells layout entry exit e
       → IfSome entry.held (λ files. IsNetworkWith layout (Some files) (λ network. Unit {0}) → IsDoneOrMemory (status_of e) ⊎ ⊥)
@@ -138,8 +149,8 @@ module _ (entry exit : Moment) (r : ¬ Rose entry.reads exit.reads) (w : ¬ Rose
   reliable_of None e h = some_of entry.held _ (λ files sound. absurd sound)
   reliable_of (Some (Check layout)) e h = telling_done IsVerdictLine layout e h
   reliable_of (Some (Slack layout)) e h = telling_done IsSlackText layout e h
-  reliable_of (Some (Plain layout prefix)) e h = or_else layout ⊥ (IsDoneOrMemory (status_of e)) (files_done layout prefix e h)
-  reliable_of (Some (Run layout prefix workers)) e h = or_else layout ⊥ (IsDoneOrMemory (status_of e)) (files_done layout prefix e h)
+  reliable_of (Some (Plain layout prefix)) e h = or_else (AreNamesFree layout (RunOf prefix)) layout ⊥ (IsDoneOrMemory (status_of e)) (files_done layout prefix e h)
+  reliable_of (Some (Run layout prefix workers)) e h = or_else (AreNamesFree layout (RunOf prefix)) layout ⊥ (IsDoneOrMemory (status_of e)) (files_done layout prefix e h)
   reliable_of (Some (Stop layout prefix from)) e h = stop_done layout prefix from e h
   reliable_of (Some (Resume layout prefix)) e h = if_some entry.held _ _ (λ files known has. inl (known has)) (resume_whole layout prefix entry exit e r w f h)
   reliable_of (Some (Demo number workers)) e h =

@@ -4,12 +4,13 @@ use Rattle.layout.specs.declared.lines.Layout.{Layout}
 use Rattle.program_endings.specs.declared.endings.Ending.{Ending}
 use Rattle.program_endings.specs.declared.endings.Ending.TheVariants as ending
 use Rattle.program_texts.specs.declared.texts.TheConstants.{HELP, VERSION}
-use Rattle.program_endings.specs.Endings.{ArePictured, IsAnswer, IsCheckEnd, IsDemoEnd, IsDrawn, IsEarly, IsEndOf, IsLoadEnd, IsMeterEnd, IsMetered, IsMissed, IsPictureEnd, IsPlainEnd, IsProbed, IsProbeEnd, HasResumed, IsResumeEnd, IsRun, IsSlackEnd, IsStopEnd, HasStopped, IsStrangeEnd, IsText, IsTellingEnd, IsTextEnd, IsUnlogged, IsUnmetered, IsUnprobed, IsUnresumed, IsUnrun, IsUnstopped, status_of}
+use Rattle.program_endings.specs.Endings.{ArePictured, IsAnswer, IsCheckEnd, IsDemoEnd, IsDrawn, IsEarly, IsEndOf, IsLoadEnd, IsMeterEnd, IsMetered, IsMissed, IsPictureEnd, IsPlainEnd, IsProbed, IsProbeEnd, HasResumed, IsResumeEnd, IsRun, IsSlackEnd, IsStopEnd, HasStopped, IsStrangeEnd, IsTaken, IsText, IsTellingEnd, IsTextEnd, IsUnlogged, IsUnmetered, IsUnprobed, IsUnresumed, IsUnrun, IsUnstopped, status_of}
 use Rattle.program_endings.specs.Demos.{IsDemoText}
 use Rattle.program_endings.specs.Moments.{Moment}
 use Rattle.program_words.specs.Requests.{Asked, asked, Check, Demo, Meter, Picture, Probe, Resume, Slack, Stop}
 use Rattle.program_words.specs.declared.words.Hearing.{Hearing}
 use Rattle.program_texts.specs.SlackTexts.{IsSlackText}
+use Rattle.program_endings.specs.WrittenNames.{RunOf, StateOf}
 use Rattle.program_endings.specs.Statuses.{AskForFiles, IfTelling, IfText}
 use Rattle.program_texts.specs.Verdicts.{IsVerdictLine}
 
@@ -26,7 +27,8 @@ ending_at (suc (suc (suc (suc (suc (suc (suc zero))))))) = ending.Probe
 ending_at (suc (suc (suc (suc (suc (suc (suc (suc zero)))))))) = ending.Log
 ending_at (suc (suc (suc (suc (suc (suc (suc (suc (suc zero))))))))) = ending.Unquiet
 ending_at (suc (suc (suc (suc (suc (suc (suc (suc (suc (suc zero)))))))))) = ending.State
-ending_at (suc (suc (suc (suc (suc (suc (suc (suc (suc (suc (suc n))))))))))) = ending.Stranger
+ending_at (suc (suc (suc (suc (suc (suc (suc (suc (suc (suc (suc zero))))))))))) = ending.Stranger
+ending_at (suc (suc (suc (suc (suc (suc (suc (suc (suc (suc (suc (suc n)))))))))))) = ending.Output
 
 at_status : (e : Ending) → ending_at (status_of e) ≡ e
 at_status ending.Done = refl
@@ -41,6 +43,7 @@ at_status ending.Log = refl
 at_status ending.Stranger = refl
 at_status ending.Unquiet = refl
 at_status ending.State = refl
+at_status ending.Output = refl
 
 -- the end of an answer with this status
 pub end_at : (words : List (List ℕ)) (entry exit : Moment) (status k : ℕ) → IsAnswer words entry exit status → status ≡ k → IsEndOf (asked words) entry exit (ending_at k)
@@ -99,31 +102,31 @@ by_probe X told layout from to taps before after e early missed unprobed probed 
 pub by_meter : (X : Type 0) (log : List ℕ) (before after : Moment) (e : Ending) → (IsUnmetered log before after e → X) → (IsMetered log before after e → X) → IsMeterEnd log before after e → X
 by_meter X log before after e unmetered metered h = elim h.1 [ inl one ↦ unmetered one | inr two ↦ metered two ]
 
--- what comes of each of the four ways in which a form that writes the files of a run ends comes of its end
-pub by_way : (X : Type 0) (layout prefix : List ℕ) (before after : Moment) (e : Ending) → (IsEarly layout before after e → X) → (IsLoadEnd layout before after e → X) → (IsUnrun before after e → X) → (IsRun layout prefix before after e → X)
+-- what comes of each of the five ways in which a form that writes the files of a run ends comes of its end
+pub by_way : (X : Type 0) (layout prefix : List ℕ) (before after : Moment) (e : Ending) → (IsEarly layout before after e → X) → (IsTaken layout (RunOf prefix) before after e → X) → (IsLoadEnd layout (RunOf prefix) before after e → X) → (IsUnrun before after e → X) → (IsRun layout prefix before after e → X)
     → IsPlainEnd layout prefix before after e → X
-by_way X layout prefix before after e early unloaded unrun run h =
+by_way X layout prefix before after e early taken unloaded unrun run h =
     elim h [
-      | inl none ↦ elim none [ inl one ↦ early one.0 | inr later ↦ elim later [ inl two ↦ unloaded two.0 | inr three ↦ unrun three ] ]
+      | inl none ↦ elim none [ inl one ↦ early one.0 | inr later ↦ elim later [ inl two ↦ taken two.0 | inr last ↦ elim last [ inl three ↦ unloaded three.0 | inr four ↦ unrun four ] ] ]
       | inr ran ↦ run ran
     ]
 
--- what comes of each of the five ways in which stop ends comes of its end
-pub by_stop : (X : Type 0) (layout prefix : List ℕ) (from : ℕ) (before after : Moment) (e : Ending) → (IsEarly layout before after e → X) → (IsLoadEnd layout before after e → X) → (IsUnrun before after e → X)
-    → (IsUnstopped layout from before after e → X) → (HasStopped layout prefix from before after e → X) → IsStopEnd layout prefix from before after e → X
-by_stop X layout prefix from before after e early unloaded unrun unstopped stopped h =
+-- what comes of each of the six ways in which stop ends comes of its end
+pub by_stop : (X : Type 0) (layout prefix : List ℕ) (from : ℕ) (before after : Moment) (e : Ending) → (IsEarly layout before after e → X) → (IsTaken layout (StateOf prefix) before after e → X) → (IsLoadEnd layout (StateOf prefix) before after e → X) → (IsUnrun before after e → X)
+    → (IsUnstopped layout prefix from before after e → X) → (HasStopped layout prefix from before after e → X) → IsStopEnd layout prefix from before after e → X
+by_stop X layout prefix from before after e early taken unloaded unrun unstopped stopped h =
     elim h [
-      | inl none ↦ elim none [ inl one ↦ early one.0 | inr later ↦ elim later [ inl two ↦ unloaded two.0 | inr three ↦ unrun three ] ]
-      | inr last ↦ elim last [ inl four ↦ unstopped four | inr five ↦ stopped five ]
+      | inl none ↦ elim none [ inl one ↦ early one.0 | inr later ↦ elim later [ inl two ↦ taken two.0 | inr last ↦ elim last [ inl three ↦ unloaded three.0 | inr four ↦ unrun four ] ] ]
+      | inr rest ↦ elim rest [ inl five ↦ unstopped five | inr six ↦ stopped six ]
     ]
 
--- what comes of each of the five ways in which resume ends comes of its end
-pub by_resume : (X : Type 0) (layout prefix : List ℕ) (before after : Moment) (e : Ending) → (IsEarly layout before after e → X) → (IsLoadEnd layout before after e → X) → (IsUnrun before after e → X)
+-- what comes of each of the six ways in which resume ends comes of its end
+pub by_resume : (X : Type 0) (layout prefix : List ℕ) (before after : Moment) (e : Ending) → (IsEarly layout before after e → X) → (IsTaken layout (RunOf prefix) before after e → X) → (IsLoadEnd layout (RunOf prefix) before after e → X) → (IsUnrun before after e → X)
     → (IsUnresumed layout prefix before after e → X) → (HasResumed layout prefix before after e → X) → IsResumeEnd layout prefix before after e → X
-by_resume X layout prefix before after e early unloaded unrun unresumed resumed h =
+by_resume X layout prefix before after e early taken unloaded unrun unresumed resumed h =
     elim h [
-      | inl none ↦ elim none [ inl one ↦ early one.0 | inr later ↦ elim later [ inl two ↦ unloaded two.0 | inr three ↦ unrun three ] ]
-      | inr last ↦ elim last [ inl four ↦ unresumed four | inr five ↦ resumed five ]
+      | inl none ↦ elim none [ inl one ↦ early one.0 | inr later ↦ elim later [ inl two ↦ taken two.0 | inr last ↦ elim last [ inl three ↦ unloaded three.0 | inr four ↦ unrun four ] ] ]
+      | inr rest ↦ elim rest [ inl five ↦ unresumed five | inr six ↦ resumed six ]
     ]
 
 -- what comes of each of the two ways in which demo ends comes of its end

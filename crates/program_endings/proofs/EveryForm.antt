@@ -24,7 +24,7 @@ write_unrun e = cc
 -- no form ends as words of no form do
 pub never_words : (layout prefix : List ℕ) (entry exit : Moment) → IsPlainEnd layout prefix entry exit ending.Words → ⊥
 never_words layout prefix entry exit h =
-    by_way ⊥ layout prefix entry exit ending.Words (λ early. early) (λ unloaded. unloaded.said) (λ unrun. words_unrun unrun.0) (λ run. elim run.filed [ inl all ↦ all.1.2 | inr some ↦ some ]) h
+    by_way ⊥ layout prefix entry exit ending.Words (λ early. early) (λ taken. taken.said) (λ unloaded. unloaded.said) (λ unrun. words_unrun unrun.0) (λ run. elim run.filed [ inl all ↦ all.1.2 | inr some ↦ some ]) h
 
 pub never_demo : (number : ℕ) (entry exit : Moment) → IsDemoEnd number entry exit ending.Words → ⊥
 never_demo number entry exit h = by_demo ⊥ number entry exit ending.Words (λ is written. words_unrun is) (λ text right written. written) h
@@ -42,11 +42,11 @@ never_picture layout log from to entry exit h =
 
 pub never_stop : (layout prefix : List ℕ) (from : ℕ) (entry exit : Moment) → IsStopEnd layout prefix from entry exit ending.Words → ⊥
 never_stop layout prefix from entry exit h =
-    by_stop ⊥ layout prefix from entry exit ending.Words (λ early. early) (λ unloaded. unloaded.said) (λ unrun. words_unrun unrun.0) (λ un. un.said) (λ ran. elim ran.filed [ inl all ↦ all.1.2 | inr some ↦ some ]) h
+    by_stop ⊥ layout prefix from entry exit ending.Words (λ early. early) (λ taken. taken.said) (λ unloaded. unloaded.said) (λ unrun. words_unrun unrun.0) (λ un. un.said) (λ ran. elim ran.filed [ inl all ↦ all.1.2 | inr some ↦ some ]) h
 
 pub never_resume : (layout prefix : List ℕ) (entry exit : Moment) → IsResumeEnd layout prefix entry exit ending.Words → ⊥
 never_resume layout prefix entry exit h =
-    by_resume ⊥ layout prefix entry exit ending.Words (λ early. early) (λ unloaded. unloaded.said) (λ unrun. words_unrun unrun.0) (λ un. un.said) (λ ran. elim ran.filed [ inl all ↦ all.1.2 | inr some ↦ some ]) h
+    by_resume ⊥ layout prefix entry exit ending.Words (λ early. early) (λ taken. taken.said) (λ unloaded. unloaded.said) (λ unrun. words_unrun unrun.0) (λ un. un.said) (λ ran. elim ran.filed [ inl all ↦ all.1.2 | inr some ↦ some ]) h
 
 -- words of no form
 none_of : (o : Option Asked) (entry exit : Moment) → IsEndOf o entry exit ending.Words → o ≡ None
@@ -91,7 +91,10 @@ not_refusal k other r =
                   | inl e ↦ apart k 9 other e (λ h. omega (arith, h)) (λ h. omega (arith, h))
                   | inr y ↦ elim y [
                     | inl e ↦ apart k 10 other e (λ h. omega (arith, h)) (λ h. omega (arith, h))
-                    | inr e ↦ apart k 11 other e (λ h. omega (arith, h)) (λ h. omega (arith, h))
+                    | inr z ↦ elim z [
+                      | inl e ↦ apart k 11 other e (λ h. omega (arith, h)) (λ h. omega (arith, h))
+                      | inr e ↦ apart k 12 other e (λ h. omega (arith, h)) (λ h. omega (arith, h))
+                    ]
                   ]
                 ]
               ]
@@ -118,25 +121,26 @@ filed_no_refusal files IsRight entry exit ending.Log filed r = elim filed [ inl 
 filed_no_refusal files IsRight entry exit ending.Stranger filed r = elim filed [ inl all ↦ all.1.2 | inr some ↦ some ]
 filed_no_refusal files IsRight entry exit ending.Unquiet filed r = elim filed [ inl all ↦ all.1.2 | inr some ↦ some ]
 filed_no_refusal files IsRight entry exit ending.State filed r = elim filed [ inl all ↦ all.1.2 | inr some ↦ some ]
+filed_no_refusal files IsRight entry exit ending.Output filed r = elim filed [ inl all ↦ all.1.2 | inr some ↦ some ]
 
 plain_kept : (layout prefix : List ℕ) (entry exit : Moment) (e : Ending) → IsPlainEnd layout prefix entry exit e → IsRefusal (status_of e) → exit.held ≡ entry.held
 plain_kept layout prefix entry exit e h r =
     elim h [
-      | inl none ↦ elim none [ inl early ↦ early.1 | inr later ↦ elim later [ inl unloaded ↦ unloaded.1 | inr unrun ↦ unrun.1 ] ]
+      | inl none ↦ elim none [ inl early ↦ early.1 | inr later ↦ elim later [ inl taken ↦ taken.1 | inr last ↦ elim last [ inl unloaded ↦ unloaded.1 | inr unrun ↦ unrun.1 ] ] ]
       | inr run ↦ absurd (filed_no_refusal (run_files prefix run.plan) (IsSummary run.plan) entry exit e run.filed r)
     ]
 
 stop_kept : (layout prefix : List ℕ) (from : ℕ) (entry exit : Moment) (e : Ending) → IsStopEnd layout prefix from entry exit e → IsRefusal (status_of e) → exit.held ≡ entry.held
 stop_kept layout prefix from entry exit e h r =
     elim h [
-      | inl none ↦ elim none [ inl early ↦ early.1 | inr later ↦ elim later [ inl unloaded ↦ unloaded.1 | inr unrun ↦ unrun.1 ] ]
+      | inl none ↦ elim none [ inl early ↦ early.1 | inr later ↦ elim later [ inl taken ↦ taken.1 | inr last ↦ elim last [ inl unloaded ↦ unloaded.1 | inr unrun ↦ unrun.1 ] ] ]
       | inr last ↦ elim last [ inl un ↦ un.held | inr ran ↦ absurd (filed_no_refusal (state_files prefix ran.plan ran.t) (IsStopLine ran.t) entry exit e ran.filed r) ]
     ]
 
 resume_kept : (layout prefix : List ℕ) (entry exit : Moment) (e : Ending) → IsResumeEnd layout prefix entry exit e → IsRefusal (status_of e) → exit.held ≡ entry.held
 resume_kept layout prefix entry exit e h r =
     elim h [
-      | inl none ↦ elim none [ inl early ↦ early.1 | inr later ↦ elim later [ inl unloaded ↦ unloaded.1 | inr unrun ↦ unrun.1 ] ]
+      | inl none ↦ elim none [ inl early ↦ early.1 | inr later ↦ elim later [ inl taken ↦ taken.1 | inr last ↦ elim last [ inl unloaded ↦ unloaded.1 | inr unrun ↦ unrun.1 ] ] ]
       | inr last ↦ elim last [ inl un ↦ un.held | inr ran ↦ absurd (filed_no_refusal (resumed_files prefix ran.plan ran.state) (IsResumedSummary ran.plan ran.state) entry exit e ran.filed r) ]
     ]
 
@@ -155,22 +159,22 @@ kept_of (Some (Probe told layout from to taps)) entry exit e h r = h.0
 kept_of (Some (Meter log)) entry exit e h r = h.0
 kept_of (Some (Picture layout log from to)) entry exit e h r = h.0
 
--- the statuses 1 to 4 and 7 to 11 leave every file as at entry
+-- the statuses 1 to 4 and 7 to 12 leave every file as at entry
 pub refused : (words : List (List ℕ)) (entry exit : Moment) (status : ℕ) → IsAnswer words entry exit status → IsRefusal status → exit.held ≡ entry.held
 refused words entry exit status answer r = kept_of (asked words) entry exit answer.by answer.allowed (subst (λ n. IsRefusal n) answer.is r)
 
 plain_failed : (layout prefix : List ℕ) (entry exit : Moment) → IsPlainEnd layout prefix entry exit ending.Write → Rose entry.writes exit.writes ⊎ Rose entry.faults exit.faults
 plain_failed layout prefix entry exit h =
-    by_way (Rose entry.writes exit.writes ⊎ Rose entry.faults exit.faults) layout prefix entry exit ending.Write (λ early. absurd early) (λ unloaded. absurd unloaded.said) (λ unrun. absurd (write_unrun unrun.0))
+    by_way (Rose entry.writes exit.writes ⊎ Rose entry.faults exit.faults) layout prefix entry exit ending.Write (λ early. absurd early) (λ taken. absurd taken.said) (λ unloaded. absurd unloaded.said) (λ unrun. absurd (write_unrun unrun.0))
     (λ run. elim run.filed [ inl all ↦ inr all.1.2.1 | inr some ↦ inl some.1 ]) h
 
 stop_failed : (layout prefix : List ℕ) (from : ℕ) (entry exit : Moment) → IsStopEnd layout prefix from entry exit ending.Write → Rose entry.writes exit.writes ⊎ Rose entry.faults exit.faults
 stop_failed layout prefix from entry exit h =
-    by_stop (Rose entry.writes exit.writes ⊎ Rose entry.faults exit.faults) layout prefix from entry exit ending.Write (λ early. absurd early) (λ unloaded. absurd unloaded.said) (λ unrun. absurd (write_unrun unrun.0)) (λ un. absurd un.said) (λ ran. elim ran.filed [ inl all ↦ inr all.1.2.1 | inr some ↦ inl some.1 ]) h
+    by_stop (Rose entry.writes exit.writes ⊎ Rose entry.faults exit.faults) layout prefix from entry exit ending.Write (λ early. absurd early) (λ taken. absurd taken.said) (λ unloaded. absurd unloaded.said) (λ unrun. absurd (write_unrun unrun.0)) (λ un. absurd un.said) (λ ran. elim ran.filed [ inl all ↦ inr all.1.2.1 | inr some ↦ inl some.1 ]) h
 
 resume_failed : (layout prefix : List ℕ) (entry exit : Moment) → IsResumeEnd layout prefix entry exit ending.Write → Rose entry.writes exit.writes ⊎ Rose entry.faults exit.faults
 resume_failed layout prefix entry exit h =
-    by_resume (Rose entry.writes exit.writes ⊎ Rose entry.faults exit.faults) layout prefix entry exit ending.Write (λ early. absurd early) (λ unloaded. absurd unloaded.said) (λ unrun. absurd (write_unrun unrun.0)) (λ un. absurd un.said) (λ ran. elim ran.filed [ inl all ↦ inr all.1.2.1 | inr some ↦ inl some.1 ]) h
+    by_resume (Rose entry.writes exit.writes ⊎ Rose entry.faults exit.faults) layout prefix entry exit ending.Write (λ early. absurd early) (λ taken. absurd taken.said) (λ unloaded. absurd unloaded.said) (λ unrun. absurd (write_unrun unrun.0)) (λ un. absurd un.said) (λ ran. elim ran.filed [ inl all ↦ inr all.1.2.1 | inr some ↦ inl some.1 ]) h
 
 demo_failed : (number : ℕ) (entry exit : Moment) → IsDemoEnd number entry exit ending.Write → Rose entry.writes exit.writes ⊎ Rose entry.faults exit.faults
 demo_failed number entry exit h =

@@ -4,25 +4,26 @@ use Rattle.outside.specs.Files.{Rose}
 use Rattle.layout.specs.declared.lines.Layout.{Layout}
 use Rattle.program_endings.specs.declared.endings.Ending.{Ending}
 use Rattle.program_endings.specs.declared.endings.Ending.TheVariants as ending
-use Rattle.program_endings.specs.Endings.{IsAnswer, IsDemoEnd, IsEarly, IsEndOf, IsPlainEnd, IsRun, IsTellingEnd, IsText, IsTold, IsUnloadedSaid, Says, status_of}
+use Rattle.program_endings.specs.Endings.{IsAnswer, IsDemoEnd, IsEarly, IsEndOf, IsPlainEnd, IsRun, IsTakenEnd, IsTellingEnd, IsText, IsTold, IsUnloadedSaid, Says, status_of}
 use Rattle.program_endings.specs.Moments.{Moment}
 use Rattle.program_words.specs.Requests.{Asked, asked, Check, Slack, Plain, Run, Stop, Resume, Demo, Probe, Meter, Picture, Help, Version}
 use Rattle.program_endings.specs.Statuses.{AskForFiles, IfFiles, IsDemoCut, IsDemoDone, IsDemoStatus, IsRunBroken, IsRunDone, IsRunRefused, IsSummaryCut, IsTellingCut, IsTellingDone}
 use Rattle.program_endings.specs.StatusLaws.{AreDemosCutShort, AreDemosRefused, AreFailuresSilent, AreFilesWhole, AreTellingsCutShort, AreTellingsRefused, AreTextsCutShort, AreTextsFailed, AreWordsSaid, DoDemosKeepFiles, DoTellingsKeepFiles, DoTextsKeepFiles, HaveDemosStatuses}
 use Rattle.program_texts.specs.Texts.{line_of_words_fault}
 use Rattle.program_endings.specs.Runs.{run_files}
+use Rattle.program_endings.specs.WrittenNames.{RunOf}
 use Rattle.program_endings.specs.Writing.{IsBrokenAmong, IsCutShort}
 use Rattle.program_endings.proofs.EndingsByStatus.{by_demo, by_way, demo_end, end_at, files_end, of_tellings, of_texts}
 use Rattle.program_endings.proofs.EveryForm.{never_demo, never_meter, never_picture, never_probe, never_resume, never_stop, never_words}
 
 -- an ending that comes neither early nor of want of memory is that of a run
-run_of : (layout prefix : List ℕ) (before after : Moment) (e : Ending) → (IsEarly layout before after e → ⊥) → ((network : Layout) → IsUnloadedSaid network before after e → ⊥) → (e ≡ ending.Memory → ⊥)
+run_of : (layout prefix : List ℕ) (before after : Moment) (e : Ending) → (IsEarly layout before after e → ⊥) → ((network : Layout) → IsTakenEnd layout (RunOf prefix) network before.written after.written before.refused after.refused e → ⊥) → ((network : Layout) → IsUnloadedSaid network before after e → ⊥) → (e ≡ ending.Memory → ⊥)
     → IsPlainEnd layout prefix before after e → IsRun layout prefix before after e
-run_of layout prefix before after e early unloaded memory h =
-    by_way (IsRun layout prefix before after e) layout prefix before after e (λ one. absurd (early one)) (λ two. absurd (unloaded two.network two.said)) (λ unrun. absurd (memory unrun.0)) (λ run. run) h
+run_of layout prefix before after e early taken unloaded memory h =
+    by_way (IsRun layout prefix before after e) layout prefix before after e (λ one. absurd (early one)) (λ two. absurd (taken two.network two.said)) (λ three. absurd (unloaded three.network three.said)) (λ unrun. absurd (memory unrun.0)) (λ run. run) h
 
 run_written : (layout prefix : List ℕ) (before after : Moment) → IsPlainEnd layout prefix before after ending.Write → IsRun layout prefix before after ending.Write
-run_written layout prefix before after h = run_of layout prefix before after ending.Write (λ early. early) (λ network said. said) (λ e. cc) h
+run_written layout prefix before after h = run_of layout prefix before after ending.Write (λ early. early) (λ network said. said) (λ network said. said) (λ e. cc) h
 
 held_of : (layout prefix : List ℕ) (before after : Moment) → IsRun layout prefix before after ending.Done → IsRunDone layout prefix before after
 held_of layout prefix before after run =
@@ -33,7 +34,7 @@ held_of layout prefix before after run =
 
 -- a run was done
 pub run_done : (layout prefix : List ℕ) (before after : Moment) → IsPlainEnd layout prefix before after ending.Done → IsRunDone layout prefix before after
-run_done layout prefix before after h = held_of layout prefix before after (run_of layout prefix before after ending.Done (λ early. early) (λ network said. said) (λ e. cc) h)
+run_done layout prefix before after h = held_of layout prefix before after (run_of layout prefix before after ending.Done (λ early. early) (λ network said. said) (λ network said. said) (λ e. cc) h)
 
 -- a run that left some of its files, or a front of its summary
 run_left : (layout prefix : List ℕ) (before after : Moment) (e : Ending) (run : IsRun layout prefix before after e)
@@ -74,7 +75,7 @@ refused_of layout prefix before after run =
 memory_of : (layout prefix : List ℕ) (before after : Moment) → IsPlainEnd layout prefix before after ending.Memory → IsRunRefused layout prefix before after
 memory_of layout prefix before after h =
     elim h [
-      | inl none ↦ elim none [ inl early ↦ inl (early.1, early.0) | inr later ↦ elim later [ inl unloaded ↦ inl (unloaded.1, unloaded.0.said) | inr unrun ↦ inl (unrun.1, unrun.2) ] ]
+      | inl none ↦ elim none [ inl early ↦ inl (early.1, early.0) | inr later ↦ elim later [ inl taken ↦ inl (taken.1, taken.0.said) | inr last ↦ elim last [ inl unloaded ↦ inl (unloaded.1, unloaded.0.said) | inr unrun ↦ inl (unrun.1, unrun.2) ] ] ]
       | inr run ↦ inr (refused_of layout prefix before after run)
     ]
 
@@ -150,6 +151,7 @@ text_status text before after ending.Log written = absurd written
 text_status text before after ending.Stranger written = absurd written
 text_status text before after ending.Unquiet written = absurd written
 text_status text before after ending.State written = absurd written
+text_status text before after ending.Output written = absurd written
 
 pub demos_have_statuses : HaveDemosStatuses
 demos_have_statuses words entry exit status answer number workers is =
@@ -176,6 +178,7 @@ text_cut text before after ending.Log written = absurd written
 text_cut text before after ending.Stranger written = absurd written
 text_cut text before after ending.Unquiet written = absurd written
 text_cut text before after ending.State written = absurd written
+text_cut text before after ending.Output written = absurd written
 
 pub texts_are_cut_short : AreTextsCutShort
 texts_are_cut_short words entry exit status answer =

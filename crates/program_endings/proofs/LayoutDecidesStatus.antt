@@ -50,6 +50,7 @@ module _ (layout : List ℕ) (before after : Moment) where
   early_absent ending.Stranger absent early = absurd early
   early_absent ending.Unquiet absent early = absurd early
   early_absent ending.State absent early = absurd early
+  early_absent ending.Output absent early = absurd early
 
 -- where a read failed or the layout isn't held
 pub unread_status : (X : Type 0) (layout : List ℕ) (held : Option Files) (reads risen : ℕ) (P : Files → Type 0) → ((files : Files) → IsAbsent layout (Some files) → P files → ⊥) → (Rose reads risen → X)
@@ -77,6 +78,7 @@ early_faulty layout before after ending.Log early = absurd early
 early_faulty layout before after ending.Stranger early = absurd early
 early_faulty layout before after ending.Unquiet early = absurd early
 early_faulty layout before after ending.State early = absurd early
+early_faulty layout before after ending.Output early = absurd early
 
 unrun_faulty : (fault : ℕ) (P : Files → Type 0) (before after : Moment) (e : Ending) → IsUnrun before after e
     → IfSome before.held (λ files. P files → IsFaultStatus fault (status_of e) before.reads after.reads)
@@ -91,20 +93,20 @@ plain_faulty : (layout prefix : List ℕ) (before after : Moment) (e : Ending) �
     → IfSome before.held (λ files. HasFault layout (Some files) → IsFaultStatus 2 (status_of e) before.reads after.reads)
 plain_faulty layout prefix before after e h =
     by_way (IfSome before.held (λ files. HasFault layout (Some files) → IsFaultStatus 2 (status_of e) before.reads after.reads)) layout prefix before after e (λ early. early_faulty layout before after e early)
-    (λ unloaded. no_fault_of (IsFaultStatus 2 (status_of e) before.reads after.reads) layout before.held unloaded.network unloaded.judged)
+    (λ taken. no_fault_of (IsFaultStatus 2 (status_of e) before.reads after.reads) layout before.held taken.network taken.judged) (λ unloaded. no_fault_of (IsFaultStatus 2 (status_of e) before.reads after.reads) layout before.held unloaded.network unloaded.judged)
     (λ unrun. unrun_faulty 2 (λ files. HasFault layout (Some files)) before after e unrun)
     (λ run. no_fault_of (IsFaultStatus 2 (status_of e) before.reads after.reads) layout before.held run.planned.network run.planned.judged) h
 
 stop_faulty : (layout prefix : List ℕ) (from : ℕ) (before after : Moment) (e : Ending) → IsStopEnd layout prefix from before after e
     → IfSome before.held (λ files. HasFault layout (Some files) → IsFaultStatus 2 (status_of e) before.reads after.reads)
 stop_faulty layout prefix from before after e h =
-    by_stop (IfSome before.held (λ files. HasFault layout (Some files) → IsFaultStatus 2 (status_of e) before.reads after.reads)) layout prefix from before after e (λ early. early_faulty layout before after e early) (λ unloaded. no_fault_of (IsFaultStatus 2 (status_of e) before.reads after.reads) layout before.held unloaded.network unloaded.judged)
+    by_stop (IfSome before.held (λ files. HasFault layout (Some files) → IsFaultStatus 2 (status_of e) before.reads after.reads)) layout prefix from before after e (λ early. early_faulty layout before after e early) (λ taken. no_fault_of (IsFaultStatus 2 (status_of e) before.reads after.reads) layout before.held taken.network taken.judged) (λ unloaded. no_fault_of (IsFaultStatus 2 (status_of e) before.reads after.reads) layout before.held unloaded.network unloaded.judged)
     (λ unrun. unrun_faulty 2 (λ files. HasFault layout (Some files)) before after e unrun) (λ un. no_fault_of (IsFaultStatus 2 (status_of e) before.reads after.reads) layout before.held un.planned.network un.planned.judged) (λ ran. no_fault_of (IsFaultStatus 2 (status_of e) before.reads after.reads) layout before.held ran.planned.network ran.planned.judged) h
 
 resume_faulty : (layout prefix : List ℕ) (before after : Moment) (e : Ending) → IsResumeEnd layout prefix before after e
     → IfSome before.held (λ files. HasFault layout (Some files) → IsFaultStatus 2 (status_of e) before.reads after.reads)
 resume_faulty layout prefix before after e h =
-    by_resume (IfSome before.held (λ files. HasFault layout (Some files) → IsFaultStatus 2 (status_of e) before.reads after.reads)) layout prefix before after e (λ early. early_faulty layout before after e early) (λ unloaded. no_fault_of (IsFaultStatus 2 (status_of e) before.reads after.reads) layout before.held unloaded.network unloaded.judged)
+    by_resume (IfSome before.held (λ files. HasFault layout (Some files) → IsFaultStatus 2 (status_of e) before.reads after.reads)) layout prefix before after e (λ early. early_faulty layout before after e early) (λ taken. no_fault_of (IsFaultStatus 2 (status_of e) before.reads after.reads) layout before.held taken.network taken.judged) (λ unloaded. no_fault_of (IsFaultStatus 2 (status_of e) before.reads after.reads) layout before.held unloaded.network unloaded.judged)
     (λ unrun. unrun_faulty 2 (λ files. HasFault layout (Some files)) before after e unrun) (λ un. no_fault_of (IsFaultStatus 2 (status_of e) before.reads after.reads) layout before.held un.planned.network un.planned.judged) (λ ran. no_fault_of (IsFaultStatus 2 (status_of e) before.reads after.reads) layout before.held ran.planned.network ran.planned.judged) h
 
 probe_faulty : (told : Hearing) (layout : List ℕ) (from to : ℕ) (taps : List (List ℕ)) (before after : Moment) (e : Ending) → IsProbeEnd told layout from to taps before after e
@@ -143,18 +145,18 @@ telling_absent Tells layout before after e h absent =
 plain_absent : (layout prefix : List ℕ) (before after : Moment) (e : Ending) → IsPlainEnd layout prefix before after e → IsAbsent layout before.held → IsUnreadOrMemory (status_of e)
 plain_absent layout prefix before after e h absent =
     by_way (IsUnreadOrMemory (status_of e)) layout prefix before after e (λ early. early_absent layout before after e absent early)
-    (λ unloaded. absurd (absent_unjudged layout before.held (Ok unloaded.network) absent unloaded.judged)) (λ unrun. inr (ap status_of unrun.0))
+    (λ taken. absurd (absent_unjudged layout before.held (Ok taken.network) absent taken.judged)) (λ unloaded. absurd (absent_unjudged layout before.held (Ok unloaded.network) absent unloaded.judged)) (λ unrun. inr (ap status_of unrun.0))
     (λ run. absurd (absent_unjudged layout before.held (Ok run.planned.network) absent run.planned.judged)) h
 
 stop_absent : (layout prefix : List ℕ) (from : ℕ) (before after : Moment) (e : Ending) → IsStopEnd layout prefix from before after e → IsAbsent layout before.held → IsUnreadOrMemory (status_of e)
 stop_absent layout prefix from before after e h absent =
     by_stop (IsUnreadOrMemory (status_of e)) layout prefix from before after e (λ early. early_absent layout before after e absent early)
-    (λ unloaded. absurd (absent_unjudged layout before.held (Ok unloaded.network) absent unloaded.judged)) (λ unrun. inr (ap status_of unrun.0)) (λ un. absurd (absent_unjudged layout before.held (Ok un.planned.network) absent un.planned.judged)) (λ ran. absurd (absent_unjudged layout before.held (Ok ran.planned.network) absent ran.planned.judged)) h
+    (λ taken. absurd (absent_unjudged layout before.held (Ok taken.network) absent taken.judged)) (λ unloaded. absurd (absent_unjudged layout before.held (Ok unloaded.network) absent unloaded.judged)) (λ unrun. inr (ap status_of unrun.0)) (λ un. absurd (absent_unjudged layout before.held (Ok un.planned.network) absent un.planned.judged)) (λ ran. absurd (absent_unjudged layout before.held (Ok ran.planned.network) absent ran.planned.judged)) h
 
 resume_absent : (layout prefix : List ℕ) (before after : Moment) (e : Ending) → IsResumeEnd layout prefix before after e → IsAbsent layout before.held → IsUnreadOrMemory (status_of e)
 resume_absent layout prefix before after e h absent =
     by_resume (IsUnreadOrMemory (status_of e)) layout prefix before after e (λ early. early_absent layout before after e absent early)
-    (λ unloaded. absurd (absent_unjudged layout before.held (Ok unloaded.network) absent unloaded.judged)) (λ unrun. inr (ap status_of unrun.0)) (λ un. absurd (absent_unjudged layout before.held (Ok un.planned.network) absent un.planned.judged)) (λ ran. absurd (absent_unjudged layout before.held (Ok ran.planned.network) absent ran.planned.judged)) h
+    (λ taken. absurd (absent_unjudged layout before.held (Ok taken.network) absent taken.judged)) (λ unloaded. absurd (absent_unjudged layout before.held (Ok unloaded.network) absent unloaded.judged)) (λ unrun. inr (ap status_of unrun.0)) (λ un. absurd (absent_unjudged layout before.held (Ok un.planned.network) absent un.planned.judged)) (λ ran. absurd (absent_unjudged layout before.held (Ok ran.planned.network) absent ran.planned.judged)) h
 
 probe_absent : (told : Hearing) (layout : List ℕ) (from to : ℕ) (taps : List (List ℕ)) (before after : Moment) (e : Ending) → IsProbeEnd told layout from to taps before after e → IsAbsent layout before.held → IsUnreadOrMemory (status_of e)
 probe_absent told layout from to taps before after e h absent =
@@ -189,7 +191,7 @@ words_layout e = cc
 
 plain_said : (layout prefix : List ℕ) (entry exit : Moment) → IsPlainEnd layout prefix entry exit ending.Layout → IsFaultSaid layout entry exit
 plain_said layout prefix entry exit h =
-    by_way (IsFaultSaid layout entry exit) layout prefix entry exit ending.Layout (λ early. early) (λ unloaded. absurd unloaded.said) (λ unrun. absurd (layout_unrun unrun.0))
+    by_way (IsFaultSaid layout entry exit) layout prefix entry exit ending.Layout (λ early. early) (λ taken. absurd taken.said) (λ unloaded. absurd unloaded.said) (λ unrun. absurd (layout_unrun unrun.0))
     (λ run. elim run.filed [ inl all ↦ absurd all.1.2 | inr some ↦ absurd some ]) h
 
 demo_said : (number : ℕ) (entry exit : Moment) → IsDemoEnd number entry exit ending.Layout → ⊥
@@ -216,9 +218,9 @@ faulty_of (Some (Slack layout)) entry exit h = elim h.1 [ inl early ↦ early | 
 faulty_of (Some (Plain layout prefix)) entry exit h = plain_said layout prefix entry exit h
 faulty_of (Some (Run layout prefix workers)) entry exit h = plain_said layout prefix entry exit h
 faulty_of (Some (Stop layout prefix from)) entry exit h =
-    by_stop (IsFaultSaid layout entry exit) layout prefix from entry exit ending.Layout (λ early. early) (λ unloaded. absurd unloaded.said) (λ unrun. absurd (layout_unrun unrun.0)) (λ un. absurd un.said) (λ ran. elim ran.filed [ inl all ↦ absurd all.1.2 | inr some ↦ absurd some ]) h
+    by_stop (IsFaultSaid layout entry exit) layout prefix from entry exit ending.Layout (λ early. early) (λ taken. absurd taken.said) (λ unloaded. absurd unloaded.said) (λ unrun. absurd (layout_unrun unrun.0)) (λ un. absurd un.said) (λ ran. elim ran.filed [ inl all ↦ absurd all.1.2 | inr some ↦ absurd some ]) h
 faulty_of (Some (Resume layout prefix)) entry exit h =
-    by_resume (IsFaultSaid layout entry exit) layout prefix entry exit ending.Layout (λ early. early) (λ unloaded. absurd unloaded.said) (λ unrun. absurd (layout_unrun unrun.0)) (λ un. absurd un.said) (λ ran. elim ran.filed [ inl all ↦ absurd all.1.2 | inr some ↦ absurd some ]) h
+    by_resume (IsFaultSaid layout entry exit) layout prefix entry exit ending.Layout (λ early. early) (λ taken. absurd taken.said) (λ unloaded. absurd unloaded.said) (λ unrun. absurd (layout_unrun unrun.0)) (λ un. absurd un.said) (λ ran. elim ran.filed [ inl all ↦ absurd all.1.2 | inr some ↦ absurd some ]) h
 faulty_of (Some (Demo number workers)) entry exit h = demo_said number entry exit h
 faulty_of (Some (Probe told layout from to taps)) entry exit h = probe_said told layout from to taps entry exit h
 faulty_of (Some (Meter log)) entry exit h = meter_said log entry exit h

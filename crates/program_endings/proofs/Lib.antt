@@ -9,6 +9,7 @@ pub mod ProbesAreTold
 pub mod PicturesAreTold
 pub mod StopsAreTold
 pub mod StopsAreLeft
+pub mod OutputsAreTold
 pub mod AnswersAreReliable
 pub mod DoneByForm
 pub mod DetectionFoundations
@@ -17,5 +18,6 @@ pub mod LinesOfRows
 pub mod LogAmongFiles
 pub mod OnePlan
 pub mod StoppedRunsAreWhole
+pub mod InputsAreKept
 pub mod DetectedInTheLog
 pub mod CollisionsAreTold

@@ -13,7 +13,8 @@ use Rattle.load_plan.specs.declared.plan.Plan.{Plan}
 use Rattle.program_endings.specs.declared.endings.Ending.{Ending}
 use Rattle.program_endings.specs.declared.endings.Ending.TheVariants as ending
 use Rattle.program_endings.specs.Moments.{Moment}
-use Rattle.program_endings.specs.Endings.{IsAnswer, IsDemoEnd, IsEndOf, IsMeterEnd, IsPictureEnd, IsPlainEnd, IsProbeEnd, IsResumeEnd, IsStopEnd, IsTellingEnd, IsJudged, IsEarly, IsLoadFaultSaid, IsUnloadedSaid, IsUnreadSaid, IsUnrun, IsFiledEnd, IsText, status_of}
+use Rattle.program_endings.specs.Endings.{IsAnswer, IsDemoEnd, IsEndOf, IsMeterEnd, IsPictureEnd, IsPlainEnd, IsProbeEnd, IsResumeEnd, IsStopEnd, IsTellingEnd, IsJudged, IsEarly, IsLoadFaultSaid, IsPlanned, IsTakenEnd, IsUnloadedSaid, IsUnreadSaid, IsUnrun, IsFiledEnd, IsText, status_of}
+use Rattle.program_endings.specs.WrittenNames.{AreNamesFree, RunOf, StateOf, ToWrite, first_taken_name}
 use Rattle.program_words.specs.Requests.{Asked, asked, Check, Slack, Plain, Run, Stop, Resume, Demo, Probe, Meter, Picture, Help, Version}
 use Rattle.program_words.specs.declared.words.Hearing.{Hearing}
 use Rattle.program_endings.specs.Statuses.{HasAbsentLoad, HasLoadFault, IsDoneOrMemory, IsFaultStatus, IsInputFaultSaid, IsLoadedWith, IsNetworkWith, IsPictureUnreadSaid, IsReadFaultSaid, IsResumeFaultSaid, IsUnhindered, IsUnreadOrMemory}
@@ -21,47 +22,53 @@ use Rattle.program_endings.specs.StatusLaws.{AreDemosComplete, AreLoadFaultsSaid
 use Rattle.program_endings.proofs.EndingsByStatus.{by_demo, by_meter, by_picture, by_probe, by_resume, by_stop, by_way, demo_end, end_at, files_end, of_tellings, of_texts, resume_end, stop_end}
 use Rattle.program_endings.proofs.LayoutDecidesStatus.{absent_unjudged, good_or_faulty, same_network}
 
--- some network was judged good, and its loads are these
-pub record IsKnown (layout : List ℕ) (files : Files) (l : Loaded) : Type 0 where
+-- of every network
+abbrev pub AnyNetwork : Layout → Type 0
+AnyNetwork network = Unit {0}
+
+-- some network was judged good, Q holds of it, and its loads are these
+pub record IsKnown (Q : Layout → Type 0) (layout : List ℕ) (files : Files) (l : Loaded) : Type 0 where
   pub network : Layout
   pub judged : IsJudged layout (Some files) (Ok network)
+  pub so : Q network
   pub is : loaded files network.stations ≡ l
 
--- they are only ever the same
-known_same : (layout : List ℕ) (files : Files) (a b : Loaded) → IsKnown layout files a → IsKnown layout files b → a ≡ b
-known_same layout files a b one two =
-    let same : one.network ≡ two.network = same_network layout files one.network two.network one.judged two.judged in
-    let there : loaded files one.network.stations ≡ b = rw same two.is in
-    sym one.is ∙ there
+-- X holds of the loads of the layout, whatever they are, where Q holds of its network
+abbrev pub IfKnown : (Layout → Type 0) → List ℕ → Option Files → (Loaded → Type 0) → Type 0
+IfKnown Q layout None X = Unit {0}
+IfKnown Q layout (Some files) X = (l : Loaded) → IsKnown Q layout files l → X l
 
--- X holds of the loads of the layout, whatever they are
-abbrev pub IfKnown : List ℕ → Option Files → (Loaded → Type 0) → Type 0
-IfKnown layout None X = Unit {0}
-IfKnown layout (Some files) X = (l : Loaded) → IsKnown layout files l → X l
+module _ (Q : Layout → Type 0) where
+  -- they are only ever the same
+  known_same : (layout : List ℕ) (files : Files) (a b : Loaded) → IsKnown Q layout files a → IsKnown Q layout files b → a ≡ b
+  known_same layout files a b one two =
+      let same : one.network ≡ two.network = same_network layout files one.network two.network one.judged two.judged in
+      let there : loaded files one.network.stations ≡ b = rw same two.is in
+      sym one.is ∙ there
 
-always : (layout : List ℕ) (held : Option Files) (X : Loaded → Type 0) → ((l : Loaded) → X l) → IfKnown layout held X
-always layout None X all = tt
-always layout (Some files) X all = λ l known. all l
+  always : (layout : List ℕ) (held : Option Files) (X : Loaded → Type 0) → ((l : Loaded) → X l) → IfKnown Q layout held X
+  always layout None X all = tt
+  always layout (Some files) X all = λ l known. all l
 
-known_faulty : (layout : List ℕ) (held : Option Files) (X : Loaded → Type 0) (f : LayoutFault) → IsJudged layout held (Err f) → IfKnown layout held X
-known_faulty layout None X f judged = tt
-known_faulty layout (Some files) X f judged = λ l known. absurd (good_or_faulty layout files known.network f known.judged judged)
+  known_faulty : (layout : List ℕ) (held : Option Files) (X : Loaded → Type 0) (f : LayoutFault) → IsJudged layout held (Err f) → IfKnown Q layout held X
+  known_faulty layout None X f judged = tt
+  known_faulty layout (Some files) X f judged = λ l known. absurd (good_or_faulty layout files known.network f known.judged judged)
 
-known_unread : (layout : List ℕ) (held : Option Files) (reads risen : ℕ) (X : Loaded → Type 0) → ((l : Loaded) → Rose reads risen → X l) → IsAbsent layout held ⊎ Rose reads risen → IfKnown layout held X
-known_unread layout None reads risen X on unread = tt
-known_unread layout (Some files) reads risen X on unread =
-    λ l known. elim unread [ inl absent ↦ absurd (absent_unjudged layout (Some files) (Ok known.network) absent known.judged) | inr rose ↦ on l rose ]
+  known_unread : (layout : List ℕ) (held : Option Files) (reads risen : ℕ) (X : Loaded → Type 0) → ((l : Loaded) → Rose reads risen → X l) → IsAbsent layout held ⊎ Rose reads risen → IfKnown Q layout held X
+  known_unread layout None reads risen X on unread = tt
+  known_unread layout (Some files) reads risen X on unread =
+      λ l known. elim unread [ inl absent ↦ absurd (absent_unjudged layout (Some files) (Ok known.network) absent known.judged) | inr rose ↦ on l rose ]
 
-pub known_loads : (layout : List ℕ) (held : Option Files) (network : Layout) (a : Loaded) (X : Loaded → Type 0) → IsJudged layout held (Ok network) → IsLoaded held network.stations a → X a → IfKnown layout held X
-known_loads layout None network a X judged is x = tt
-known_loads layout (Some files) network a X judged is x =
-    λ l known. subst X (known_same layout files a l (record { network = network; judged = judged; is = is }) known) x
+  pub known_loads : (layout : List ℕ) (held : Option Files) (network : Layout) (a : Loaded) (X : Loaded → Type 0) → IsJudged layout held (Ok network) → Q network → IsLoaded held network.stations a → X a → IfKnown Q layout held X
+  known_loads layout None network a X judged so is x = tt
+  known_loads layout (Some files) network a X judged so is x =
+      λ l known. subst X (known_same layout files a l (record { network = network; judged = judged; so = so; is = is }) known) x
 
-known_absent : (layout : List ℕ) (held : Option Files) (network : Layout) (name : List ℕ) (reads risen : ℕ) (X : Loaded → Type 0) → IsJudged layout held (Ok network) → X (Absent name) → ((l : Loaded) → Rose reads risen → X l)
-    → IsFirstAbsent held network.stations name ⊎ Rose reads risen → IfKnown layout held X
-known_absent layout None network name reads risen X judged x on unread = tt
-known_absent layout (Some files) network name reads risen X judged x on unread =
-    elim unread [ inl absent ↦ known_loads layout (Some files) network (Absent name) X judged absent x | inr rose ↦ (λ l known. on l rose) ]
+  known_absent : (layout : List ℕ) (held : Option Files) (network : Layout) (name : List ℕ) (reads risen : ℕ) (X : Loaded → Type 0) → IsJudged layout held (Ok network) → Q network → X (Absent name)
+      → ((l : Loaded) → Rose reads risen → X l) → IsFirstAbsent held network.stations name ⊎ Rose reads risen → IfKnown Q layout held X
+  known_absent layout None network name reads risen X judged so x on unread = tt
+  known_absent layout (Some files) network name reads risen X judged so x on unread =
+      elim unread [ inl absent ↦ known_loads layout (Some files) network (Absent name) X judged so absent x | inr rose ↦ (λ l known. on l rose) ]
 
 -- what a status says of loads
 pub record Says (X : ℕ → Loaded → Type 0) (reads risen : ℕ) : Type 0 where
@@ -70,64 +77,102 @@ pub record Says (X : ℕ → Loaded → Type 0) (reads risen : ℕ) : Type 0 whe
   pub absent : (name : List ℕ) → X 4 (Absent name)
   pub fault : (station : ℕ) (f : CaptureFault) → X 3 (Faulty station f)
 
-module _ (X : ℕ → Loaded → Type 0) (layout : List ℕ) (before after : Moment) (says : Says X before.reads after.reads) where
-  pub early_known : (e : Ending) → IsEarly layout before after e → IfKnown layout before.held (X (status_of e))
+module _ (Q : Layout → Type 0) (X : ℕ → Loaded → Type 0) (layout : List ℕ) (before after : Moment) (says : Says X before.reads after.reads) where
+  pub early_known : (e : Ending) → IsEarly layout before after e → IfKnown Q layout before.held (X (status_of e))
   early_known ending.Done early = absurd early
   early_known ending.Words early = absurd early
-  early_known ending.Layout early = known_faulty layout before.held (X 2) early.0 early.1
+  early_known ending.Layout early = known_faulty Q layout before.held (X 2) early.0 early.1
   early_known ending.Load early = absurd early
-  early_known ending.Read early = known_unread layout before.held before.reads after.reads (X 4) says.rose early.0
+  early_known ending.Read early = known_unread Q layout before.held before.reads after.reads (X 4) says.rose early.0
   early_known ending.Write early = absurd early
-  early_known ending.Memory early = always layout before.held (X 6) says.memory
+  early_known ending.Memory early = always Q layout before.held (X 6) says.memory
   early_known ending.Probe early = absurd early
   early_known ending.Log early = absurd early
   early_known ending.Stranger early = absurd early
   early_known ending.Unquiet early = absurd early
   early_known ending.State early = absurd early
+  early_known ending.Output early = absurd early
 
-  pub unloaded_known : (network : Layout) (e : Ending) → IsJudged layout before.held (Ok network) → IsUnloadedSaid network before after e → IfKnown layout before.held (X (status_of e))
-  unloaded_known network ending.Done judged said = absurd said
-  unloaded_known network ending.Words judged said = absurd said
-  unloaded_known network ending.Layout judged said = absurd said
-  unloaded_known network ending.Load judged said = known_loads layout before.held network (Faulty said.station said.fault) (X 3) judged said.loaded (says.fault said.station said.fault)
-  unloaded_known network ending.Read judged said = known_absent layout before.held network said.name before.reads after.reads (X 4) judged (says.absent said.name) says.rose said.unread
-  unloaded_known network ending.Write judged said = absurd said
-  unloaded_known network ending.Memory judged said = always layout before.held (X 6) says.memory
-  unloaded_known network ending.Probe judged said = absurd said
-  unloaded_known network ending.Log judged said = absurd said
-  unloaded_known network ending.Stranger judged said = absurd said
-  unloaded_known network ending.Unquiet judged said = absurd said
-  unloaded_known network ending.State judged said = absurd said
+  pub unloaded_known : (network : Layout) (e : Ending) → IsJudged layout before.held (Ok network) → Q network → IsUnloadedSaid network before after e → IfKnown Q layout before.held (X (status_of e))
+  unloaded_known network ending.Done judged so said = absurd said
+  unloaded_known network ending.Words judged so said = absurd said
+  unloaded_known network ending.Layout judged so said = absurd said
+  unloaded_known network ending.Load judged so said = known_loads Q layout before.held network (Faulty said.station said.fault) (X 3) judged so said.loaded (says.fault said.station said.fault)
+  unloaded_known network ending.Read judged so said = known_absent Q layout before.held network said.name before.reads after.reads (X 4) judged so (says.absent said.name) says.rose said.unread
+  unloaded_known network ending.Write judged so said = absurd said
+  unloaded_known network ending.Memory judged so said = always Q layout before.held (X 6) says.memory
+  unloaded_known network ending.Probe judged so said = absurd said
+  unloaded_known network ending.Log judged so said = absurd said
+  unloaded_known network ending.Stranger judged so said = absurd said
+  unloaded_known network ending.Unquiet judged so said = absurd said
+  unloaded_known network ending.State judged so said = absurd said
+  unloaded_known network ending.Output judged so said = absurd said
 
-  unrun_known : (e : Ending) → IsUnrun before after e → IfKnown layout before.held (X (status_of e))
-  unrun_known e unrun = let six : 6 ≡ status_of e = sym (ap status_of unrun.0) in always layout before.held (X (status_of e)) (λ l. subst (λ n. X n l) six (says.memory l))
+  unrun_known : (e : Ending) → IsUnrun before after e → IfKnown Q layout before.held (X (status_of e))
+  unrun_known e unrun = let six : 6 ≡ status_of e = sym (ap status_of unrun.0) in always Q layout before.held (X (status_of e)) (λ l. subst (λ n. X n l) six (says.memory l))
+
+-- a file to be written can't both have the name of an input and have none
+pub taken_or_free : (layout : List ℕ) (outputs : ToWrite) (files : Files) (network other : Layout) (name : List ℕ) → IsJudged layout (Some files) (Ok network) → IsJudged layout (Some files) (Ok other)
+    → first_taken_name layout outputs network ≡ Some name → AreNamesFree layout outputs other → ⊥
+taken_or_free layout outputs files network other name one two taken free =
+    let none : first_taken_name layout outputs network ≡ None = subst (λ n. AreNamesFree layout outputs n) (same_network layout files other network two one) free in
+    let both = sym taken ∙ none in cc
+
+-- nothing is known of a network for which no name is taken, where one is
+known_taken : (layout : List ℕ) (outputs : ToWrite) (held : Option Files) (network : Layout) (name : List ℕ) (X : Loaded → Type 0) → IsJudged layout held (Ok network) → first_taken_name layout outputs network ≡ Some name
+    → IfKnown (AreNamesFree layout outputs) layout held X
+known_taken layout outputs None network name X judged taken = tt
+known_taken layout outputs (Some files) network name X judged taken = λ l known. absurd (taken_or_free layout outputs files network known.network name judged known.judged taken known.so)
+
+module _ (X : ℕ → Loaded → Type 0) (layout : List ℕ) (outputs : ToWrite) (before after : Moment) (says : Says X before.reads after.reads) where
+  pub taken_known : (network : Layout) (e : Ending) → IsJudged layout before.held (Ok network) → IsTakenEnd layout outputs network before.written after.written before.refused after.refused e → IfKnown (AreNamesFree layout outputs) layout before.held (X (status_of e))
+  taken_known network ending.Done judged said = absurd said
+  taken_known network ending.Words judged said = absurd said
+  taken_known network ending.Layout judged said = absurd said
+  taken_known network ending.Load judged said = absurd said
+  taken_known network ending.Read judged said = absurd said
+  taken_known network ending.Write judged said = absurd said
+  taken_known network ending.Memory judged said = always (AreNamesFree layout outputs) layout before.held (X 6) says.memory
+  taken_known network ending.Probe judged said = absurd said
+  taken_known network ending.Log judged said = absurd said
+  taken_known network ending.Stranger judged said = absurd said
+  taken_known network ending.Unquiet judged said = absurd said
+  taken_known network ending.State judged said = absurd said
+  taken_known network ending.Output judged said = known_taken layout outputs before.held network said.0 (X 12) judged said.1
+
+-- what holds of the layout of a plan holds of the network that was planned
+pub of_planned : (Q : Layout → Type 0) (layout : List ℕ) (held : Option Files) (plan : Plan) (planned : IsPlanned layout held plan) → Q plan.layout → Q planned.network
+of_planned Q layout held plan planned so = subst (λ n. Q n) planned.is.layout so
 
 -- what an end of a run says, where it is known what it says of a run
 plain_known : (X : ℕ → Loaded → Type 0) (layout prefix : List ℕ) (before after : Moment) (e : Ending) → Says X before.reads after.reads
     → ((loads : List (List Record)) (plan : Plan) → IsFiledEnd (run_files prefix plan) (IsSummary plan) before after e → X (status_of e) (Whole loads)) → IsPlainEnd layout prefix before after e
-    → IfKnown layout before.held (X (status_of e))
+    → IfKnown (AreNamesFree layout (RunOf prefix)) layout before.held (X (status_of e))
 plain_known X layout prefix before after e says ran h =
-    by_way (IfKnown layout before.held (X (status_of e))) layout prefix before after e (λ early. early_known X layout before after says e early)
-    (λ unloaded. unloaded_known X layout before after says unloaded.network e unloaded.judged unloaded.said) (λ unrun. unrun_known X layout before after says e unrun)
-    (λ run. known_loads layout before.held run.planned.network (Whole run.planned.is.loads) (X (status_of e)) run.planned.judged run.planned.is.loaded (ran run.planned.is.loads run.plan run.filed)) h
+    by_way (IfKnown (AreNamesFree layout (RunOf prefix)) layout before.held (X (status_of e))) layout prefix before after e (λ early. early_known (AreNamesFree layout (RunOf prefix)) X layout before after says e early)
+    (λ taken. taken_known X layout (RunOf prefix) before after says taken.network e taken.judged taken.said)
+    (λ unloaded. unloaded_known (AreNamesFree layout (RunOf prefix)) X layout before after says unloaded.network e unloaded.judged unloaded.free unloaded.said) (λ unrun. unrun_known (AreNamesFree layout (RunOf prefix)) X layout before after says e unrun)
+    (λ run. known_loads (AreNamesFree layout (RunOf prefix)) layout before.held run.planned.network (Whole run.planned.is.loads) (X (status_of e)) run.planned.judged (of_planned (AreNamesFree layout (RunOf prefix)) layout before.held run.plan run.planned run.free) run.planned.is.loaded (ran run.planned.is.loads run.plan run.filed)) h
 
 -- what an end of a stop says, where it is known what it says of whole loads
 stop_known : (X : ℕ → Loaded → Type 0) (layout prefix : List ℕ) (from : ℕ) (before after : Moment) (e : Ending) → Says X before.reads after.reads → ((loads : List (List Record)) → X (status_of e) (Whole loads))
-    → IsStopEnd layout prefix from before after e → IfKnown layout before.held (X (status_of e))
+    → IsStopEnd layout prefix from before after e → IfKnown (AreNamesFree layout (StateOf prefix)) layout before.held (X (status_of e))
 stop_known X layout prefix from before after e says whole h =
-    by_stop (IfKnown layout before.held (X (status_of e))) layout prefix from before after e (λ early. early_known X layout before after says e early)
-    (λ unloaded. unloaded_known X layout before after says unloaded.network e unloaded.judged unloaded.said) (λ unrun. unrun_known X layout before after says e unrun)
-    (λ un. known_loads layout before.held un.planned.network (Whole un.planned.is.loads) (X (status_of e)) un.planned.judged un.planned.is.loaded (whole un.planned.is.loads))
-    (λ ran. known_loads layout before.held ran.planned.network (Whole ran.planned.is.loads) (X (status_of e)) ran.planned.judged ran.planned.is.loaded (whole ran.planned.is.loads)) h
+    by_stop (IfKnown (AreNamesFree layout (StateOf prefix)) layout before.held (X (status_of e))) layout prefix from before after e (λ early. early_known (AreNamesFree layout (StateOf prefix)) X layout before after says e early)
+    (λ taken. taken_known X layout (StateOf prefix) before after says taken.network e taken.judged taken.said)
+    (λ unloaded. unloaded_known (AreNamesFree layout (StateOf prefix)) X layout before after says unloaded.network e unloaded.judged unloaded.free unloaded.said) (λ unrun. unrun_known (AreNamesFree layout (StateOf prefix)) X layout before after says e unrun)
+    (λ un. known_loads (AreNamesFree layout (StateOf prefix)) layout before.held un.planned.network (Whole un.planned.is.loads) (X (status_of e)) un.planned.judged (of_planned (AreNamesFree layout (StateOf prefix)) layout before.held un.plan un.planned un.free) un.planned.is.loaded (whole un.planned.is.loads))
+    (λ ran. known_loads (AreNamesFree layout (StateOf prefix)) layout before.held ran.planned.network (Whole ran.planned.is.loads) (X (status_of e)) ran.planned.judged (of_planned (AreNamesFree layout (StateOf prefix)) layout before.held ran.plan ran.planned ran.free) ran.planned.is.loaded (whole ran.planned.is.loads)) h
 
 -- what an end of a resume says
 resume_known : (X : ℕ → Loaded → Type 0) (layout prefix : List ℕ) (before after : Moment) (e : Ending) → Says X before.reads after.reads → ((loads : List (List Record)) → X (status_of e) (Whole loads))
-    → IsResumeEnd layout prefix before after e → IfKnown layout before.held (X (status_of e))
+    → IsResumeEnd layout prefix before after e → IfKnown (AreNamesFree layout (RunOf prefix)) layout before.held (X (status_of e))
 resume_known X layout prefix before after e says whole h =
-    by_resume (IfKnown layout before.held (X (status_of e))) layout prefix before after e (λ early. early_known X layout before after says e early)
-    (λ unloaded. unloaded_known X layout before after says unloaded.network e unloaded.judged unloaded.said) (λ unrun. unrun_known X layout before after says e unrun)
-    (λ un. known_loads layout before.held un.planned.network (Whole un.planned.is.loads) (X (status_of e)) un.planned.judged un.planned.is.loaded (whole un.planned.is.loads))
-    (λ ran. known_loads layout before.held ran.planned.network (Whole ran.planned.is.loads) (X (status_of e)) ran.planned.judged ran.planned.is.loaded (whole ran.planned.is.loads)) h
+    by_resume (IfKnown (AreNamesFree layout (RunOf prefix)) layout before.held (X (status_of e))) layout prefix before after e (λ early. early_known (AreNamesFree layout (RunOf prefix)) X layout before after says e early)
+    (λ taken. taken_known X layout (RunOf prefix) before after says taken.network e taken.judged taken.said)
+    (λ unloaded. unloaded_known (AreNamesFree layout (RunOf prefix)) X layout before after says unloaded.network e unloaded.judged unloaded.free unloaded.said) (λ unrun. unrun_known (AreNamesFree layout (RunOf prefix)) X layout before after says e unrun)
+    (λ un. known_loads (AreNamesFree layout (RunOf prefix)) layout before.held un.planned.network (Whole un.planned.is.loads) (X (status_of e)) un.planned.judged (of_planned (AreNamesFree layout (RunOf prefix)) layout before.held un.plan un.planned un.free) un.planned.is.loaded (whole un.planned.is.loads))
+    (λ ran. known_loads (AreNamesFree layout (RunOf prefix)) layout before.held ran.planned.network (Whole ran.planned.is.loads) (X (status_of e)) ran.planned.judged (of_planned (AreNamesFree layout (RunOf prefix)) layout before.held ran.plan ran.planned ran.free) ran.planned.is.loaded (whole ran.planned.is.loads)) h
 
 -- a fault of a load has its status
 abbrev FaultSays : ℕ → ℕ → ℕ → Loaded → Type 0
@@ -141,11 +186,11 @@ fault_says reads risen = record {
   fault = λ s g station f is. inl refl;
 }
 
-known_fault : (layout : List ℕ) (held : Option Files) (n reads risen : ℕ) → IfKnown layout held (FaultSays reads risen n)
-    → IfSome held (λ files. (station : ℕ) (f : CaptureFault) → HasLoadFault layout (Some files) station f → IsFaultStatus 3 n reads risen)
-known_fault layout None n reads risen known = tt
-known_fault layout (Some files) n reads risen known =
-    λ station f has. known (Faulty station f) (record { network = has.0; judged = has.1; is = has.2 }) station f refl
+known_fault : (layout : List ℕ) (outputs : ToWrite) (held : Option Files) (n reads risen : ℕ) → IfKnown (AreNamesFree layout outputs) layout held (FaultSays reads risen n)
+    → IfSome held (λ files. (station : ℕ) (f : CaptureFault) → HasLoadFault layout outputs (Some files) station f → IsFaultStatus 3 n reads risen)
+known_fault layout outputs None n reads risen known = tt
+known_fault layout outputs (Some files) n reads risen known =
+    λ station f has. known (Faulty station f) (record { network = has.0; judged = has.1; so = has.2.0; is = has.2.1 }) station f refl
 
 -- whole loads have no fault
 whole_or : (X : Type 0) (loads : List (List Record)) (station : ℕ) (f : CaptureFault) → Whole loads ≡ Faulty station f → X
@@ -158,11 +203,11 @@ load_faults_decide words entry exit status answer =
     let says : Says X entry.reads exit.reads = fault_says entry.reads exit.reads in
     let n : ℕ = status_of answer.by in
     rw answer.is (
-      λ layout prefix is. known_fault layout entry.held n entry.reads exit.reads
+      λ layout prefix is. known_fault layout (RunOf prefix) entry.held n entry.reads exit.reads
           (plain_known X layout prefix entry exit answer.by says (λ loads plan filed station f w. whole_or _ loads station f w) (files_end (asked words) layout prefix entry exit answer.by is answer.allowed)),
-      λ layout prefix from is. known_fault layout entry.held n entry.reads exit.reads
+      λ layout prefix from is. known_fault layout (StateOf prefix) entry.held n entry.reads exit.reads
           (stop_known X layout prefix from entry exit answer.by says (λ loads station f w. whole_or _ loads station f w) (stop_end (asked words) layout prefix from entry exit answer.by is answer.allowed)),
-      λ layout prefix is. known_fault layout entry.held n entry.reads exit.reads
+      λ layout prefix is. known_fault layout (RunOf prefix) entry.held n entry.reads exit.reads
           (resume_known X layout prefix entry exit answer.by says (λ loads station f w. whole_or _ loads station f w) (resume_end (asked words) layout prefix entry exit answer.by is answer.allowed)),
     )
 
@@ -178,10 +223,10 @@ absent_says reads risen = record {
   fault = λ s g name is. cc;
 }
 
-known_missing : (layout : List ℕ) (held : Option Files) (n : ℕ) → IfKnown layout held (AbsentSays n)
-    → IfSome held (λ files. (name : List ℕ) → HasAbsentLoad layout (Some files) name → IsUnreadOrMemory n)
-known_missing layout None n known = tt
-known_missing layout (Some files) n known = λ name has. known (Absent name) (record { network = has.0; judged = has.1; is = has.2 }) name refl
+known_missing : (layout : List ℕ) (outputs : ToWrite) (held : Option Files) (n : ℕ) → IfKnown (AreNamesFree layout outputs) layout held (AbsentSays n)
+    → IfSome held (λ files. (name : List ℕ) → HasAbsentLoad layout outputs (Some files) name → IsUnreadOrMemory n)
+known_missing layout outputs None n known = tt
+known_missing layout outputs (Some files) n known = λ name has. known (Absent name) (record { network = has.0; judged = has.1; so = has.2.0; is = has.2.1 }) name refl
 
 whole_absent : (X : Type 0) (loads : List (List Record)) (name : List ℕ) → Whole loads ≡ Absent name → X
 whole_absent X loads name is = absurd (cc)
@@ -192,11 +237,11 @@ absent_loads_decide words entry exit status answer =
     let says : Says AbsentSays entry.reads exit.reads = absent_says entry.reads exit.reads in
     let n : ℕ = status_of answer.by in
     rw answer.is (
-      λ layout prefix is. known_missing layout entry.held n
+      λ layout prefix is. known_missing layout (RunOf prefix) entry.held n
           (plain_known AbsentSays layout prefix entry exit answer.by says (λ loads plan filed name w. whole_absent _ loads name w) (files_end (asked words) layout prefix entry exit answer.by is answer.allowed)),
-      λ layout prefix from is. known_missing layout entry.held n
+      λ layout prefix from is. known_missing layout (StateOf prefix) entry.held n
           (stop_known AbsentSays layout prefix from entry exit answer.by says (λ loads name w. whole_absent _ loads name w) (stop_end (asked words) layout prefix from entry exit answer.by is answer.allowed)),
-      λ layout prefix is. known_missing layout entry.held n
+      λ layout prefix is. known_missing layout (RunOf prefix) entry.held n
           (resume_known AbsentSays layout prefix entry exit answer.by says (λ loads name w. whole_absent _ loads name w) (resume_end (asked words) layout prefix entry exit answer.by is answer.allowed)),
     )
 
@@ -213,10 +258,10 @@ whole_says reads read writes written faults faulted = record {
   fault = λ s g loads is r w f. cc;
 }
 
-known_whole : (layout : List ℕ) (held : Option Files) (X : Loaded → Type 0) (files : Files) (network : Layout) (loads : List (List Record)) → held ≡ Some files → IsJudged layout (Some files) (Ok network)
-    → IsLoaded (Some files) network.stations (Whole loads) → IfKnown layout held X → X (Whole loads)
-known_whole layout held X files network loads told good is known =
-    let all : IfKnown layout (Some files) X = rw told at known in all (Whole loads) (record { network = network; judged = good; is = is })
+known_whole : (Q : Layout → Type 0) (layout : List ℕ) (held : Option Files) (X : Loaded → Type 0) (files : Files) (network : Layout) (loads : List (List Record)) → held ≡ Some files → IsJudged layout (Some files) (Ok network)
+    → Q network → IsLoaded (Some files) network.stations (Whole loads) → IfKnown Q layout held X → X (Whole loads)
+known_whole Q layout held X files network loads told good so is known =
+    let all : IfKnown Q layout (Some files) X = rw told at known in all (Whole loads) (record { network = network; judged = good; so = so; is = is })
 
 pub filed_whole : (files : List File) (IsRight : List ℕ → Type 0) (before after : Moment) (e : Ending) → IsFiledEnd files IsRight before after e → ¬ Rose before.writes after.writes → ¬ Rose before.faults after.faults → IsDoneOrMemory (status_of e)
 filed_whole files IsRight before after ending.Done filed w f = inl refl
@@ -231,11 +276,12 @@ filed_whole files IsRight before after ending.Log filed w f = elim filed [ inl a
 filed_whole files IsRight before after ending.Stranger filed w f = elim filed [ inl all ↦ absurd all.1.2 | inr some ↦ absurd some ]
 filed_whole files IsRight before after ending.Unquiet filed w f = elim filed [ inl all ↦ absurd all.1.2 | inr some ↦ absurd some ]
 filed_whole files IsRight before after ending.State filed w f = elim filed [ inl all ↦ absurd all.1.2 | inr some ↦ absurd some ]
+filed_whole files IsRight before after ending.Output filed w f = elim filed [ inl all ↦ absurd all.1.2 | inr some ↦ absurd some ]
 
 -- a run that nothing hinders is done
 pub complete : (words : List (List ℕ)) (entry exit : Moment) (status : ℕ) → IsAnswer words entry exit status → IsUnhindered words entry exit → IsDoneOrMemory status
 complete words entry exit status answer free =
-    rw answer.is (known_whole free.layout entry.held (WholeSays entry.reads exit.reads entry.writes exit.writes entry.faults exit.faults (status_of answer.by)) free.files free.network free.loads free.told free.judged free.loaded
+    rw answer.is (known_whole (AreNamesFree free.layout (RunOf free.prefix)) free.layout entry.held (WholeSays entry.reads exit.reads entry.writes exit.writes entry.faults exit.faults (status_of answer.by)) free.files free.network free.loads free.told free.judged free.free free.loaded
     (plain_known (WholeSays entry.reads exit.reads entry.writes exit.writes entry.faults exit.faults) free.layout free.prefix entry exit answer.by (whole_says entry.reads exit.reads entry.writes exit.writes entry.faults exit.faults)
     (λ loads plan filed again is r w f. filed_whole (run_files free.prefix plan) (IsSummary plan) entry exit answer.by filed w f)
     (files_end (asked words) free.layout free.prefix entry exit answer.by free.asks answer.allowed)) free.loads refl free.reads free.writes free.faults)
@@ -243,11 +289,11 @@ complete words entry exit status answer free =
 abbrev pub TellingSays : ℕ → ℕ → ℕ → ℕ → ℕ → Loaded → Type 0
 TellingSays reads read faults faulted n l = ¬ Rose reads read → ¬ Rose faults faulted → IsDoneOrMemory n
 
-pub known_telling : (layout : List ℕ) (held : Option Files) (reads read faults faulted n : ℕ) → IfKnown layout held (TellingSays reads read faults faulted n)
+pub known_telling : (layout : List ℕ) (held : Option Files) (reads read faults faulted n : ℕ) → IfKnown AnyNetwork layout held (TellingSays reads read faults faulted n)
     → IfSome held (λ files. (network : Layout) → IsJudged layout (Some files) (Ok network) → ¬ Rose reads read → ¬ Rose faults faulted → IsDoneOrMemory n)
 known_telling layout None reads read faults faulted n known = tt
 known_telling layout (Some files) reads read faults faulted n known =
-    λ network good. known (loaded files network.stations) (record { network = network; judged = good; is = refl })
+    λ network good. known (loaded files network.stations) (record { network = network; judged = good; so = tt; is = refl })
 
 pub text_whole : (text : List ℕ) (before after : Moment) (e : Ending) → IsText text before.written after.written before.faults after.faults e → ¬ Rose before.faults after.faults → IsDoneOrMemory (status_of e)
 text_whole text before after ending.Done written never = inl refl
@@ -262,27 +308,29 @@ text_whole text before after ending.Log written never = absurd written
 text_whole text before after ending.Stranger written never = absurd written
 text_whole text before after ending.Unquiet written never = absurd written
 text_whole text before after ending.State written never = absurd written
+text_whole text before after ending.Output written never = absurd written
 
-pub early_told : (layout : List ℕ) (before after : Moment) (e : Ending) → IsEarly layout before after e → IfKnown layout before.held (TellingSays before.reads after.reads before.faults after.faults (status_of e))
+pub early_told : (layout : List ℕ) (before after : Moment) (e : Ending) → IsEarly layout before after e → IfKnown AnyNetwork layout before.held (TellingSays before.reads after.reads before.faults after.faults (status_of e))
 early_told layout before after ending.Done early = absurd early
 early_told layout before after ending.Words early = absurd early
-early_told layout before after ending.Layout early = known_faulty layout before.held (TellingSays before.reads after.reads before.faults after.faults 2) early.0 early.1
+early_told layout before after ending.Layout early = known_faulty AnyNetwork layout before.held (TellingSays before.reads after.reads before.faults after.faults 2) early.0 early.1
 early_told layout before after ending.Load early = absurd early
 early_told layout before after ending.Read early =
-    known_unread layout before.held before.reads after.reads (TellingSays before.reads after.reads before.faults after.faults 4) (λ l rose r f. absurd (r rose)) early.0
+    known_unread AnyNetwork layout before.held before.reads after.reads (TellingSays before.reads after.reads before.faults after.faults 4) (λ l rose r f. absurd (r rose)) early.0
 early_told layout before after ending.Write early = absurd early
-early_told layout before after ending.Memory early = always layout before.held (TellingSays before.reads after.reads before.faults after.faults 6) (λ l r f. inr refl)
+early_told layout before after ending.Memory early = always AnyNetwork layout before.held (TellingSays before.reads after.reads before.faults after.faults 6) (λ l r f. inr refl)
 early_told layout before after ending.Probe early = absurd early
 early_told layout before after ending.Log early = absurd early
 early_told layout before after ending.Stranger early = absurd early
 early_told layout before after ending.Unquiet early = absurd early
 early_told layout before after ending.State early = absurd early
+early_told layout before after ending.Output early = absurd early
 
-pub telling_known : (Tells : Layout → List ℕ → Type 0) (layout : List ℕ) (before after : Moment) (e : Ending) → IsTellingEnd Tells layout before after e → IfKnown layout before.held (TellingSays before.reads after.reads before.faults after.faults (status_of e))
+pub telling_known : (Tells : Layout → List ℕ → Type 0) (layout : List ℕ) (before after : Moment) (e : Ending) → IsTellingEnd Tells layout before after e → IfKnown AnyNetwork layout before.held (TellingSays before.reads after.reads before.faults after.faults (status_of e))
 telling_known Tells layout before after e h =
     elim h.1 [
       | inl early ↦ early_told layout before after e early
-      | inr told ↦ always layout before.held (TellingSays before.reads after.reads before.faults after.faults (status_of e)) (λ l r f. text_whole told.text before after e told.written f)
+      | inr told ↦ always AnyNetwork layout before.held (TellingSays before.reads after.reads before.faults after.faults (status_of e)) (λ l r f. text_whole told.text before after e told.written f)
     ]
 
 -- a form that only tells of a layout is done where nothing hinders it
@@ -316,7 +364,7 @@ read_unrun e = cc
 
 load_said : (layout prefix : List ℕ) (entry exit : Moment) → IsPlainEnd layout prefix entry exit ending.Load → IsNetworkWith layout entry.held (λ network. IsLoadFaultSaid network entry exit)
 load_said layout prefix entry exit h =
-    by_way (IsNetworkWith layout entry.held (λ network. IsLoadFaultSaid network entry exit)) layout prefix entry exit ending.Load (λ early. absurd early) (λ unloaded. (unloaded.network, unloaded.judged, unloaded.said))
+    by_way (IsNetworkWith layout entry.held (λ network. IsLoadFaultSaid network entry exit)) layout prefix entry exit ending.Load (λ early. absurd early) (λ taken. absurd taken.said) (λ unloaded. (unloaded.network, unloaded.judged, unloaded.said))
     (λ unrun. absurd (load_unrun unrun.0)) (λ run. elim run.filed [ inl all ↦ absurd all.1.2 | inr some ↦ absurd some ]) h
 
 load_demo : (number : ℕ) (entry exit : Moment) → IsDemoEnd number entry exit ending.Load → ⊥
@@ -343,9 +391,9 @@ load_faulty_of (Some (Slack layout)) entry exit h = elim h.1 [ inl early ↦ abs
 load_faulty_of (Some (Plain layout prefix)) entry exit h = load_said layout prefix entry exit h
 load_faulty_of (Some (Run layout prefix workers)) entry exit h = load_said layout prefix entry exit h
 load_faulty_of (Some (Stop layout prefix from)) entry exit h =
-    by_stop (IsNetworkWith layout entry.held (λ network. IsLoadFaultSaid network entry exit)) layout prefix from entry exit ending.Load (λ early. absurd early) (λ unloaded. (unloaded.network, unloaded.judged, unloaded.said)) (λ unrun. absurd (load_unrun unrun.0)) (λ un. absurd un.said) (λ ran. elim ran.filed [ inl all ↦ absurd all.1.2 | inr some ↦ absurd some ]) h
+    by_stop (IsNetworkWith layout entry.held (λ network. IsLoadFaultSaid network entry exit)) layout prefix from entry exit ending.Load (λ early. absurd early) (λ taken. absurd taken.said) (λ unloaded. (unloaded.network, unloaded.judged, unloaded.said)) (λ unrun. absurd (load_unrun unrun.0)) (λ un. absurd un.said) (λ ran. elim ran.filed [ inl all ↦ absurd all.1.2 | inr some ↦ absurd some ]) h
 load_faulty_of (Some (Resume layout prefix)) entry exit h =
-    by_resume (IsNetworkWith layout entry.held (λ network. IsLoadFaultSaid network entry exit)) layout prefix entry exit ending.Load (λ early. absurd early) (λ unloaded. (unloaded.network, unloaded.judged, unloaded.said)) (λ unrun. absurd (load_unrun unrun.0)) (λ un. absurd un.said) (λ ran. elim ran.filed [ inl all ↦ absurd all.1.2 | inr some ↦ absurd some ]) h
+    by_resume (IsNetworkWith layout entry.held (λ network. IsLoadFaultSaid network entry exit)) layout prefix entry exit ending.Load (λ early. absurd early) (λ taken. absurd taken.said) (λ unloaded. (unloaded.network, unloaded.judged, unloaded.said)) (λ unrun. absurd (load_unrun unrun.0)) (λ un. absurd un.said) (λ ran. elim ran.filed [ inl all ↦ absurd all.1.2 | inr some ↦ absurd some ]) h
 load_faulty_of (Some (Demo number workers)) entry exit h = absurd (load_demo number entry exit h)
 load_faulty_of (Some (Probe told layout from to taps)) entry exit h = load_probe told layout from to taps entry exit h
 load_faulty_of (Some (Meter log)) entry exit h = absurd (load_meter log entry exit h)
@@ -357,7 +405,7 @@ load_faults_are_said words entry exit status answer is = load_faulty_of (asked w
 
 unread_said : (layout prefix : List ℕ) (entry exit : Moment) → IsPlainEnd layout prefix entry exit ending.Read → IsInputFaultSaid layout entry exit
 unread_said layout prefix entry exit h =
-    by_way (IsInputFaultSaid layout entry exit) layout prefix entry exit ending.Read (λ early. inl early) (λ unloaded. inr (unloaded.network, unloaded.judged, unloaded.said)) (λ unrun. absurd (read_unrun unrun.0))
+    by_way (IsInputFaultSaid layout entry exit) layout prefix entry exit ending.Read (λ early. inl early) (λ taken. absurd taken.said) (λ unloaded. inr (unloaded.network, unloaded.judged, unloaded.said)) (λ unrun. absurd (read_unrun unrun.0))
     (λ run. elim run.filed [ inl all ↦ absurd all.1.2 | inr some ↦ absurd some ]) h
 
 unread_demo : (number : ℕ) (entry exit : Moment) → IsDemoEnd number entry exit ending.Read → ⊥
@@ -385,9 +433,9 @@ unread_of (Some (Slack layout)) entry exit h = elim h.1 [ inl early ↦ early | 
 unread_of (Some (Plain layout prefix)) entry exit h = unread_said layout prefix entry exit h
 unread_of (Some (Run layout prefix workers)) entry exit h = unread_said layout prefix entry exit h
 unread_of (Some (Stop layout prefix from)) entry exit h =
-    by_stop (IsInputFaultSaid layout entry exit) layout prefix from entry exit ending.Read (λ early. inl early) (λ unloaded. inr (unloaded.network, unloaded.judged, unloaded.said)) (λ unrun. absurd (read_unrun unrun.0)) (λ un. absurd un.said) (λ ran. elim ran.filed [ inl all ↦ absurd all.1.2 | inr some ↦ absurd some ]) h
+    by_stop (IsInputFaultSaid layout entry exit) layout prefix from entry exit ending.Read (λ early. inl early) (λ taken. absurd taken.said) (λ unloaded. inr (unloaded.network, unloaded.judged, unloaded.said)) (λ unrun. absurd (read_unrun unrun.0)) (λ un. absurd un.said) (λ ran. elim ran.filed [ inl all ↦ absurd all.1.2 | inr some ↦ absurd some ]) h
 unread_of (Some (Resume layout prefix)) entry exit h =
-    by_resume (IsResumeFaultSaid layout prefix entry exit) layout prefix entry exit ending.Read (λ early. inl (inl early)) (λ unloaded. inl (inr (unloaded.network, unloaded.judged, unloaded.said))) (λ unrun. absurd (read_unrun unrun.0)) (λ un. inr (un.plan, un.planned, un.said)) (λ ran. elim ran.filed [ inl all ↦ absurd all.1.2 | inr some ↦ absurd some ]) h
+    by_resume (IsResumeFaultSaid layout prefix entry exit) layout prefix entry exit ending.Read (λ early. inl (inl early)) (λ taken. absurd taken.said) (λ unloaded. inl (inr (unloaded.network, unloaded.judged, unloaded.said))) (λ unrun. absurd (read_unrun unrun.0)) (λ un. inr (un.plan, un.planned, un.said)) (λ ran. elim ran.filed [ inl all ↦ absurd all.1.2 | inr some ↦ absurd some ]) h
 unread_of (Some (Demo number workers)) entry exit h = unread_demo number entry exit h
 unread_of (Some (Probe told layout from to taps)) entry exit h = unread_probe told layout from to taps entry exit h
 unread_of (Some (Meter log)) entry exit h = unread_meter log entry exit h

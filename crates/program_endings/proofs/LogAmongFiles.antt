@@ -49,7 +49,7 @@ same_other : (a b name : List ℕ) → bytes_eq a b ≡ true → bytes_eq b name
 same_other a b name same other = subst (λ n. bytes_eq n name ≡ false) (sym ((bytes_eq-Decides a b).0 same)) other
 
 -- a file is as it was where another one is set
-file_of_other : (name other octets : List ℕ) (files : Files) → bytes_eq other name ≡ false → file_of name (with_file other octets files) ≡ file_of name files
+pub file_of_other : (name other octets : List ℕ) (files : Files) → bytes_eq other name ≡ false → file_of name (with_file other octets files) ≡ file_of name files
 file_of_other name other octets [] apart = rw apart refl
 file_of_other name other octets (f ∷ fs) apart =
     elim (cases_Bool (bytes_eq f.name other)) [
@@ -61,7 +61,7 @@ file_of_other name other octets (f ∷ fs) apart =
     ]
 
 -- none of these files has the name
-abbrev AreOthers : List ℕ → List File → Type 0
+abbrev pub AreOthers : List ℕ → List File → Type 0
 AreOthers name [] = Unit {0}
 AreOthers name (f ∷ fs) = (bytes_eq f.name name ≡ false) × AreOthers name fs
 
@@ -73,10 +73,10 @@ captures_others prefix (s ∷ ss) (c ∷ cs) = (capture_other prefix s.name, cap
 pub some_same : (a b : List ℕ) → Some a ≡ Some b → a ≡ b
 some_same a b same = ap (λ o. unwrap_or o a) same
 
-files_same : (a b : Files) → Some a ≡ Some b → a ≡ b
+pub files_same : (a b : Files) → Some a ≡ Some b → a ≡ b
 files_same a b same = ap (λ o. unwrap_or o a) same
 
-put_others : (name : List ℕ) (fs : List File) (files now : Files) → AreOthers name fs → put_all fs (Some files) ≡ Some now → file_of name now ≡ file_of name files
+pub put_others : (name : List ℕ) (fs : List File) (files now : Files) → AreOthers name fs → put_all fs (Some files) ≡ Some now → file_of name now ≡ file_of name files
 put_others name [] files now others put = ap (file_of name) (sym (files_same files now put))
 put_others name (f ∷ fs) files now others put =
     put_others name fs (with_file f.name f.octets files) now others.1 put ∙ file_of_other name f.name f.octets files others.0

@@ -64,6 +64,7 @@ module _ (log : List ℕ) (before after : Moment) where
   unmetered_faulty ending.Stranger h = absurd h
   unmetered_faulty ending.Unquiet h = absurd h
   unmetered_faulty ending.State h = absurd h
+  unmetered_faulty ending.Output h = absurd h
 
   unmetered_absent : (e : Ending) → IsUnmetered log before after e → IsAbsent log before.held → IsUnreadOrMemory (status_of e)
   unmetered_absent ending.Done h absent = absurd h
@@ -78,6 +79,7 @@ module _ (log : List ℕ) (before after : Moment) where
   unmetered_absent ending.Stranger h absent = absurd h
   unmetered_absent ending.Unquiet h absent = absurd h
   unmetered_absent ending.State h absent = absurd h
+  unmetered_absent ending.Output h absent = absurd h
 
 -- status 8 where the log has a fault
 pub log_faults_decide : DoLogFaultsDecide
@@ -106,13 +108,13 @@ log_faulty_of (Some Version) entry exit h = absurd h.0
 log_faulty_of (Some (Check layout)) entry exit h = elim h.1 [ inl early ↦ absurd early | inr checked ↦ absurd checked.written ]
 log_faulty_of (Some (Slack layout)) entry exit h = elim h.1 [ inl early ↦ absurd early | inr checked ↦ absurd checked.written ]
 log_faulty_of (Some (Plain layout prefix)) entry exit h =
-    by_way ⊥ layout prefix entry exit ending.Log (λ early. early) (λ unloaded. unloaded.said) (λ unrun. log_unrun unrun.0) (λ run. elim run.filed [ inl all ↦ all.1.2 | inr some ↦ some ]) h
+    by_way ⊥ layout prefix entry exit ending.Log (λ early. early) (λ taken. taken.said) (λ unloaded. unloaded.said) (λ unrun. log_unrun unrun.0) (λ run. elim run.filed [ inl all ↦ all.1.2 | inr some ↦ some ]) h
 log_faulty_of (Some (Run layout prefix workers)) entry exit h =
-    by_way ⊥ layout prefix entry exit ending.Log (λ early. early) (λ unloaded. unloaded.said) (λ unrun. log_unrun unrun.0) (λ run. elim run.filed [ inl all ↦ all.1.2 | inr some ↦ some ]) h
+    by_way ⊥ layout prefix entry exit ending.Log (λ early. early) (λ taken. taken.said) (λ unloaded. unloaded.said) (λ unrun. log_unrun unrun.0) (λ run. elim run.filed [ inl all ↦ all.1.2 | inr some ↦ some ]) h
 log_faulty_of (Some (Stop layout prefix from)) entry exit h =
-    by_stop ⊥ layout prefix from entry exit ending.Log (λ early. early) (λ unloaded. unloaded.said) (λ unrun. log_unrun unrun.0) (λ un. un.said) (λ ran. elim ran.filed [ inl all ↦ all.1.2 | inr some ↦ some ]) h
+    by_stop ⊥ layout prefix from entry exit ending.Log (λ early. early) (λ taken. taken.said) (λ unloaded. unloaded.said) (λ unrun. log_unrun unrun.0) (λ un. un.said) (λ ran. elim ran.filed [ inl all ↦ all.1.2 | inr some ↦ some ]) h
 log_faulty_of (Some (Resume layout prefix)) entry exit h =
-    by_resume ⊥ layout prefix entry exit ending.Log (λ early. early) (λ unloaded. unloaded.said) (λ unrun. log_unrun unrun.0) (λ un. un.said) (λ ran. elim ran.filed [ inl all ↦ all.1.2 | inr some ↦ some ]) h
+    by_resume ⊥ layout prefix entry exit ending.Log (λ early. early) (λ taken. taken.said) (λ unloaded. unloaded.said) (λ unrun. log_unrun unrun.0) (λ un. un.said) (λ ran. elim ran.filed [ inl all ↦ all.1.2 | inr some ↦ some ]) h
 log_faulty_of (Some (Demo number workers)) entry exit h = by_demo ⊥ number entry exit ending.Log (λ is written. log_unrun is) (λ text right written. written) h
 log_faulty_of (Some (Probe told layout from to taps)) entry exit h =
     by_probe ⊥ told layout from to taps entry exit ending.Log (λ early. early) (λ missed. missed.missed) (λ unprobed. unprobed.said) (λ probed. probed.written) h
@@ -168,6 +170,7 @@ module _ (log : List ℕ) (before after : Moment) where
   unmetered_whole ending.Stranger h = absurd h
   unmetered_whole ending.Unquiet h = absurd h
   unmetered_whole ending.State h = absurd h
+  unmetered_whole ending.Output h = absurd h
 
 -- meter is done where nothing hinders it
 pub meters_are_complete : AreMetersComplete

@@ -112,6 +112,7 @@ module _ (X : ℕ → Layout → Logged → Type 0) (layout log : List ℕ) (bef
   early_logged ending.Stranger early = absurd early
   early_logged ending.Unquiet early = absurd early
   early_logged ending.State early = absurd early
+  early_logged ending.Output early = absurd early
 
   unmetered_logged : (e : Ending) → IsUnmetered log before after e → IfLogged layout log before.held (X (status_of e))
   unmetered_logged ending.Done said = absurd said
@@ -126,6 +127,7 @@ module _ (X : ℕ → Layout → Logged → Type 0) (layout log : List ℕ) (bef
   unmetered_logged ending.Stranger said = absurd said
   unmetered_logged ending.Unquiet said = absurd said
   unmetered_logged ending.State said = absurd said
+  unmetered_logged ending.Output said = absurd said
 
   strange_logged : (network : Layout) (lines : List LogLine) (e : Ending) → IsJudged layout before.held (Ok network) → HasLog log before.held lines
       → IsStrangeEnd network lines before.written after.written before.refused after.refused e → IfLogged layout log before.held (X (status_of e))
@@ -141,6 +143,7 @@ module _ (X : ℕ → Layout → Logged → Type 0) (layout log : List ℕ) (bef
   strange_logged network lines ending.Stranger judged has said = logged_lines layout log before.held network lines (X 11) judged has (tells.strange network lines said.0 said.1)
   strange_logged network lines ending.Unquiet judged has said = absurd said
   strange_logged network lines ending.State judged has said = absurd said
+  strange_logged network lines ending.Output judged has said = absurd said
 
   -- what an end of a picture says, where it is known what it says of one that is drawn
   picture_known : (from to : ℕ) (e : Ending)
@@ -317,13 +320,13 @@ stranger_said_of (Some Version) entry exit h = absurd h.0
 stranger_said_of (Some (Check layout)) entry exit h = elim h.1 [ inl early ↦ absurd early | inr checked ↦ absurd checked.written ]
 stranger_said_of (Some (Slack layout)) entry exit h = elim h.1 [ inl early ↦ absurd early | inr checked ↦ absurd checked.written ]
 stranger_said_of (Some (Plain layout prefix)) entry exit h =
-    by_way ⊥ layout prefix entry exit ending.Stranger (λ early. early) (λ unloaded. unloaded.said) (λ unrun. strange_unrun unrun.0) (λ run. elim run.filed [ inl all ↦ all.1.2 | inr some ↦ some ]) h
+    by_way ⊥ layout prefix entry exit ending.Stranger (λ early. early) (λ taken. taken.said) (λ unloaded. unloaded.said) (λ unrun. strange_unrun unrun.0) (λ run. elim run.filed [ inl all ↦ all.1.2 | inr some ↦ some ]) h
 stranger_said_of (Some (Run layout prefix workers)) entry exit h =
-    by_way ⊥ layout prefix entry exit ending.Stranger (λ early. early) (λ unloaded. unloaded.said) (λ unrun. strange_unrun unrun.0) (λ run. elim run.filed [ inl all ↦ all.1.2 | inr some ↦ some ]) h
+    by_way ⊥ layout prefix entry exit ending.Stranger (λ early. early) (λ taken. taken.said) (λ unloaded. unloaded.said) (λ unrun. strange_unrun unrun.0) (λ run. elim run.filed [ inl all ↦ all.1.2 | inr some ↦ some ]) h
 stranger_said_of (Some (Stop layout prefix from)) entry exit h =
-    by_stop ⊥ layout prefix from entry exit ending.Stranger (λ early. early) (λ unloaded. unloaded.said) (λ unrun. strange_unrun unrun.0) (λ un. un.said) (λ ran. elim ran.filed [ inl all ↦ all.1.2 | inr some ↦ some ]) h
+    by_stop ⊥ layout prefix from entry exit ending.Stranger (λ early. early) (λ taken. taken.said) (λ unloaded. unloaded.said) (λ unrun. strange_unrun unrun.0) (λ un. un.said) (λ ran. elim ran.filed [ inl all ↦ all.1.2 | inr some ↦ some ]) h
 stranger_said_of (Some (Resume layout prefix)) entry exit h =
-    by_resume ⊥ layout prefix entry exit ending.Stranger (λ early. early) (λ unloaded. unloaded.said) (λ unrun. strange_unrun unrun.0) (λ un. un.said) (λ ran. elim ran.filed [ inl all ↦ all.1.2 | inr some ↦ some ]) h
+    by_resume ⊥ layout prefix entry exit ending.Stranger (λ early. early) (λ taken. taken.said) (λ unloaded. unloaded.said) (λ unrun. strange_unrun unrun.0) (λ un. un.said) (λ ran. elim ran.filed [ inl all ↦ all.1.2 | inr some ↦ some ]) h
 stranger_said_of (Some (Demo number workers)) entry exit h = by_demo ⊥ number entry exit ending.Stranger (λ is written. strange_unrun is) (λ text right written. written) h
 stranger_said_of (Some (Probe told layout from to taps)) entry exit h =
     by_probe ⊥ told layout from to taps entry exit ending.Stranger (λ early. early) (λ missed. missed.missed) (λ unprobed. unprobed.said) (λ probed. probed.written) h

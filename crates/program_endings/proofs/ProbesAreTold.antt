@@ -20,7 +20,7 @@ use Rattle.program_words.specs.declared.words.Hearing.{Hearing}
 use Rattle.program_endings.specs.Statuses.{IsDoneOrMemory, IsFaultStatus, IsMissSaid, IsNetworkWith, IsProbeCut, IsProbeDone, IsProbeWith, IsUnreadOrMemory}
 use Rattle.program_endings.proofs.EndingsByStatus.{by_demo, by_meter, by_picture, by_probe, by_resume, by_stop, by_way, end_at, probe_end}
 use Rattle.program_endings.proofs.LayoutDecidesStatus.{absent_unjudged, good_or_faulty, same_network, some_of, unread_status}
-use Rattle.program_endings.proofs.LoadsDecideStatus.{IfKnown, IsKnown, Says, absent_says, early_known, fault_says, known_loads, text_whole, unloaded_known}
+use Rattle.program_endings.proofs.LoadsDecideStatus.{AnyNetwork, IfKnown, IsKnown, Says, absent_says, early_known, fault_says, known_loads, text_whole, unloaded_known}
 
 -- of words that name taps each names one
 named_front : (network : Layout) (front rest : List (List ℕ)) (word : List ℕ) (taps : List Tap) → AreTapsOf network (front ++ word ∷ rest) taps → (tap : Tap) × IsWordOf network word tap
@@ -53,6 +53,7 @@ missed_of network to taps written now refused risen ending.Log h = absurd h
 missed_of network to taps written now refused risen ending.Stranger h = absurd h
 missed_of network to taps written now refused risen ending.Unquiet h = absurd h
 missed_of network to taps written now refused risen ending.State h = absurd h
+missed_of network to taps written now refused risen ending.Output h = absurd h
 
 missed_status : (network : Layout) (to : ℕ) (taps : List (List ℕ)) (written now : Option (List ℕ)) (refused risen : ℕ) (e : Ending) → IsAimEnd network to taps written now refused risen e → (status_of e ≡ 7) ⊎ (status_of e ≡ 6)
 missed_status network to taps written now refused risen ending.Done h = absurd h
@@ -67,6 +68,7 @@ missed_status network to taps written now refused risen ending.Log h = absurd h
 missed_status network to taps written now refused risen ending.Stranger h = absurd h
 missed_status network to taps written now refused risen ending.Unquiet h = absurd h
 missed_status network to taps written now refused risen ending.State h = absurd h
+missed_status network to taps written now refused risen ending.Output h = absurd h
 
 -- this network was judged good and misses something
 abbrev IsMissing : List ℕ → ℕ → List (List ℕ) → Files → Type 0
@@ -100,6 +102,7 @@ module _ (layout : List ℕ) (to : ℕ) (taps : List (List ℕ)) (before after :
   early_missing ending.Stranger early = absurd early
   early_missing ending.Unquiet early = absurd early
   early_missing ending.State early = absurd early
+  early_missing ending.Output early = absurd early
 
   missed_missing : (e : Ending) → IsMissed layout to taps before after e → IfSome before.held (λ files. IsMissing layout to taps files → IsFaultStatus 7 (status_of e) before.reads after.reads)
   missed_missing e missed =
@@ -133,13 +136,13 @@ missed_said_of (Some Version) entry exit h = absurd h.0
 missed_said_of (Some (Check layout)) entry exit h = elim h.1 [ inl early ↦ absurd early | inr checked ↦ absurd checked.written ]
 missed_said_of (Some (Slack layout)) entry exit h = elim h.1 [ inl early ↦ absurd early | inr checked ↦ absurd checked.written ]
 missed_said_of (Some (Plain layout prefix)) entry exit h =
-    by_way ⊥ layout prefix entry exit ending.Probe (λ early. early) (λ unloaded. unloaded.said) (λ unrun. probe_unrun unrun.0) (λ run. elim run.filed [ inl all ↦ all.1.2 | inr some ↦ some ]) h
+    by_way ⊥ layout prefix entry exit ending.Probe (λ early. early) (λ taken. taken.said) (λ unloaded. unloaded.said) (λ unrun. probe_unrun unrun.0) (λ run. elim run.filed [ inl all ↦ all.1.2 | inr some ↦ some ]) h
 missed_said_of (Some (Run layout prefix workers)) entry exit h =
-    by_way ⊥ layout prefix entry exit ending.Probe (λ early. early) (λ unloaded. unloaded.said) (λ unrun. probe_unrun unrun.0) (λ run. elim run.filed [ inl all ↦ all.1.2 | inr some ↦ some ]) h
+    by_way ⊥ layout prefix entry exit ending.Probe (λ early. early) (λ taken. taken.said) (λ unloaded. unloaded.said) (λ unrun. probe_unrun unrun.0) (λ run. elim run.filed [ inl all ↦ all.1.2 | inr some ↦ some ]) h
 missed_said_of (Some (Stop layout prefix from)) entry exit h =
-    by_stop ⊥ layout prefix from entry exit ending.Probe (λ early. early) (λ unloaded. unloaded.said) (λ unrun. probe_unrun unrun.0) (λ un. un.said) (λ ran. elim ran.filed [ inl all ↦ all.1.2 | inr some ↦ some ]) h
+    by_stop ⊥ layout prefix from entry exit ending.Probe (λ early. early) (λ taken. taken.said) (λ unloaded. unloaded.said) (λ unrun. probe_unrun unrun.0) (λ un. un.said) (λ ran. elim ran.filed [ inl all ↦ all.1.2 | inr some ↦ some ]) h
 missed_said_of (Some (Resume layout prefix)) entry exit h =
-    by_resume ⊥ layout prefix entry exit ending.Probe (λ early. early) (λ unloaded. unloaded.said) (λ unrun. probe_unrun unrun.0) (λ un. un.said) (λ ran. elim ran.filed [ inl all ↦ all.1.2 | inr some ↦ some ]) h
+    by_resume ⊥ layout prefix entry exit ending.Probe (λ early. early) (λ taken. taken.said) (λ unloaded. unloaded.said) (λ unrun. probe_unrun unrun.0) (λ un. un.said) (λ ran. elim ran.filed [ inl all ↦ all.1.2 | inr some ↦ some ]) h
 missed_said_of (Some (Demo number workers)) entry exit h = by_demo ⊥ number entry exit ending.Probe (λ is written. probe_unrun is) (λ text right written. written) h
 missed_said_of (Some (Probe told layout from to taps)) entry exit h =
     by_probe (IsNetworkWith layout entry.held (λ network. IsMissSaid network to taps entry exit)) told layout from to taps entry exit ending.Probe (λ early. absurd early) (λ missed. (missed.network, missed.judged, missed.missed))
@@ -154,9 +157,9 @@ misses_are_said words entry exit status answer is = missed_said_of (asked words)
 -- X holds of the loads of the layout where its network has what the probe aims at
 abbrev IfAimed : List ℕ → ℕ → List (List ℕ) → Option Files → (Loaded → Type 0) → Type 0
 IfAimed layout to taps None X = Unit {0}
-IfAimed layout to taps (Some files) X = (l : Loaded) → IsNetworkWith layout (Some files) (λ network. HasAim network to taps) → IsKnown layout files l → X l
+IfAimed layout to taps (Some files) X = (l : Loaded) → IsNetworkWith layout (Some files) (λ network. HasAim network to taps) → IsKnown AnyNetwork layout files l → X l
 
-aimed_known : (layout : List ℕ) (to : ℕ) (taps : List (List ℕ)) (held : Option Files) (X : Loaded → Type 0) → IfKnown layout held X → IfAimed layout to taps held X
+aimed_known : (layout : List ℕ) (to : ℕ) (taps : List (List ℕ)) (held : Option Files) (X : Loaded → Type 0) → IfKnown AnyNetwork layout held X → IfAimed layout to taps held X
 aimed_known layout to taps None X known = tt
 aimed_known layout to taps (Some files) X known = λ l aim is. known l is
 
@@ -175,12 +178,12 @@ probe_known : (X : ℕ → Loaded → Type 0) (told : Hearing) (layout : List �
     → ((loads : List (List Record)) → IsProbed told layout from to taps before after e → X (status_of e) (Whole loads)) → IsProbeEnd told layout from to taps before after e → IfAimed layout to taps before.held (X (status_of e))
 probe_known X told layout from to taps before after e says done h =
     by_probe (IfAimed layout to taps before.held (X (status_of e))) told layout from to taps before after e
-    (λ early. aimed_known layout to taps before.held (X (status_of e)) (early_known X layout before after says e early))
+    (λ early. aimed_known layout to taps before.held (X (status_of e)) (early_known AnyNetwork X layout before after says e early))
     (λ missed. aimed_missed layout to taps before.held (X (status_of e)) missed.network e missed.judged (missed_of missed.network to taps before.written after.written before.refused after.refused e missed.missed)
     (λ six l. subst (λ (a : Ending). X (status_of a) l) (symmetric six) (says.memory l)))
-    (λ unprobed. aimed_known layout to taps before.held (X (status_of e)) (unloaded_known X layout before after says unprobed.network e unprobed.judged unprobed.said))
+    (λ unprobed. aimed_known layout to taps before.held (X (status_of e)) (unloaded_known AnyNetwork X layout before after says unprobed.network e unprobed.judged tt unprobed.said))
     (λ probed. aimed_known layout to taps before.held (X (status_of e))
-    (known_loads layout before.held probed.right.planned.network (Whole probed.right.planned.is.loads) (X (status_of e)) probed.right.planned.judged probed.right.planned.is.loaded (done probed.right.planned.is.loads probed))) h
+    (known_loads AnyNetwork layout before.held probed.right.planned.network (Whole probed.right.planned.is.loads) (X (status_of e)) probed.right.planned.judged tt probed.right.planned.is.loaded (done probed.right.planned.is.loads probed))) h
   where
     symmetric : e ≡ ending.Memory → ending.Memory ≡ e
     symmetric is = cc
@@ -193,7 +196,7 @@ aimed_fault : (layout : List ℕ) (to : ℕ) (taps : List (List ℕ)) (held : Op
     → IfSome held (λ files. (station : ℕ) (f : CaptureFault) → IsNetworkWith layout (Some files) (λ network. HasAim network to taps × IsLoaded (Some files) network.stations (Faulty station f)) → IsFaultStatus 3 n reads risen)
 aimed_fault layout to taps None n reads risen known = tt
 aimed_fault layout to taps (Some files) n reads risen known =
-    λ station f has. known (Faulty station f) (has.0, has.1, has.2.0) (record { network = has.0; judged = has.1; is = has.2.1 }) station f refl
+    λ station f has. known (Faulty station f) (has.0, has.1, has.2.0) (record { network = has.0; judged = has.1; so = tt; is = has.2.1 }) station f refl
 
 whole_or : (X : Type 0) (loads : List (List Record)) (station : ℕ) (f : CaptureFault) → Whole loads ≡ Faulty station f → X
 whole_or X loads station f is = absurd (cc)
@@ -211,7 +214,7 @@ ProbedAbsentSays n l = (name : List ℕ) → l ≡ Absent name → IsUnreadOrMem
 aimed_absent : (layout : List ℕ) (to : ℕ) (taps : List (List ℕ)) (held : Option Files) (n : ℕ) → IfAimed layout to taps held (ProbedAbsentSays n)
     → IfSome held (λ files. (name : List ℕ) → IsNetworkWith layout (Some files) (λ network. HasAim network to taps × IsFirstAbsent (Some files) network.stations name) → IsUnreadOrMemory n)
 aimed_absent layout to taps None n known = tt
-aimed_absent layout to taps (Some files) n known = λ name has. known (Absent name) (has.0, has.1, has.2.0) (record { network = has.0; judged = has.1; is = has.2.1 }) name refl
+aimed_absent layout to taps (Some files) n known = λ name has. known (Absent name) (has.0, has.1, has.2.0) (record { network = has.0; judged = has.1; so = tt; is = has.2.1 }) name refl
 
 whole_absent : (X : Type 0) (loads : List (List Record)) (name : List ℕ) → Whole loads ≡ Absent name → X
 whole_absent X loads name is = absurd (cc)
@@ -257,7 +260,7 @@ aimed_whole : (layout : List ℕ) (to : ℕ) (taps : List (List ℕ)) (held : Op
     → IfSome held (λ files. (loads : List (List Record)) → IsNetworkWith layout (Some files) (λ network. HasAim network to taps × IsLoaded (Some files) network.stations (Whole loads)) → ¬ Rose reads read → ¬ Rose faults faulted → IsDoneOrMemory n)
 aimed_whole layout to taps None n reads read faults faulted known = tt
 aimed_whole layout to taps (Some files) n reads read faults faulted known =
-    λ loads has r f. known (Whole loads) (has.0, has.1, has.2.0) (record { network = has.0; judged = has.1; is = has.2.1 }) loads refl r f
+    λ loads has r f. known (Whole loads) (has.0, has.1, has.2.0) (record { network = has.0; judged = has.1; so = tt; is = has.2.1 }) loads refl r f
 
 -- a probe that nothing hinders is done
 pub probes_are_complete : AreProbesComplete

@@ -20,6 +20,7 @@ use Rattle.log_meter.specs.declared.line.LogLine.{LogLine}
 use Rattle.network.specs.Outputs.{half_bits}
 use Rattle.program_endings.specs.FileLimits.{most_layout}
 use Rattle.program_endings.specs.Reading.{front_of}
+use Rattle.program_endings.specs.WrittenNames.{AreNamesFree, RunOf, StateOf, ToWrite, first_taken_name}
 use Rattle.program_endings.specs.Writing.{put_all, added, IsBrokenAmong, IsSaid, IsCutShort}
 use Rattle.program_endings.specs.Moments.{Moment}
 use Rattle.program_endings.specs.CheckpointFiles.{HasState, IsStateFaulty}
@@ -35,7 +36,7 @@ use Rattle.run_picture.specs.Pictures.{picture_of}
 use Rattle.run_picture.specs.Strangers.{first_stranger}
 use Rattle.wave_dump.specs.Heard.{waves_of_plan}
 use Rattle.program_texts.specs.SlackTexts.{IsSlackText}
-use Rattle.program_texts.specs.Texts.{line_of_words_fault, line_of_fault, line_of_load_fault, line_of_no_quiet, line_of_read_fault, line_of_stranger, name_of_state}
+use Rattle.program_texts.specs.Texts.{line_of_words_fault, line_of_fault, line_of_load_fault, line_of_no_quiet, line_of_output_fault, line_of_read_fault, line_of_stranger, name_of_state}
 use Rattle.program_texts.specs.Verdicts.{IsVerdictLine}
 use Rattle.program_endings.specs.declared.endings.Ending.{Ending}
 use Rattle.program_endings.specs.declared.endings.Ending.TheVariants as ending
@@ -97,6 +98,7 @@ IsEarly name before after ending.Log = ⊥
 IsEarly name before after ending.Stranger = ⊥
 IsEarly name before after ending.Unquiet = ⊥
 IsEarly name before after ending.State = ⊥
+IsEarly name before after ending.Output = ⊥
 
 -- what is said of the load of a station, from 0, with a fault: its line, and nothing without memory; the last two
 -- numbers count what the sink refused
@@ -130,11 +132,31 @@ IsUnloadedSaid network before after ending.Log = ⊥
 IsUnloadedSaid network before after ending.Stranger = ⊥
 IsUnloadedSaid network before after ending.Unquiet = ⊥
 IsUnloadedSaid network before after ending.State = ⊥
+IsUnloadedSaid network before after ending.Output = ⊥
 
--- the call ended before the loads of a layout without fault were read
-pub record IsLoadEnd (layout : List ℕ) (before after : Moment) (e : Ending) : Type 0 where
+-- what is said of a file to be written that has the name of the layout or of a load: the line of the first such name,
+-- and nothing without memory; the last two numbers count what the sink refused
+abbrev pub IsTakenEnd :
+    List ℕ → ToWrite → Layout → Option (List ℕ) → Option (List ℕ) → ℕ → ℕ → Ending → Type 0
+IsTakenEnd layout outputs network written now refused risen ending.Output =
+    (name : List ℕ) × (first_taken_name layout outputs network ≡ Some name)
+    × IsSaid (line_of_output_fault name) written now refused risen
+IsTakenEnd layout outputs network written now refused risen ending.Memory = now ≡ written
+IsTakenEnd layout outputs network written now refused risen _ = ⊥
+
+-- the layout has no fault, a file to be written has its name or that of a load, and the first such name was said; or
+-- there was no memory to look for one
+pub record IsTaken (layout : List ℕ) (outputs : ToWrite) (before after : Moment) (e : Ending) : Type 0 where
   pub network : Layout
   pub judged : IsJudged layout before.held (Ok network)
+  pub said : IsTakenEnd layout outputs network before.written after.written before.refused after.refused e
+
+-- the layout has no fault, no file to be written has the name of the layout or of a load, and the call ended before the
+-- loads were read
+pub record IsLoadEnd (layout : List ℕ) (outputs : ToWrite) (before after : Moment) (e : Ending) : Type 0 where
+  pub network : Layout
+  pub judged : IsJudged layout before.held (Ok network)
+  pub free : AreNamesFree layout outputs network
   pub said : IsUnloadedSaid network before after e
 
 -- a fixed text was written to the sink, or a front of it was; the last two numbers count the failed writes
@@ -151,6 +173,7 @@ IsText text written now faults risen ending.Log = ⊥
 IsText text written now faults risen ending.Stranger = ⊥
 IsText text written now faults risen ending.Unquiet = ⊥
 IsText text written now faults risen ending.State = ⊥
+IsText text written now faults risen ending.Output = ⊥
 
 -- all these files are whole; a text that is right was written, or a front of it
 abbrev pub AreFiled : List File → (List ℕ → Type 0) → Moment → Moment → Ending → Type 0
@@ -174,6 +197,7 @@ IsUnfiled files before after ending.Log = ⊥
 IsUnfiled files before after ending.Stranger = ⊥
 IsUnfiled files before after ending.Unquiet = ⊥
 IsUnfiled files before after ending.State = ⊥
+IsUnfiled files before after ending.Output = ⊥
 
 -- a file could not be written: a write to the store failed, or there was no memory
 abbrev pub IsFileEnd : ℕ → ℕ → Ending → Type 0
@@ -209,40 +233,47 @@ IsFiledEnd files IsRight before after e =
 abbrev pub IsRunEnd : List File → (List ℕ → Type 0) → Moment → Moment → Ending → Type 0
 IsRunEnd files IsRight before after e = IsUnrun before after e ⊎ IsFiledEnd files IsRight before after e
 
--- the layout and its loads have no fault, and its network was run
+-- the layout and its loads have no fault, no file of its run has the name of one of them, and its network was run
 pub record IsRun (layout prefix : List ℕ) (before after : Moment) (e : Ending) : Type 0 where
   pub plan : Plan
   pub planned : IsPlanned layout before.held plan
+  pub free : AreNamesFree layout (RunOf prefix) plan.layout
   pub filed : IsFiledEnd (run_files prefix plan) (IsSummary plan) before after e
 
--- the call ended before the network of a layout was run
-abbrev pub IsBeforeRun : List ℕ → Moment → Moment → Ending → Type 0
-IsBeforeRun layout before after e =
+-- the call ended before the network of a layout was run whose run or state is to be written
+abbrev pub IsBeforeRun : List ℕ → ToWrite → Moment → Moment → Ending → Type 0
+IsBeforeRun layout outputs before after e =
     (IsEarly layout before after e × (after.held ≡ before.held))
-    ⊎ (IsLoadEnd layout before after e × (after.held ≡ before.held))
+    ⊎ (IsTaken layout outputs before after e × (after.held ≡ before.held))
+    ⊎ (IsLoadEnd layout outputs before after e × (after.held ≡ before.held))
     ⊎ IsUnrun before after e
 
 -- the end of the form plain LAYOUT PREFIX, and of run LAYOUT PREFIX WORKERS for any number of workers
 abbrev pub IsPlainEnd : List ℕ → List ℕ → Moment → Moment → Ending → Type 0
-IsPlainEnd layout prefix before after e = IsBeforeRun layout before after e ⊎ IsRun layout prefix before after e
+IsPlainEnd layout prefix before after e =
+    IsBeforeRun layout (RunOf prefix) before after e ⊎ IsRun layout prefix before after e
 
 -- what is said of a run that has no quiet half bit at or after the one that was asked for
 abbrev pub IsUnquietEnd : Moment → Moment → Ending → Type 0
 IsUnquietEnd before after ending.Unquiet = Says line_of_no_quiet before after
 IsUnquietEnd before after _ = ⊥
 
--- the layout and its loads have no fault, its run has no quiet half bit at or after this one, and that was said
-pub record IsUnstopped (layout : List ℕ) (from : ℕ) (before after : Moment) (e : Ending) : Type 0 where
+-- the layout and its loads have no fault, the file of the state has the name of none of them, the run has no quiet half
+-- bit at or after this one, and that was said
+pub record IsUnstopped (layout prefix : List ℕ) (from : ℕ) (before after : Moment) (e : Ending) : Type 0 where
   pub plan : Plan
   pub planned : IsPlanned layout before.held plan
+  pub free : AreNamesFree layout (StateOf prefix) plan.layout
   pub never : HasNoQuiet plan from
   pub said : IsUnquietEnd before after e
   pub held : after.held ≡ before.held
 
--- the layout and its loads have no fault, and its network was run to the first quiet half bit at or after this one
+-- the layout and its loads have no fault, the file of the state has the name of none of them, and the network was run
+-- to the first quiet half bit at or after this one
 pub record HasStopped (layout prefix : List ℕ) (from : ℕ) (before after : Moment) (e : Ending) : Type 0 where
   pub plan : Plan
   pub planned : IsPlanned layout before.held plan
+  pub free : AreNamesFree layout (StateOf prefix) plan.layout
   pub t : ℕ
   pub first : IsFirstQuiet plan from t
   pub filed : IsFiledEnd (state_files prefix plan t) (IsStopLine t) before after e
@@ -250,7 +281,7 @@ pub record HasStopped (layout prefix : List ℕ) (from : ℕ) (before after : Mo
 -- the end of the form stop LAYOUT PREFIX FROM
 abbrev pub IsStopEnd : List ℕ → List ℕ → ℕ → Moment → Moment → Ending → Type 0
 IsStopEnd layout prefix from before after e =
-    IsBeforeRun layout before after e ⊎ IsUnstopped layout from before after e
+    IsBeforeRun layout (StateOf prefix) before after e ⊎ IsUnstopped layout prefix from before after e
     ⊎ HasStopped layout prefix from before after e
 
 -- the file of a state has a fault, and its line was said
@@ -265,17 +296,21 @@ IsUnstated plan name before after ending.Read = IsUnreadSaid name before after
 IsUnstated plan name before after ending.Memory = after.written ≡ before.written
 IsUnstated plan name before after _ = ⊥
 
--- the layout and its loads have no fault, and the call ended before a state of its run was read
+-- the layout and its loads have no fault, no file of the run has the name of one of them, and the call ended before a
+-- state of the run was read
 pub record IsUnresumed (layout prefix : List ℕ) (before after : Moment) (e : Ending) : Type 0 where
   pub plan : Plan
   pub planned : IsPlanned layout before.held plan
+  pub free : AreNamesFree layout (RunOf prefix) plan.layout
   pub said : IsUnstated plan (name_of_state prefix) before after e
   pub held : after.held ≡ before.held
 
--- the layout, its loads and the state of its run have no fault, and its network went on from that state
+-- the layout, its loads and the state of its run have no fault, no file of the run has the name of the layout or of a
+-- load, and the network went on from that state
 pub record HasResumed (layout prefix : List ℕ) (before after : Moment) (e : Ending) : Type 0 where
   pub plan : Plan
   pub planned : IsPlanned layout before.held plan
+  pub free : AreNamesFree layout (RunOf prefix) plan.layout
   pub state : NetState
   pub read : HasState plan (name_of_state prefix) before.held state
   pub filed : IsFiledEnd (resumed_files prefix plan state) (IsResumedSummary plan state) before after e
@@ -283,7 +318,7 @@ pub record HasResumed (layout prefix : List ℕ) (before after : Moment) (e : En
 -- the end of the form resume LAYOUT PREFIX
 abbrev pub IsResumeEnd : List ℕ → List ℕ → Moment → Moment → Ending → Type 0
 IsResumeEnd layout prefix before after e =
-    IsBeforeRun layout before after e ⊎ IsUnresumed layout prefix before after e
+    IsBeforeRun layout (RunOf prefix) before after e ⊎ IsUnresumed layout prefix before after e
     ⊎ HasResumed layout prefix before after e
 
 -- the layout has no fault, and a text that tells this of its network was written, or a front of it
@@ -497,6 +532,7 @@ status_of ending.Log = 8
 status_of ending.Stranger = 11
 status_of ending.Unquiet = 9
 status_of ending.State = 10
+status_of ending.Output = 12
 
 -- the status is that of an ending which these words allow between entry and exit
 pub record IsAnswer (words : List (List ℕ)) (entry exit : Moment) (status : ℕ) : Type 0 where

@@ -7,9 +7,11 @@ pub mod Demos
 pub mod Meters
 pub mod Probes
 pub mod CheckpointFiles
+pub mod WrittenNames
 pub mod Endings
 pub mod Statuses
 pub mod StatusLaws
+pub mod OutputLaws
 pub mod SoundInputs
 pub mod MeterLaws
 pub mod ProbeLaws

@@ -12,17 +12,23 @@ use Rattle.program_endings.specs.Meters.{HasLog}
 use Rattle.program_endings.specs.Probes.{HasNoAim}
 use Rattle.program_endings.specs.Statuses.{HasStranger, IsDoneOrMemory, IsNetworkWith, IsPlannedWith}
 use Rattle.program_endings.specs.StatusLaws.{OfAnswers}
+use Rattle.program_endings.specs.WrittenNames.{AreNamesFree, RunOf, StateOf}
 
--- what a form reads, the layout, its loads, a log or a state, is held by these files without a fault
+-- what a form reads, the layout, its loads, a log or a state, is held by these files without a fault, and no file that
+-- it writes has the name of the layout or of a load
 abbrev pub AreInputsSound : Option Asked → Files → Type 0
 AreInputsSound (Some (Check layout)) files = IsNetworkWith layout (Some files) (λ network. Unit {0})
 AreInputsSound (Some (Slack layout)) files = IsNetworkWith layout (Some files) (λ network. Unit {0})
-AreInputsSound (Some (Plain layout prefix)) files = IsPlannedWith layout (Some files) (λ plan. Unit {0})
-AreInputsSound (Some (Run layout prefix workers)) files = IsPlannedWith layout (Some files) (λ plan. Unit {0})
-AreInputsSound (Some (Stop layout prefix from)) files = IsPlannedWith layout (Some files) (λ plan. Unit {0})
+AreInputsSound (Some (Plain layout prefix)) files =
+    IsPlannedWith layout (Some files) (λ plan. AreNamesFree layout (RunOf prefix) plan.layout)
+AreInputsSound (Some (Run layout prefix workers)) files =
+    IsPlannedWith layout (Some files) (λ plan. AreNamesFree layout (RunOf prefix) plan.layout)
+AreInputsSound (Some (Stop layout prefix from)) files =
+    IsPlannedWith layout (Some files) (λ plan. AreNamesFree layout (StateOf prefix) plan.layout)
 AreInputsSound (Some (Resume layout prefix)) files =
     IsPlannedWith layout (Some files) (λ plan.
-    (state : NetState) × HasState plan (name_of_state prefix) (Some files) state)
+    AreNamesFree layout (RunOf prefix) plan.layout
+    × ((state : NetState) × HasState plan (name_of_state prefix) (Some files) state))
 AreInputsSound (Some (Demo number workers)) files = Unit {0}
 AreInputsSound (Some (Probe told layout from to taps)) files = IsPlannedWith layout (Some files) (λ plan. Unit {0})
 AreInputsSound (Some (Meter log)) files = (lines : List LogLine) × HasLog log (Some files) lines

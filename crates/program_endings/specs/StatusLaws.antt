@@ -48,22 +48,24 @@ AreLoadFaultsSaid =
     → IsLoadedWith (asked words) (λ layout.
     IsNetworkWith layout entry.held (λ network. IsLoadFaultSaid network entry exit)))
 
--- where a load of a layout without fault is the first with a fault the status is 3, but for a failed read and want of
--- memory
+-- where no file to be written has the name of an input and a load of a layout without fault is the first with a fault
+-- the status is 3, but for a failed read and want of memory
 abbrev pub DoLoadFaultsDecide : Type 0
 DoLoadFaultsDecide =
     OfAnswers (λ words entry exit status.
-    IfLoaded (asked words) (λ layout.
+    IfLoaded (asked words) (λ layout outputs.
     IfSome entry.held (λ files.
-    (station : ℕ) (f : CaptureFault) → HasLoadFault layout (Some files) station f
+    (station : ℕ) (f : CaptureFault) → HasLoadFault layout outputs (Some files) station f
     → IsFaultStatus 3 status entry.reads exit.reads)))
 
--- where a load of a layout without fault is the first that isn't held the status is 4, but for want of memory
+-- where no file to be written has the name of an input and a load of a layout without fault is the first that isn't
+-- held the status is 4, but for want of memory
 abbrev pub DoAbsentLoadsDecide : Type 0
 DoAbsentLoadsDecide =
     OfAnswers (λ words entry exit status.
-    IfLoaded (asked words) (λ layout.
-    IfSome entry.held (λ files. (name : List ℕ) → HasAbsentLoad layout (Some files) name → IsUnreadOrMemory status)))
+    IfLoaded (asked words) (λ layout outputs.
+    IfSome entry.held (λ files.
+    (name : List ℕ) → HasAbsentLoad layout outputs (Some files) name → IsUnreadOrMemory status)))
 
 -- with status 4 a file to be read isn't held, or a read failed, and its name was said
 abbrev pub AreReadFaultsSaid : Type 0

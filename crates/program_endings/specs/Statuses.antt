@@ -21,9 +21,10 @@ use Rattle.run_checkpoint.specs.States.{text_of_state}
 use Rattle.net_step.specs.Stops.{IsFirstQuiet}
 use Rattle.run_picture.specs.Pictures.{picture_of}
 use Rattle.run_picture.specs.Strangers.{first_stranger}
+use Rattle.program_endings.specs.WrittenNames.{AreNamesFree, RunOf, StateOf, ToWrite, first_taken_name}
 use Rattle.program_endings.specs.Runs.{IsResumedSummary, IsSummary, resumed_files, run_files}
 use Rattle.program_texts.specs.SlackTexts.{IsSlackText}
-use Rattle.program_texts.specs.Texts.{line_of_stopped, line_of_stranger, name_of_state}
+use Rattle.program_texts.specs.Texts.{line_of_output_fault, line_of_stopped, line_of_stranger, name_of_state}
 use Rattle.program_texts.specs.Verdicts.{IsVerdictLine}
 use Rattle.program_endings.specs.Writing.{put_all, put_file, added, IsBrokenAmong, IsCutShort}
 use Rattle.program_texts.specs.declared.texts.TheConstants.{HELP, VERSION}
@@ -95,11 +96,12 @@ IfLayout o P =
     × IfStop o (λ layout prefix from. P layout) × IfResume o (λ layout prefix. P layout)
     × IfHeard o (λ told layout from to taps. P layout) × IfPicture o (λ layout log from to. P layout)
 
--- if the words are of a form that reads the loads of a layout as soon as it has no fault, this holds of its name
-abbrev pub IfLoaded : Option Asked → (List ℕ → Type 0) → Type 0
+-- if the words are of a form that writes files, and reads the loads of a layout as soon as it has no fault and no file
+-- to be written has its name or that of a load, this holds of the layout's name and of what is written
+abbrev pub IfLoaded : Option Asked → (List ℕ → ToWrite → Type 0) → Type 0
 IfLoaded o P =
-    IfFiles o (λ layout prefix. P layout) × IfStop o (λ layout prefix from. P layout)
-    × IfResume o (λ layout prefix. P layout)
+    IfFiles o (λ layout prefix. P layout (RunOf prefix)) × IfStop o (λ layout prefix from. P layout (StateOf prefix))
+    × IfResume o (λ layout prefix. P layout (RunOf prefix))
 
 -- if the words ask for a fixed text, this holds of it
 abbrev pub IfText : Option Asked → (List ℕ → Type 0) → Type 0
@@ -136,6 +138,22 @@ IsLoadedWith (Some (Picture layout log from to)) P = ⊥
 IsLoadedWith (Some Help) P = ⊥
 IsLoadedWith (Some Version) P = ⊥
 IsLoadedWith None P = ⊥
+
+-- the words are of a form that writes files, and this holds of the layout's name and of what is written
+abbrev pub IsWritingWith : Option Asked → (List ℕ → ToWrite → Type 0) → Type 0
+IsWritingWith (Some (Check layout)) P = ⊥
+IsWritingWith (Some (Slack layout)) P = ⊥
+IsWritingWith (Some (Plain layout prefix)) P = P layout (RunOf prefix)
+IsWritingWith (Some (Run layout prefix workers)) P = P layout (RunOf prefix)
+IsWritingWith (Some (Stop layout prefix from)) P = P layout (StateOf prefix)
+IsWritingWith (Some (Resume layout prefix)) P = P layout (RunOf prefix)
+IsWritingWith (Some (Demo number workers)) P = ⊥
+IsWritingWith (Some (Probe told layout from to taps)) P = ⊥
+IsWritingWith (Some (Meter log)) P = ⊥
+IsWritingWith (Some (Picture layout log from to)) P = ⊥
+IsWritingWith (Some Help) P = ⊥
+IsWritingWith (Some Version) P = ⊥
+IsWritingWith None P = ⊥
 
 -- the words are probe or waves with LAYOUT FROM TO TAP .., and this holds of the name, of the end and of the words for
 -- taps
@@ -190,7 +208,7 @@ IsPictureWith None P = ⊥
 abbrev pub IsRefusal : ℕ → Type 0
 IsRefusal status =
     (status ≡ 1) ⊎ (status ≡ 2) ⊎ (status ≡ 3) ⊎ (status ≡ 4) ⊎ (status ≡ 7) ⊎ (status ≡ 8) ⊎ (status ≡ 9)
-    ⊎ (status ≡ 10) ⊎ (status ≡ 11)
+    ⊎ (status ≡ 10) ⊎ (status ≡ 11) ⊎ (status ≡ 12)
 
 -- the statuses of a call that the outside didn't hinder; 6 is want of memory
 abbrev pub IsDoneOrMemory : ℕ → Type 0
@@ -213,14 +231,30 @@ IsNetworkWith layout held P = (network : Layout) × IsJudged layout held (Ok net
 abbrev pub IsPlannedWith : List ℕ → Option Files → (Plan → Type 0) → Type 0
 IsPlannedWith layout held P = (plan : Plan) × IsPlanned layout held plan × P plan
 
--- the load of this station, numbered from 0, is the first of the layout's loads with a fault
-abbrev pub HasLoadFault : List ℕ → Option Files → ℕ → CaptureFault → Type 0
-HasLoadFault layout held station fault =
-    IsNetworkWith layout held (λ network. IsLoaded held network.stations (Faulty station fault))
+-- of the files to be written one has the name of the layout or of a load, and the first such name was said
+abbrev pub IsTakenNameSaid : List ℕ → ToWrite → Layout → Moment → Moment → Type 0
+IsTakenNameSaid layout outputs network entry exit =
+    (name : List ℕ) × (first_taken_name layout outputs network ≡ Some name)
+    × Says (line_of_output_fault name) entry exit
 
--- this is the name of the first load of the layout that isn't held, no load before it having a fault
-abbrev pub HasAbsentLoad : List ℕ → Option Files → List ℕ → Type 0
-HasAbsentLoad layout held name = IsNetworkWith layout held (λ network. IsFirstAbsent held network.stations name)
+-- the layout held at entry has no fault, and a file to be written has its name or that of one of its loads
+abbrev pub HasTakenName : List ℕ → ToWrite → Option Files → Type 0
+HasTakenName layout outputs held =
+    IsNetworkWith layout held (λ network. (name : List ℕ) × (first_taken_name layout outputs network ≡ Some name))
+
+-- no file to be written has the name of the layout or of a load, and the load of this station, numbered from 0, is the
+-- first of the layout's loads with a fault
+abbrev pub HasLoadFault : List ℕ → ToWrite → Option Files → ℕ → CaptureFault → Type 0
+HasLoadFault layout outputs held station fault =
+    IsNetworkWith layout held (λ network.
+    AreNamesFree layout outputs network × IsLoaded held network.stations (Faulty station fault))
+
+-- no file to be written has the name of the layout or of a load, and this is the name of the first load of the layout
+-- that isn't held, no load before it having a fault
+abbrev pub HasAbsentLoad : List ℕ → ToWrite → Option Files → List ℕ → Type 0
+HasAbsentLoad layout outputs held name =
+    IsNetworkWith layout held (λ network.
+    AreNamesFree layout outputs network × IsFirstAbsent held network.stations name)
 
 -- the layout or one of its loads isn't held or a read failed, and its name was said
 abbrev pub IsInputFaultSaid : List ℕ → Moment → Moment → Type 0
@@ -454,7 +488,8 @@ IsStrangerSaid network log entry exit =
     (n : ℕ) × HasStranger network log entry.held n × Says (line_of_stranger n) entry exit
 
 -- a run that nothing hinders: the words are of a form that writes the files of a run, the store tells its files, the
--- layout and the loads are held without fault, and no count of faults has risen
+-- layout and the loads are held without fault, no file to be written has the name of one of them, and no count of
+-- faults has risen
 pub record IsUnhindered (words : List (List ℕ)) (entry exit : Moment) : Type 0 where
   pub layout : List ℕ
   pub prefix : List ℕ
@@ -463,6 +498,7 @@ pub record IsUnhindered (words : List (List ℕ)) (entry exit : Moment) : Type 0
   pub told : entry.held ≡ Some files
   pub network : Layout
   pub judged : IsJudged layout (Some files) (Ok network)
+  pub free : AreNamesFree layout (RunOf prefix) network
   pub loads : List (List Record)
   pub loaded : IsLoaded (Some files) network.stations (Whole loads)
   pub reads : ¬ Rose entry.reads exit.reads

@@ -15,6 +15,7 @@ use Rattle.program_endings.specs.Runs.{IsResumedSummary, IsStopLine, resumed_fil
 use Rattle.program_endings.specs.StatusLaws.{OfAnswers}
 use Rattle.program_endings.specs.Statuses.{IfResume, IfStop, IsDoneOrMemory, IsFaultStatus, IsPlannedWith, IsResumeWith, IsRunDone, IsStopWith, IsUnbegun, IsUnreadOrMemory}
 use Rattle.program_endings.specs.Writing.{IsBrokenAmong, IsCutShort, put_all}
+use Rattle.program_endings.specs.WrittenNames.{AreNamesFree, RunOf, StateOf}
 
 -- with status 9 the layout and the loads held at entry have no fault, their run has no quiet half bit at or after the
 -- one that was asked for, and that was said
@@ -25,14 +26,16 @@ AreUnquietSaid =
     → IsStopWith (asked words) (λ layout from.
     IsPlannedWith layout entry.held (λ plan. HasNoQuiet plan from × Says line_of_no_quiet entry exit)))
 
--- where the layout and the loads held at entry have no fault and their run has no quiet half bit at or after the one
--- that was asked for the status is 9, but for a failed read and want of memory
+-- where the layout and the loads held at entry have no fault, the file of the state has the name of none of them, and
+-- their run has no quiet half bit at or after the one that was asked for the status is 9, but for a failed read and
+-- want of memory
 abbrev pub DoUnquietDecide : Type 0
 DoUnquietDecide =
     OfAnswers (λ words entry exit status.
     IfStop (asked words) (λ layout prefix from.
     IfSome entry.held (λ files.
-    IsPlannedWith layout (Some files) (λ plan. HasNoQuiet plan from)
+    IsPlannedWith layout (Some files) (λ plan.
+    AreNamesFree layout (StateOf prefix) plan.layout × HasNoQuiet plan from)
     → IsFaultStatus 9 status entry.reads exit.reads)))
 
 -- with status 10 the layout and the loads held at entry have no fault, the state of the prefix has one, and its line
@@ -44,25 +47,27 @@ AreStateFaultsSaid =
     → IsResumeWith (asked words) (λ layout prefix.
     IsPlannedWith layout entry.held (λ plan. IsStateFaultSaid plan (name_of_state prefix) entry exit)))
 
--- where the layout and the loads held at entry have no fault and the state of the prefix has one the status is 10, but
--- for a failed read and want of memory
+-- where the layout and the loads held at entry have no fault, no file to be written has the name of one of them, and
+-- the state of the prefix has a fault the status is 10, but for a failed read and want of memory
 abbrev pub DoStateFaultsDecide : Type 0
 DoStateFaultsDecide =
     OfAnswers (λ words entry exit status.
     IfResume (asked words) (λ layout prefix.
     IfSome entry.held (λ files.
     (fault : StateFault)
-    → IsPlannedWith layout (Some files) (λ plan. IsStateFaulty plan (name_of_state prefix) (Some files) fault)
+    → IsPlannedWith layout (Some files) (λ plan.
+    AreNamesFree layout (RunOf prefix) plan.layout × IsStateFaulty plan (name_of_state prefix) (Some files) fault)
     → IsFaultStatus 10 status entry.reads exit.reads)))
 
--- where the layout and the loads held at entry have no fault and the state of the prefix isn't held the status is 4,
--- but for want of memory
+-- where the layout and the loads held at entry have no fault, no file to be written has the name of one of them, and
+-- the state of the prefix isn't held the status is 4, but for want of memory
 abbrev pub DoAbsentStatesDecide : Type 0
 DoAbsentStatesDecide =
     OfAnswers (λ words entry exit status.
     IfResume (asked words) (λ layout prefix.
     IfSome entry.held (λ files.
-    IsPlannedWith layout (Some files) (λ plan. IsAbsent (name_of_state prefix) (Some files))
+    IsPlannedWith layout (Some files) (λ plan.
+    AreNamesFree layout (RunOf prefix) plan.layout × IsAbsent (name_of_state prefix) (Some files))
     → IsUnreadOrMemory status)))
 
 -- these files are whole, and the sink got a front of a text that is right
@@ -136,19 +141,21 @@ AreStopFilesWhole =
     × (exit.held ≡ put_all (resumed_files prefix plan state) entry.held))))
 
 -- a stop of a layout and loads that are held without fault, whose run has a quiet half bit at or after the one that was
--- asked for, and a resume of such ones from a state that is held without fault, have the status 0 or 6 where no read
--- and no write failed
+-- asked for, and a resume of such ones from a state that is held without fault, have the status 0 or 6 where no file to
+-- be written has the name of the layout or of a load, and no read and no write failed
 abbrev pub AreStopsComplete : Type 0
 AreStopsComplete =
     OfAnswers (λ words entry exit status.
     ¬ Rose entry.reads exit.reads → ¬ Rose entry.writes exit.writes → ¬ Rose entry.faults exit.faults
     → IfStop (asked words) (λ layout prefix from.
     IfSome entry.held (λ files.
-    IsPlannedWith layout (Some files) (λ plan. (t : ℕ) × IsFirstQuiet plan from t) → IsDoneOrMemory status))
+    IsPlannedWith layout (Some files) (λ plan.
+    AreNamesFree layout (StateOf prefix) plan.layout × ((t : ℕ) × IsFirstQuiet plan from t)) → IsDoneOrMemory status))
     × IfResume (asked words) (λ layout prefix.
     IfSome entry.held (λ files.
     IsPlannedWith layout (Some files) (λ plan.
-    (state : NetState) × HasState plan (name_of_state prefix) (Some files) state)
+    AreNamesFree layout (RunOf prefix) plan.layout
+    × ((state : NetState) × HasState plan (name_of_state prefix) (Some files) state))
     → IsDoneOrMemory status)))
 
 -- a run that stopped and then went on, with the same layout and the same loads, which a store holds that tells its

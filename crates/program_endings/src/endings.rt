@@ -30,6 +30,8 @@ pub enum Ending {
     Unquiet,
     /// The state of a prefix has a fault.
     State,
+    /// A file to be written has the name of a file that is read.
+    Output,
 }
 
 impl Ending {
@@ -52,6 +54,7 @@ impl Ending {
             Ending::Unquiet => 9,
             Ending::State => 10,
             Ending::Stranger => 11,
+            Ending::Output => 12,
         }
     }
 }

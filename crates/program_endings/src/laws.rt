@@ -1,6 +1,7 @@
 //! What each status says beyond the clauses of the top call: laws of every answer, each a call without a body.
 ghost use Rattle.program_endings.specs.LogLaws.{AreRunCollisionsDetected, IsEmptyLogRefused, IsInfixRefused, IsLateHitRefused};
 ghost use Rattle.program_endings.specs.MeterLaws.{AreLogFaultsSaid, AreMetersComplete, AreMetersCutShort, AreMetersRefused, DoAbsentLogsDecide, DoLogFaultsDecide, DoMetersKeepFiles};
+ghost use Rattle.program_endings.specs.OutputLaws.{AreInputsKept, AreOutputFaultsSaid, DoOutputFaultsDecide};
 ghost use Rattle.program_endings.specs.PictureLaws.{ArePicturesComplete, ArePicturesCutShort, ArePicturesRefused, AreStrangersSaid, DoPicturedAbsentLogsDecide, DoPicturedLogFaultsDecide, DoPicturesKeepFiles, DoStrangersDecide};
 ghost use Rattle.program_endings.specs.ProbeLaws.{AreMissesSaid, AreProbesComplete, AreProbesCutShort, AreProbesRefused, DoMissesDecide, DoProbedAbsentLoadsDecide, DoProbedLoadFaultsDecide, DoProbesKeepFiles};
 ghost use Rattle.program_endings.specs.StopLaws.{AreStateFaultsSaid, AreStopFilesWhole, AreStoppedRunsWhole, AreStopsBroken, AreStopsComplete, AreStopsRefused, AreStopsSilent, AreUnquietSaid, DoAbsentStatesDecide, DoStateFaultsDecide, DoUnquietDecide};
@@ -19,15 +20,27 @@ pub fn layout_faults_decide()
     ensures only { DoLayoutFaultsDecide }
 {}
 
-/// Status 3 comes exactly of a load that is the first with a fault, but for a failed read and want of memory, and its
-/// line is on the sink.
+/// Status 12 comes exactly of a layout without fault where a file to be written has its name or that of a load, but for
+/// a failed read and want of memory, and the first such name is on the sink.
+pub fn output_faults_decide()
+    ensures said { AreOutputFaultsSaid }
+    ensures only { DoOutputFaultsDecide }
+{}
+
+/// Whatever the status of a form that writes files, the layout, if it has no fault, and its loads are as at entry.
+pub fn inputs_are_kept()
+    ensures { AreInputsKept }
+{}
+
+/// Status 3 comes exactly of a load that is the first with a fault where no file to be written has the name of an input,
+/// but for a failed read and want of memory, and its line is on the sink.
 pub fn load_faults_decide()
     ensures said { AreLoadFaultsSaid }
     ensures only { DoLoadFaultsDecide }
 {}
 
-/// Status 4 comes of a file to be read that isn't held, but for want of memory, and else only of a failed read; its
-/// name is on the sink.
+/// Status 4 comes of a file to be read that isn't held, where no file to be written has the name of an input, but for
+/// want of memory, and else only of a failed read; its name is on the sink.
 pub fn absent_files_decide()
     ensures said { AreReadFaultsSaid }
     ensures layout { DoAbsentLayoutsDecide }
@@ -121,16 +134,16 @@ pub fn pictures_are_told()
     ensures complete { ArePicturesComplete }
 {}
 
-/// Status 9 comes exactly of a stop of a layout and loads without fault whose run has no quiet half bit at or after
-/// FROM, but for a failed read and want of memory, and that is on the sink.
+/// Status 9 comes exactly of a stop of a layout and loads without fault, the name of none of which is that of the state,
+/// whose run has no quiet half bit at or after FROM, but for a failed read and want of memory, and that is on the sink.
 pub fn unquiet_runs_decide()
     ensures said { AreUnquietSaid }
     ensures only { DoUnquietDecide }
 {}
 
-/// Status 10 comes exactly of a resume of a layout and loads without fault whose state has a fault, but for a failed
-/// read and want of memory, and its line is on the sink; status 4 then comes of a state that isn't held, but for want
-/// of memory.
+/// Status 10 comes exactly of a resume of a layout and loads without fault, the name of none of which is that of a file
+/// to be written, whose state has a fault, but for a failed read and want of memory, and its line is on the sink; status
+/// 4 then comes of a state that isn't held, but for want of memory.
 pub fn state_faults_decide()
     ensures said { AreStateFaultsSaid }
     ensures only { DoStateFaultsDecide }
@@ -164,9 +177,9 @@ pub fn texts_are_told()
     ensures complete { AreTextsComplete }
 {}
 
-/// Where no read or write failed, the words are a form, and what it reads is held without a fault, the status is 0 or 6;
-/// or it is 7, 9 or 11, and a tap or the half bits of a probe, a quiet half bit, or what a line of a log names isn't
-/// there.
+/// Where no read or write failed, the words are a form, what it reads is held without a fault, and no file to be written
+/// has the name of an input, the status is 0 or 6; or it is 7, 9 or 11, and a tap or the half bits of a probe, a quiet
+/// half bit, or what a line of a log names isn't there.
 pub fn answers_are_reliable()
     ensures { AreAnswersReliable }
 {}

@@ -99,6 +99,7 @@ pub fn store_of<R: AllocGlobal>(rt: &R, case: &Case<'_>) -> Result<MemoryStore, 
     store.put("m.log", LOG.as_bytes())?;
     store.put("out.state", STATE.as_bytes())?;
     store.put("none", b"")?;
+    store.put("in.log", layout(rt, "b.pcap")?.as_bytes())?;
     store.put("load.toml", layout(rt, "none")?.as_bytes())?;
     store.put("other.log", b"1162 station c received octets 64\n")?;
     store.put("none.state", b"")?;

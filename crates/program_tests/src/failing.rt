@@ -99,7 +99,7 @@ fn reads_that_fail(rt: HostRuntime) -> Result<(), OutOfMemory> {
 }
 
 /// Forms that say nothing where the first write fails, which begin no file; a refusal keeps its status.
-const WRITES: [(&[&str], u8); 18] = [
+const WRITES: [(&[&str], u8); 19] = [
     (&["--help"], 5),
     (&["--version"], 5),
     (&["check", "l.toml"], 5),
@@ -118,6 +118,7 @@ const WRITES: [(&[&str], u8); 18] = [
     (&["stop", "l.toml", "out", "1400"], 9),
     (&["resume", "l.toml", "none"], 10),
     (&["picture", "l.toml", "other.log", "0", "1400"], 11),
+    (&["plain", "in.log", "in"], 12),
 ];
 
 #[test]

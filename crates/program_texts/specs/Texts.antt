@@ -27,6 +27,10 @@ line_of_fault fault =
 unfoldable pub line_of_read_fault : List ℕ → List ℕ
 line_of_read_fault name = codes "read fault " ++ name ++ codes "\n"
 
+-- the line of a file to be written that has the name of a file that is read
+unfoldable pub line_of_output_fault : List ℕ → List ℕ
+line_of_output_fault name = codes "output fault " ++ name ++ codes "\n"
+
 -- the line of a load with a fault, of the station with this name; records from 1, or 0 for none
 unfoldable pub line_of_load_fault : List ℕ → CaptureFault → List ℕ
 line_of_load_fault name fault =

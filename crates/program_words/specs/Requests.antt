@@ -1,6 +1,6 @@
 -- What the words of the command line ask for (profile).
-use Rattle.std.specs.Prelude.{◌≤◌, ◌<◌, ℕ, ◌+◌, ◌-◌, List, [], ◌∷◌, length, Bool, true, ◌&&◌, nat_le, nat_lt, Option, None, Some, option_map, find, decimal, if◌then◌else◌, bytes_eq, codes}
-use Rattle.std.specs.List.{range_with_len}
+use Rattle.std.specs.Prelude.{◌≤◌, ◌<◌, ℕ, ◌+◌, ◌-◌, List, [], ◌∷◌, length, Bool, true, not, ◌&&◌, nat_eq, nat_le, nat_lt, Option, None, Some, option_map, find, decimal, if◌then◌else◌, bytes_eq, codes}
+use Rattle.std.specs.List.{ends_with, range_with_len}
 use Rattle.layout.specs.Limits.{most_half_bits, most_repeaters}
 use Rattle.program_words.specs.WordLimits.{most_name, most_probed, most_tap_word, most_taps, most_workers}
 use Rattle.program_words.specs.declared.words.Hearing.{Hearing}
@@ -30,6 +30,10 @@ pub data Asked : Type 0 where
 -- a name of a file has 1 to 200 octets
 abbrev pub is_file_name : List ℕ → Bool
 is_file_name word = nat_le 1 (length word) && nat_le (length word) most_name
+
+-- a prefix is a name of a file that doesn't end in a slash, with which its files would have no names
+abbrev pub is_prefix : List ℕ → Bool
+is_prefix word = is_file_name word && not (ends_with nat_eq word (codes "/"))
 
 -- the number from the first of these to the second that is written so in decimal, without a sign or a leading zero
 unfoldable pub number_between : ℕ → ℕ → List ℕ → Option ℕ
@@ -61,11 +65,11 @@ asked_file word file =
 
 -- what the words after plain ask for: LAYOUT PREFIX
 abbrev pub asked_plain : List ℕ → List ℕ → Option Asked
-asked_plain layout prefix = if is_file_name layout && is_file_name prefix then Some (Plain layout prefix) else None
+asked_plain layout prefix = if is_file_name layout && is_prefix prefix then Some (Plain layout prefix) else None
 
 -- what the words after resume ask for: LAYOUT PREFIX
 abbrev pub asked_resume : List ℕ → List ℕ → Option Asked
-asked_resume layout prefix = if is_file_name layout && is_file_name prefix then Some (Resume layout prefix) else None
+asked_resume layout prefix = if is_file_name layout && is_prefix prefix then Some (Resume layout prefix) else None
 
 -- what is asked for by these two numbers, if they are there
 abbrev pub asked_numbers : Option ℕ → Option ℕ → Option Asked
@@ -89,14 +93,14 @@ asked_three word first second =
 -- what the words after run ask for: LAYOUT PREFIX WORKERS
 abbrev pub asked_run : List ℕ → List ℕ → List ℕ → Option Asked
 asked_run layout prefix workers =
-    if is_file_name layout && is_file_name prefix
+    if is_file_name layout && is_prefix prefix
     then option_map (Run layout prefix) (number_between 1 most_workers workers)
     else None
 
 -- what the words after stop ask for: LAYOUT PREFIX FROM, with a half bit of the longest run
 abbrev pub asked_stop : List ℕ → List ℕ → List ℕ → Option Asked
 asked_stop layout prefix from =
-    if is_file_name layout && is_file_name prefix
+    if is_file_name layout && is_prefix prefix
     then option_map (Stop layout prefix) (number_between 0 most_half_bits from)
     else None
 

@@ -2,7 +2,7 @@
 ghost use Rattle.std.specs.Prelude.{◌≡◌, ◌≤◌, ◌<◌, ◌+◌, ◌^◌, IfSome, length, option_map};
 ghost use Rattle.layout.specs.Limits.{most_half_bits};
 ghost use Rattle.program_words.specs.WordLimits.{most_probed, most_taps};
-ghost use Rattle.program_words.specs.Requests.{HasNumbersInRange, are_tap_words, asked, asked_demo, asked_file, asked_long, asked_of, asked_four, asked_picture, asked_plain, asked_probe, asked_resume, asked_run, asked_stop, asked_text, asked_three, is_file_name, is_tap_word, number_between, stretch_between};
+ghost use Rattle.program_words.specs.Requests.{HasNumbersInRange, are_tap_words, asked, asked_demo, asked_file, asked_long, asked_of, asked_four, asked_picture, asked_plain, asked_probe, asked_resume, asked_run, asked_stop, asked_text, asked_three, is_file_name, is_prefix, is_tap_word, number_between, stretch_between};
 
 use layout::{MOST_HALF_BITS, MOST_REPEATERS};
 use lists::{List, Text};
@@ -105,6 +105,13 @@ fn is_file_name(word: &str) -> bool
     ensures { result ≡ is_file_name word.now }
 {
     !word.is_empty() && word.len() <= MOST_NAME
+}
+
+/// Whether a word can be a prefix: a file's name that doesn't end in a slash.
+fn is_prefix(word: &str) -> bool
+    ensures { result ≡ is_prefix word.now }
+{
+    is_file_name(word) && !word.as_bytes().ends_with(b"/")
 }
 
 /// The number from the least to the most that a word is in decimal, without a sign or a leading zero.
@@ -228,7 +235,7 @@ fn read_plain<'a>(layout: &'a str, prefix: &'a str) -> Option<Request<'a>>
     ensures asked { option_map asked_of result ≡ asked_plain layout.now prefix.now }
     ensures range { IfSome result HasNumbersInRange }
 {
-    if is_file_name(layout) && is_file_name(prefix) {
+    if is_file_name(layout) && is_prefix(prefix) {
         Some(Request::Plain { layout, prefix })
     } else {
         None
@@ -239,7 +246,7 @@ fn read_resume<'a>(layout: &'a str, prefix: &'a str) -> Option<Request<'a>>
     ensures asked { option_map asked_of result ≡ asked_resume layout.now prefix.now }
     ensures range { IfSome result HasNumbersInRange }
 {
-    if is_file_name(layout) && is_file_name(prefix) {
+    if is_file_name(layout) && is_prefix(prefix) {
         Some(Request::Resume { layout, prefix })
     } else {
         None
@@ -270,7 +277,7 @@ fn read_run<'a>(layout: &'a str, prefix: &'a str, workers: &str) -> Option<Reque
     ensures asked { option_map asked_of result ≡ asked_run layout.now prefix.now workers.now }
     ensures range { IfSome result HasNumbersInRange }
 {
-    if is_file_name(layout) && is_file_name(prefix) {
+    if is_file_name(layout) && is_prefix(prefix) {
         let workers = read_number(workers, 1, MOST_WORKERS)?;
         Some(Request::Run {
             layout,
@@ -286,7 +293,7 @@ fn read_stop<'a>(layout: &'a str, prefix: &'a str, from: &str) -> Option<Request
     ensures asked { option_map asked_of result ≡ asked_stop layout.now prefix.now from.now }
     ensures range { IfSome result HasNumbersInRange }
 {
-    if is_file_name(layout) && is_file_name(prefix) {
+    if is_file_name(layout) && is_prefix(prefix) {
         let from = read_number(from, 0, MOST_HALF_BITS as u32)?;
         Some(Request::Stop {
             layout,

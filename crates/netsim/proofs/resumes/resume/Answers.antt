@@ -11,7 +11,7 @@ returns-in-Err-load_state g c =
     let mid : Moment = moment g.S.Store.held g.S.Store.read_faults g.S.Store.write_faults g.K.Sink.written g.K.Sink.faults g.K.Sink.refused c.read_plan.new.store c.read_plan.new.out in
     let after : Moment = moment g.S.Store.held g.S.Store.read_faults g.S.Store.write_faults g.K.Sink.written g.K.Sink.faults g.K.Sink.refused c.load_state.new.store c.load_state.new.out in
     let name : c.as_str.result.now ≡ name_of_state c.args.prefix.now = search rules in
-    resume-unstated c.args.layout.now c.args.prefix.now c.as_str.result.now c.in-Ok.plan before mid after c.in-Err-load_state.ended c.in-Ok.ensures.read c.in-Ok.ensures.planned name c.load_state.ensures.held c.in-Err-load_state.ensures.unstated
+    resume-unstated c.args.layout.now c.args.prefix.now c.as_str.result.now c.in-Ok.plan before mid after c.in-Err-load_state.ended c.in-Ok.ensures.read c.in-Ok.ensures.planned c.in-Ok.ensures.free name c.load_state.ensures.held c.in-Err-load_state.ensures.unstated
 
 pub returns : goal.returns
 returns g c =
@@ -21,4 +21,4 @@ returns g c =
     let after : Moment = moment g.S.Store.held g.S.Store.read_faults g.S.Store.write_faults g.K.Sink.written g.K.Sink.faults g.K.Sink.refused c.go_on.new.store c.go_on.new.out in
     let name : c.as_str.result.now ≡ name_of_state c.args.prefix.now = search rules in
     resume-ran c.args.layout.now c.args.prefix.now c.as_str.result.now c.in-Ok.plan c.in-Ok-load_state.state before aimed mid after c.go_on.result c.in-Ok.ensures.read
-    (read-twice before aimed mid c.in-Ok.ensures.read c.in-Ok-load_state.ensures.read) c.in-Ok.ensures.planned name c.in-Ok-load_state.ensures.state c.go_on.ensures
+    (read-twice before aimed mid c.in-Ok.ensures.read c.in-Ok-load_state.ensures.read) c.in-Ok.ensures.planned c.in-Ok.ensures.free name c.in-Ok-load_state.ensures.state c.go_on.ensures

@@ -1,0 +1,136 @@
+//! The files that a form writes, and whether one of them has the name of a file that it reads.
+ghost use Rattle.std.specs.Prelude.{◌≡◌, IfErr, IfOk, OnErr, OnOk, option_map, string_bytes};
+ghost use Rattle.netsim.specs.WrittenBy.{written_by};
+ghost use Rattle.program_endings.specs.Endings.{IsTakenEnd};
+ghost use Rattle.program_endings.specs.Writing.{IsSaid};
+ghost use Rattle.program_endings.specs.WrittenNames.{AreNamesFree, capture_names, first_name_of_input, first_taken_name, is_name_of_input, is_name_of_load};
+ghost use Rattle.program_texts.specs.Texts.{line_of_output_fault};
+
+use crate::sink_texts::say;
+use layout::{Layout, StationLine};
+use lists::OutOfMemory;
+use outside::Sink;
+use program_endings::Ending;
+use program_texts::{
+    line_of_output_fault, name_of_capture, name_of_counters, name_of_log, name_of_state,
+};
+use std::alloc::Global;
+
+/// Which files of a prefix a form writes.
+#[derive(Clone, Copy, Debug)]
+pub(crate) enum Written {
+    /// Those of a run.
+    Run,
+    /// The state.
+    State,
+}
+
+/// Whether the load of one of these stations has a name.
+fn is_name_of_load(stations: &[StationLine], name: &str) -> bool
+    ensures { result ≡ is_name_of_load stations.now name.now }
+{
+    for station in stations {
+        if let Some(load) = &station.load {
+            if load.as_str() == name {
+                return true;
+            }
+        }
+    }
+    false
+}
+
+/// Whether a name is that of the layout or of the load of one of its stations.
+fn is_name_of_input(layout: &str, network: &Layout, name: &str) -> bool
+    ensures { result ≡ is_name_of_input layout.now network.now name.now }
+{
+    layout == name || is_name_of_load(network.stations.as_slice(), name)
+}
+
+/// The name of the first capture of a run that is that of an input.
+fn taken_capture(
+    alloc: Global,
+    layout: &str,
+    network: &Layout,
+    prefix: &str,
+) -> Result<Option<String>, OutOfMemory>
+    ensures { IfOk result (λ taken. option_map string_bytes taken ≡
+        first_name_of_input layout.now network.now (capture_names prefix.now network.now.stations)) }
+{
+    let stations = network.stations.as_slice();
+    for station in stations {
+        let name = name_of_capture(alloc, prefix, station.name.as_str())?;
+        if is_name_of_input(layout, network, name.as_str()) {
+            return Ok(Some(name));
+        }
+    }
+    Ok(None)
+}
+
+/// The first name of a file to be written, in the order of writing, that is that of the layout or of a load.
+#[tactic(auto, unfolding(program_endings::specs::WrittenNames::first_taken_name))]
+fn taken_name(
+    alloc: Global,
+    layout: &str,
+    written: Written,
+    prefix: &str,
+    network: &Layout,
+) -> Result<Option<String>, OutOfMemory>
+    ensures { IfOk result (λ taken. option_map string_bytes taken ≡ first_taken_name layout.now (written_by written prefix.now) network.now) }
+{
+    match written {
+        Written::Run => {
+            let log = name_of_log(alloc, prefix)?;
+            if is_name_of_input(layout, network, log.as_str()) {
+                return Ok(Some(log));
+            }
+            let counters = name_of_counters(alloc, prefix)?;
+            if is_name_of_input(layout, network, counters.as_str()) {
+                return Ok(Some(counters));
+            }
+            taken_capture(alloc, layout, network, prefix)
+        }
+        Written::State => {
+            let state = name_of_state(alloc, prefix)?;
+            if is_name_of_input(layout, network, state.as_str()) {
+                return Ok(Some(state));
+            }
+            Ok(None)
+        }
+    }
+}
+
+/// Says that a file to be written has the name of an input.
+fn say_taken<K: Sink>(alloc: Global, name: &str, out: &mut K) -> Result<(), OutOfMemory>
+    ensures said { OnOk result (IsSaid (line_of_output_fault name.now) (K.written out.old) (K.written out.new) (K.refused out.old) (K.refused out.new)) }
+    ensures silent { OnErr result (K.written out.new ≡ K.written out.old) }
+{
+    let line = line_of_output_fault(alloc, name)?;
+    say(out, line.as_slice());
+    Ok(())
+}
+
+/// Tests that no file to be written has the name of the layout or of a load, or says which is the first that has.
+pub(crate) fn judge_names<K: Sink>(
+    alloc: Global,
+    layout: &str,
+    written: Written,
+    prefix: &str,
+    network: &Layout,
+    out: &mut K,
+) -> Result<(), Ending>
+    ensures free { OnOk result (AreNamesFree layout.now (written_by written prefix.now) network.now) }
+    ensures silent { OnOk result (K.written out.new ≡ K.written out.old) }
+    ensures faults { OnOk result (K.faults out.new ≡ K.faults out.old) }
+    ensures refused { OnOk result (K.refused out.new ≡ K.refused out.old) }
+    ensures taken { IfErr result (λ e. IsTakenEnd layout.now (written_by written prefix.now) network.now (K.written out.old) (K.written out.new) (K.refused out.old) (K.refused out.new) e) }
+{
+    let name = match taken_name(alloc, layout, written, prefix, network) {
+        Ok(None) => return Ok(()),
+        Ok(Some(name)) => name,
+        Err(OutOfMemory) => return Err(Ending::Memory),
+    };
+    match say_taken(alloc, name.as_str(), out) {
+        Ok(()) => Err(Ending::Output),
+        Err(OutOfMemory) => Err(Ending::Memory),
+    }
+}
