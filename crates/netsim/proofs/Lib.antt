@@ -5,6 +5,7 @@ pub mod RunEnds
 pub mod ProbeEnds
 pub mod PictureEnds
 pub mod StopEnds
+pub mod EndsOfRequests
 pub mod TapsOfWords
 pub mod TapTexts
 pub mod DemoTexts
