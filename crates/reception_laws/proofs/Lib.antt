@@ -1,0 +1,6 @@
+mod ReceptionsHeard
+mod ShortReceptions
+mod SpoiledReceptions
+mod ToldOctets
+pub mod WholeReceptions
+pub mod NetworkReceptions

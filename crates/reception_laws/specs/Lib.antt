@@ -1,0 +1,2 @@
+pub mod WholeReceptions
+pub mod NetworkReceptions
