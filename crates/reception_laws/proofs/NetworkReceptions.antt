@@ -1,6 +1,7 @@
 -- The receptions of the stations in the network of a plan.
-use Rattle.std.proofs.Common.{◌≡◌, eqb, ℕ, zero, suc, ◌+◌, ◌-◌, ◌*◌, ◌<◌, ◌≤◌, Bool, true, false, cond, Some, None, List, [], ◌∷◌, map, length, drop, length-drop, get_or, refl, sym, subst, ap, ap₂, ◌∙◌, arith}
+use Rattle.std.proofs.Common.{◌≡◌, eqb, ℕ, zero, suc, ◌+◌, ◌-◌, ◌*◌, ◌<◌, ◌≤◌, ◌⊎◌, inl, inr, Bool, true, false, cond, Some, None, List, [], ◌∷◌, map, length, drop, length-drop, get_or, refl, sym, subst, ap, ap₂, ◌∙◌, arith}
 use Rattle.std.specs.List.{Contains}
+use Rattle.std.proofs.lemmas.Bool.{cases_lt, false≢true}
 use Rattle.std.proofs.lemmas.List.{get_or-map, get_or-drop}
 use Rattle.manchester_line.specs.declared.Sym.{Sym}
 use Rattle.manchester_line.specs.declared.Sym.TheVariants.{Idle, Hi, Lo, Clash}
@@ -19,7 +20,7 @@ use Rattle.net_parts.proofs.NetworkFacts.{station_facts}
 use Rattle.net_parts.proofs.DeviceSteps.{receiver_next}
 use Rattle.net_parts.proofs.RepeaterSteps.{length-span, get_or-span}
 use Rattle.reception_laws.specs.WholeReceptions.{IsAllSignal, AwaitsReception, idle_after, TextVerdict, verdict_of_text, HasVerdict, row_alone, spoiled_row}
-use Rattle.reception_laws.specs.NetworkReceptions.{reception_at, text_heard, lost_bits, octets_allowed, HearsSince, IsReception, IsUnderWay, EndsAs, HaveOneVerdict, ReceiversFollow, LostBitsStay, AllowedOctetsStay, ReceiversAwaitFirst, ReceiversAwaitNext, ReceptionsAreUnderWay, ReceptionsEndAsTold, OneTextOneVerdict, ShortReceptionsAreFragments, ClashesSpoilReceptions}
+use Rattle.reception_laws.specs.NetworkReceptions.{HearsCarrier, HearsIdle, EmitsSignal, EmitsIdle, reception_at, text_heard, WritesNoRow, lost_bits, octets_allowed, IsDeaf, HearsSince, IsReception, IsUnderWay, EndsAs, HaveOneVerdict, ReceiversFollow, LostBitsStay, AllowedOctetsStay, ReceiversAwaitFirst, ReceiversAwaitNext, AwaitingReceiversWriteNothing, SendersTurnDeaf, DeafReceiversWriteNothing, ReceptionsAreUnderWay, ReceptionsEndAsTold, OneTextOneVerdict, OneLineOneVerdict, ShortReceptionsAreFragments, ClashesSpoilReceptions}
 use Rattle.reception_laws.proofs.ReceptionsHeard.{with_halves, halves_heard, text_under_way, no_event}
 use Rattle.reception_laws.proofs.WholeReceptions.{whole_text_is_told, short_text_is_fragment, clash_spoils_text, idle_ends_reception}
 
@@ -84,9 +85,18 @@ receivers_await_first plan k station =
     let P : Receiving → Type 0 = AwaitsReception in
     subst P (sym (first_receiver plan k station)) (record { hearing = refl; none = refl })
 
+idle_of : (s : Sym) → is_signal s ≡ false → s ≡ Idle
+idle_of Idle h = refl
+idle_of Hi h = absurd (false≢true (sym h))
+idle_of Lo h = absurd (false≢true (sym h))
+idle_of Clash h = absurd (false≢true (sym h))
+
+not_idle : (s : Sym) → is_signal s ≡ true → s ≡ Idle → ⊥
+not_idle s h e = false≢true (sym (ap is_signal e) ∙ h)
+
 -- a half bit of Idle without sending
-idle_half : (plan : Plan) (k t : ℕ) → heard plan k t ≡ Idle → is_signal (emitted plan k t) ≡ false → reception_at plan k t ≡ receiver_step (receiver_at plan k t) Idle false
-idle_half plan k t idle silent = ap₂ (receiver_step (receiver_at plan k t)) idle silent
+idle_half : (plan : Plan) (k t : ℕ) → HearsIdle plan k t → EmitsIdle plan k t → reception_at plan k t ≡ receiver_step (receiver_at plan k t) Idle false
+idle_half plan k t idle silent = ap₂ (receiver_step (receiver_at plan k t)) (idle_of (heard plan k t) idle) silent
 
 pub receivers_await_next : ReceiversAwaitNext
 receivers_await_next plan k t station idle silent =
@@ -95,14 +105,136 @@ receivers_await_next plan k t station idle silent =
     (sym (receiver_next plan (station_facts plan) k t station ∙ ap (λ (r : Reception). r.state) (idle_half plan k t idle silent)))
     (idle_ends_reception (receiver_at plan k t))
 
--- what was heard so far
+-- a receiver that awaits a reception makes nothing of Idle
+awaiting_step : (r : Receiving) → AwaitsReception r → receiver_step r Idle false ≡ quiet r
+awaiting_step r h = ap₂ (λ (b : Bool) (hs : List Sym). cond b (quiet (record r { deaf = false; halves = [] })) (reception_ended r hs)) h.hearing h.none
+
+awaiting_for : (plan : Plan) (k n u : ℕ) → k < length plan.layout.stations → AwaitsReception (receiver_at plan k u) →
+    ((i : ℕ) → i < n → HearsIdle plan k (u + i) × EmitsIdle plan k (u + i)) → receiver_at plan k (u + n) ≡ receiver_at plan k u
+awaiting_for plan k zero u station awaits idle = let e : u + 0 ≡ u = omega arith in ap (receiver_at plan k) e
+awaiting_for plan k (suc n) u station awaits idle =
+    let e : u + suc n ≡ suc u + n = omega arith in
+    let here : u + 0 ≡ u = omega arith in
+    let Idles : ℕ → Type 0 = λ v. HearsIdle plan k v × EmitsIdle plan k v in
+    let now : Idles u = subst Idles here (idle 0 (omega arith)) in
+    let one : receiver_at plan k (suc u) ≡ receiver_at plan k u =
+    receiver_next plan (station_facts plan) k u station ∙ ap (λ (r : Reception). r.state) (idle_half plan k u now.0 now.1 ∙ awaiting_step (receiver_at plan k u) awaits) in
+    let P : Receiving → Type 0 = AwaitsReception in
+    ap (receiver_at plan k) e
+    ∙ awaiting_for plan k n (suc u) station (subst P (sym one) awaits) (λ i h. let z : u + suc i ≡ suc u + i = omega arith in subst Idles z (idle (suc i) (omega (arith, h))))
+    ∙ one
+
+pub awaiting_receivers_write_nothing : AwaitingReceiversWriteNothing
+awaiting_receivers_write_nothing plan k from to station order awaits idle =
+    let until : (v : ℕ) → from ≤ v → v ≤ to → receiver_at plan k v ≡ receiver_at plan k from =
+    λ v after before.
+    let e : v ≡ from + (v - from) = omega (arith, after) in
+    ap (receiver_at plan k) e ∙ awaiting_for plan k (v - from) from station awaits (λ i h. idle (from + i) (omega arith) (omega (arith, h, before))) in
+    let P : Receiving → Type 0 = AwaitsReception in
+    let unwritten : WritesNoRow plan k from to =
+    λ u after before.
+    let now = idle u after before in
+    ap (λ (r : Reception). r.event) (idle_half plan k u now.0 now.1 ∙ awaiting_step (receiver_at plan k u) (subst P (sym (until u after (omega (arith, before)))) awaits)) in
+    (until to order (omega arith), unwritten)
+
+-- a deaf receiver makes nothing of a signal
+deaf_same : (r : Receiving) (h : Sym) → r.deaf ≡ true → is_signal h ≡ true → receiver_step r h false ≡ quiet r
+deaf_same r Idle d c = absurd (false≢true c)
+deaf_same r Hi d c = ap (λ (b : Bool). cond b (quiet r) (extended r Hi)) d
+deaf_same r Lo d c = ap (λ (b : Bool). cond b (quiet r) (extended r Lo)) d
+deaf_same r Clash d c = ap (λ (b : Bool). cond b (quiet r) (extended r Clash)) d
+
+deaf_step : (r : Receiving) (h : Sym) (sending : Bool) → IsDeaf r → (sending ≡ true) ⊎ (is_signal h ≡ true) → IsDeaf (receiver_step r h sending).state
+deaf_step r h true d s = record { deaf = refl; none = refl }
+deaf_step r h false d (inl e) = absurd (false≢true e)
+deaf_step r h false d (inr c) = let P : Reception → Type 0 = λ x. IsDeaf x.state in subst P (sym (deaf_same r h d.deaf c)) d
+
+-- and it writes no row, whatever comes
+deaf_unwritten : (r : Receiving) (h : Sym) (sending : Bool) → r.deaf ≡ true → (receiver_step r h sending).event ≡ None
+deaf_unwritten r h true d = refl
+deaf_unwritten r Idle false d = ap (λ (b : Bool). (cond b (quiet (record r { deaf = false; halves = [] })) (reception_ended r r.halves)).event) d
+deaf_unwritten r Hi false d = ap (λ (b : Bool). (cond b (quiet r) (extended r Hi)).event) d
+deaf_unwritten r Lo false d = ap (λ (b : Bool). (cond b (quiet r) (extended r Lo)).event) d
+deaf_unwritten r Clash false d = ap (λ (b : Bool). (cond b (quiet r) (extended r Clash)).event) d
+
+-- one half bit of sending
+sent_half : (plan : Plan) (k t : ℕ) → EmitsSignal plan k t → reception_at plan k t ≡ receiver_step (receiver_at plan k t) (heard plan k t) true
+sent_half plan k t sends = ap (receiver_step (receiver_at plan k t) (heard plan k t)) sends
+
+pub senders_turn_deaf : SendersTurnDeaf
+senders_turn_deaf plan k t station sends =
+    let P : Receiving → Type 0 = IsDeaf in
+    let unwritten : WritesNoRow plan k t (suc t) =
+    λ u after before.
+    let e : u ≡ t = omega (arith, after, before) in
+    ap (λ v. (reception_at plan k v).event) e ∙ ap (λ (r : Reception). r.event) (sent_half plan k t sends) in
+    (subst P
+        (sym (receiver_next plan (station_facts plan) k t station ∙ ap (λ (r : Reception). r.state) (sent_half plan k t sends)))
+        (record { deaf = refl; none = refl }),
+    unwritten)
+
+deaf_for : (plan : Plan) (k n u : ℕ) → k < length plan.layout.stations → IsDeaf (receiver_at plan k u) →
+    ((i : ℕ) → i < n → EmitsSignal plan k (u + i) ⊎ HearsCarrier plan k (u + i)) → IsDeaf (receiver_at plan k (u + n))
+deaf_for plan k zero u station deaf busy = let e : u ≡ u + 0 = omega arith in let P : ℕ → Type 0 = λ v. IsDeaf (receiver_at plan k v) in subst P e deaf
+deaf_for plan k (suc n) u station deaf busy =
+    let e : suc u + n ≡ u + suc n = omega arith in
+    let here : u + 0 ≡ u = omega arith in
+    let Busy : ℕ → Type 0 = λ v. EmitsSignal plan k v ⊎ HearsCarrier plan k v in
+    let P : Receiving → Type 0 = IsDeaf in
+    let Q : ℕ → Type 0 = λ v. IsDeaf (receiver_at plan k v) in
+    let one : IsDeaf (receiver_at plan k (suc u)) =
+    subst P (sym (receiver_next plan (station_facts plan) k u station))
+    (deaf_step (receiver_at plan k u) (heard plan k u) (is_signal (emitted plan k u)) deaf (subst Busy here (busy 0 (omega arith)))) in
+    subst Q e (deaf_for plan k n (suc u) station one (λ i h. let z : u + suc i ≡ suc u + i = omega arith in subst Busy z (busy (suc i) (omega (arith, h)))))
+
+pub deaf_receivers_write_nothing : DeafReceiversWriteNothing
+deaf_receivers_write_nothing plan k from to station order deaf busy =
+    let Q : ℕ → Type 0 = λ v. IsDeaf (receiver_at plan k v) in
+    let until : (v : ℕ) → from ≤ v → v ≤ to → IsDeaf (receiver_at plan k v) =
+    λ v after before.
+    let e : from + (v - from) ≡ v = omega (arith, after) in
+    subst Q e (deaf_for plan k (v - from) from station deaf (λ i h. busy (from + i) (omega arith) (omega (arith, h, before)))) in
+    let unwritten : WritesNoRow plan k from (suc to) =
+    λ u after before.
+    deaf_unwritten (receiver_at plan k u) (heard plan k u) (is_signal (emitted plan k u)) (until u after (omega (arith, before))).deaf in
+    (until to order (omega arith), unwritten)
+
+-- what was heard so far, and what is heard from now on
+pub hears_from : (plan : Plan) (k t : ℕ) → k < length plan.layout.stations → AwaitsReception (receiver_at plan k t) → HearsSince plan k t t
+hears_from plan k t station awaits =
+    record {
+      station = station;
+      begins = omega arith;
+      awaits = awaits;
+      carrier = λ u after before. absurd (omega (arith, after, before));
+      silent = λ u after before. absurd (omega (arith, after, before));
+    }
+
+pub hears_on : (plan : Plan) (k begun t u : ℕ) → HearsSince plan k begun t → t ≤ u →
+    ((v : ℕ) → t ≤ v → v < u → HearsCarrier plan k v) → ((v : ℕ) → t ≤ v → v < u → EmitsIdle plan k v) → HearsSince plan k begun u
+hears_on plan k begun t u h later carrier silent =
+    let begins = h.begins in
+    record {
+      station = h.station;
+      begins = omega (arith, begins, later);
+      awaits = h.awaits;
+      carrier = λ v after before. elim (cases_lt v t) [
+        | inl old ↦ h.carrier v after old
+        | inr new ↦ carrier v new before
+      ];
+      silent = λ v after before. elim (cases_lt v t) [
+        | inl old ↦ h.silent v after old
+        | inr new ↦ silent v new before
+      ];
+    }
+
 pub hears_until : (plan : Plan) (k begun u t : ℕ) → begun ≤ u → u ≤ t → HearsSince plan k begun t → HearsSince plan k begun u
 hears_until plan k begun u t after before h =
     record {
       station = h.station;
       begins = after;
-      awaited = h.awaited;
-      signals = λ v a b. h.signals v a (omega (arith, b, before));
+      awaits = h.awaits;
+      carrier = λ v a b. h.carrier v a (omega (arith, b, before));
       silent = λ v a b. h.silent v a (omega (arith, b, before));
     }
 
@@ -110,7 +242,7 @@ signals_heard : (plan : Plan) (k begun t : ℕ) → HearsSince plan k begun t �
 signals_heard plan k begun t h = λ i d l.
     let size = length-span (heard plan k) begun (t - begun) in
     let inside : i < t - begun = omega (arith, l, size) in
-    λ is. h.signals (begun + i) (omega arith) (omega (arith, inside)) (sym (get_or-span (heard plan k) begun (t - begun) i d inside) ∙ is)
+    λ is. not_idle (heard plan k (begun + i)) (h.carrier (begun + i) (omega arith) (omega (arith, inside))) (sym (get_or-span (heard plan k) begun (t - begun) i d inside) ∙ is)
 
 heard_since : (plan : Plan) (k begun t : ℕ) → HearsSince plan k begun t → receiver_at plan k t ≡ receiver_after (receiver_at plan k begun) (text_heard plan k begun t) false
 heard_since plan k begun t h = receivers_follow plan k begun t false h.station h.begins h.silent
@@ -120,16 +252,16 @@ no_row plan k begun t u h after before =
     let until : HearsSince plan k begun u = hears_until plan k begun u t after (omega (arith, before)) h in
     let r : Receiving = receiver_at plan k begun in
     let text : List Sym = text_heard plan k begun u in
-    let state : receiver_at plan k u ≡ with_halves r.lose r.most text = heard_since plan k begun u until ∙ halves_heard r text h.awaited (signals_heard plan k begun u until) in
+    let state : receiver_at plan k u ≡ with_halves r.lose r.most text = heard_since plan k begun u until ∙ halves_heard r text h.awaits (signals_heard plan k begun u until) in
     ap₂ (λ x b. (receiver_step x (heard plan k u) b).event) state (h.silent u after before)
-    ∙ no_event r.lose r.most text (heard plan k u) (h.signals u after before)
+    ∙ no_event r.lose r.most text (heard plan k u) (not_idle (heard plan k u) (h.carrier u after before))
 
 pub receptions_are_under_way : ReceptionsAreUnderWay
 receptions_are_under_way plan k begun t h =
     record {
       signal = signals_heard plan k begun t h;
       many = length-span (heard plan k) begun (t - begun);
-      state = heard_since plan k begun t h ∙ text_under_way (receiver_at plan k begun) (text_heard plan k begun t) h.awaited (signals_heard plan k begun t h);
+      state = heard_since plan k begun t h ∙ text_under_way (receiver_at plan k begun) (text_heard plan k begun t) h.awaits (signals_heard plan k begun t h);
       unwritten = λ u after before. no_row plan k begun t u h after before;
     }
 
@@ -157,10 +289,10 @@ receptions_end_as_told plan k begun t whole =
     ap₂ (λ l m. verdict_of_text l m text) (lost_bits_stay plan k begun h.station) (allowed_octets_stay plan k begun h.station) in
     let P : TextVerdict → Type 0 = HasVerdict r text in
     ends_so plan k begun t (verdict_of_text (lost_bits plan k) (octets_allowed plan) text) whole
-    (subst P same (whole_text_is_told r text h.awaited (signals_heard plan k begun t h)))
+    (subst P same (whole_text_is_told r text h.awaits (signals_heard plan k begun t h)))
 
 pub one_text_one_verdict : OneTextOneVerdict
-one_text_one_verdict plan j k a t b u first second lost text =
+one_text_one_verdict plan j a t k b u first second lost text =
     let x = receptions_end_as_told plan j a t first in
     let y = receptions_end_as_told plan k b u second in
     let same : verdict_of_text (lost_bits plan j) (octets_allowed plan) (text_heard plan j a t) ≡ verdict_of_text (lost_bits plan k) (octets_allowed plan) (text_heard plan k b u) =
@@ -170,6 +302,28 @@ one_text_one_verdict plan j k a t b u first second lost text =
       octets = x.octets ∙ ap (λ (v : TextVerdict). v.octets) same ∙ sym y.octets;
     }
 
+span_alike : (f g : ℕ → Sym) (a b n : ℕ) → ((i : ℕ) → i < n → f (a + i) ≡ g (b + i)) → span f a n ≡ span g b n
+span_alike f g a b zero same = refl
+span_alike f g a b (suc n) same =
+    let here : a ≡ a + 0 = omega arith in
+    let there : b + 0 ≡ b = omega arith in
+    ap₂ ◌∷◌ (ap f here ∙ same 0 (omega arith) ∙ ap g there)
+    (span_alike f g (suc a) (suc b) n (λ i h.
+        let x : suc a + i ≡ a + suc i = omega arith in
+        let y : b + suc i ≡ suc b + i = omega arith in
+        ap f x ∙ same (suc i) (omega (arith, h)) ∙ ap g y))
+
+pub one_line_one_verdict : OneLineOneVerdict
+one_line_one_verdict plan line k back from to whole same =
+    let n : to + back - (from + back) ≡ to - from = omega arith in
+    let text : text_heard plan k (from + back) (to + back) ≡ span line from (to - from) =
+    ap (span (heard plan k) (from + back)) n
+    ∙ span_alike (heard plan k) line (from + back) from (to - from) (λ i h.
+        let e : from + back + i ≡ from + i + back = omega arith in
+        ap (heard plan k) e ∙ same (from + i) (omega arith) (omega (arith, h))) in
+    let P : List Sym → Type 0 = λ xs. EndsAs plan k (from + back) (to + back) (verdict_of_text (lost_bits plan k) (octets_allowed plan) xs) in
+    subst P text (receptions_end_as_told plan k (from + back) (to + back) whole)
+
 pub short_receptions_are_fragments : ShortReceptionsAreFragments
 short_receptions_are_fragments plan k begun t whole some short =
     let h = whole.hears in
@@ -178,7 +332,7 @@ short_receptions_are_fragments plan k begun t whole some short =
     let many : length text ≡ t - begun = length-span (heard plan k) begun (t - begun) in
     let P : ℕ → Type 0 = λ n. HasVerdict r text (row_alone (Dropped why.Fragment n)) in
     ends_so plan k begun t (row_alone (Dropped why.Fragment (t - begun))) whole
-    (subst P many (short_text_is_fragment r text h.awaited (signals_heard plan k begun t h) (omega (arith, many, some)) (omega (arith, many, short))))
+    (subst P many (short_text_is_fragment r text h.awaits (signals_heard plan k begun t h) (omega (arith, many, some)) (omega (arith, many, short))))
 
 -- a Clash that is heard behind the lost bits is among the half bits that are left
 clash_left : (plan : Plan) (k begun t u lose : ℕ) → begun + 2 * lose ≤ u → u < t → heard plan k u ≡ Clash → Contains (left_halves lose (text_heard plan k begun t)) Clash
@@ -204,4 +358,4 @@ clashes_spoil_receptions plan k begun t u whole behind before clash =
     let P : ℕ → Type 0 = λ l. Contains (left_halves l text) Clash in
     let Q : ℕ → Type 0 = λ n. HasVerdict r text (row_alone (spoiled_row n)) in
     ends_so plan k begun t (row_alone (spoiled_row (t - begun))) whole
-    (subst Q many (clash_spoils_text r text h.awaited (signals_heard plan k begun t h) (subst P (sym (lost_bits_stay plan k begun h.station)) left)))
+    (subst Q many (clash_spoils_text r text h.awaits (signals_heard plan k begun t h) (subst P (sym (lost_bits_stay plan k begun h.station)) left)))

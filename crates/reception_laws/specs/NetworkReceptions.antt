@@ -1,51 +1,76 @@
--- The receptions of the stations in the network of a plan, in times of its run (profile). Half bits and stations count
--- from 0; a reception is told by the half bit in which it begins and the half bit of Idle after its last.
-use Rattle.std.specs.Prelude.{ℕ, suc, ◌≡◌, ◌≢◌, ◌+◌, ◌-◌, ◌*◌, ◌<◌, ◌≤◌, ◌==◌, Bool, false, None, List, map, length, slice_index_or}
+-- The receivers of the stations in the network of a plan, in times of its run (profile). Half bits and stations count
+-- from 0. A reception is told by the half bit in which it begins and by the half bit of Idle after its last.
+use Rattle.std.specs.Prelude.{ℕ, suc, ◌≡◌, ◌+◌, ◌-◌, ◌*◌, ◌<◌, ◌≤◌, ◌==◌, ◌⊎◌, Bool, true, false, None, List, [], map, length, slice_index_or}
 use Rattle.mac_parameters.specs.Parameters.{half_bits_a_bit, most_octets}
 use Rattle.manchester_line.specs.declared.Sym.{Sym}
-use Rattle.manchester_line.specs.declared.Sym.TheVariants.{Idle, Clash}
+use Rattle.manchester_line.specs.declared.Sym.TheVariants.{Clash}
 use Rattle.manchester_line.specs.Line.{is_signal}
 use Rattle.collision_log.specs.declared.row.Body.TheVariants.{Dropped}
 use Rattle.collision_log.specs.declared.row.Why.TheVariants as why
 use Rattle.load_plan.specs.declared.plan.Plan.{Plan}
-use Rattle.mac_receive.specs.Receiver.{Reception, receiver_step, receiver_after}
+use Rattle.mac_receive.specs.Receiver.{Receiving, Reception, receiver_step, receiver_after}
 use Rattle.network.specs.Times.{heard, emitted}
 use Rattle.net_parts.specs.Machines.{span}
 use Rattle.net_parts.specs.Standing.{receiver_at}
 use Rattle.window_room.specs.Receptions.{least_reception}
 use Rattle.reception_laws.specs.WholeReceptions.{IsAllSignal, AwaitsReception, TextVerdict, verdict_of_text, row_alone, spoiled_row}
 
+-- Station k hears a signal in half bit t.
+abbrev pub HearsCarrier : Plan → ℕ → ℕ → Type 0
+HearsCarrier plan k t = is_signal (heard plan k t) ≡ true
+
+-- Station k hears Idle in half bit t.
+abbrev pub HearsIdle : Plan → ℕ → ℕ → Type 0
+HearsIdle plan k t = is_signal (heard plan k t) ≡ false
+
+-- Station k emits a signal in half bit t.
+abbrev pub EmitsSignal : Plan → ℕ → ℕ → Type 0
+EmitsSignal plan k t = is_signal (emitted plan k t) ≡ true
+
+-- Station k emits Idle in half bit t.
+abbrev pub EmitsIdle : Plan → ℕ → ℕ → Type 0
+EmitsIdle plan k t = is_signal (emitted plan k t) ≡ false
+
 -- What the receiver of station k makes of half bit t (4.2.9).
 abbrev pub reception_at : Plan → ℕ → ℕ → Reception
 reception_at plan k t = receiver_step (receiver_at plan k t) (heard plan k t) (is_signal (emitted plan k t))
 
--- What station k hears from half bit `begun` on and below half bit t.
+-- What station k hears from half bit `from` on and below half bit `to`, one symbol a half bit.
 abbrev pub text_heard : Plan → ℕ → ℕ → ℕ → List Sym
-text_heard plan k begun t = span (heard plan k) begun (t - begun)
+text_heard plan k from to = span (heard plan k) from (to - from)
+
+-- From half bit `from` on and below half bit `to` the receiver of station k writes no row.
+abbrev pub WritesNoRow : Plan → ℕ → ℕ → ℕ → Type 0
+WritesNoRow plan k from to = (u : ℕ) → from ≤ u → u < to → (reception_at plan k u).event ≡ None
 
 -- How many bits station k loses of each reception (profile).
 abbrev pub lost_bits : Plan → ℕ → ℕ
 lost_bits plan k = slice_index_or (map (λ s. s.lose) plan.layout.stations) k 0
 
--- The most octets of a frame before its check sequence, of all stations alike (3.2.7).
+-- The most octets of a frame before its check sequence, for all stations alike (3.2.7).
 abbrev pub octets_allowed : Plan → ℕ
 octets_allowed plan = most_octets (plan.layout.format == 2)
 
--- From half bit `begun` on and below half bit t station k has heard a signal in each half bit, and emitted none; before
--- `begun` its receiver awaited a reception. Where `begun` is t it has heard nothing so far.
+-- A receiver is deaf: it hears nothing until the next half bit of Idle in which its station doesn't send (profile).
+pub record IsDeaf (r : Receiving) : Type 0 where
+  pub deaf : r.deaf ≡ true
+  pub none : r.halves ≡ []
+
+-- From half bit `begun` on and below half bit t station k hears a signal in each half bit, and emits none; before
+-- `begun` its receiver awaits a reception. Where `begun` is t it has heard nothing so far.
 pub record HearsSince (plan : Plan) (k begun t : ℕ) : Type 0 where
   pub station : k < length plan.layout.stations
   pub begins : begun ≤ t
-  pub awaited : AwaitsReception (receiver_at plan k begun)
-  pub signals : (u : ℕ) → begun ≤ u → u < t → heard plan k u ≢ Idle
-  pub silent : (u : ℕ) → begun ≤ u → u < t → is_signal (emitted plan k u) ≡ false
+  pub awaits : AwaitsReception (receiver_at plan k begun)
+  pub carrier : (u : ℕ) → begun ≤ u → u < t → HearsCarrier plan k u
+  pub silent : (u : ℕ) → begun ≤ u → u < t → EmitsIdle plan k u
 
 -- The half bits from `begun` on and below half bit t are a whole reception of station k, or none where `begun` is t: in
 -- half bit t it hears Idle, and emits no signal.
 pub record IsReception (plan : Plan) (k begun t : ℕ) : Type 0 where
   pub hears : HearsSince plan k begun t
-  pub over : heard plan k t ≡ Idle
-  pub unsent : is_signal (emitted plan k t) ≡ false
+  pub over : HearsIdle plan k t
+  pub unsent : EmitsIdle plan k t
 
 -- Before half bit t the reception of station k that began in half bit `begun` is what the station heard since then: it
 -- has t - begun half bits, and no row was written of it so far.
@@ -53,13 +78,18 @@ pub record IsUnderWay (plan : Plan) (k begun t : ℕ) : Type 0 where
   pub signal : IsAllSignal (text_heard plan k begun t)
   pub many : length (text_heard plan k begun t) ≡ t - begun
   pub state : receiver_at plan k t ≡ record (receiver_at plan k begun) { halves = text_heard plan k begun t }
-  pub unwritten : (u : ℕ) → begun ≤ u → u < t → (reception_at plan k u).event ≡ None
+  pub unwritten : WritesNoRow plan k begun t
 
 -- In half bit t station k has this verdict, and after it its receiver is as it was before half bit `begun`.
 pub record EndsAs (plan : Plan) (k begun t : ℕ) (verdict : TextVerdict) : Type 0 where
   pub event : (reception_at plan k t).event ≡ verdict.event
   pub octets : (reception_at plan k t).octets ≡ verdict.octets
   pub after : receiver_at plan k (suc t) ≡ receiver_at plan k begun
+
+-- What station j makes of half bit t has the same row and the same octets as what station k makes of half bit u.
+pub record HaveOneVerdict (plan : Plan) (j t k u : ℕ) : Type 0 where
+  pub event : (reception_at plan j t).event ≡ (reception_at plan k u).event
+  pub octets : (reception_at plan j t).octets ≡ (reception_at plan k u).octets
 
 -- Where a station sends in each half bit from `from` on and below `to`, or in none, its receiver follows from what it
 -- hears in them.
@@ -84,11 +114,34 @@ abbrev pub ReceiversAwaitFirst : Type 0
 ReceiversAwaitFirst =
     (plan : Plan) (k : ℕ) → k < length plan.layout.stations → AwaitsReception (receiver_at plan k 0)
 
--- After a half bit in which its station hears Idle, and emits no signal, a receiver awaits a reception.
+-- After a half bit in which its station hears and emits Idle a receiver awaits a reception.
 abbrev pub ReceiversAwaitNext : Type 0
 ReceiversAwaitNext =
-    (plan : Plan) (k t : ℕ) → k < length plan.layout.stations → heard plan k t ≡ Idle
-    → is_signal (emitted plan k t) ≡ false → AwaitsReception (receiver_at plan k (suc t))
+    (plan : Plan) (k t : ℕ) → k < length plan.layout.stations → HearsIdle plan k t → EmitsIdle plan k t
+    → AwaitsReception (receiver_at plan k (suc t))
+
+-- A receiver that awaits a reception before half bit `from` does so, and is the same, up to half bit `to`, where its
+-- station hears and emits Idle in each half bit in between; it writes no row in them.
+abbrev pub AwaitingReceiversWriteNothing : Type 0
+AwaitingReceiversWriteNothing =
+    (plan : Plan) (k from to : ℕ) → k < length plan.layout.stations → from ≤ to
+    → AwaitsReception (receiver_at plan k from)
+    → ((u : ℕ) → from ≤ u → u < to → HearsIdle plan k u × EmitsIdle plan k u)
+    → (receiver_at plan k to ≡ receiver_at plan k from) × WritesNoRow plan k from to
+
+-- After a half bit in which its station emits a signal a receiver is deaf, and of that half bit no row is written.
+abbrev pub SendersTurnDeaf : Type 0
+SendersTurnDeaf =
+    (plan : Plan) (k t : ℕ) → k < length plan.layout.stations → EmitsSignal plan k t
+    → IsDeaf (receiver_at plan k (suc t)) × WritesNoRow plan k t (suc t)
+
+-- A receiver that is deaf before half bit `from` stays so up to half bit `to` where its station emits or hears a signal
+-- in each half bit in between. It writes no row in them, nor in half bit `to`, whatever comes then.
+abbrev pub DeafReceiversWriteNothing : Type 0
+DeafReceiversWriteNothing =
+    (plan : Plan) (k from to : ℕ) → k < length plan.layout.stations → from ≤ to → IsDeaf (receiver_at plan k from)
+    → ((u : ℕ) → from ≤ u → u < to → EmitsSignal plan k u ⊎ HearsCarrier plan k u)
+    → IsDeaf (receiver_at plan k to) × WritesNoRow plan k from (suc to)
 
 -- What a station has heard since its receiver awaited a reception is its reception under way.
 abbrev pub ReceptionsAreUnderWay : Type 0
@@ -100,18 +153,22 @@ ReceptionsEndAsTold =
     (plan : Plan) (k begun t : ℕ) → IsReception plan k begun t
     → EndsAs plan k begun t (verdict_of_text (lost_bits plan k) (octets_allowed plan) (text_heard plan k begun t))
 
--- What station j makes of half bit t has the same row and the same octets as what station k makes of half bit u.
-pub record HaveOneVerdict (plan : Plan) (j k t u : ℕ) : Type 0 where
-  pub event : (reception_at plan j t).event ≡ (reception_at plan k u).event
-  pub octets : (reception_at plan j t).octets ≡ (reception_at plan k u).octets
-
--- One text, one verdict: two receptions with the same text, of stations j and k that lose as many bits, from half bit a
--- to t and from b to u.
+-- One text, one verdict: a reception of station j, from half bit a to t, and one of station k, from b to u, have the
+-- same row and octets where the same text was heard in them, if the stations lose as many bits.
 abbrev pub OneTextOneVerdict : Type 0
 OneTextOneVerdict =
-    (plan : Plan) (j k a t b u : ℕ) → IsReception plan j a t → IsReception plan k b u
+    (plan : Plan) (j a t k b u : ℕ) → IsReception plan j a t → IsReception plan k b u
     → lost_bits plan j ≡ lost_bits plan k → text_heard plan j a t ≡ text_heard plan k b u
-    → HaveOneVerdict plan j k t u
+    → HaveOneVerdict plan j t k u
+
+-- One line, one verdict: where a station hears `back` half bits later what a line has from its half bit `from` on and
+-- below `to`, and that is a whole reception, it has the verdict of that text of the line.
+abbrev pub OneLineOneVerdict : Type 0
+OneLineOneVerdict =
+    (plan : Plan) (line : ℕ → Sym) (k back from to : ℕ) → IsReception plan k (from + back) (to + back)
+    → ((u : ℕ) → from ≤ u → u < to → heard plan k (u + back) ≡ line u)
+    → EndsAs plan k (from + back) (to + back)
+    (verdict_of_text (lost_bits plan k) (octets_allowed plan) (span line from (to - from)))
 
 -- A reception of fewer half bits than the shortest one of a frame is a fragment (4.4.2).
 abbrev pub ShortReceptionsAreFragments : Type 0
@@ -119,7 +176,7 @@ ShortReceptionsAreFragments =
     (plan : Plan) (k begun t : ℕ) → IsReception plan k begun t → begun < t → t - begun < least_reception
     → EndsAs plan k begun t (row_alone (Dropped why.Fragment (t - begun)))
 
--- A Clash that a station hears in half bit u spoils its reception, unless it is among the bits that it loses.
+-- A Clash that a station hears in half bit u spoils its reception, unless it is among the bits that the station loses.
 abbrev pub ClashesSpoilReceptions : Type 0
 ClashesSpoilReceptions =
     (plan : Plan) (k begun t u : ℕ) → IsReception plan k begun t

@@ -1,5 +1,5 @@
 //! Laws of receptions, of receivers alone and in the network of every plan: a call without a body for each.
-ghost use Rattle.reception_laws.specs.NetworkReceptions.{AllowedOctetsStay, ClashesSpoilReceptions, LostBitsStay, OneTextOneVerdict, ReceiversAwaitFirst, ReceiversAwaitNext, ReceiversFollow, ReceptionsAreUnderWay, ReceptionsEndAsTold, ShortReceptionsAreFragments};
+ghost use Rattle.reception_laws.specs.NetworkReceptions.{AllowedOctetsStay, AwaitingReceiversWriteNothing, ClashesSpoilReceptions, DeafReceiversWriteNothing, LostBitsStay, OneLineOneVerdict, OneTextOneVerdict, ReceiversAwaitFirst, ReceiversAwaitNext, ReceiversFollow, ReceptionsAreUnderWay, ReceptionsEndAsTold, SendersTurnDeaf, ShortReceptionsAreFragments};
 ghost use Rattle.reception_laws.specs.WholeReceptions.{ClashSpoilsText, IdleEndsReception, ShortTextIsFragment, TextIsUnderWay, WholeTextIsTold};
 
 /// While a receiver that awaited a reception hears a text without sending, the text is its reception under way (4.2.4).
@@ -40,10 +40,19 @@ pub fn receivers_keep_their_limits()
     ensures allowed { AllowedOctetsStay }
 {}
 
-/// A receiver awaits a reception before half bit 0, and after each half bit of Idle in which its station doesn't send.
+/// A receiver awaits a reception before half bit 0, and after each half bit in which its station hears and emits Idle.
+/// Where it does so from then on the receiver stays the same, and writes no row.
 pub fn receivers_await()
     ensures first { ReceiversAwaitFirst }
     ensures next { ReceiversAwaitNext }
+    ensures lasting { AwaitingReceiversWriteNothing }
+{}
+
+/// A receiver turns deaf where its station sends, and stays so as long as the station emits or hears a signal. Nothing is
+/// written meanwhile, nor in the half bit that ends it (profile).
+pub fn senders_are_deaf()
+    ensures first { SendersTurnDeaf }
+    ensures lasting { DeafReceiversWriteNothing }
 {}
 
 /// What a station has heard since its receiver awaited a reception is its reception under way, of which no row was
@@ -61,6 +70,12 @@ pub fn receptions_end_as_told()
 /// network heard it, and when, if they lose as many bits.
 pub fn one_text_one_verdict()
     ensures { OneTextOneVerdict }
+{}
+
+/// One line, one verdict: a reception of what one line alone has between two of its half bits has the verdict of that
+/// text, however far the station is away, and so the same as each other station's that hears it and loses as many bits.
+pub fn one_line_one_verdict()
+    ensures { OneLineOneVerdict }
 {}
 
 /// A reception of fewer than 1,028 half bits in the network of a plan is a fragment (4.4.2).
