@@ -1,12 +1,11 @@
 -- The receptions of the stations in the network of a plan.
-use Rattle.std.proofs.Common.{◌≡◌, eqb, ℕ, zero, suc, ◌+◌, ◌-◌, ◌*◌, ◌<◌, ◌≤◌, ◌⊎◌, inl, inr, Bool, true, false, cond, Some, None, List, [], ◌∷◌, map, length, drop, length-drop, get_or, refl, sym, subst, ap, ap₂, ◌∙◌, arith}
+use Rattle.std.proofs.Common.{◌≡◌, ℕ, zero, suc, ◌+◌, ◌-◌, ◌*◌, ◌<◌, ◌≤◌, ◌⊎◌, inl, inr, Bool, true, false, cond, None, List, [], ◌∷◌, length, drop, length-drop, get_or, refl, sym, subst, ap, ap₂, ◌∙◌, arith}
 use Rattle.std.specs.List.{Contains}
 use Rattle.std.proofs.lemmas.Bool.{cases_lt, false≢true}
 use Rattle.std.proofs.lemmas.List.{get_or-map, get_or-drop}
 use Rattle.manchester_line.specs.declared.Sym.{Sym}
 use Rattle.manchester_line.specs.declared.Sym.TheVariants.{Idle, Hi, Lo, Clash}
 use Rattle.manchester_line.specs.Line.{is_signal}
-use Rattle.collision_log.specs.declared.row.Body.{Body}
 use Rattle.collision_log.specs.declared.row.Body.TheVariants.{Dropped}
 use Rattle.collision_log.specs.declared.row.Why.TheVariants as why
 use Rattle.layout.specs.declared.lines.StationLine.{StationLine}
@@ -20,7 +19,7 @@ use Rattle.net_parts.proofs.NetworkFacts.{station_facts}
 use Rattle.net_parts.proofs.DeviceSteps.{receiver_next}
 use Rattle.net_parts.proofs.RepeaterSteps.{length-span, get_or-span}
 use Rattle.reception_laws.specs.WholeReceptions.{IsAllSignal, AwaitsReception, idle_after, TextVerdict, verdict_of_text, HasVerdict, row_alone, spoiled_row}
-use Rattle.reception_laws.specs.NetworkReceptions.{HearsCarrier, HearsIdle, EmitsSignal, EmitsIdle, reception_at, text_heard, WritesNoRow, lost_bits, octets_allowed, IsDeaf, HearsSince, IsReception, IsUnderWay, EndsAs, HaveOneVerdict, ReceiversFollow, LostBitsStay, AllowedOctetsStay, ReceiversAwaitFirst, ReceiversAwaitNext, AwaitingReceiversWriteNothing, SendersTurnDeaf, DeafReceiversWriteNothing, ReceptionsAreUnderWay, ReceptionsEndAsTold, OneTextOneVerdict, OneLineOneVerdict, ShortReceptionsAreFragments, ClashesSpoilReceptions}
+use Rattle.reception_laws.specs.NetworkReceptions.{HearsCarrier, HearsIdle, EmitsSignal, EmitsIdle, reception_at, text_heard, WritesNoRow, lost_bits, octets_allowed, IsDeaf, HearsSince, IsReception, EndsAs, ReceiversFollow, LostBitsStay, AllowedOctetsStay, ReceiversAwaitFirst, ReceiversAwaitNext, AwaitingReceiversWriteNothing, SendersTurnDeaf, DeafReceiversWriteNothing, ReceptionsAreUnderWay, ReceptionsEndAsTold, OneTextOneVerdict, OneLineOneVerdict, ShortReceptionsAreFragments, ClashesSpoilReceptions}
 use Rattle.reception_laws.proofs.ReceptionsHeard.{with_halves, halves_heard, text_under_way, no_event}
 use Rattle.reception_laws.proofs.WholeReceptions.{whole_text_is_told, short_text_is_fragment, clash_spoils_text, idle_ends_reception}
 
@@ -167,11 +166,12 @@ senders_turn_deaf plan k t station sends =
     let unwritten : WritesNoRow plan k t (suc t) =
     λ u after before.
     let e : u ≡ t = omega (arith, after, before) in
-    ap (λ v. (reception_at plan k v).event) e ∙ ap (λ (r : Reception). r.event) (sent_half plan k t sends) in
-    (subst P
-        (sym (receiver_next plan (station_facts plan) k t station ∙ ap (λ (r : Reception). r.state) (sent_half plan k t sends)))
-        (record { deaf = refl; none = refl }),
-    unwritten)
+    ap (λ v. (reception_at plan k v).event) e ∙ ap (λ (r : Reception). r.event) (sent_half plan k t sends) in (
+      subst P
+          (sym (receiver_next plan (station_facts plan) k t station ∙ ap (λ (r : Reception). r.state) (sent_half plan k t sends)))
+          (record { deaf = refl; none = refl }),
+      unwritten,
+    )
 
 deaf_for : (plan : Plan) (k n u : ℕ) → k < length plan.layout.stations → IsDeaf (receiver_at plan k u) →
     ((i : ℕ) → i < n → EmitsSignal plan k (u + i) ⊎ HearsCarrier plan k (u + i)) → IsDeaf (receiver_at plan k (u + n))
@@ -309,9 +309,9 @@ span_alike f g a b (suc n) same =
     let there : b + 0 ≡ b = omega arith in
     ap₂ ◌∷◌ (ap f here ∙ same 0 (omega arith) ∙ ap g there)
     (span_alike f g (suc a) (suc b) n (λ i h.
-        let x : suc a + i ≡ a + suc i = omega arith in
-        let y : b + suc i ≡ suc b + i = omega arith in
-        ap f x ∙ same (suc i) (omega (arith, h)) ∙ ap g y))
+    let x : suc a + i ≡ a + suc i = omega arith in
+    let y : b + suc i ≡ suc b + i = omega arith in
+    ap f x ∙ same (suc i) (omega (arith, h)) ∙ ap g y))
 
 pub one_line_one_verdict : OneLineOneVerdict
 one_line_one_verdict plan line k back from to whole same =
@@ -319,8 +319,8 @@ one_line_one_verdict plan line k back from to whole same =
     let text : text_heard plan k (from + back) (to + back) ≡ span line from (to - from) =
     ap (span (heard plan k) (from + back)) n
     ∙ span_alike (heard plan k) line (from + back) from (to - from) (λ i h.
-        let e : from + back + i ≡ from + i + back = omega arith in
-        ap (heard plan k) e ∙ same (from + i) (omega arith) (omega (arith, h))) in
+    let e : from + back + i ≡ from + i + back = omega arith in
+    ap (heard plan k) e ∙ same (from + i) (omega arith) (omega (arith, h))) in
     let P : List Sym → Type 0 = λ xs. EndsAs plan k (from + back) (to + back) (verdict_of_text (lost_bits plan k) (octets_allowed plan) xs) in
     subst P text (receptions_end_as_told plan k (from + back) (to + back) whole)
 
@@ -342,11 +342,13 @@ clash_left plan k begun t u lose behind before clash =
     let text : List Sym = text_heard plan k begun t in
     let many : length text ≡ n = length-span (heard plan k) begun n in
     let left : length (drop (2 * lose) text) ≡ length text - 2 * lose = length-drop (2 * lose) text in
-    let at : begun + (2 * lose + i) ≡ u = omega (arith, behind) in
-    (i, omega (arith, many, left, behind, before),
-    get_or-drop (2 * lose) text i Clash
-    ∙ get_or-span (heard plan k) begun n (2 * lose + i) Clash (omega (arith, behind, before))
-    ∙ ap (heard plan k) at ∙ clash)
+    let at : begun + (2 * lose + i) ≡ u = omega (arith, behind) in (
+      i,
+      omega (arith, many, left, behind, before),
+      get_or-drop (2 * lose) text i Clash
+          ∙ get_or-span (heard plan k) begun n (2 * lose + i) Clash (omega (arith, behind, before))
+          ∙ ap (heard plan k) at ∙ clash,
+    )
 
 pub clashes_spoil_receptions : ClashesSpoilReceptions
 clashes_spoil_receptions plan k begun t u whole behind before clash =

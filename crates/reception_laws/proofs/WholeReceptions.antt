@@ -1,5 +1,5 @@
 -- The laws of receivers that hear a text whole.
-use Rattle.std.proofs.Common.{◌≡◌, ℕ, ◌-◌, ◌*◌, ◌<◌, false, Some, None, List, [], ◌∷◌, length, drop, refl, sym, ap, subst, arith, length-drop}
+use Rattle.std.proofs.Common.{◌≡◌, ℕ, ◌-◌, ◌*◌, ◌<◌, Some, None, List, [], ◌∷◌, length, drop, refl, sym, ap, subst, arith, length-drop}
 use Rattle.std.specs.List.{Contains}
 use Rattle.manchester_line.specs.declared.Sym.{Sym}
 use Rattle.manchester_line.specs.declared.Sym.TheVariants.{Clash}

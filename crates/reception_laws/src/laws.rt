@@ -2,18 +2,20 @@
 ghost use Rattle.reception_laws.specs.NetworkReceptions.{AllowedOctetsStay, AwaitingReceiversWriteNothing, ClashesSpoilReceptions, DeafReceiversWriteNothing, LostBitsStay, OneLineOneVerdict, OneTextOneVerdict, ReceiversAwaitFirst, ReceiversAwaitNext, ReceiversFollow, ReceptionsAreUnderWay, ReceptionsEndAsTold, SendersTurnDeaf, ShortReceptionsAreFragments};
 ghost use Rattle.reception_laws.specs.WholeReceptions.{ClashSpoilsText, IdleEndsReception, ShortTextIsFragment, TextIsUnderWay, WholeTextIsTold};
 
-/// While a receiver that awaited a reception hears a text without sending, the text is its reception under way (4.2.4).
+/// While a receiver that awaited a reception hears a text without sending, the text is its reception under
+/// way (4.2.4).
 pub fn text_is_under_way()
     ensures { TextIsUnderWay }
 {}
 
-/// A receiver that awaited a reception has the verdict of the text that it hears, whatever came before (4.2.4).
+/// A receiver that awaited a reception has the verdict of the text that it hears, whatever came before
+/// (4.2.4).
 pub fn whole_text_is_told()
     ensures { WholeTextIsTold }
 {}
 
-/// A reception of fewer than 1,028 half bits is a fragment, whatever is heard in it: they can't hold the end of the start
-/// frame delimiter and the least frame (3.2.2, 4.4.2).
+/// A reception of fewer than 1,028 half bits is a fragment, whatever is heard in it: they can't hold the end
+/// of the start frame delimiter and the least frame (3.2.2, 4.4.2).
 pub fn short_text_is_fragment()
     ensures { ShortTextIsFragment }
 {}
@@ -28,35 +30,36 @@ pub fn idle_ends_reception()
     ensures { IdleEndsReception }
 {}
 
-/// In the network of a plan a receiver follows from what its station hears, where the station sends in each half bit of a
-/// stretch, or in none.
+/// In the network of a plan a receiver follows from what its station hears, where the station sends in each
+/// half bit of a stretch, or in none.
 pub fn receivers_follow()
     ensures { ReceiversFollow }
 {}
 
-/// How many bits a receiver loses of each reception, and how many octets a frame may have, stay what the layout says.
+/// How many bits a receiver loses of each reception, and how many octets a frame may have, stay what the
+/// layout says.
 pub fn receivers_keep_their_limits()
     ensures lost { LostBitsStay }
     ensures allowed { AllowedOctetsStay }
 {}
 
-/// A receiver awaits a reception before half bit 0, and after each half bit in which its station hears and emits Idle.
-/// Where it does so from then on the receiver stays the same, and writes no row.
+/// A receiver awaits a reception before half bit 0, and after each half bit in which its station hears and
+/// emits Idle. Where it does so from then on the receiver stays the same, and writes no row.
 pub fn receivers_await()
     ensures first { ReceiversAwaitFirst }
     ensures next { ReceiversAwaitNext }
     ensures lasting { AwaitingReceiversWriteNothing }
 {}
 
-/// A receiver turns deaf where its station sends, and stays so as long as the station emits or hears a signal. Nothing is
-/// written meanwhile, nor in the half bit that ends it (profile).
+/// A receiver turns deaf where its station sends, and stays so as long as the station emits or hears a
+/// signal. Nothing is written meanwhile, nor in the half bit that ends it (profile).
 pub fn senders_are_deaf()
     ensures first { SendersTurnDeaf }
     ensures lasting { DeafReceiversWriteNothing }
 {}
 
-/// What a station has heard since its receiver awaited a reception is its reception under way, of which no row was
-/// written so far.
+/// What a station has heard since its receiver awaited a reception is its reception under way, of which no
+/// row was written so far.
 pub fn receptions_are_under_way()
     ensures { ReceptionsAreUnderWay }
 {}
@@ -66,14 +69,15 @@ pub fn receptions_end_as_told()
     ensures { ReceptionsEndAsTold }
 {}
 
-/// One text, one verdict: receptions with the same text have the same row and the same octets, whichever stations of the
-/// network heard it, and when, if they lose as many bits.
+/// One text, one verdict: receptions with the same text have the same row and the same octets, whichever
+/// stations of the network heard it, and when, if they lose as many bits.
 pub fn one_text_one_verdict()
     ensures { OneTextOneVerdict }
 {}
 
-/// One line, one verdict: a reception of what one line alone has between two of its half bits has the verdict of that
-/// text, however far the station is away, and so the same as each other station's that hears it and loses as many bits.
+/// One line, one verdict: a reception of what one line alone has between two of its half bits has the verdict
+/// of that text, however far the station is away, and so the same as each other station's that hears it and
+/// loses as many bits.
 pub fn one_line_one_verdict()
     ensures { OneLineOneVerdict }
 {}
@@ -83,7 +87,8 @@ pub fn short_receptions_are_fragments()
     ensures { ShortReceptionsAreFragments }
 {}
 
-/// A Clash spoils the reception of a station that hears it, unless it is among the bits that the station loses (profile).
+/// A Clash spoils the reception of a station that hears it, unless it is among the bits that the station
+/// loses (profile).
 pub fn clashes_spoil_receptions()
     ensures { ClashesSpoilReceptions }
 {}

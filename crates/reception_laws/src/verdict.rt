@@ -51,9 +51,9 @@ impl ReceptionVerdict {
     }
 }
 
-/// A receiver that awaited a reception and then heard this text, one symbol a half bit, without sending. It loses the
-/// first `lose` bits of each reception, at most 48 (profile), and takes frames of at most `most` octets before the check
-/// sequence, 1,514 or 1,518 (3.2.7).
+/// A receiver that awaited a reception and then heard this text, one symbol a half bit, without sending. It
+/// loses the first `lose` bits of each reception, at most 48 (profile), and takes frames of at most `most`
+/// octets before the check sequence, 1,514 or 1,518 (3.2.7).
 pub fn hear(lose: u32, most: u32, text: &[Sym]) -> Receiver
     requires lose { lose ≤ 48 }
     requires most { IsMost most }
@@ -68,9 +68,9 @@ pub fn hear(lose: u32, most: u32, text: &[Sym]) -> Receiver
     receiver
 }
 
-/// The verdict of a text, one symbol a half bit, for receivers that lose the first `lose` bits of each reception, at most
-/// 48 (profile), and take frames of at most `most` octets before the check sequence, 1,514 or 1,518 (3.2.7). It takes no
-/// memory.
+/// The verdict of a text, one symbol a half bit, for receivers that lose the first `lose` bits of each
+/// reception, at most 48 (profile), and take frames of at most `most` octets before the check sequence, 1,514
+/// or 1,518 (3.2.7). It takes no memory.
 pub fn tell(lose: u32, most: u32, text: &[Sym]) -> ReceptionVerdict
     requires lose { lose ≤ 48 }
     requires most { IsMost most }
@@ -84,8 +84,8 @@ pub fn tell(lose: u32, most: u32, text: &[Sym]) -> ReceptionVerdict
     ReceptionVerdict { event, receiver }
 }
 
-/// The row of a reception of so many half bits that a Clash spoiled: a fragment below the shortest line text, 1,152 half
-/// bits, and else damaged (profile).
+/// The row of a reception of so many half bits that a Clash spoiled: a fragment below the shortest line text,
+/// 1,152 half bits, and else damaged (profile).
 pub fn spoiled(halves: u32) -> Body
     ensures { result ≡ spoiled_row halves }
 {
