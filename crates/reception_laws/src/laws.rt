@@ -44,7 +44,7 @@ pub fn receivers_keep_their_limits()
 {}
 
 /// A receiver awaits a reception before half bit 0, and after each half bit in which its station hears and
-/// emits Idle. Where it does so from then on the receiver stays the same, and writes no row.
+/// emits Idle. As long as it goes on so, a receiver that awaits one stays the same, and writes no row.
 pub fn receivers_await()
     ensures first { ReceiversAwaitFirst }
     ensures next { ReceiversAwaitNext }
