@@ -1,6 +1,6 @@
--- What a receiver makes of a text that it hears whole: half bit by half bit, without sending, from the first half bit of
--- a reception to the Idle after its last. This is the receiver of 4.2.4 alone, on lists of symbols, one a half bit.
--- To tell it once for all who hear the same text is this project's own choice (profile).
+-- What a receiver makes of a text that it hears whole, half bit by half bit and without sending, from the first half
+-- bit of a reception to the Idle after its last. This is the receiver of 4.2.4 alone, on lists of symbols, one a half
+-- bit. To tell it once for all who hear the same text is this project's own choice (profile).
 use Rattle.std.specs.Prelude.{◌≡◌, ◌≢◌, ℕ, ◌<◌, false, nat_lt, if◌then◌else◌, All, Contains, Option, Some, List, [], length}
 use Rattle.manchester_line.specs.declared.Sym.{Sym}
 use Rattle.manchester_line.specs.declared.Sym.TheVariants.{Idle, Clash}
