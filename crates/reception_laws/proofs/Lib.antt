@@ -1,3 +1,4 @@
+mod ReceivedFrames
 mod ReceptionsHeard
 mod ShortReceptions
 mod SpoiledReceptions

@@ -1,11 +1,14 @@
 -- The receptions of the stations in the network of a plan.
-use Rattle.std.proofs.Common.{◌≡◌, ℕ, zero, suc, ◌+◌, ◌-◌, ◌*◌, ◌<◌, ◌≤◌, ◌⊎◌, inl, inr, Bool, true, false, cond, None, List, [], ◌∷◌, length, drop, length-drop, get_or, refl, sym, subst, ap, ap₂, ◌∙◌, arith}
+use Rattle.std.proofs.Common.{◌≡◌, eqb, ℕ, zero, suc, ◌+◌, ◌-◌, ◌*◌, ◌<◌, ◌≤◌, ◌⊎◌, inl, inr, Bool, true, false, cond, None, List, [], ◌∷◌, length, drop, length-drop, get_or, refl, sym, subst, ap, ap₂, ◌∙◌, arith}
 use Rattle.std.specs.List.{Contains}
 use Rattle.std.proofs.lemmas.Bool.{cases_lt, false≢true}
 use Rattle.std.proofs.lemmas.List.{get_or-map, get_or-drop}
 use Rattle.manchester_line.specs.declared.Sym.{Sym}
 use Rattle.manchester_line.specs.declared.Sym.TheVariants.{Idle, Hi, Lo, Clash}
 use Rattle.manchester_line.specs.Line.{is_signal}
+use Rattle.mac_parameters.specs.Parameters.{IsMost, most_octets}
+use Rattle.frame_layout.specs.Frame.{verdict_of}
+use Rattle.frame_layout.specs.declared.verdict.Verdict.TheVariants.{Good}
 use Rattle.collision_log.specs.declared.row.Body.TheVariants.{Dropped}
 use Rattle.collision_log.specs.declared.row.Why.TheVariants as why
 use Rattle.layout.specs.declared.lines.StationLine.{StationLine}
@@ -18,9 +21,10 @@ use Rattle.net_parts.specs.Standing.{receiver_at}
 use Rattle.net_parts.proofs.NetworkFacts.{station_facts}
 use Rattle.net_parts.proofs.DeviceSteps.{receiver_next}
 use Rattle.net_parts.proofs.RepeaterSteps.{length-span, get_or-span}
-use Rattle.reception_laws.specs.WholeReceptions.{IsAllSignal, AwaitsReception, idle_after, TextVerdict, verdict_of_text, HasVerdict, row_alone, spoiled_row}
-use Rattle.reception_laws.specs.NetworkReceptions.{HearsCarrier, HearsIdle, EmitsSignal, EmitsIdle, reception_at, text_heard, WritesNoRow, lost_bits, octets_allowed, IsDeaf, HearsSince, IsReception, EndsAs, ReceiversFollow, LostBitsStay, AllowedOctetsStay, ReceiversAwaitFirst, ReceiversAwaitNext, AwaitingReceiversWriteNothing, SendersTurnDeaf, DeafReceiversWriteNothing, ReceptionsAreUnderWay, ReceptionsEndAsTold, OneTextOneVerdict, OneLineOneVerdict, ShortReceptionsAreFragments, ClashesSpoilReceptions}
+use Rattle.reception_laws.specs.WholeReceptions.{IsAllSignal, AwaitsReception, idle_after, TextVerdict, verdict_of_text, HasVerdict, row_alone, frame_received, spoiled_row}
+use Rattle.reception_laws.specs.NetworkReceptions.{HearsCarrier, HearsIdle, EmitsSignal, EmitsIdle, reception_at, text_heard, WritesNoRow, lost_bits, octets_allowed, IsDeaf, HearsSince, IsReception, EndsAs, ReceiversFollow, LostBitsStay, AllowedOctetsStay, ReceiversAwaitFirst, ReceiversAwaitNext, AwaitingReceiversWriteNothing, SendersTurnDeaf, DeafReceiversWriteNothing, ReceptionsAreUnderWay, ReceptionsEndAsTold, OneTextOneVerdict, OneLineOneVerdict, ShortReceptionsAreFragments, ClashesSpoilReceptions, GoodFramesAreReceived}
 use Rattle.reception_laws.proofs.ReceptionsHeard.{with_halves, halves_heard, text_under_way, no_event}
+use Rattle.reception_laws.proofs.ReceivedFrames.{good_frame_is_received}
 use Rattle.reception_laws.proofs.WholeReceptions.{whole_text_is_told, short_text_is_fragment, clash_spoils_text, idle_ends_reception}
 
 -- a receiver after n half bits
@@ -361,3 +365,18 @@ clashes_spoil_receptions plan k begun t u whole behind before clash =
     let Q : ℕ → Type 0 = λ n. HasVerdict r text (row_alone (spoiled_row n)) in
     ends_so plan k begun t (row_alone (spoiled_row (t - begun))) whole
     (subst Q many (clash_spoils_text r text h.awaits (signals_heard plan k begun t h) (subst P (sym (lost_bits_stay plan k begun h.station)) left)))
+
+is_most : (tagged : Bool) → IsMost (most_octets tagged)
+is_most true = inr refl
+is_most false = inl refl
+
+pub good_frames_are_received : GoodFramesAreReceived
+good_frames_are_received plan k begun t frame whole none all good is =
+    let h = whole.hears in
+    let r : Receiving = receiver_at plan k begun in
+    let limit : r.most ≡ octets_allowed plan = allowed_octets_stay plan k begun h.station in
+    let P : List Sym → Type 0 = λ xs. HasVerdict r xs (frame_received frame) in
+    let M : ℕ → Type 0 = λ m. IsMost m in
+    ends_so plan k begun t (frame_received frame) whole
+    (subst P (sym is)
+    (good_frame_is_received r frame h.awaits (lost_bits_stay plan k begun h.station ∙ none) (subst M (sym limit) (is_most (eqb plan.layout.format 2))) all (ap (λ m. verdict_of frame 0 m) limit ∙ good)))

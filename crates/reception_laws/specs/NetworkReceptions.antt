@@ -1,10 +1,12 @@
 -- The receivers of the stations in the network of a plan, in times of its run (profile). Half bits and stations count
 -- from 0. A reception is told by the half bit in which it begins and by the half bit of Idle after its last.
-use Rattle.std.specs.Prelude.{ℕ, suc, ◌≡◌, ◌+◌, ◌-◌, ◌*◌, ◌<◌, ◌≤◌, ◌==◌, ◌⊎◌, Bool, true, false, None, List, [], map, length, slice_index_or}
+use Rattle.std.specs.Prelude.{ℕ, suc, ◌≡◌, ◌+◌, ◌-◌, ◌*◌, ◌<◌, ◌≤◌, ◌==◌, ◌⊎◌, Bool, true, false, None, All, List, [], map, length, slice_index_or}
 use Rattle.mac_parameters.specs.Parameters.{half_bits_a_bit, most_octets}
 use Rattle.manchester_line.specs.declared.Sym.{Sym}
 use Rattle.manchester_line.specs.declared.Sym.TheVariants.{Clash}
-use Rattle.manchester_line.specs.Line.{is_signal}
+use Rattle.manchester_line.specs.Line.{is_signal, line}
+use Rattle.frame_layout.specs.Frame.{verdict_of}
+use Rattle.frame_layout.specs.declared.verdict.Verdict.TheVariants.{Good}
 use Rattle.collision_log.specs.declared.row.Body.TheVariants.{Dropped}
 use Rattle.collision_log.specs.declared.row.Why.TheVariants as why
 use Rattle.load_plan.specs.declared.plan.Plan.{Plan}
@@ -13,7 +15,7 @@ use Rattle.network.specs.Times.{heard, emitted}
 use Rattle.net_parts.specs.Machines.{span}
 use Rattle.net_parts.specs.Standing.{receiver_at}
 use Rattle.window_room.specs.Receptions.{least_reception}
-use Rattle.reception_laws.specs.WholeReceptions.{IsAllSignal, AwaitsReception, TextVerdict, verdict_of_text, row_alone, spoiled_row}
+use Rattle.reception_laws.specs.WholeReceptions.{IsAllSignal, AwaitsReception, TextVerdict, verdict_of_text, row_alone, frame_received, spoiled_row}
 
 -- Station k hears a signal in half bit t.
 abbrev pub HearsCarrier : Plan → ℕ → ℕ → Type 0
@@ -182,3 +184,10 @@ ClashesSpoilReceptions =
     (plan : Plan) (k begun t u : ℕ) → IsReception plan k begun t
     → begun + half_bits_a_bit * lost_bits plan k ≤ u → u < t → heard plan k u ≡ Clash
     → EndsAs plan k begun t (row_alone (spoiled_row (t - begun)))
+
+-- A station that loses no bits receives each good frame whose line text is what it hears of a reception (4.2.9).
+abbrev pub GoodFramesAreReceived : Type 0
+GoodFramesAreReceived =
+    (plan : Plan) (k begun t : ℕ) (frame : List ℕ) → IsReception plan k begun t → lost_bits plan k ≡ 0
+    → All (λ x. x < 256) frame → verdict_of frame 0 (octets_allowed plan) ≡ Good
+    → text_heard plan k begun t ≡ line frame → EndsAs plan k begun t (frame_received frame)

@@ -4,7 +4,10 @@
 use Rattle.std.specs.Prelude.{◌≡◌, ◌≢◌, ℕ, ◌<◌, false, nat_lt, if◌then◌else◌, All, Contains, Option, Some, List, [], length}
 use Rattle.manchester_line.specs.declared.Sym.{Sym}
 use Rattle.manchester_line.specs.declared.Sym.TheVariants.{Idle, Clash}
-use Rattle.mac_parameters.specs.Parameters.{shortest_line_text}
+use Rattle.manchester_line.specs.Line.{line}
+use Rattle.mac_parameters.specs.Parameters.{IsMost, shortest_line_text}
+use Rattle.frame_layout.specs.Frame.{verdict_of}
+use Rattle.frame_layout.specs.declared.verdict.Verdict.TheVariants.{Good}
 use Rattle.collision_log.specs.declared.row.Body.{Body}
 use Rattle.collision_log.specs.declared.row.Body.TheVariants.{Received, Dropped}
 use Rattle.collision_log.specs.declared.row.Why.TheVariants as why
@@ -87,6 +90,18 @@ abbrev pub ClashSpoilsText : Type 0
 ClashSpoilsText =
     (r : Receiving) (text : List Sym) → AwaitsReception r → IsAllSignal text
     → Contains (left_halves r.lose text) Clash → HasVerdict r text (row_alone (spoiled_row (length text)))
+
+-- The verdict of a frame that is received: its row, by its octets with the check sequence, and these octets (4.2.4).
+abbrev pub frame_received : List ℕ → TextVerdict
+frame_received frame = record { event = Some (Received (length frame)); octets = frame }
+
+-- A receiver that loses no bits receives each good frame whose line text it hears whole, from the first half bit of the
+-- preamble on (3.1.1, 4.2.4).
+abbrev pub GoodFrameIsReceived : Type 0
+GoodFrameIsReceived =
+    (r : Receiving) (frame : List ℕ) → AwaitsReception r → r.lose ≡ 0 → IsMost r.most
+    → All (λ x. x < 256) frame → verdict_of frame 0 r.most ≡ Good
+    → HasVerdict r (line frame) (frame_received frame)
 
 -- After a half bit of Idle without sending a receiver awaits a reception (4.2.4, profile).
 abbrev pub IdleEndsReception : Type 0

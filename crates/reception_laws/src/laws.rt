@@ -1,6 +1,6 @@
 //! Laws of receptions, of receivers alone and in the network of every plan: a call without a body for each.
-ghost use Rattle.reception_laws.specs.NetworkReceptions.{AllowedOctetsStay, AwaitingReceiversWriteNothing, ClashesSpoilReceptions, DeafReceiversWriteNothing, LostBitsStay, OneLineOneVerdict, OneTextOneVerdict, ReceiversAwaitFirst, ReceiversAwaitNext, ReceiversFollow, ReceptionsAreUnderWay, ReceptionsEndAsTold, SendersTurnDeaf, ShortReceptionsAreFragments};
-ghost use Rattle.reception_laws.specs.WholeReceptions.{ClashSpoilsText, IdleEndsReception, ShortTextIsFragment, TextIsUnderWay, WholeTextIsTold};
+ghost use Rattle.reception_laws.specs.NetworkReceptions.{AllowedOctetsStay, AwaitingReceiversWriteNothing, ClashesSpoilReceptions, DeafReceiversWriteNothing, GoodFramesAreReceived, LostBitsStay, OneLineOneVerdict, OneTextOneVerdict, ReceiversAwaitFirst, ReceiversAwaitNext, ReceiversFollow, ReceptionsAreUnderWay, ReceptionsEndAsTold, SendersTurnDeaf, ShortReceptionsAreFragments};
+ghost use Rattle.reception_laws.specs.WholeReceptions.{ClashSpoilsText, GoodFrameIsReceived, IdleEndsReception, ShortTextIsFragment, TextIsUnderWay, WholeTextIsTold};
 
 /// While a receiver that awaited a reception hears a text without sending, the text is its reception under
 /// way (4.2.4).
@@ -12,6 +12,11 @@ pub fn text_is_under_way()
 /// (4.2.4).
 pub fn whole_text_is_told()
     ensures { WholeTextIsTold }
+{}
+
+/// A receiver that loses no bits receives each good frame whose line text it hears whole (3.1.1, 4.2.4).
+pub fn good_frame_is_received()
+    ensures { GoodFrameIsReceived }
 {}
 
 /// A reception of fewer than 1,028 half bits is a fragment, whatever is heard in it: they can't hold the end
@@ -91,4 +96,10 @@ pub fn short_receptions_are_fragments()
 /// loses (profile).
 pub fn clashes_spoil_receptions()
     ensures { ClashesSpoilReceptions }
+{}
+
+/// A station that loses no bits receives each good frame whose line text it hears whole in the network of a
+/// plan (4.2.9).
+pub fn good_frames_are_received()
+    ensures { GoodFramesAreReceived }
 {}
