@@ -8,7 +8,6 @@ use Rattle.manchester_line.specs.declared.Sym.TheVariants.{Idle, Hi, Lo, Clash}
 use Rattle.manchester_line.specs.Line.{is_signal}
 use Rattle.mac_parameters.specs.Parameters.{IsMost, most_octets}
 use Rattle.frame_layout.specs.Frame.{verdict_of}
-use Rattle.frame_layout.specs.declared.verdict.Verdict.TheVariants.{Good}
 use Rattle.collision_log.specs.declared.row.Body.TheVariants.{Dropped}
 use Rattle.collision_log.specs.declared.row.Why.TheVariants as why
 use Rattle.layout.specs.declared.lines.StationLine.{StationLine}

@@ -1,5 +1,5 @@
 -- The line text of a good frame is received.
-use Rattle.std.proofs.Common.{◌≡◌, ◌≢◌, ℕ, ◌+◌, ◌-◌, ◌*◌, ◌<◌, ◌≤◌, inl, inr, Bool, true, false, Option, Some, None, List, length, take, get_or, refl, sym, subst, ap, ap₂, ◌∙◌, arith, All}
+use Rattle.std.proofs.Common.{◌≡◌, ◌≢◌, ℕ, ◌+◌, ◌-◌, ◌<◌, ◌≤◌, inl, inr, Bool, false, Option, Some, None, List, length, get_or, refl, sym, ap, ap₂, ◌∙◌, arith, All}
 use Rattle.std.specs.Prelude.{◌||◌}
 use Rattle.std.specs.Option.{is_none, is_some}
 use Rattle.std.proofs.lemmas.Bool.{cases_lt, lt-ltb, le-ltb, false≢true}
@@ -15,7 +15,6 @@ use Rattle.manchester_line.proofs.DecoderAnswers.{spoiled_of, count_of, spare_of
 use Rattle.manchester_line.proofs.Levels.{level_at}
 use Rattle.manchester_line.proofs.Places.{length_line, line_at_preamble, line_at_octet}
 use Rattle.frame_layout.specs.Frame.{verdict_of}
-use Rattle.frame_layout.specs.declared.verdict.Verdict.{Verdict}
 use Rattle.frame_layout.specs.declared.verdict.Verdict.TheVariants.{Good, TooLong}
 use Rattle.collision_log.specs.declared.row.Body.TheVariants.{Received}
 use Rattle.mac_parameters.specs.Parameters.{IsMost, check_sequence, least_frame, preamble_length}
