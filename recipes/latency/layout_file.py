@@ -183,4 +183,5 @@ def read(name, octets):
         fail_unless(len(octets) <= MOST_OCTETS, f"it has more than {MOST_OCTETS} octets")
         return layout_of(tomllib.loads(octets.decode("utf-8-sig")))
     except (ValueError, RecursionError) as error:
-        raise Refusal(2, "layout fault", f"{name}: {error}; netsim check prints the first fault and its place") from None
+        sentence = f"{name}: {error}; netsim check prints the first fault and its place"
+        raise Refusal(2, "layout fault", sentence) from None

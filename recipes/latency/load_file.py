@@ -8,7 +8,7 @@ from refusal import Refusal, read_file
 MOST_OCTETS, MOST_OF_ALL, MOST_OF_RECORD = 67_108_864, 268_435_456, 262_144
 NAMES = ["", "Short", "Magic", "Version", "LinkType", "Length", "CutRecord", "TooLarge"]
 
-# The first four octets of a capture: the order of its numbers, and how many nanoseconds its fractions of a second count.
+# The first four octets of a capture: the order of its numbers, and how many nanoseconds a fraction counts.
 MAGICS = {b"\xd4\xc3\xb2\xa1": ("<", 1000), b"\xa1\xb2\xc3\xd4": (">", 1000),
           b"\x4d\x3c\xb2\xa1": ("<", 1), b"\xa1\xb2\x3c\x4d": (">", 1)}
 HEADER, RECORD_HEADER = 24, 16
