@@ -44,19 +44,19 @@ class Told:
         before = bisect.bisect_left(changes, (at,))
         return before == 0 or changes[before - 1][1] == "opened"
 
-    def is_reached(self, way, octets, end):
-        """Whether a frame that ends in this half bit is received at the end of the way, having come in everywhere."""
-        heard = (way.station, end + way.half_bits) in self.received.get(octets, ())
-        return heard and all(self.is_open(repeater, port, end + gone) for repeater, port, gone in way.entered)
+    def are_open(self, entered, end):
+        """Whether each port by which a frame enters a repeater is open when its end comes there."""
+        return all(self.is_open(repeater, port, end + gone) for repeater, port, gone in entered)
 
 
 def whom(told, ways, octets, end, half_bits):
     """How many other stations a frame reached, and how many of those that it could reach within the run it missed."""
+    received = told.received.get(octets, set())
     reached = missed = 0
-    for way in ways:
-        if told.is_reached(way, octets, end):
+    for station, gone, entered in ways:
+        if (station, end + gone) in received and told.are_open(entered, end):
             reached += 1
-        elif end + way.half_bits < half_bits:
+        elif end + gone < half_bits:
             missed += 1
     return reached, missed
 
@@ -66,7 +66,7 @@ def lines(layout, queues, rows):
     told, all_ways = Told(rows), Ways(layout)
     yield HEAD
     for station in layout.stations:
-        ways = all_ways.of(station)
+        ways = None
         for number, frame in enumerate(queues[station.name], 1):
             fields = station.name, number, frame.octets, frame.ready
             tries = told.tries.get((station.name, number))
@@ -74,6 +74,9 @@ def lines(layout, queues, rows):
                 fields += "", "", "", 0, "left", "", ""
             else:
                 fields += tries.first, tries.start, tries.end, tries.attempts, tries.outcome
-                is_sent = tries.outcome == "sent"
-                fields += whom(told, ways, frame.octets, tries.end, layout.half_bits) if is_sent else ("", "")
+                if tries.outcome == "sent":
+                    ways = all_ways.of(station) if ways is None else ways
+                    fields += whom(told, ways, frame.octets, tries.end, layout.half_bits)
+                else:
+                    fields += "", ""
             yield ",".join(map(str, fields))
