@@ -99,9 +99,9 @@ def capture(*records, magic=0xA1B23C4D):
     return made
 
 
-# A load whose first record, at 1,000 ns, is skipped. Its frames are at 3,049 and 2,000 ns: half bit 40, and 20, which is
-# raised to 40; so is the send at 0 behind them. Of the other load a record that is too long is skipped, and one that was
-# captured in part.
+# A load whose first record, at 1,000 ns, is skipped. Its frames are at 3,049 and 2,000 ns: half bit 40, and 20, which
+# is raised to 40; so is the send at 0 behind them. Of the other load a record that is too long is skipped, and one that
+# was captured in part.
 WITH_LOADS = LAYOUT.replace('segment = "x"\nat = 0', 'segment = "x"\nat = 0\nload = "a.pcap"').replace(
     'segment = "y"\nat = 30', 'segment = "y"\nat = 30\nload = "b.pcap"')
 LOADS = {"a.pcap": capture((1000, 13, 13), (3049, 60, 60), (2000, 61, 61)),
