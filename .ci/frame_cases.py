@@ -75,8 +75,8 @@ def read_case(folder, said):
 
 def run(program, folder):
     """The case of a layout and its loads that stand in a folder."""
-    done = subprocess.run([program, "plain", "l.toml", "out"], cwd=folder, stdout=subprocess.PIPE, text=True,
-                          check=False)
+    done = subprocess.run([program, "plain", "l.toml", "out"], cwd=folder, stdout=subprocess.PIPE,
+                          stderr=subprocess.DEVNULL, text=True, check=False)
     if done.returncode:
         raise Failed(f"{folder.name}: plain ended with status {done.returncode}: {done.stdout}")
     return read_case(folder, done.stdout)

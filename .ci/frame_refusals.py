@@ -1,5 +1,5 @@
 """What the command of recipes/latency must say of a few lines that are worked by hand, and what it must refuse."""
-import io
+import itertools
 import os
 import shutil
 
@@ -7,16 +7,13 @@ import frame_texts
 from frame_texts import LAYOUT, LOADS, SENT, WITH_LOADS
 
 
-def asked(command, folder, files, words):
-    """The status and the text of the command with these words, in a folder with these files alone."""
+def go_to(folder, files):
+    """Makes a folder with these files alone the one that is worked in."""
     shutil.rmtree(folder, ignore_errors=True)
     folder.mkdir()
     for name, octets in files.items():
         (folder / name).write_bytes(octets.encode() if isinstance(octets, str) else octets)
     os.chdir(folder)
-    out, errors = io.BytesIO(), io.StringIO()
-    status = command.run(words, out, errors)
-    return status, out.getvalue().decode()
 
 
 def tables():
@@ -86,15 +83,16 @@ CHANGES = [
 KINDS = {"tables by hand": tables, "logs by hand": logs, "files by hand": files}
 
 
-def complaints(command, folder):
-    """What the command says otherwise than it must, with the name of the check."""
+def complaints(ask, folder, step=1):
+    """What comes otherwise than it must, of each input or of one in so many, with the name of the check. `ask` gives
+    the status and the text of words. Of a layout's fault the recipe prints less than the program, so its line is
+    compared as far as it goes."""
     found = []
     for name, kind in KINDS.items():
-        for what, written, words, wanted in kind():
-            try:
-                got = asked(command, folder, written, words)
-            except Exception as error:
-                got = repr(error)
-            if got != wanted:
-                found.append((name, f"{what}: got {got!r}, not {wanted!r}"))
+        for what, written, words, (wanted_status, wanted) in itertools.islice(kind(), 0, None, step):
+            go_to(folder, written)
+            status, text = ask(words)
+            text = text[: len(wanted) - 1] + "\n" if wanted_status == 2 else text
+            if (status, text) != (wanted_status, wanted):
+                found.append((name, f"{what}: got {status} {text!r}, not {wanted_status} {wanted!r}"))
     return found
