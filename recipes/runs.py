@@ -25,11 +25,13 @@ SLOT, GAP, PREAMBLE, OCTET = 1024, 192, 128, 16
 
 class Run(typing.NamedTuple):
     """A run: what its folder is called, what writes l.toml and its loads there, and from which half bit on the lines
-    of its log are metered."""
+    of its log are metered; then files that are made in its folder while its loads are there, each with the words of the
+    command that prints it."""
 
     name: str
     write: typing.Callable[[pathlib.Path], None]
     since: int = 0
+    prints: typing.Mapping[str, tuple] = {}
 
 
 def write_load(path, octets, records):
@@ -94,9 +96,9 @@ working = set()
 
 
 def call(folder, said, *words):
-    """The status of the program with these words; what it prints goes to a file."""
+    """The status of a command; what it prints goes to a file."""
     with open(folder / said, "wb") as out, open(folder / "errors", "ab") as errors:
-        process = subprocess.Popen([PROGRAM, *words], cwd=folder, stdin=subprocess.DEVNULL, stdout=out, stderr=errors)
+        process = subprocess.Popen(words, cwd=folder, stdin=subprocess.DEVNULL, stdout=out, stderr=errors)
         working.add(process)
         status = process.wait()
         working.discard(process)
@@ -108,9 +110,13 @@ def do(run, folder):
     part = folder / f"unfinished-{run.name}"
     part.mkdir()
     run.write(part)
-    said, status = "summary", call(part, "summary", "run", "l.toml", "out", "1")
+    said, status = "summary", call(part, "summary", PROGRAM, "run", "l.toml", "out", "1")
     if status == 0:
-        said, status = "figures", call(part, "figures", "meter", later_lines(part / "out.log", run.since).name)
+        log = later_lines(part / "out.log", run.since).name
+        said, status = "figures", call(part, "figures", PROGRAM, "meter", log)
+    for file, words_of_command in run.prints.items():
+        if status == 0:
+            said, status = file, call(part, file, *words_of_command)
     if status:
         ending = f"status {status}" if status > 0 else f"signal {-status}"
         (part / "status").write_text(f"{ending}\n")
