@@ -1,0 +1,603 @@
+"use strict";
+// What of the run is shown, where on the canvas, and how it is drawn.
+
+// ---- The view: what of the run is shown, and where on the canvas
+
+const root = document.documentElement, element = id => document.getElementById(id);
+const plot = element("plot"), cables = element("cables"), legend = element("legend");
+const look = { from: net.from, to: net.to, spread: 1, down: 0, at: net.from, unit: 0, text: 0, dark: false, frame: null, speed: 0 };
+const place = { left: 100, top: 30, right: 800, bottom: 400, em: 14 };
+const drawn = { bands: [], marks: [], pictures: 0, isDense: false };
+let theme = {};
+
+function setTheme() {
+  root.classList.toggle("dark", look.dark);
+  root.style.fontSize = `${[16, 20, 25, 32][look.text]}px`;
+  const style = getComputedStyle(root);
+  theme = Object.fromEntries(["back", "fore", "dim", "line", "panel", "mark"].map(name => [name, style.getPropertyValue("--" + name).trim()]));
+  theme.bad = look.dark ? "#ff7b72" : "#b3001b";
+  theme.repeater = look.dark ? "#8b97a5" : "#7a8590";
+  theme.hatch = makePattern(8, g => [-8, 0, 8].forEach(x => line(g, [[x, 8], [x + 8, 0]], theme.fore, 1.3)));
+  theme.stripes = makePattern(5, g => line(g, [[2.5, 0], [2.5, 5]], theme.fore, 1));
+  place.em = 14 * [1, 1.25, 1.6, 2][look.text];
+  layOutLanes();
+}
+
+function makePattern(size, draw) {
+  const scale = 2, canvas = document.createElement("canvas");
+  canvas.width = canvas.height = size * scale;
+  const g = canvas.getContext("2d");
+  g.scale(scale, scale);
+  draw(g);
+  const pattern = g.createPattern(canvas, "repeat");
+  pattern.setTransform(new DOMMatrix().scale(1 / scale));
+  return { pattern, draw, size };
+}
+
+/** Puts the lanes of all taps one below the other: as far apart as the taps are, but at least a line of text. */
+function layOutLanes() {
+  const row = 2 * place.em;
+  let top = 0;
+  for (const segment of net.segments) {
+    segment.top = top;
+    let y = top + row;
+    const scale = Math.min(place.em, (18 * place.em) / Math.max(segment.span, 1));
+    segment.taps.forEach((tap, i) => {
+      const wanted = segment.top + 1.6 * row + scale * (tap.place - segment.low);
+      tap.y = i ? Math.max(y + row, wanted) : wanted;
+      y = tap.y;
+    });
+    segment.bottom = y + 0.9 * row;
+    top = segment.bottom + 0.3 * row;
+  }
+  place.height = top;
+}
+
+const xOf = t => place.left + ((t - look.from) / (look.to - look.from)) * (place.right - place.left);
+const timeOf = x => look.from + ((x - place.left) / (place.right - place.left)) * (look.to - look.from);
+const yOf = y => place.top + (y - look.down) * look.spread;
+
+/** The places of a segment at which its fronts may bend, each with its height; close ones are left out. */
+function bendsOf(segment) {
+  const bends = [], edge = 0.7 * place.em * Math.min(1, look.spread);
+  for (const tap of segment.taps) {
+    const y = yOf(tap.y), last = bends[bends.length - 1];
+    if (!last || y - last.y >= 2 || tap.bands.length) bends.push({ place: tap.place, y });
+  }
+  if (!bends.length) return bends;
+  const last = segment.taps[segment.taps.length - 1];
+  if (bends[bends.length - 1].place !== last.place) bends.push({ place: last.place, y: yOf(last.y) });
+  return [{ place: segment.low, y: bends[0].y - edge }, ...bends, { place: last.place, y: yOf(last.y) + edge }];
+}
+
+/** The place on a segment of a height on the canvas. */
+function placeOf(segment, y) {
+  const taps = segment.taps;
+  let i = taps.findIndex(tap => yOf(tap.y) > y);
+  if (i === 0) return segment.low;
+  if (i < 0) return segment.low + segment.span;
+  const [a, b] = [taps[i - 1], taps[i]];
+  return a.place + ((y - yOf(a.y)) / (yOf(b.y) - yOf(a.y))) * (b.place - a.place);
+}
+
+function fit() {
+  [look.from, look.to, look.down] = [net.from, net.to, 0];
+  look.spread = Math.min(1.5, Math.max(0.02, (place.bottom - place.top) / place.height));
+}
+
+/** Shows so many half bits, with the half bit at `t` staying where it is; within the window. */
+function zoom(factor, t) {
+  const wide = Math.min(Math.max((look.to - look.from) * factor, 4), net.to - net.from);
+  const part = (t - look.from) / (look.to - look.from);
+  look.from = t - part * wide;
+  look.to = look.from + wide;
+  pan(0);
+}
+
+function pan(halfBits) {
+  const wide = look.to - look.from;
+  look.from = Math.min(Math.max(look.from + halfBits, net.from), net.to - wide);
+  look.to = look.from + wide;
+  changed();
+}
+
+function scrollDown(pixels) {
+  const room = Math.max(0, place.height - (place.bottom - place.top) / look.spread);
+  look.down = Math.min(Math.max(look.down + pixels / look.spread, 0), room);
+  changed();
+}
+
+function spreadLanes(factor, y) {
+  const kept = look.down + (y - place.top) / look.spread;
+  look.spread = Math.min(4, Math.max(0.02, look.spread * factor));
+  look.down = kept - (y - place.top) / look.spread;
+  scrollDown(0);
+}
+
+// ---- Drawing: on a canvas, or into an SVG by the same calls
+
+function line(g, points, colour, width = 1) {
+  path(g, points);
+  g.strokeStyle = colour;
+  g.lineWidth = width;
+  g.stroke();
+}
+
+function path(g, points) {
+  g.beginPath();
+  points.forEach(([x, y], i) => (i ? g.lineTo(x, y) : g.moveTo(x, y)));
+}
+
+function write(g, text, x, y, { colour = theme.fore, size = 1, align = "left", bold = false, halo = false } = {}) {
+  g.font = `${bold ? "bold " : ""}${(size * place.em).toFixed(1)}px "DejaVu Sans", "Segoe UI", sans-serif`;
+  g.textAlign = align;
+  g.textBaseline = "middle";
+  if (halo) {
+    g.strokeStyle = theme.back;
+    g.lineWidth = 3;
+    g.strokeText(text, x, y);
+  }
+  g.fillStyle = colour;
+  g.fillText(text, x, y);
+}
+
+const isLit = sending => !look.frame || (sending !== null && sending.device.name === look.frame.station && sending.frame === look.frame.frame);
+const colourOf = source => (source.station ? source.station.colour : theme.repeater);
+const isPale = colour => ["#e69f00", "#cc79a7", "#56b4e9", "#f0e442"].includes(colour);
+
+function outlineOf(band, bends) {
+  const points = bends.map(bend => [xOf(band.start + Math.abs(bend.place - band.tap.place)), bend.y]);
+  const back = bends.map(bend => [xOf(band.end + Math.abs(bend.place - band.tap.place)), bend.y]);
+  return points.concat(back.reverse());
+}
+
+/** The segments that are in view, each with its bends and the bands that may be seen on it. */
+function segmentsInView() {
+  return net.segments.filter(segment => yOf(segment.bottom) > place.top && yOf(segment.top) < place.bottom).map(segment => ({
+    segment, bends: bendsOf(segment), bands: bandsNear(segment, Math.floor(look.from), Math.ceil(look.to)),
+  }));
+}
+
+function drawBands(g, { bends, bands }) {
+  for (const band of bands) {
+    const source = sourceOf(band);
+    g.globalAlpha = isLit(source.sending) ? 0.42 : 0.07;
+    path(g, outlineOf(band, bends));
+    g.closePath();
+    g.fillStyle = colourOf(source);
+    g.fill();
+    g.globalAlpha = isLit(source.sending) ? 0.8 : 0.15;
+    g.strokeStyle = colourOf(source);
+    g.lineWidth = 1;
+    g.stroke();
+  }
+  g.globalAlpha = 1;
+}
+
+/** Whether two bands of a segment lie on top of each other somewhere on the cable. */
+function doMeet(a, b) {
+  const apart = Math.abs(a.tap.place - b.tap.place);
+  return a.tap !== b.tap && b.start - a.end < apart && b.end - a.start > -apart;
+}
+
+function drawOverlaps(g, { segment, bends, bands }) {
+  g.fillStyle = theme.hatch.pattern;
+  for (let i = 0; i < bands.length; i++) {
+    const others = [];
+    for (let j = i + 1; j < bands.length && bands[j].start < bands[i].end + segment.span && others.length < 60; j++) {
+      if (doMeet(bands[i], bands[j])) others.push(bands[j]);
+    }
+    if (!others.length) continue;
+    g.save();
+    path(g, outlineOf(bands[i], bends));
+    g.clip();
+    g.globalAlpha = look.frame && ![bands[i], ...others].some(band => isLit(sourceOf(band).sending)) ? 0.12 : 0.75;
+    for (const band of others) {
+      path(g, outlineOf(band, bends));
+      g.closePath();
+      g.fill();
+    }
+    g.restore();
+  }
+}
+
+/** The bars on the lanes of the taps that emit, with words in them where there is room. */
+function drawBars(g, bands, thick) {
+  for (const band of bands) {
+    const source = sourceOf(band), y = yOf(band.tap.y), left = Math.max(xOf(band.start), place.left - 5);
+    const right = Math.min(xOf(band.end), place.right + 5), colour = colourOf(source);
+    drawn.bands.push({ line: band.line, left: xOf(band.start), right: xOf(band.end), y });
+    if (right < place.left || left > place.right) continue;
+    g.globalAlpha = isLit(source.sending) ? 1 : 0.18;
+    g.fillStyle = colour;
+    g.fillRect(left, y - thick / 2, right - left, thick);
+    if (band.kind === "jam") {
+      g.fillStyle = theme.stripes.pattern;
+      g.fillRect(left, y - thick / 2, right - left, thick);
+    }
+    g.strokeStyle = theme.fore;
+    g.lineWidth = band.tap.station ? 1.2 : 0.8;
+    g.setLineDash(band.tap.station ? [] : [4, 3]);
+    g.strokeRect(left, y - thick / 2, right - left, thick);
+    g.setLineDash([]);
+    if (thick > 0.9 * place.em) writeInBar(g, barWords(band, source), left, right, y, isPale(colour) ? "#000000" : "#ffffff", band.kind === "jam");
+  }
+  g.globalAlpha = 1;
+}
+
+function barWords(band, source) {
+  const told = source.sending ? `frame ${source.sending.frame}` : "frame";
+  const attempt = source.sending && source.sending.attempt > 1 ? `, attempt ${source.sending.attempt}` : "";
+  if (band.tap.station) return band.kind === "jam" ? ["jam"] : [`${band.tap.name}: ${told}${attempt}`, `${told}${attempt}`, `${source.sending ? source.sending.frame : ""}`];
+  if (band.kind !== "repeat") return [{ extend: "extends", jam: "jams" }[band.kind]];
+  const name = source.station ? source.station.name : "a signal";
+  return [`repeats ${name}: ${told}`, `repeats ${name}`, "repeats"];
+}
+
+function writeInBar(g, texts, left, right, y, colour, isStriped) {
+  const text = texts.find(one => g.measureText(one).width * 1.02 < Math.min(right, place.right) - Math.max(left, place.left) - 6);
+  if (!text) return;
+  const x = Math.max(left, place.left) + 4;
+  g.font = `${(0.85 * place.em).toFixed(1)}px "DejaVu Sans", "Segoe UI", sans-serif`;
+  if (isStriped) {
+    g.fillStyle = colour === "#000000" ? "#ffffffcc" : "#000000cc";
+    g.fillRect(x - 2, y - 0.45 * place.em, g.measureText(text).width + 4, 0.9 * place.em);
+  }
+  write(g, text, x, y, { colour, size: 0.85 });
+}
+
+/** Thin lines from where a repeater hears what it repeats to where it emits it. */
+function drawRepeating(g, bands) {
+  g.setLineDash([2, 3]);
+  for (const band of bands.filter(one => one.kind === "repeat")) {
+    const from = band.tap.repeater.ports[band.port - 1], later = band.tap.repeater.delay;
+    g.globalAlpha = isLit(sourceOf(band).sending) ? 0.9 : 0.15;
+    for (const t of [band.start, band.end]) line(g, [[xOf(t - later), yOf(from.y)], [xOf(t), yOf(band.tap.y)]], theme.fore, 1);
+  }
+  g.setLineDash([]);
+  g.globalAlpha = 1;
+}
+
+// ---- Marks: what the log's rows tell
+
+const MARKS = {
+  start: { shape: [[0, -1.1], [0, -1.7], [0.9, -1.4]], fill: "fore", says: "starts" },
+  sent: { shape: [[-0.15, -1.35], [0.2, -0.95], [0.85, -1.9]], isOpen: true, says: "sent" },
+  hit: { shape: [[-0.8, -1.9], [0.8, -1.9], [0, -0.6]], fill: "fore", says: "hears a collision" },
+  late: { shape: [[-0.8, -1.9], [0.8, -1.9], [0, -0.6]], fill: "bad", word: "late", says: "late hit" },
+  given_up: { ring: 0.85, fill: "bad", lines: [[-0.5, 0, 0.5, 0]], says: "given up" },
+  cut: { shape: [[0, -1.2], [-0.4, -0.6], [0.4, 0], [-0.4, 0.6], [0, 1.2]], isOpen: true, says: "cut by the run's end" },
+  received: { ring: 0.6, fill: "fore", says: "received" },
+  dropped: { lines: [[-0.65, -0.65, 0.65, 0.65], [-0.65, 0.65, 0.65, -0.65]], colour: "bad", says: "dropped" },
+  clash: { shape: star(), fill: "mark", says: "repeater begins to jam" },
+  closed: { shape: [[-0.7, -0.7], [0.7, -0.7], [0.7, 0.7], [-0.7, 0.7]], fill: "bad", says: "port closed" },
+  opened: { shape: [[-0.7, -0.7], [0.7, -0.7], [0.7, 0.7], [-0.7, 0.7]], fill: "back", says: "port opened" },
+  halted: { shape: [[0, -0.95], [0.95, 0], [0, 0.95], [-0.95, 0]], fill: "bad", says: "port halted (jabber)" },
+};
+
+function star() {
+  return Array.from({ length: 12 }, (_, i) => [Math.sin(i * Math.PI / 6), Math.cos(i * Math.PI / 6)].map(part => part * (i % 2 ? 0.55 : 1.1)));
+}
+
+function drawMark(g, kind, x, y, r) {
+  const mark = MARKS[kind], colour = theme[mark.colour || "fore"];
+  if (mark.ring) {
+    g.beginPath();
+    g.arc(x, y, mark.ring * r, 0, 2 * Math.PI);
+  } else if (mark.shape) {
+    path(g, mark.shape.map(([a, b]) => [x + a * r, y + b * r]));
+    if (!mark.isOpen) g.closePath();
+  }
+  if (mark.fill) {
+    g.fillStyle = theme[mark.fill];
+    g.fill();
+  }
+  if (mark.shape || mark.ring) {
+    g.strokeStyle = mark.isOpen || mark.fill === "mark" || mark.fill === "back" ? theme.fore : theme.back;
+    g.lineWidth = mark.isOpen ? 2 : 1;
+    g.stroke();
+  }
+  const pen = mark.fill === "bad" ? theme.back : colour;
+  for (const [a, b, c, d] of mark.lines || []) line(g, [[x + a * r, y + b * r], [x + c * r, y + d * r]], pen, Math.max(2, r / 3));
+  if (mark.word) write(g, mark.word, x + 1.1 * r, y - 1.4 * r, { colour: theme.bad, size: 0.8, bold: true, halo: true });
+}
+
+/** The marks of a row: the kind, the half bit and the tap of each. */
+function marksOf(row) {
+  const tap = row.device.tap;
+  if (row.what === "clash") return row.device.ports.map(port => ["clash", row.t, port]);
+  if (!tap) return [[row.what, row.t, row.device.ports[row.port - 1]]];
+  if (!SENDINGS.has(row.what)) return [[row.what, row.t, tap]];
+  const hit = row.hit === null ? [] : [[isLate(row) ? "late" : "hit", row.at, tap]];
+  return [["start", row.start, tap], ...hit, ...(row.what === "collided" ? [] : [[row.what, row.t, tap]])];
+}
+
+/** The rows some of whose marks may be in view, or null where they are too many to be told apart. */
+function rowsInView() {
+  const from = countBelow(net.rows, look.from, row => row.t), to = countBelow(net.rows, look.to, row => row.t);
+  if (to - from > MOST_MARKS || 2 * place.em * look.spread < 6) return null;
+  const rows = net.rows.slice(from, to);
+  for (const station of net.stations) {
+    const last = countBelow(station.sendings, look.to, sending => sending.start) - 1;
+    for (let i = last; i >= 0 && station.sendings[i].end >= look.to; i--) rows.push(station.sendings[i]);
+  }
+  return rows;
+}
+
+function drawMarks(g, rows) {
+  const r = 0.42 * place.em * Math.min(1, Math.max(0.5, look.spread));
+  const lit = look.frame ? new Set(frameFacts(look.frame).rows) : null;
+  for (const row of rows) {
+    g.globalAlpha = lit && !lit.has(row) ? 0.15 : 1;
+    for (const [kind, t, tap] of marksOf(row)) {
+      const x = xOf(t), y = yOf(tap.y);
+      if (x < place.left - r || x > place.right + r || y < place.top || y > place.bottom) continue;
+      drawMark(g, kind, x, y, r);
+      drawn.marks.push({ x, y, row });
+    }
+  }
+  g.globalAlpha = 1;
+}
+
+/** Dotted lines from a collision's end to the end of its backoff, and on to the next attempt. */
+function drawWaits(g, stations) {
+  for (const station of stations) {
+    const y = yOf(station.tap.y), list = station.sendings;
+    for (let i = Math.max(0, countBelow(list, look.from, one => one.start) - 1); i < list.length && list[i].end < look.to; i++) {
+      if (list[i].what !== "collided") continue;
+      const until = list[i].end + SLOT_TIME * list[i].draw, after = list[i + 1] ? list[i + 1].start : net.to;
+      g.globalAlpha = isLit(list[i]) ? 1 : 0.15;
+      g.setLineDash([2, 4]);
+      line(g, [[xOf(list[i].end), y], [xOf(Math.min(until, after)), y]], station.colour, 3);
+      g.setLineDash([]);
+      line(g, [[xOf(Math.min(until, after)), y], [xOf(after), y]], station.colour, 1.5);
+    }
+  }
+  g.globalAlpha = 1;
+}
+
+// ---- Density, where bands and marks are too many to be told apart
+
+/** For each segment the stretches of half bits in which something, and in which several signals, are in its middle. */
+function coverOf(segment) {
+  if (segment.cover) return segment.cover;
+  const middle = segment.low + segment.span / 2, steps = [];
+  for (const band of segment.bands) {
+    const later = Math.abs(band.tap.place - middle);
+    steps.push([band.start + later, 1], [band.end + later, -1]);
+  }
+  steps.sort((a, b) => a[0] - b[0] || a[1] - b[1]);
+  const cover = [[], []], since = [0, 0];
+  let many = 0;
+  for (const [t, step] of steps) {
+    const before = many;
+    many += step;
+    for (const level of [0, 1]) {
+      if (before <= level && many > level) since[level] = t;
+      if (before > level && many <= level && t > since[level]) cover[level].push([since[level], t]);
+    }
+  }
+  return (segment.cover = cover);
+}
+
+/** Of each column of the plot the part that stretches cover. */
+function coverage(stretches, columns) {
+  const parts = new Float32Array(columns), scale = columns / (look.to - look.from);
+  for (let i = countBelow(stretches, look.from, one => one[1]); i < stretches.length && stretches[i][0] < look.to; i++) {
+    const from = Math.max(0, (stretches[i][0] - look.from) * scale), to = Math.min(columns, (stretches[i][1] - look.from) * scale);
+    for (let k = Math.floor(from); k < to; k++) parts[k] += Math.min(to, k + 1) - Math.max(from, k);
+  }
+  return parts;
+}
+
+function coloursOf(name) {
+  const context = coloursOf.context || (coloursOf.context = document.createElement("canvas").getContext("2d", { willReadFrequently: true }));
+  context.fillStyle = name;
+  context.fillRect(0, 0, 1, 1);
+  return context.getImageData(0, 0, 1, 1).data;
+}
+
+/** An image of cells, each with a colour and a strength that a function tells by its column and row. */
+function cells(columns, rows, tell) {
+  const canvas = document.createElement("canvas");
+  [canvas.width, canvas.height] = [columns, rows];
+  const g = canvas.getContext("2d"), image = g.createImageData(columns, rows);
+  for (let i = 0; i < columns * rows; i++) {
+    const told = tell(i % columns, Math.floor(i / columns));
+    if (told) image.data.set([told[0][0], told[0][1], told[0][2], Math.round(255 * Math.min(1, told[1]))], 4 * i);
+  }
+  g.putImageData(image, 0, 0);
+  return canvas;
+}
+
+function drawDenseBands(g, segment) {
+  const columns = Math.max(1, Math.round(place.right - place.left)), [some, several] = coverOf(segment).map(one => coverage(one, columns));
+  const calm = coloursOf(COLOURS[0]), bad = coloursOf(theme.bad);
+  const top = yOf(segment.taps[0] ? segment.taps[0].y : segment.top) - 4, bottom = yOf(segment.bottom) - 4;
+  const image = cells(columns, 2, (x, y) => (y ? [bad, Math.min(1, 3 * several[x])] : [calm, 0.75 * some[x]]));
+  const height = Math.max(3, bottom - top), split = several.some(part => part > 0) ? 0.8 : 1;
+  g.imageSmoothingEnabled = false;
+  g.drawImage(image, 0, 0, columns, 1, place.left, top, place.right - place.left, height * split);
+  if (split < 1) g.drawImage(image, 0, 1, columns, 1, place.left, top + height * split, place.right - place.left, height * (1 - split));
+}
+
+const BAD_ROWS = new Set(["collided", "given_up", "dropped", "clash", "closed", "halted"]);
+
+/** How many rows lie in each cell of the plot, in two lists: good ones, and bad ones. */
+function countCells(columns, rows, wide, high) {
+  const counts = [new Float32Array(columns * rows), new Float32Array(columns * rows)];
+  const to = countBelow(net.rows, look.to, row => row.t);
+  for (let i = countBelow(net.rows, look.from, row => row.t); i < to; i++) {
+    const row = net.rows[i], tap = row.device.tap || row.device.ports[(row.port || 1) - 1];
+    const x = Math.floor((xOf(row.t) - place.left) / wide), y = Math.floor((yOf(tap.y) - place.top) / high);
+    if (y >= 0 && y < rows && x < columns) counts[BAD_ROWS.has(row.what) ? 1 : 0][y * columns + x]++;
+  }
+  return counts;
+}
+
+function drawDenseRows(g) {
+  const wide = 3, high = Math.max(3, Math.min(place.em, 2 * place.em * look.spread));
+  const columns = Math.ceil((place.right - place.left) / wide), rows = Math.ceil((place.bottom - place.top) / high);
+  const [good, bad] = countCells(columns, rows, wide, high);
+  const most = Math.log1p(Math.max(1, ...[good, bad].map(list => list.reduce((a, b) => Math.max(a, b), 0))));
+  const fore = coloursOf(theme.fore), red = coloursOf(theme.bad);
+  const image = cells(columns, rows, (x, y) => {
+    const i = y * columns + x, told = bad[i] || good[i];
+    return told ? [bad[i] ? red : fore, 0.35 + (0.65 * Math.log1p(told)) / most] : null;
+  });
+  g.imageSmoothingEnabled = false;
+  g.drawImage(image, 0, 0, columns, rows, place.left, place.top, columns * wide, rows * high);
+}
+
+// ---- The whole plot
+
+function axisStep() {
+  const unit = UNITS[look.unit].halfBits, wide = ((look.to - look.from) / unit) * (7.5 * place.em) / (place.right - place.left);
+  const power = 10 ** Math.floor(Math.log10(wide));
+  return Math.max([1, 2, 5, 10].find(times => times * power >= wide) * power, look.unit === 0 ? 1 : 0) * unit;
+}
+
+function drawAxis(g) {
+  const unit = UNITS[look.unit], step = axisStep(), digits = Math.max(0, Math.min(6, -Math.floor(Math.log10(step / unit.halfBits) + 1e-9)));
+  g.fillStyle = theme.back;
+  g.fillRect(0, 0, place.right + 40, place.top);
+  for (let k = Math.ceil(look.from / step - 1e-9); k * step <= look.to + 1e-9; k++) {
+    const x = xOf(k * step), text = Math.abs((k * step) / unit.halfBits).toLocaleString("en-US", { maximumFractionDigits: digits });
+    line(g, [[x, place.top], [x, place.bottom]], theme.line, 1);
+    const half = text.length * 0.3 * place.em;
+    if (x + half < place.right + 0.6 * place.em) write(g, text, x, place.top - 0.75 * place.em, { colour: theme.dim, size: 0.85, align: "center" });
+  }
+  write(g, unit.short, place.left - 1.2 * place.em, place.top - 0.75 * place.em, { colour: theme.dim, size: 0.85, align: "right" });
+}
+
+function shorten(g, text, most) {
+  if (g.measureText(text).width <= most) return text;
+  while (text.length > 2 && g.measureText(text + "\u2026").width > most) text = text.slice(0, -1);
+  return text + "\u2026";
+}
+
+/** The names of segments and taps left of the plot, as many as there is room for. */
+function drawNames(g) {
+  g.fillStyle = theme.back;
+  g.fillRect(0, place.top, place.left, place.bottom - place.top + 1);
+  let below = place.top;
+  for (const segment of net.segments) {
+    const y = yOf(segment.top) + 0.9 * place.em, isSpread = 2 * place.em * look.spread >= place.em;
+    if (y > below && y < place.bottom) {
+      write(g, `cable ${segment.name}`, 6, y, { bold: true, size: 0.85 });
+      below = y + (isSpread ? 0.3 : 1) * place.em;
+    }
+    for (const tap of segment.taps) {
+      const at = yOf(tap.y);
+      if (at - 0.5 * place.em < below || at > place.bottom - 0.4 * place.em) continue;
+      write(g, shorten(g, tap.name, place.left - 2.2 * place.em), place.left - 8, at, { align: "right" });
+      g.fillStyle = tap.station ? tap.station.colour : theme.repeater;
+      g.fillRect(place.left - 5, at - 0.45 * place.em, 4, 0.9 * place.em);
+      below = at + 0.5 * place.em;
+    }
+  }
+}
+
+function drawLanes(g, segments) {
+  if (2 * place.em * look.spread < 5) return;
+  for (const { segment } of segments) {
+    for (const tap of segment.taps) line(g, [[place.left, yOf(tap.y)], [place.right, yOf(tap.y)]], theme.line, 1);
+  }
+}
+
+function drawCursor(g) {
+  const x = xOf(look.at);
+  if (x < place.left - 1 || x > place.right + 1) return;
+  line(g, [[x, place.top - 4], [x, place.bottom]], theme.back, 4);
+  line(g, [[x, place.top - 4], [x, place.bottom]], theme.fore, 2);
+  path(g, [[x - 6, place.top - 9], [x + 6, place.top - 9], [x, place.top]]);
+  g.fillStyle = theme.fore;
+  g.fill();
+}
+
+/** Draws the plot: `g` is a canvas's context or an SvgPen. */
+function drawPlot(g, wide, high) {
+  Object.assign(place, { left: Math.min(11 * place.em, Math.max(6 * place.em, 0.12 * wide)), top: 1.9 * place.em, right: wide - 0.8 * place.em, bottom: high - 2 });
+  g.fillStyle = theme.back;
+  g.fillRect(0, 0, wide, high);
+  drawAxis(g);
+  Object.assign(drawn, { bands: [], marks: [], pictures: drawn.pictures + 1 });
+  const segments = segmentsInView(), rows = rowsInView();
+  drawn.isDense = segments.reduce((sum, one) => sum + one.bands.length, 0) > MOST_BANDS;
+  g.save();
+  g.beginPath();
+  g.rect(place.left, place.top, place.right - place.left, place.bottom - place.top);
+  g.clip();
+  if (drawn.isDense) segments.forEach(({ segment }) => drawDenseBands(g, segment));
+  else segments.forEach(one => drawBands(g, one));
+  drawLanes(g, segments);
+  if (!drawn.isDense) {
+    segments.forEach(one => drawOverlaps(g, one));
+    segments.forEach(one => drawRepeating(g, one.bands));
+    drawWaits(g, segments.flatMap(one => one.segment.taps).filter(tap => tap.station).map(tap => tap.station));
+    const thick = Math.max(2, Math.min(1.15 * place.em, 1.3 * place.em * look.spread));
+    segments.forEach(one => drawBars(g, one.bands, thick));
+  }
+  if (rows) drawMarks(g, rows);
+  else drawDenseRows(g);
+  drawCursor(g);
+  g.restore();
+  drawNames(g);
+}
+
+// ---- The cables at the cursor: where on each of them signals stand
+
+/** The stretches of places, from a band's tap both ways, in which it stands in a half bit. */
+function standsAt(band, t) {
+  const near = Math.max(0, t - band.end + 1), far = t - band.start, { low, span } = band.tap.segment, own = band.tap.place;
+  if (far < 0) return [];
+  const both = near === 0 ? [[own - far, own + far]] : [[own - far, own - near], [own + near, own + far]];
+  return both.map(([a, b]) => [Math.max(a, low), Math.min(b, low + span)]).filter(([a, b]) => a <= b);
+}
+
+function drawCables(g, wide, high) {
+  g.fillStyle = theme.back;
+  g.fillRect(0, 0, wide, high);
+  const row = 3.4 * place.em, room = Math.max(1, Math.floor((high - 0.4 * place.em) / row)), t = Math.floor(look.at);
+  const first = Math.min(drawCables.first || 0, Math.max(0, net.segments.length - room));
+  const shown = net.segments.slice(first, first + room), longest = Math.max(1, ...net.segments.map(segment => segment.span));
+  shown.forEach((segment, i) => drawCable(g, segment, t, i * row + 1.3 * place.em, (wide - place.left - 2 * place.em) / longest));
+  const text = shown.length < net.segments.length ? ` (${first + 1} to ${first + shown.length} of ${net.segments.length}; the wheel has more)` : "";
+  element("cables-title").textContent = `The cables at the cursor${text}`;
+}
+
+function drawCable(g, segment, t, y, scale) {
+  const xOfPlace = at => place.left + (at - segment.low) * scale, thick = 0.9 * place.em;
+  write(g, shorten(g, `cable ${segment.name}`, place.left - 12), 6, y, { bold: true, size: 0.85 });
+  line(g, [[xOfPlace(segment.low), y], [xOfPlace(segment.low + segment.span), y]], theme.dim, 2);
+  const bands = bandsNear(segment, t, t + 1), stretches = bands.map(band => standsAt(band, t));
+  bands.forEach((band, i) => stretches[i].forEach(([a, b]) => {
+    g.globalAlpha = isLit(sourceOf(band).sending) ? 0.85 : 0.2;
+    g.fillStyle = colourOf(sourceOf(band));
+    g.fillRect(xOfPlace(a) - 1, y - thick / 2, xOfPlace(b) - xOfPlace(a) + 2, thick);
+  }));
+  g.globalAlpha = 1;
+  g.fillStyle = theme.hatch.pattern;
+  for (let i = 0; i < bands.length; i++) for (let j = i + 1; j < Math.min(bands.length, i + 60); j++) {
+    for (const [a, b] of stretches[i]) for (const [c, d] of stretches[j]) {
+      const [from, to] = [Math.max(a, c), Math.min(b, d)];
+      if (from <= to) g.fillRect(xOfPlace(from) - 1, y - thick / 2, xOfPlace(to) - xOfPlace(from) + 2, thick);
+    }
+  }
+  drawTaps(g, segment, y, thick, xOfPlace);
+}
+
+function drawTaps(g, segment, y, thick, xOfPlace) {
+  let right = -Infinity;
+  for (const tap of segment.taps) {
+    const x = xOfPlace(tap.place), colour = tap.station ? tap.station.colour : theme.repeater;
+    line(g, [[x, y - 0.65 * place.em], [x, y + 0.75 * place.em]], theme.fore, 1.5);
+    g.font = `${0.85 * place.em}px "DejaVu Sans", sans-serif`;
+    const wide = g.measureText(tap.name).width;
+    if (x - wide / 2 < right) continue;
+    g.fillStyle = colour;
+    g.fillRect(x - wide / 2, y + 1.75 * place.em, wide, 3);
+    write(g, tap.name, x, y + 1.25 * place.em, { size: 0.85, align: "center" });
+    right = x + wide / 2 + 0.4 * place.em;
+  }
+}

@@ -1,0 +1,512 @@
+"use strict";
+// What stands beside the plot, the keys, buttons and pointers, what is saved, and the questions that a test may ask.
+
+// ---- What stands beside the plot
+
+function make(name, properties, ...children) {
+  const made = Object.assign(document.createElement(name), properties);
+  made.append(...children);
+  return made;
+}
+
+/** Puts rows of cells into a table's body, where they aren't there yet. A cell is a text or a node. */
+function fill(body, key, rows) {
+  if (body.dataset.key === key) return;
+  body.dataset.key = key;
+  body.replaceChildren(...rows().map(cells => make("tr", {}, ...cells.map((cell, i) => {
+    const made = make(i ? "td" : "th", i ? {} : { scope: "row" }, ...[cell].flat());
+    if (/^[\d,]+$/.test(cell)) made.className = "number";
+    return made;
+  }))));
+}
+
+function nameCell(name, colour) {
+  const swatch = make("span", { className: "swatch" });
+  swatch.style.background = colour;
+  return [swatch, name];
+}
+
+/** The stations that are told of: all, or where they are many those that do something, as many as there is room for. */
+function stationsTold(t) {
+  if (net.stations.length <= MOST_ROWS_TOLD) return net.stations;
+  const busy = net.stations.filter(station => sendingAt(station, t));
+  const others = net.stations.filter(station => !busy.includes(station)).slice(0, MOST_ROWS_TOLD);
+  return [...busy, ...others].slice(0, MOST_ROWS_TOLD);
+}
+
+function showStates(t) {
+  const told = stationsTold(t), states = told.map(station => stateAt(station, t).words);
+  const rest = net.stations.length - told.length;
+  fill(element("states").tBodies[0], JSON.stringify([states, told.map(one => one.name)]), () => [
+    ...told.map((station, i) => [nameCell(station.name, station.colour), states[i]]),
+    ...(rest ? [["\u2026", `and ${group(rest)} more stations`]] : []),
+  ]);
+}
+
+function shareBar(station, t) {
+  const shares = sharesAt(station, t), whole = Math.max(1, t - net.from), bar = make("div", { className: "share" });
+  const [sent, lost] = [shares.sent, shares.lost].map(part => (100 * part) / whole);
+  const parts = [make("i", {}), make("i", { className: "lost" })];
+  parts[0].style.cssText = `width: ${sent}%; background: ${station.colour}`;
+  parts[1].style.cssText = `left: ${sent}%; width: ${lost}%`;
+  bar.append(...parts);
+  bar.title = `${sent.toFixed(1)} % in frames that were sent, ${lost.toFixed(1)} % in others`;
+  return [bar, `${(sent + lost).toFixed(1)} %`];
+}
+
+function showCounters(t) {
+  const counted = countersAt(t), words = ["sent", "collided", "late", "given_up", "received", "dropped"];
+  const told = stationsTold(t), names = JSON.stringify(told.map(one => one.name));
+  fill(element("shares").tBodies[0], t + names, () => told.map(one => [nameCell(one.name, one.colour), ...shareBar(one, t)]));
+  const head = element("counters").tHead;
+  if (!head.rows.length) head.append(make("tr", {}, ...["", ...words].map(word => make("th", { scope: "col", className: "number" }, word.replace("_", " ")))));
+  const row = (cell, counters) => [cell, ...words.map(word => group(counters[word]))];
+  fill(element("counters").tBodies[0], counted.next + names, () => [
+    ...told.map(one => row(nameCell(one.name, one.colour), counted.by.get(one) || newCounters())), row("all", counted.all),
+  ]);
+  if (!net.repeaters.length) return;
+  const others = ["clash", "closed", "opened", "halted"], top = element("repeaters").tHead;
+  if (!top.rows.length) top.append(make("tr", {}, ...["", ...others].map(word => make("th", { scope: "col", className: "number" }, word))));
+  fill(element("repeaters").tBodies[0], String(counted.next), () => net.repeaters.slice(0, MOST_ROWS_TOLD).map(one =>
+    [nameCell(one.name, theme.repeater), ...others.map(word => group((counted.by.get(one) || newCounters())[word]))]));
+}
+
+/** The lines of the log about the cursor: the first of a row at it or after it stands in the middle. */
+function rowAtCursor() {
+  if (look.row && look.row.at === look.at) return look.row;
+  return net.rows[Math.min(countBelow(net.rows, look.at, row => row.t), net.rows.length - 1)];
+}
+
+function showLines() {
+  const row = rowAtCursor(), list = element("lines");
+  if (!row) return;
+  const first = Math.max(0, Math.min(row.index - (LINES_TOLD >> 1), net.rows.length - LINES_TOLD)), key = `${first} ${row.index} ${row.at === look.at}`;
+  if (list.dataset.key === key) return;
+  list.dataset.key = key;
+  list.replaceChildren(...net.rows.slice(first, first + LINES_TOLD).map(one => {
+    const button = make("button", { type: "button", title: sentence(one), onclick: () => goTo(one) }, one.line);
+    if (one === row && row.at === look.at) button.setAttribute("aria-current", "true");
+    return make("li", {}, button);
+  }));
+}
+
+/** Of a frame its attempts, and the rows of what others made of them. */
+function frameFacts({ station, frame }) {
+  const key = `${station} ${frame}`;
+  if (frameFacts.kept && frameFacts.kept.key === key) return frameFacts.kept;
+  const device = net.stations.find(one => one.name === station);
+  const attempts = device ? device.sendings.filter(one => one.frame === frame) : [];
+  const bands = net.bands.filter(band => attempts.includes(sourceOf(band).sending));
+  const from = Math.min(...bands.map(band => band.start)), to = Math.max(...bands.map(band => band.end + band.tap.segment.span));
+  const heard = net.rows.slice(countBelow(net.rows, from, row => row.t), countBelow(net.rows, to + 1, row => row.t)).filter(row =>
+    (row.what === "received" || row.what === "dropped") && bandsOfRow(row).some(band => attempts.includes(sourceOf(band).sending)));
+  return (frameFacts.kept = { key, attempts, heard, rows: [...attempts, ...heard] });
+}
+
+function showFrame() {
+  const box = element("frame");
+  box.hidden = !look.frame;
+  if (!look.frame) return;
+  const { attempts, heard } = frameFacts(look.frame);
+  const told = attempts.map(one => `attempt ${one.attempt}, ${toldTime(one.start)} to ${toldTime(one.end)}: ` + (one.what === "sent" ? "sent" : sentence(one)));
+  const others = heard.slice(0, 12).map(row => `${toldTime(row.t)}: ${sentence(row)}`);
+  if (heard.length > 12) others.push(`and ${group(heard.length - 12)} more`);
+  box.replaceChildren(make("h3", {}, `Frame ${look.frame.frame} of ${look.frame.station}`),
+    make("ul", {}, ...[...told, ...others].map(text => make("li", {}, text))));
+}
+
+function showFacts() {
+  const t = Math.floor(look.at);
+  element("now").textContent = toldTime(t);
+  showStates(t);
+  showCounters(t);
+  showLines();
+  showFrame();
+}
+
+function showButtons() {
+  for (const button of document.querySelectorAll("[data-go]")) {
+    const [way, kind] = button.dataset.go.split(" ");
+    button.disabled = !(way === "next" ? next : previous)(kind, look.at);
+  }
+  element("unit").textContent = UNITS[look.unit].name;
+  document.querySelector("[data-do=theme]").textContent = look.dark ? "light" : "dark";
+  element("play").textContent = playing ? "stop" : "play";
+  element("speed").textContent = `${group(SPEEDS[look.speed])} a second`;
+}
+
+function drawLegend(g, wide) {
+  g.fillStyle = theme.back;
+  g.fillRect(0, 0, wide, legend.clientHeight);
+  let x = 0.8 * place.em, y = 0.9 * place.em;
+  for (const [kind, mark] of [["overlap", { says: "two signals on top of each other" }], ["wait", { says: "waits: backoff, then its turn" }], ...Object.entries(MARKS)]) {
+    const width = g.measureText(mark.says).width + 3.4 * place.em + (mark.word ? 1.8 * place.em : 0);
+    if (x + width > wide) [x, y] = [0.8 * place.em, y + 1.7 * place.em];
+    if (kind === "overlap") {
+      g.fillStyle = COLOURS[4];
+      g.fillRect(x - 0.6 * place.em, y - 0.5 * place.em, 1.3 * place.em, place.em);
+      g.fillStyle = theme.hatch.pattern;
+      g.fillRect(x - 0.6 * place.em, y - 0.5 * place.em, 1.3 * place.em, place.em);
+    } else if (kind === "wait") {
+      g.setLineDash([2, 4]);
+      line(g, [[x - 0.6 * place.em, y], [x + 0.7 * place.em, y]], COLOURS[0], 3);
+      g.setLineDash([]);
+    } else drawMark(g, kind, x, y + (mark.shape && mark.shape[0][1] < -1 && kind !== "cut" && kind !== "clash" ? 0.55 * place.em : 0), 0.42 * place.em);
+    write(g, mark.says, x + (mark.word ? 2.8 : 1) * place.em, y, { colour: theme.dim, size: 0.85 });
+    x += width;
+  }
+  return y + place.em;
+}
+
+// ---- Pictures: each change draws once, when the browser next shows something
+
+let isDue = false, isSized = true;
+
+function changed(what = "") {
+  if (what === "size") isSized = true;
+  if (isDue) return;
+  isDue = true;
+  requestAnimationFrame(show);
+}
+
+/** A canvas's context, with as many dots as the screen has there. */
+function contextOf(canvas) {
+  const scale = devicePixelRatio || 1, wide = Math.round(canvas.clientWidth * scale), high = Math.round(canvas.clientHeight * scale);
+  if (canvas.width !== wide) canvas.width = wide;
+  if (canvas.height !== high) canvas.height = high;
+  const g = canvas.getContext("2d");
+  g.setTransform(scale, 0, 0, scale, 0, 0);
+  return g;
+}
+
+function show() {
+  isDue = false;
+  drawPlot(contextOf(plot), plot.clientWidth, plot.clientHeight);
+  if (isSized) {
+    isSized = false;
+    const rows = Math.min(net.segments.length, 4);
+    cables.style.height = `${(3.4 * rows + 0.4) * place.em}px`;
+    legend.style.height = `${drawLegend(legend.getContext("2d"), legend.clientWidth)}px`;
+    drawLegend(contextOf(legend), legend.clientWidth);
+  }
+  drawCables(contextOf(cables), cables.clientWidth, cables.clientHeight);
+  showFacts();
+  showButtons();
+  keepView();
+}
+
+// ---- The cursor, playing, and going from row to row
+
+const SPEEDS = [1, 2, 5, 10, 20, 50, 100, 200, 500, 1000, 2000, 5000, 10000, 20000, 50000, 100000];
+let playing = 0;
+
+function moveTo(t) {
+  look.at = Math.min(Math.max(t, net.from), net.to);
+  const wide = look.to - look.from;
+  if (look.at < look.from || look.at > look.to) {
+    look.from = look.at - wide * (playing ? 0.1 : 0.4);
+    look.to = look.from + wide;
+    pan(0);
+  }
+  changed();
+}
+
+function say(text) {
+  element("said").textContent = text;
+}
+
+function goTo(row) {
+  if (!row) return;
+  look.row = row;
+  moveTo(row.at);
+  const others = rowsOfKind("row").filter(one => one.at === row.at && one !== row && isCollision(one) === isCollision(row));
+  say(`${toldTime(row.at)}: ${[row, ...others.slice(0, 3)].map(sentence).join("; ")}.`);
+}
+
+function goByLine(step) {
+  const row = rowAtCursor(), at = row && row.at === look.at ? row.index + step : (row ? row.index : 0) - (step < 0 ? 1 : 0);
+  goTo(net.rows[Math.min(Math.max(at, 0), net.rows.length - 1)]);
+}
+
+function play(isOn) {
+  playing = isOn ? performance.now() : 0;
+  if (isOn && look.at >= net.to) look.at = net.from;
+  if (isOn) requestAnimationFrame(playOn);
+  changed();
+}
+
+function playOn(now) {
+  if (!playing) return;
+  moveTo(look.at + (Math.max(0, now - playing) / 1000) * SPEEDS[look.speed]);
+  playing = now;
+  if (look.at < net.to) requestAnimationFrame(playOn);
+  else play(false);
+}
+
+function setFrame(sending) {
+  look.frame = sending ? { station: sending.device.name, frame: sending.frame } : null;
+  if (sending) say(`Frame ${sending.frame} of ${sending.device.name}: ${group(frameFacts(look.frame).attempts.length)} attempts.`);
+  changed();
+}
+
+// ---- The view in the address
+
+function keepView() {
+  clearTimeout(keepView.timer);
+  keepView.timer = setTimeout(() => {
+    const told = new URLSearchParams({ view: [look.from, look.to].map(t => t.toFixed(2).replace(/\.?0+$/, "")).join(","),
+      lanes: [look.spread.toFixed(3), look.down.toFixed(0)].join(","), at: String(Math.floor(look.at)), unit: look.unit, text: look.text, dark: +look.dark });
+    if (look.frame) told.set("frame", [look.frame.station, look.frame.frame].join(","));
+    history.replaceState(null, "", "#" + decodeURIComponent(told.toString()));
+  }, 250);
+}
+
+function readView() {
+  const told = new URLSearchParams(location.hash.slice(1)), numbers = name => (told.get(name) || "").split(",").map(Number);
+  const isGood = list => list.length === 2 && list.every(Number.isFinite);
+  look.unit = Math.min(2, Math.max(0, +told.get("unit") || 0));
+  look.text = Math.min(3, Math.max(0, +told.get("text") || 0));
+  look.dark = told.has("dark") ? told.get("dark") === "1" : matchMedia("(prefers-color-scheme: dark)").matches;
+  setTheme();
+  Object.assign(place, { top: 1.9 * place.em, bottom: plot.clientHeight });
+  fit();
+  if (isGood(numbers("view")) && numbers("view")[0] < numbers("view")[1]) {
+    [look.from, look.to] = numbers("view");
+    if (isGood(numbers("lanes"))) [look.spread, look.down] = [Math.min(4, Math.max(0.02, numbers("lanes")[0])), numbers("lanes")[1]];
+    zoom(1, look.from);
+  }
+  const [station, frame] = (told.get("frame") || "").split(",");
+  look.frame = net.stations.some(one => one.name === station) ? { station, frame: +frame } : null;
+  look.at = Math.min(Math.max(Math.floor(+told.get("at")) || net.from, net.from), net.to);
+  changed("size");
+}
+
+// ---- Pointers
+
+const pointers = new Map();
+let moved = 0;
+
+function bandsAt(x, y) {
+  const segment = net.segments.find(one => yOf(one.top) <= y && y <= yOf(one.bottom)), t = timeOf(x);
+  if (!segment || x < place.left) return [];
+  const at = placeOf(segment, y);
+  return bandsNear(segment, Math.floor(t), Math.ceil(t) + 1).filter(band => {
+    const later = Math.abs(band.tap.place - at);
+    return band.start + later <= t && t < band.end + later;
+  });
+}
+
+function rowsAt(x, y) {
+  const near = drawn.marks.filter(mark => Math.hypot(mark.x - x, mark.y - y) < 0.8 * place.em);
+  return [...new Set(near.map(mark => mark.row))].slice(0, 4);
+}
+
+function hint(event) {
+  const box = element("hint"), [x, y] = [event.offsetX, event.offsetY];
+  const rows = rowsAt(x, y), bands = rows.length || drawn.isDense ? [] : bandsAt(x, y).slice(0, 4);
+  box.hidden = !rows.length && !bands.length;
+  if (box.hidden) return;
+  box.replaceChildren(...rows.map(row => make("div", {}, sentence(row), make("small", {}, row.line))),
+    ...bands.map(band => make("div", {}, bandWords(band), make("small", {}, `${toldTime(band.start)} to ${toldTime(band.end)}`))));
+  const [left, top] = [event.clientX + 14, event.clientY + 14];
+  box.style.left = `${Math.min(left, innerWidth - box.offsetWidth - 8)}px`;
+  box.style.top = `${top + box.offsetHeight > innerHeight ? event.clientY - box.offsetHeight - 10 : top}px`;
+}
+
+function click(event) {
+  const [x, y] = [event.offsetX, event.offsetY], [row] = rowsAt(x, y), bands = bandsAt(x, y);
+  const sendings = [row && SENDINGS.has(row.what) ? row : null, ...bands.map(band => sourceOf(band).sending)];
+  if (row) goTo(row);
+  else moveTo(Math.round(timeOf(x)));
+  setFrame(sendings.find(one => one) || null);
+}
+
+function movePointer(event) {
+  if (!pointers.has(event.pointerId)) return hint(event);
+  const before = [...pointers.values()], [x, y] = [event.offsetX, event.offsetY], last = pointers.get(event.pointerId);
+  pointers.set(event.pointerId, [x, y]);
+  moved += Math.abs(x - last[0]) + Math.abs(y - last[1]);
+  if (pointers.size === 2) {
+    const after = [...pointers.values()], apart = ([a, b]) => Math.max(10, Math.hypot(a[0] - b[0], a[1] - b[1]));
+    zoom(apart(before) / apart(after), timeOf((after[0][0] + after[1][0]) / 2));
+  } else if (moved > 4) {
+    element("hint").hidden = true;
+    pan(((last[0] - x) * (look.to - look.from)) / (place.right - place.left));
+    scrollDown(last[1] - y);
+  }
+}
+
+function dropPointer(event) {
+  if (pointers.delete(event.pointerId) && pointers.size === 0 && moved <= 4 && event.type === "pointerup") click(event);
+}
+
+plot.addEventListener("pointerdown", event => {
+  if (event.button) return;
+  plot.setPointerCapture(event.pointerId);
+  if (!pointers.size) moved = 0;
+  pointers.set(event.pointerId, [event.offsetX, event.offsetY]);
+});
+plot.addEventListener("pointermove", movePointer);
+plot.addEventListener("pointerup", dropPointer);
+plot.addEventListener("pointercancel", dropPointer);
+plot.addEventListener("pointerleave", () => { element("hint").hidden = true; });
+plot.addEventListener("wheel", event => {
+  event.preventDefault();
+  const step = (event.deltaY || event.deltaX) * (event.deltaMode === 1 ? 30 : 1);
+  if (event.altKey) spreadLanes(Math.exp(-step / 500), event.offsetY);
+  else if (event.shiftKey) scrollDown(step);
+  else if (Math.abs(event.deltaX) > Math.abs(event.deltaY)) pan((event.deltaX * (look.to - look.from)) / (place.right - place.left));
+  else zoom(Math.exp(step / 400), timeOf(event.offsetX));
+}, { passive: false });
+cables.addEventListener("wheel", event => {
+  if (net.segments.length <= 4) return;
+  event.preventDefault();
+  drawCables.first = Math.min(Math.max((drawCables.first || 0) + Math.sign(event.deltaY), 0), net.segments.length - 1);
+  changed();
+}, { passive: false });
+
+// ---- Saving: the view as PNG, or as SVG by a pen with the calls of a canvas's context
+
+class SvgPen {
+  constructor(wide, high) {
+    Object.assign(this, { wide, high, parts: [], states: [], clips: 0, way: "", globalAlpha: 1, dash: [], open: 0 });
+    this.measure = document.createElement("canvas").getContext("2d");
+  }
+  beginPath() { this.way = ""; }
+  moveTo(x, y) { this.way += `M${x.toFixed(1)} ${y.toFixed(1)}`; }
+  lineTo(x, y) { this.way += `L${x.toFixed(1)} ${y.toFixed(1)}`; }
+  closePath() { this.way += "z"; }
+  rect(x, y, w, h) { this.way += `M${x} ${y}h${w}v${h}h${-w}z`; }
+  arc(x, y, r) { this.way += `M${x - r} ${y}a${r} ${r} 0 1 0 ${2 * r} 0a${r} ${r} 0 1 0 ${-2 * r} 0z`; }
+  setLineDash(dash) { this.dash = dash; }
+  paint() {
+    const name = Object.keys(PATTERNS).find(one => theme[one].pattern === this.fillStyle);
+    return name ? `url(#${name})` : this.fillStyle;
+  }
+  add(text) { this.parts.push(text); }
+  fill() { this.add(`<path d="${this.way}" fill="${this.paint()}" opacity="${this.globalAlpha}"/>`); }
+  pen() { return `fill="none" stroke="${this.strokeStyle}" stroke-width="${this.lineWidth}" stroke-dasharray="${this.dash.join(" ") || "none"}" opacity="${this.globalAlpha}"`; }
+  stroke() { this.add(`<path d="${this.way}" ${this.pen()}/>`); }
+  fillRect(x, y, w, h) { this.add(`<path d="M${x} ${y}h${w}v${h}h${-w}z" fill="${this.paint()}" opacity="${this.globalAlpha}"/>`); }
+  strokeRect(x, y, w, h) { this.add(`<path d="M${x} ${y}h${w}v${h}h${-w}z" ${this.pen()}/>`); }
+  measureText(text) {
+    this.measure.font = this.font;
+    return this.measure.measureText(text);
+  }
+  text(text, x, y, paint) {
+    const anchor = { left: "start", center: "middle", right: "end" }[this.textAlign], [, bold, size] = /(bold )?([\d.]+)px/.exec(this.font);
+    this.add(`<text x="${x}" y="${y}" dy="0.35em" text-anchor="${anchor}" font-size="${size}" font-weight="${bold ? "bold" : "normal"}" ${paint}>${text}</text>`);
+  }
+  fillText(text, x, y) { this.text(text, x, y, `fill="${this.fillStyle}" opacity="${this.globalAlpha}"`); }
+  strokeText(text, x, y) { this.text(text, x, y, this.pen()); }
+  drawImage(image, ...at) {
+    const [, sy, , sh, x, y, w, h] = at, part = document.createElement("canvas");
+    [part.width, part.height] = [image.width, sh];
+    part.getContext("2d").drawImage(image, 0, sy, image.width, sh, 0, 0, image.width, sh);
+    this.add(`<image href="${part.toDataURL()}" x="${x}" y="${y}" width="${w}" height="${h}" preserveAspectRatio="none" style="image-rendering:pixelated"/>`);
+  }
+  save() { this.states.push([this.open, this.globalAlpha]); }
+  clip() {
+    this.add(`<clipPath id="c${++this.clips}"><path d="${this.way}"/></clipPath><g clip-path="url(#c${this.clips})">`);
+    this.open++;
+  }
+  restore() {
+    const [open, alpha] = this.states.pop();
+    for (; this.open > open; this.open--) this.add("</g>");
+    this.globalAlpha = alpha;
+  }
+  text_of() {
+    const patterns = Object.entries(PATTERNS).map(([name, [size, way]]) =>
+      `<pattern id="${name}" width="${size}" height="${size}" patternUnits="userSpaceOnUse"><path d="${way}" stroke="${theme.fore}" stroke-width="1.2"/></pattern>`);
+    return `<svg xmlns="http://www.w3.org/2000/svg" width="${this.wide}" height="${this.high}" viewBox="0 0 ${this.wide} ${this.high}" font-family="DejaVu Sans, sans-serif">` +
+      `<defs>${patterns.join("")}</defs>${this.parts.join("\n")}</svg>\n`;
+  }
+}
+
+const PATTERNS = { hatch: [8, "M-2 10L10 -2M-2 2L2 -2M6 10L10 6"], stripes: [5, "M2.5 0V5"] };
+
+function svgText() {
+  const pen = new SvgPen(plot.clientWidth, plot.clientHeight);
+  drawPlot(pen, pen.wide, pen.high);
+  return pen.text_of();
+}
+
+function save(blob, name) {
+  const link = make("a", { href: URL.createObjectURL(blob), download: name });
+  link.click();
+  setTimeout(() => URL.revokeObjectURL(link.href), 1000);
+  say(`Saved as ${name}.`);
+}
+
+// ---- Buttons and keys
+
+const wide = () => look.to - look.from;
+const ACTIONS = {
+  in: () => zoom(0.5, cursorInView()), out: () => zoom(2, cursorInView()),
+  fit: () => { fit(); changed(); },
+  back: () => moveTo(Math.ceil(look.at) - 1), on: () => moveTo(Math.floor(look.at) + 1),
+  far_back: () => moveTo(Math.round(look.at - wide() / 20)), far_on: () => moveTo(Math.round(look.at + wide() / 20)),
+  view_back: () => pan(-wide() / 2), view_on: () => pan(wide() / 2),
+  begin: () => moveTo(net.from), end: () => moveTo(net.to), line_back: () => goByLine(-1), line_on: () => goByLine(1),
+  play: () => play(!playing),
+  slower: () => { look.speed = Math.max(0, look.speed - 1); changed(); },
+  faster: () => { look.speed = Math.min(SPEEDS.length - 1, look.speed + 1); changed(); },
+  unit: () => { look.unit = (look.unit + 1) % UNITS.length; say(`Times in ${UNITS[look.unit].name}.`); changed(); },
+  text: () => { look.text = (look.text + 1) % 4; setTheme(); changed("size"); },
+  theme: () => { look.dark = !look.dark; setTheme(); changed("size"); },
+  frame: () => { const row = rowAtCursor(); setFrame(row && SENDINGS.has(row.what) ? row : null); },
+  none: () => setFrame(null),
+  svg: () => save(new Blob([svgText()], { type: "image/svg+xml" }), "netsim.svg"),
+  png: () => plot.toBlob(blob => save(blob, "netsim.png")),
+};
+const KEYS = {
+  "+": "in", "=": "in", "-": "out", 0: "fit", ArrowLeft: "back", ArrowRight: "on", "Shift ArrowLeft": "far_back", "Shift ArrowRight": "far_on",
+  PageUp: "view_back", PageDown: "view_on", Home: "begin", End: "end", ArrowUp: "line_back", ArrowDown: "line_on", " ": "play",
+  "[": "slower", "]": "faster", u: "unit", t: "text", b: "theme", Enter: "frame", Escape: "none", s: "svg", S: "png",
+};
+const GO_KEYS = { c: "collision", d: "drop", l: "late", g: "given_up", p: "closed" };
+
+function cursorInView() {
+  return look.at >= look.from && look.at <= look.to ? look.at : (look.from + look.to) / 2;
+}
+
+function go(way, kind) {
+  const row = (way === "next" ? next : previous)(kind, look.at);
+  if (row) goTo(row);
+  else say(`No ${way} ${kind.replace("_", " ").replace("closed", "port closed")}.`);
+}
+
+addEventListener("keydown", event => {
+  const isButton = event.target.closest("button, summary");
+  if (event.ctrlKey || event.metaKey || event.altKey || (isButton && (event.key === " " || event.key === "Enter"))) return;
+  const kind = GO_KEYS[event.key.toLowerCase()];
+  const action = KEYS[event.shiftKey && event.key.length > 1 ? `Shift ${event.key}` : event.key];
+  if (!kind && !action) return;
+  event.preventDefault();
+  if (kind) go(event.shiftKey ? "previous" : "next", kind);
+  else ACTIONS[action]();
+});
+for (const button of document.querySelectorAll("[data-go]")) button.onclick = () => go(...button.dataset.go.split(" "));
+for (const button of document.querySelectorAll("[data-do]")) button.onclick = () => ACTIONS[button.dataset.do]();
+element("play").onclick = () => ACTIONS.play();
+addEventListener("resize", () => changed("size"));
+addEventListener("hashchange", readView);
+
+// ---- What a test may ask
+
+window.netsimPage = {
+  errors, next, previous, sentence, goTo, svgText,
+  bands: () => net.bands.map(({ line, tap, start, end, kind }) => ({ line, tap: tap.name, start, end, kind })),
+  rows: () => net.rows.map(row => row.line),
+  sources: () => net.bands.map(band => nameOfBand(band)),
+  countersAt: t => ({ all: countersAt(t).all, by: Object.fromEntries([...countersAt(t).by].map(([device, counters]) => [device.name, counters])) }),
+  stateAt: (name, t) => stateAt(net.stations.find(station => station.name === name), t).words,
+  look: () => ({ ...look, row: undefined }), drawn: () => ({ ...drawn, marks: drawn.marks.map(({ x, y, row }) => ({ x, y, line: row.line })) }),
+  timeOf, show, pan, openedIn: () => netsimPage.opened,
+};
+
+element("window").textContent = `half bits ${group(net.from)} to ${group(net.to)} of ${group(net.halfBits)}; ${group(net.rows.length)} lines of the log`;
+look.speed = Math.max(0, SPEEDS.findIndex(speed => speed >= (net.to - net.from) / 30));
+readView();
+show();
+netsimPage.opened = performance.now();
