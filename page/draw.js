@@ -57,17 +57,16 @@ const xOf = t => place.left + ((t - look.from) / (look.to - look.from)) * (place
 const timeOf = x => look.from + ((x - place.left) / (place.right - place.left)) * (look.to - look.from);
 const yOf = y => place.top + (y - look.down) * look.spread;
 
-/** The places of a segment at which its fronts may bend, each with its height; close ones are left out. */
+/** The places of a segment at which its fronts may bend, each with its height: none where they go on straight. */
 function bendsOf(segment) {
-  const bends = [], edge = 0.7 * place.em * Math.min(1, look.spread);
-  for (const tap of segment.taps) {
-    const y = yOf(tap.y), last = bends[bends.length - 1];
-    if (!last || y - last.y >= 2 || tap.bands.length) bends.push({ place: tap.place, y });
-  }
-  if (!bends.length) return bends;
-  const last = segment.taps[segment.taps.length - 1];
-  if (bends[bends.length - 1].place !== last.place) bends.push({ place: last.place, y: yOf(last.y) });
-  return [{ place: segment.low, y: bends[0].y - edge }, ...bends, { place: last.place, y: yOf(last.y) + edge }];
+  const { taps, low, span } = segment, bends = [], edge = 0.7 * place.em * Math.min(1, look.spread);
+  if (!taps.length) return bends;
+  taps.forEach((tap, i) => {
+    const y = yOf(tap.y), last = bends[bends.length - 1], after = taps[i + 1];
+    const straight = last && after && last.y + ((yOf(after.y) - last.y) * (tap.place - last.place)) / (after.place - last.place);
+    if (!straight || Math.abs(y - straight) > 0.3) bends.push({ place: tap.place, y });
+  });
+  return [{ place: low, y: bends[0].y - edge }, ...bends, { place: low + span, y: bends[bends.length - 1].y + edge }];
 }
 
 /** The place on a segment of a height on the canvas. */
@@ -145,10 +144,12 @@ const isLit = sending => !look.frame || (sending !== null && sending.device.name
 const colourOf = source => (source.station ? source.station.colour : theme.repeater);
 const isPale = colour => ["#e69f00", "#cc79a7", "#56b4e9", "#f0e442"].includes(colour);
 
+/** The outline of a band: both fronts start at its tap and go both ways along the cable. */
 function outlineOf(band, bends) {
-  const points = bends.map(bend => [xOf(band.start + Math.abs(bend.place - band.tap.place)), bend.y]);
-  const back = bends.map(bend => [xOf(band.end + Math.abs(bend.place - band.tap.place)), bend.y]);
-  return points.concat(back.reverse());
+  const own = { place: band.tap.place, y: yOf(band.tap.y) }, at = bends.findIndex(bend => bend.place > own.place);
+  const all = at > 0 ? [...bends.slice(0, at), own, ...bends.slice(at)] : bends;
+  const front = t => all.map(bend => [xOf(t + Math.abs(bend.place - own.place)), bend.y]);
+  return front(band.start).concat(front(band.end).reverse());
 }
 
 /** The segments that are in view, each with its bends and the bands that may be seen on it. */
@@ -261,10 +262,10 @@ function drawRepeating(g, bands) {
 // ---- Marks: what the log's rows tell
 
 const MARKS = {
-  start: { shape: [[0, -1.1], [0, -1.7], [0.9, -1.4]], fill: "fore", says: "starts" },
-  sent: { shape: [[-0.15, -1.35], [0.2, -0.95], [0.85, -1.9]], isOpen: true, says: "sent" },
-  hit: { shape: [[-0.8, -1.9], [0.8, -1.9], [0, -0.6]], fill: "fore", says: "hears a collision" },
-  late: { shape: [[-0.8, -1.9], [0.8, -1.9], [0, -0.6]], fill: "bad", word: "late", says: "late hit" },
+  start: { isAbove: true, shape: [[0, -1.4], [0, -2.7], [1.3, -2.05]], fill: "fore", says: "starts" },
+  sent: { isAbove: true, shape: [[-1.3, -2.2], [-0.8, -1.6], [0.1, -2.9]], isOpen: true, says: "sent" },
+  hit: { isAbove: true, shape: [[-0.9, -2.9], [0.9, -2.9], [0, -1.3]], fill: "fore", says: "hears a collision" },
+  late: { isAbove: true, shape: [[-0.9, -2.9], [0.9, -2.9], [0, -1.3]], fill: "bad", word: "late", says: "late hit" },
   given_up: { ring: 0.85, fill: "bad", lines: [[-0.5, 0, 0.5, 0]], says: "given up" },
   cut: { shape: [[0, -1.2], [-0.4, -0.6], [0.4, 0], [-0.4, 0.6], [0, 1.2]], isOpen: true, says: "cut by the run's end" },
   received: { ring: 0.6, fill: "fore", says: "received" },
@@ -299,14 +300,13 @@ function drawMark(g, kind, x, y, r) {
   }
   const pen = mark.fill === "bad" ? theme.back : colour;
   for (const [a, b, c, d] of mark.lines || []) line(g, [[x + a * r, y + b * r], [x + c * r, y + d * r]], pen, Math.max(2, r / 3));
-  if (mark.word) write(g, mark.word, x + 1.1 * r, y - 1.4 * r, { colour: theme.bad, size: 0.8, bold: true, halo: true });
+  if (mark.word) write(g, mark.word, x + 1.3 * r, y - 2.2 * r, { colour: theme.bad, size: 0.8, bold: true, halo: true });
 }
 
 /** The marks of a row: the kind, the half bit and the tap of each. */
 function marksOf(row) {
-  const tap = row.device.tap;
+  const tap = row.tap;
   if (row.what === "clash") return row.device.ports.map(port => ["clash", row.t, port]);
-  if (!tap) return [[row.what, row.t, row.device.ports[row.port - 1]]];
   if (!SENDINGS.has(row.what)) return [[row.what, row.t, tap]];
   const hit = row.hit === null ? [] : [[isLate(row) ? "late" : "hit", row.at, tap]];
   return [["start", row.start, tap], ...hit, ...(row.what === "collided" ? [] : [[row.what, row.t, tap]])];
@@ -390,31 +390,29 @@ function coverage(stretches, columns) {
   return parts;
 }
 
-function coloursOf(name) {
-  const context = coloursOf.context || (coloursOf.context = document.createElement("canvas").getContext("2d", { willReadFrequently: true }));
-  context.fillStyle = name;
-  context.fillRect(0, 0, 1, 1);
-  return context.getImageData(0, 0, 1, 1).data;
+/** The red, green and blue of a colour's name, as the low octets of a dot. */
+function dotOf(name) {
+  const [red, green, blue] = [1, 3, 5].map(i => parseInt(name.slice(i, i + 2), 16));
+  return red | (green << 8) | (blue << 16);
 }
 
-/** An image of cells, each with a colour and a strength that a function tells by its column and row. */
+/** An image of cells, each a dot that a function tells by its number; its strength is from 0 to 1. */
 function cells(columns, rows, tell) {
-  const canvas = document.createElement("canvas");
-  [canvas.width, canvas.height] = [columns, rows];
-  const g = canvas.getContext("2d"), image = g.createImageData(columns, rows);
-  for (let i = 0; i < columns * rows; i++) {
-    const told = tell(i % columns, Math.floor(i / columns));
-    if (told) image.data.set([told[0][0], told[0][1], told[0][2], Math.round(255 * Math.min(1, told[1]))], 4 * i);
-  }
+  const canvas = cells[rows > 2] || (cells[rows > 2] = document.createElement("canvas"));
+  if (canvas.width !== columns || canvas.height !== rows) [canvas.width, canvas.height] = [columns, rows];
+  const g = canvas.getContext("2d"), image = g.createImageData(columns, rows), dots = new Uint32Array(image.data.buffer);
+  for (let i = 0; i < dots.length; i++) dots[i] = tell(i);
   g.putImageData(image, 0, 0);
   return canvas;
 }
 
+const dotWith = (colour, strength) => (colour | (Math.round(255 * Math.min(1, strength)) << 24)) >>> 0;
+
 function drawDenseBands(g, segment) {
   const columns = Math.max(1, Math.round(place.right - place.left)), [some, several] = coverOf(segment).map(one => coverage(one, columns));
-  const calm = coloursOf(COLOURS[0]), bad = coloursOf(theme.bad);
+  const calm = dotOf(COLOURS[0]), bad = dotOf(theme.bad);
   const top = yOf(segment.taps[0] ? segment.taps[0].y : segment.top) - 4, bottom = yOf(segment.bottom) - 4;
-  const image = cells(columns, 2, (x, y) => (y ? [bad, Math.min(1, 3 * several[x])] : [calm, 0.75 * some[x]]));
+  const image = cells(columns, 2, i => (i < columns ? dotWith(calm, 0.75 * some[i]) : dotWith(bad, 3 * several[i - columns])));
   const height = Math.max(3, bottom - top), split = several.some(part => part > 0) ? 0.8 : 1;
   g.imageSmoothingEnabled = false;
   g.drawImage(image, 0, 0, columns, 1, place.left, top, place.right - place.left, height * split);
@@ -425,11 +423,11 @@ const BAD_ROWS = new Set(["collided", "given_up", "dropped", "clash", "closed", 
 
 /** How many rows lie in each cell of the plot, in two lists: good ones, and bad ones. */
 function countCells(columns, rows, wide, high) {
-  const counts = [new Float32Array(columns * rows), new Float32Array(columns * rows)];
-  const to = countBelow(net.rows, look.to, row => row.t);
+  const counts = [new Float32Array(columns * rows), new Float32Array(columns * rows)], lanes = [];
+  for (const segment of net.segments) for (const tap of segment.taps) lanes[tap.number] = Math.floor((yOf(tap.y) - place.top) / high);
+  const to = countBelow(net.rows, look.to, row => row.t), scale = (place.right - place.left) / (look.to - look.from) / wide;
   for (let i = countBelow(net.rows, look.from, row => row.t); i < to; i++) {
-    const row = net.rows[i], tap = row.device.tap || row.device.ports[(row.port || 1) - 1];
-    const x = Math.floor((xOf(row.t) - place.left) / wide), y = Math.floor((yOf(tap.y) - place.top) / high);
+    const row = net.rows[i], x = Math.floor((row.t - look.from) * scale), y = lanes[row.tap.number];
     if (y >= 0 && y < rows && x < columns) counts[BAD_ROWS.has(row.what) ? 1 : 0][y * columns + x]++;
   }
   return counts;
@@ -438,12 +436,11 @@ function countCells(columns, rows, wide, high) {
 function drawDenseRows(g) {
   const wide = 3, high = Math.max(3, Math.min(place.em, 2 * place.em * look.spread));
   const columns = Math.ceil((place.right - place.left) / wide), rows = Math.ceil((place.bottom - place.top) / high);
-  const [good, bad] = countCells(columns, rows, wide, high);
-  const most = Math.log1p(Math.max(1, ...[good, bad].map(list => list.reduce((a, b) => Math.max(a, b), 0))));
-  const fore = coloursOf(theme.fore), red = coloursOf(theme.bad);
-  const image = cells(columns, rows, (x, y) => {
-    const i = y * columns + x, told = bad[i] || good[i];
-    return told ? [bad[i] ? red : fore, 0.35 + (0.65 * Math.log1p(told)) / most] : null;
+  const [good, bad] = countCells(columns, rows, wide, high), fore = dotOf(theme.fore), red = dotOf(theme.bad);
+  const most = Math.log1p(good.reduce((a, b) => Math.max(a, b), bad.reduce((a, b) => Math.max(a, b), 1)));
+  const image = cells(columns, rows, i => {
+    const told = bad[i] || good[i];
+    return told ? dotWith(bad[i] ? red : fore, 0.35 + (0.65 * Math.log1p(told)) / most) : 0;
   });
   g.imageSmoothingEnabled = false;
   g.drawImage(image, 0, 0, columns, rows, place.left, place.top, columns * wide, rows * high);
@@ -549,7 +546,7 @@ function drawPlot(g, wide, high) {
 
 /** The stretches of places, from a band's tap both ways, in which it stands in a half bit. */
 function standsAt(band, t) {
-  const near = Math.max(0, t - band.end + 1), far = t - band.start, { low, span } = band.tap.segment, own = band.tap.place;
+  const near = Math.max(0, t - band.end), far = t - band.start, { low, span } = band.tap.segment, own = band.tap.place;
   if (far < 0) return [];
   const both = near === 0 ? [[own - far, own + far]] : [[own - far, own - near], [own + near, own + far]];
   return both.map(([a, b]) => [Math.max(a, low), Math.min(b, low + span)]).filter(([a, b]) => a <= b);
@@ -572,9 +569,11 @@ function drawCable(g, segment, t, y, scale) {
   line(g, [[xOfPlace(segment.low), y], [xOfPlace(segment.low + segment.span), y]], theme.dim, 2);
   const bands = bandsNear(segment, t, t + 1), stretches = bands.map(band => standsAt(band, t));
   bands.forEach((band, i) => stretches[i].forEach(([a, b]) => {
-    g.globalAlpha = isLit(sourceOf(band).sending) ? 0.85 : 0.2;
+    g.globalAlpha = isLit(sourceOf(band).sending) ? 0.6 : 0.15;
     g.fillStyle = colourOf(sourceOf(band));
     g.fillRect(xOfPlace(a) - 1, y - thick / 2, xOfPlace(b) - xOfPlace(a) + 2, thick);
+    g.globalAlpha = 1;
+    drawFront(g, band, t, xOfPlace, y);
   }));
   g.globalAlpha = 1;
   g.fillStyle = theme.hatch.pattern;
@@ -587,11 +586,24 @@ function drawCable(g, segment, t, y, scale) {
   drawTaps(g, segment, y, thick, xOfPlace);
 }
 
+/** Arrows at the fronts of a band that are on their way along the cable. */
+function drawFront(g, band, t, xOfPlace, y) {
+  const { low, span } = band.tap.segment, r = 0.45 * place.em;
+  for (const way of [-1, 1]) {
+    const at = band.tap.place + way * (t - band.start);
+    if (at <= low || at >= low + span) continue;
+    path(g, [[xOfPlace(at), y - 1.4 * r], [xOfPlace(at) + way * 1.6 * r, y], [xOfPlace(at), y + 1.4 * r]]);
+    g.fillStyle = theme.fore;
+    g.fill();
+  }
+}
+
 function drawTaps(g, segment, y, thick, xOfPlace) {
   let right = -Infinity;
   for (const tap of segment.taps) {
     const x = xOfPlace(tap.place), colour = tap.station ? tap.station.colour : theme.repeater;
     line(g, [[x, y - 0.65 * place.em], [x, y + 0.75 * place.em]], theme.fore, 1.5);
+    if (x < right) continue;
     g.font = `${0.85 * place.em}px "DejaVu Sans", sans-serif`;
     const wide = g.measureText(tap.name).width;
     if (x - wide / 2 < right) continue;

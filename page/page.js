@@ -135,24 +135,38 @@ function showButtons() {
   element("speed").textContent = `${group(SPEEDS[look.speed])} a second`;
 }
 
+const SAMPLES = [
+  { says: "jam", fill: "stripes" }, { says: "two signals on top of each other", fill: "hatch" },
+  { says: "by a repeater", dash: [4, 3], width: 1 }, { says: "waits: backoff, then its turn", dash: [2, 4], width: 3 },
+];
+
+function drawSample(g, { fill, dash, width }, x, y) {
+  const [left, top, wide, high] = [x - 0.7 * place.em, y - 0.5 * place.em, 1.4 * place.em, place.em];
+  g.fillStyle = COLOURS[4];
+  if (width !== 3) g.fillRect(left, top, wide, high);
+  if (fill) {
+    g.fillStyle = theme[fill].pattern;
+    g.fillRect(left, top, wide, high);
+  }
+  g.setLineDash(dash || []);
+  if (width === 3) line(g, [[left, y], [left + wide, y]], COLOURS[0], width);
+  else if (dash) line(g, [[left, top], [left + wide, top], [left + wide, top + high], [left, top + high], [left, top]], theme.fore, width);
+  g.setLineDash([]);
+}
+
+/** The legend, in as many rows as it needs: their height. */
 function drawLegend(g, wide) {
   g.fillStyle = theme.back;
   g.fillRect(0, 0, wide, legend.clientHeight);
-  let x = 0.8 * place.em, y = 0.9 * place.em;
-  for (const [kind, mark] of [["overlap", { says: "two signals on top of each other" }], ["wait", { says: "waits: backoff, then its turn" }], ...Object.entries(MARKS)]) {
-    const width = g.measureText(mark.says).width + 3.4 * place.em + (mark.word ? 1.8 * place.em : 0);
-    if (x + width > wide) [x, y] = [0.8 * place.em, y + 1.7 * place.em];
-    if (kind === "overlap") {
-      g.fillStyle = COLOURS[4];
-      g.fillRect(x - 0.6 * place.em, y - 0.5 * place.em, 1.3 * place.em, place.em);
-      g.fillStyle = theme.hatch.pattern;
-      g.fillRect(x - 0.6 * place.em, y - 0.5 * place.em, 1.3 * place.em, place.em);
-    } else if (kind === "wait") {
-      g.setLineDash([2, 4]);
-      line(g, [[x - 0.6 * place.em, y], [x + 0.7 * place.em, y]], COLOURS[0], 3);
-      g.setLineDash([]);
-    } else drawMark(g, kind, x, y + (mark.shape && mark.shape[0][1] < -1 && kind !== "cut" && kind !== "clash" ? 0.55 * place.em : 0), 0.42 * place.em);
-    write(g, mark.says, x + (mark.word ? 2.8 : 1) * place.em, y, { colour: theme.dim, size: 0.85 });
+  let x = 1.2 * place.em, y = place.em;
+  for (const [kind, mark] of [...SAMPLES.map(sample => ["", sample]), ...Object.entries(MARKS)]) {
+    const left = (mark.word ? 2.8 : 1.1) * place.em;
+    g.font = `${(0.85 * place.em).toFixed(1)}px "DejaVu Sans", "Segoe UI", sans-serif`;
+    const width = left + g.measureText(mark.says).width + 1.8 * place.em;
+    if (x + width > wide) [x, y] = [1.2 * place.em, y + 1.7 * place.em];
+    if (!kind) drawSample(g, mark, x, y);
+    else drawMark(g, kind, x, y + (mark.isAbove ? 0.85 * place.em : 0), 0.42 * place.em);
+    write(g, mark.says, x + left, y, { colour: theme.dim, size: 0.85 });
     x += width;
   }
   return y + place.em;
@@ -189,8 +203,12 @@ function show() {
     legend.style.height = `${drawLegend(legend.getContext("2d"), legend.clientWidth)}px`;
     drawLegend(contextOf(legend), legend.clientWidth);
   }
-  drawCables(contextOf(cables), cables.clientWidth, cables.clientHeight);
-  showFacts();
+  const told = [Math.floor(look.at), look.frame && look.frame.station, look.frame && look.frame.frame, look.dark, look.text, look.unit, drawCables.first, cables.clientWidth].join(" ");
+  if (show.told !== told) {
+    drawCables(contextOf(cables), cables.clientWidth, cables.clientHeight);
+    showFacts();
+  }
+  show.told = told;
   showButtons();
   keepView();
 }
@@ -497,12 +515,12 @@ addEventListener("hashchange", readView);
 window.netsimPage = {
   errors, next, previous, sentence, goTo, svgText,
   bands: () => net.bands.map(({ line, tap, start, end, kind }) => ({ line, tap: tap.name, start, end, kind })),
-  rows: () => net.rows.map(row => row.line),
+  rows: () => net.rows.map(row => row.line), row: number => net.rows[number],
   sources: () => net.bands.map(band => nameOfBand(band)),
   countersAt: t => ({ all: countersAt(t).all, by: Object.fromEntries([...countersAt(t).by].map(([device, counters]) => [device.name, counters])) }),
   stateAt: (name, t) => stateAt(net.stations.find(station => station.name === name), t).words,
   look: () => ({ ...look, row: undefined }), drawn: () => ({ ...drawn, marks: drawn.marks.map(({ x, y, row }) => ({ x, y, line: row.line })) }),
-  timeOf, show, pan, openedIn: () => netsimPage.opened,
+  timeOf, show, pan, zoomTo: (from, to) => { Object.assign(look, { from, to }); pan(0); },
 };
 
 element("window").textContent = `half bits ${group(net.from)} to ${group(net.to)} of ${group(net.halfBits)}; ${group(net.rows.length)} lines of the log`;

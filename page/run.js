@@ -20,6 +20,7 @@ function readNet(text) {
   const segments = new Map(), taps = new Map(), stations = new Map(), repeaters = new Map();
   const addTap = (tap, name) => {
     tap.segment = segments.get(name);
+    tap.number = taps.size;
     tap.segment.taps.push(tap);
     taps.set(tap.name, tap);
     return tap;
@@ -40,7 +41,7 @@ function readNet(text) {
       net.stations.push(station);
     },
     repeater: words => {
-      const repeater = { name: words[1], delay: +words[2], ports: [] };
+      const repeater = { name: words[1], delay: +words[2], ports: [], tap: null };
       repeaters.set(words[1], repeater);
       net.repeaters.push(repeater);
     },
@@ -70,16 +71,19 @@ function addBand(net, tap, words, line) {
 }
 
 function addRow(net, device, words, line) {
-  const row = { line: line.slice(4), index: net.rows.length, t: +words[1], at: +words[1], device, what: words[4] };
-  if (row.what === "dropped") [row.why, row.halves] = [words[5], +words[7]];
-  else for (let i = 5; i + 1 < words.length; i += 2) row[words[i]] = words[i + 1] === "none" ? null : +words[i + 1];
+  const t = +words[1], row = {
+    line: line.slice(4), index: net.rows.length, t, at: t, device, what: words[4], tap: null, frame: 0, start: 0, end: t,
+    attempt: 16, hit: null, draw: 0, octets: 0, port: 0, why: "", halves: 0,
+  };
+  if (row.what === "dropped") {
+    row.why = words[5];
+    row.halves = +words[7];
+  } else for (let i = 5; i + 1 < words.length; i += 2) row[words[i]] = words[i + 1] === "none" ? null : +words[i + 1];
   if (SENDINGS.has(row.what)) {
-    row.hit = row.hit ?? null;
-    row.attempt = row.attempt ?? 16;
-    row.end = row.t;
     if (row.hit !== null) row.at = row.start + row.hit;
     device.sendings.push(row);
   }
+  row.tap = device.tap || device.ports[Math.max(row.port, 1) - 1];
   net.rows.push(row);
 }
 
@@ -191,7 +195,8 @@ function stateAt(station, t) {
   if (own) {
     state.sending = own;
     state.doing = t >= jamBegin(own) ? "jams" : "sends";
-    state.words = `${state.doing === "jams" ? "jams for" : "sends"} frame ${own.frame}, attempt ${own.attempt}`;
+    const heard = state.doing === "sends" && own.hit !== null && t >= own.at ? "; heard a collision" : "";
+    state.words = `${state.doing === "jams" ? "jams for" : "sends"} frame ${own.frame}, attempt ${own.attempt}${heard}`;
     return state;
   }
   const said = [], heard = heardBy(station.tap, t);
