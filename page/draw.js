@@ -38,6 +38,7 @@ function makePattern(size, draw) {
 function layOutLanes() {
   const row = 2 * place.em;
   let top = 0;
+  place.gap = 4 * place.em;
   for (const segment of net.segments) {
     segment.top = top;
     let y = top + row;
@@ -45,6 +46,7 @@ function layOutLanes() {
     segment.taps.forEach((tap, i) => {
       const wanted = segment.top + 1.6 * row + scale * (tap.place - segment.low);
       tap.y = i ? Math.max(y + row, wanted) : wanted;
+      if (i) place.gap = Math.min(place.gap, tap.y - y);
       y = tap.y;
     });
     segment.bottom = y + 0.9 * row;
@@ -55,11 +57,12 @@ function layOutLanes() {
 
 const xOf = t => place.left + ((t - look.from) / (look.to - look.from)) * (place.right - place.left);
 const timeOf = x => look.from + ((x - place.left) / (place.right - place.left)) * (look.to - look.from);
+const laneHeight = () => place.gap * look.spread;
 const yOf = y => place.top + (y - look.down) * look.spread;
 
 /** The places of a segment at which its fronts may bend, each with its height: none where they go on straight. */
 function bendsOf(segment) {
-  const { taps, low, span } = segment, bends = [], edge = 0.7 * place.em * Math.min(1, look.spread);
+  const { taps, low, span } = segment, bends = [], edge = Math.min(0.7 * place.em, 0.4 * laneHeight());
   if (!taps.length) return bends;
   taps.forEach((tap, i) => {
     const y = yOf(tap.y), last = bends[bends.length - 1], after = taps[i + 1];
@@ -81,7 +84,7 @@ function placeOf(segment, y) {
 
 function fit() {
   [look.from, look.to, look.down] = [net.from, net.to, 0];
-  look.spread = Math.min(1.5, Math.max(0.02, (place.bottom - place.top) / place.height));
+  look.spread = Math.min(1.5, Math.max(LEAST_SPREAD, (place.bottom - place.top) / place.height));
 }
 
 /** Shows so many half bits, with the half bit at `t` staying where it is; within the window. */
@@ -108,7 +111,7 @@ function scrollDown(pixels) {
 
 function spreadLanes(factor, y) {
   const kept = look.down + (y - place.top) / look.spread;
-  look.spread = Math.min(4, Math.max(0.02, look.spread * factor));
+  look.spread = Math.min(4, Math.max(LEAST_SPREAD, look.spread * factor));
   look.down = kept - (y - place.top) / look.spread;
   scrollDown(0);
 }
@@ -167,6 +170,7 @@ function drawBands(g, { bends, bands }) {
     g.closePath();
     g.fillStyle = colourOf(source);
     g.fill();
+    if (xOf(band.end) - xOf(band.start) < 4) continue;
     g.globalAlpha = isLit(source.sending) ? 0.8 : 0.15;
     g.strokeStyle = colourOf(source);
     g.lineWidth = 1;
@@ -216,6 +220,7 @@ function drawBars(g, bands, thick) {
       g.fillStyle = theme.stripes.pattern;
       g.fillRect(left, y - thick / 2, right - left, thick);
     }
+    if (thick < 6) continue;
     g.strokeStyle = theme.fore;
     g.lineWidth = band.tap.station ? 1.2 : 0.8;
     g.setLineDash(band.tap.station ? [] : [4, 3]);
@@ -315,7 +320,7 @@ function marksOf(row) {
 /** The rows some of whose marks may be in view, or null where they are too many to be told apart. */
 function rowsInView() {
   const from = countBelow(net.rows, look.from, row => row.t), to = countBelow(net.rows, look.to, row => row.t);
-  if (to - from > MOST_MARKS || 2 * place.em * look.spread < 6) return null;
+  if (to - from > MOST_MARKS || laneHeight() < 9) return null;
   const rows = net.rows.slice(from, to);
   for (const station of net.stations) {
     const last = countBelow(station.sendings, look.to, sending => sending.start) - 1;
@@ -325,7 +330,7 @@ function rowsInView() {
 }
 
 function drawMarks(g, rows) {
-  const r = 0.42 * place.em * Math.min(1, Math.max(0.5, look.spread));
+  const r = 0.42 * place.em * Math.min(1, Math.max(0.5, laneHeight() / (1.8 * place.em)));
   const lit = look.frame ? new Set(frameFacts(look.frame).rows) : null;
   for (const row of rows) {
     g.globalAlpha = lit && !lit.has(row) ? 0.15 : 1;
@@ -434,13 +439,13 @@ function countCells(columns, rows, wide, high) {
 }
 
 function drawDenseRows(g) {
-  const wide = 3, high = Math.max(3, Math.min(place.em, 2 * place.em * look.spread));
+  const wide = 3, high = Math.max(3, Math.min(place.em, laneHeight()));
   const columns = Math.ceil((place.right - place.left) / wide), rows = Math.ceil((place.bottom - place.top) / high);
   const [good, bad] = countCells(columns, rows, wide, high), fore = dotOf(theme.fore), red = dotOf(theme.bad);
   const most = Math.log1p(good.reduce((a, b) => Math.max(a, b), bad.reduce((a, b) => Math.max(a, b), 1)));
   const image = cells(columns, rows, i => {
     const told = bad[i] || good[i];
-    return told ? dotWith(bad[i] ? red : fore, 0.35 + (0.65 * Math.log1p(told)) / most) : 0;
+    return told ? dotWith(bad[i] ? red : fore, 0.2 + (0.4 * Math.log1p(told)) / most) : 0;
   });
   g.imageSmoothingEnabled = false;
   g.drawImage(image, 0, 0, columns, rows, place.left, place.top, columns * wide, rows * high);
@@ -479,7 +484,7 @@ function drawNames(g) {
   g.fillRect(0, place.top, place.left, place.bottom - place.top + 1);
   let below = place.top;
   for (const segment of net.segments) {
-    const y = yOf(segment.top) + 0.9 * place.em, isSpread = 2 * place.em * look.spread >= place.em;
+    const y = yOf(segment.top) + 0.9 * place.em, isSpread = laneHeight() >= place.em;
     if (y > below && y < place.bottom) {
       write(g, `cable ${segment.name}`, 6, y, { bold: true, size: 0.85 });
       below = y + (isSpread ? 0.3 : 1) * place.em;
@@ -496,7 +501,7 @@ function drawNames(g) {
 }
 
 function drawLanes(g, segments) {
-  if (2 * place.em * look.spread < 5) return;
+  if (laneHeight() < 5) return;
   for (const { segment } of segments) {
     for (const tap of segment.taps) line(g, [[place.left, yOf(tap.y)], [place.right, yOf(tap.y)]], theme.line, 1);
   }
@@ -512,9 +517,17 @@ function drawCursor(g) {
   g.fill();
 }
 
+/** Where the plot lies on a canvas of this size. */
+function setPlace(wide, high) {
+  place.left = Math.min(11 * place.em, Math.max(6 * place.em, 0.12 * wide));
+  place.top = 1.9 * place.em;
+  place.right = Math.max(place.left + 10, wide - 0.8 * place.em);
+  place.bottom = Math.max(place.top + 10, high - 2);
+}
+
 /** Draws the plot: `g` is a canvas's context or an SvgPen. */
 function drawPlot(g, wide, high) {
-  Object.assign(place, { left: Math.min(11 * place.em, Math.max(6 * place.em, 0.12 * wide)), top: 1.9 * place.em, right: wide - 0.8 * place.em, bottom: high - 2 });
+  setPlace(wide, high);
   g.fillStyle = theme.back;
   g.fillRect(0, 0, wide, high);
   drawAxis(g);
@@ -526,20 +539,22 @@ function drawPlot(g, wide, high) {
   g.rect(place.left, place.top, place.right - place.left, place.bottom - place.top);
   g.clip();
   if (drawn.isDense) segments.forEach(({ segment }) => drawDenseBands(g, segment));
-  else segments.forEach(one => drawBands(g, one));
-  drawLanes(g, segments);
-  if (!drawn.isDense) {
-    segments.forEach(one => drawOverlaps(g, one));
-    segments.forEach(one => drawRepeating(g, one.bands));
-    drawWaits(g, segments.flatMap(one => one.segment.taps).filter(tap => tap.station).map(tap => tap.station));
-    const thick = Math.max(2, Math.min(1.15 * place.em, 1.3 * place.em * look.spread));
-    segments.forEach(one => drawBars(g, one.bands, thick));
-  }
-  if (rows) drawMarks(g, rows);
-  else drawDenseRows(g);
+  else drawSignals(g, segments);
+  if (!rows) drawDenseRows(g);
   drawCursor(g);
+  if (rows) drawMarks(g, rows);
   g.restore();
   drawNames(g);
+}
+
+function drawSignals(g, segments) {
+  segments.forEach(one => drawBands(g, one));
+  drawLanes(g, segments);
+  segments.forEach(one => drawOverlaps(g, one));
+  if (laneHeight() >= 9) segments.forEach(one => drawRepeating(g, one.bands));
+  if (laneHeight() >= 9) drawWaits(g, segments.flatMap(one => one.segment.taps).filter(tap => tap.station).map(tap => tap.station));
+  const thick = Math.max(2, Math.min(1.15 * place.em, 0.6 * laneHeight()));
+  segments.forEach(one => drawBars(g, one.bands, thick));
 }
 
 // ---- The cables at the cursor: where on each of them signals stand
@@ -555,7 +570,7 @@ function standsAt(band, t) {
 function drawCables(g, wide, high) {
   g.fillStyle = theme.back;
   g.fillRect(0, 0, wide, high);
-  const row = 3.4 * place.em, room = Math.max(1, Math.floor((high - 0.4 * place.em) / row)), t = Math.floor(look.at);
+  const row = 3.4 * place.em, room = Math.max(1, Math.floor((high - 0.4 * place.em) / row + 0.01)), t = Math.floor(look.at);
   const first = Math.min(drawCables.first || 0, Math.max(0, net.segments.length - room));
   const shown = net.segments.slice(first, first + room), longest = Math.max(1, ...net.segments.map(segment => segment.span));
   shown.forEach((segment, i) => drawCable(g, segment, t, i * row + 1.3 * place.em, (wide - place.left - 2 * place.em) / longest));
@@ -602,11 +617,11 @@ function drawTaps(g, segment, y, thick, xOfPlace) {
   let right = -Infinity;
   for (const tap of segment.taps) {
     const x = xOfPlace(tap.place), colour = tap.station ? tap.station.colour : theme.repeater;
-    line(g, [[x, y - 0.65 * place.em], [x, y + 0.75 * place.em]], theme.fore, 1.5);
     if (x < right) continue;
     g.font = `${0.85 * place.em}px "DejaVu Sans", sans-serif`;
     const wide = g.measureText(tap.name).width;
     if (x - wide / 2 < right) continue;
+    line(g, [[x, y - 0.65 * place.em], [x, y + 0.75 * place.em]], theme.fore, 1.5);
     g.fillStyle = colour;
     g.fillRect(x - wide / 2, y + 1.75 * place.em, wide, 3);
     write(g, tap.name, x, y + 1.25 * place.em, { size: 0.85, align: "center" });

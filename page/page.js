@@ -286,11 +286,11 @@ function readView() {
   look.text = Math.min(3, Math.max(0, +told.get("text") || 0));
   look.dark = told.has("dark") ? told.get("dark") === "1" : matchMedia("(prefers-color-scheme: dark)").matches;
   setTheme();
-  Object.assign(place, { top: 1.9 * place.em, bottom: plot.clientHeight });
+  setPlace(plot.clientWidth, plot.clientHeight);
   fit();
   if (isGood(numbers("view")) && numbers("view")[0] < numbers("view")[1]) {
     [look.from, look.to] = numbers("view");
-    if (isGood(numbers("lanes"))) [look.spread, look.down] = [Math.min(4, Math.max(0.02, numbers("lanes")[0])), numbers("lanes")[1]];
+    if (isGood(numbers("lanes"))) [look.spread, look.down] = [Math.min(4, Math.max(LEAST_SPREAD, numbers("lanes")[0])), numbers("lanes")[1]];
     zoom(1, look.from);
   }
   const [station, frame] = (told.get("frame") || "").split(",");

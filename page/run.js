@@ -5,7 +5,7 @@
 
 const SLOT_TIME = 1024, HEADER = 128, LONGEST_WAIT = 10, HALF_BITS_A_MICROSECOND = 20, METRES_A_HALF_BIT = 11.5;
 const COLOURS = ["#0072b2", "#e69f00", "#009e73", "#cc79a7", "#56b4e9", "#d55e00", "#f0e442"];
-const MOST_MARKS = 3000, MOST_BANDS = 2500, MOST_ROWS_TOLD = 40, LINES_TOLD = 11;
+const MOST_MARKS = 2000, LEAST_SPREAD = 0.005, MOST_BANDS = 2500, MOST_ROWS_TOLD = 40, LINES_TOLD = 11;
 const SENDINGS = new Set(["sent", "collided", "given_up", "cut"]);
 const errors = [];
 addEventListener("error", event => errors.push(String(event.message)));
@@ -155,7 +155,8 @@ function findSource(band) {
 
 function nameOfBand(band) {
   const source = sourceOf(band);
-  const through = source.through.length ? ` through ${source.through.join(", ")}` : "";
+  const ways = source.through.length > 2 ? `${source.through.length} repeaters` : source.through.join(" and ");
+  const through = ways && ` through ${ways}`;
   if (source.station) return source.station.name + through;
   return `${source.repeater.name}'s ${{ jam: "jam", extend: "extension" }[band.kind] || "signal"}${through}`;
 }
@@ -302,7 +303,7 @@ const SENTENCES = {
   given_up: row => `${row.device.name} heard ${heardAtHit(row)} at attempt 16, jammed, and gave frame ${row.frame} up`,
   cut: row => `the run ended while ${row.device.name} was sending frame ${row.frame}, attempt ${row.attempt}`,
   received: row => `${row.device.name} received ${group(row.octets)} octets from ${namesOf(bandsOfRow(row))}`,
-  dropped: row => `${row.device.name} dropped ${group(row.halves)} half bits ${WHYS[row.why]}: ${namesOf(bandsOfRow(row))}`,
+  dropped: row => `${row.device.name} dropped ${group(row.halves)} half bits ${WHYS[row.why]}: it heard ${namesOf(bandsOfRow(row))}`,
   clash: row => `${row.device.name} hears a collision and jams all its ports`,
   closed: row => `${row.device.name} closed port ${row.port}: nothing comes in by it until it opens again`,
   opened: row => `${row.device.name} opened port ${row.port} again`,
