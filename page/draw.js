@@ -1,122 +1,5 @@
 "use strict";
-// What of the run is shown, where on the canvas, and how it is drawn.
-
-// ---- The view: what of the run is shown, and where on the canvas
-
-const root = document.documentElement, element = id => document.getElementById(id);
-const plot = element("plot"), cables = element("cables"), legend = element("legend");
-const look = { from: net.from, to: net.to, spread: 1, down: 0, at: net.from, unit: 0, text: 0, dark: false, frame: null, speed: 0 };
-const place = { left: 100, top: 30, right: 800, bottom: 400, em: 14 };
-const drawn = { bands: [], marks: [], pictures: 0, isDense: false };
-let theme = {};
-
-function setTheme() {
-  root.classList.toggle("dark", look.dark);
-  root.style.fontSize = `${[16, 20, 25, 32][look.text]}px`;
-  const style = getComputedStyle(root);
-  theme = Object.fromEntries(["back", "fore", "dim", "line", "panel", "mark"].map(name => [name, style.getPropertyValue("--" + name).trim()]));
-  theme.bad = look.dark ? "#ff7b72" : "#b3001b";
-  theme.repeater = look.dark ? "#8b97a5" : "#7a8590";
-  theme.hatch = makePattern(8, g => [-8, 0, 8].forEach(x => line(g, [[x, 8], [x + 8, 0]], theme.fore, 1.3)));
-  theme.stripes = makePattern(5, g => line(g, [[2.5, 0], [2.5, 5]], theme.fore, 1));
-  place.em = 14 * [1, 1.25, 1.6, 2][look.text];
-  layOutLanes();
-}
-
-function makePattern(size, draw) {
-  const scale = 2, canvas = document.createElement("canvas");
-  canvas.width = canvas.height = size * scale;
-  const g = canvas.getContext("2d");
-  g.scale(scale, scale);
-  draw(g);
-  const pattern = g.createPattern(canvas, "repeat");
-  pattern.setTransform(new DOMMatrix().scale(1 / scale));
-  return { pattern, draw, size };
-}
-
-/** Puts the lanes of all taps one below the other: as far apart as the taps are, but at least a line of text. */
-function layOutLanes() {
-  const row = 2 * place.em;
-  let top = 0;
-  place.gap = 4 * place.em;
-  for (const segment of net.segments) {
-    segment.top = top;
-    let y = top + row;
-    const scale = Math.min(place.em, (18 * place.em) / Math.max(segment.span, 1));
-    segment.taps.forEach((tap, i) => {
-      const wanted = segment.top + 1.6 * row + scale * (tap.place - segment.low);
-      tap.y = i ? Math.max(y + row, wanted) : wanted;
-      if (i) place.gap = Math.min(place.gap, tap.y - y);
-      y = tap.y;
-    });
-    segment.bottom = y + 0.9 * row;
-    top = segment.bottom + 0.3 * row;
-  }
-  place.height = top;
-}
-
-const xOf = t => place.left + ((t - look.from) / (look.to - look.from)) * (place.right - place.left);
-const timeOf = x => look.from + ((x - place.left) / (place.right - place.left)) * (look.to - look.from);
-const laneHeight = () => place.gap * look.spread;
-const yOf = y => place.top + (y - look.down) * look.spread;
-
-/** The places of a segment at which its fronts may bend, each with its height: none where they go on straight. */
-function bendsOf(segment) {
-  const { taps, low, span } = segment, bends = [], edge = Math.min(0.7 * place.em, 0.4 * laneHeight());
-  if (!taps.length) return bends;
-  taps.forEach((tap, i) => {
-    const y = yOf(tap.y), last = bends[bends.length - 1], after = taps[i + 1];
-    const straight = last && after && last.y + ((yOf(after.y) - last.y) * (tap.place - last.place)) / (after.place - last.place);
-    if (!straight || Math.abs(y - straight) > 0.3) bends.push({ place: tap.place, y });
-  });
-  return [{ place: low, y: bends[0].y - edge }, ...bends, { place: low + span, y: bends[bends.length - 1].y + edge }];
-}
-
-/** The place on a segment of a height on the canvas. */
-function placeOf(segment, y) {
-  const taps = segment.taps;
-  let i = taps.findIndex(tap => yOf(tap.y) > y);
-  if (i === 0) return segment.low;
-  if (i < 0) return segment.low + segment.span;
-  const [a, b] = [taps[i - 1], taps[i]];
-  return a.place + ((y - yOf(a.y)) / (yOf(b.y) - yOf(a.y))) * (b.place - a.place);
-}
-
-function fit() {
-  [look.from, look.to, look.down] = [net.from, net.to, 0];
-  look.spread = Math.min(1.5, Math.max(LEAST_SPREAD, (place.bottom - place.top) / place.height));
-}
-
-/** Shows so many half bits, with the half bit at `t` staying where it is; within the window. */
-function zoom(factor, t) {
-  const wide = Math.min(Math.max((look.to - look.from) * factor, 4), net.to - net.from);
-  const part = (t - look.from) / (look.to - look.from);
-  look.from = t - part * wide;
-  look.to = look.from + wide;
-  pan(0);
-}
-
-function pan(halfBits) {
-  const wide = look.to - look.from;
-  look.from = Math.min(Math.max(look.from + halfBits, net.from), net.to - wide);
-  look.to = look.from + wide;
-  changed();
-}
-
-function scrollDown(pixels) {
-  const room = Math.max(0, place.height - (place.bottom - place.top) / look.spread);
-  look.down = Math.min(Math.max(look.down + pixels / look.spread, 0), room);
-  changed();
-}
-
-function spreadLanes(factor, y) {
-  const kept = look.down + (y - place.top) / look.spread;
-  look.spread = Math.min(4, Math.max(LEAST_SPREAD, look.spread * factor));
-  look.down = kept - (y - place.top) / look.spread;
-  scrollDown(0);
-}
-
-// ---- Drawing: on a canvas, or into an SVG by the same calls
+// How the run is drawn: `g` is a canvas's context, or a pen that writes an SVG (pen.js).
 
 function line(g, points, colour, width = 1) {
   path(g, points);
@@ -130,8 +13,12 @@ function path(g, points) {
   points.forEach(([x, y], i) => (i ? g.lineTo(x, y) : g.moveTo(x, y)));
 }
 
+function setFont(g, size, isBold = false) {
+  g.font = `${isBold ? "bold " : ""}${(size * place.em).toFixed(1)}px "DejaVu Sans", "Segoe UI", sans-serif`;
+}
+
 function write(g, text, x, y, { colour = theme.fore, size = 1, align = "left", bold = false, halo = false } = {}) {
-  g.font = `${bold ? "bold " : ""}${(size * place.em).toFixed(1)}px "DejaVu Sans", "Segoe UI", sans-serif`;
+  setFont(g, size, bold);
   g.textAlign = align;
   g.textBaseline = "middle";
   if (halo) {
@@ -143,7 +30,12 @@ function write(g, text, x, y, { colour = theme.fore, size = 1, align = "left", b
   g.fillText(text, x, y);
 }
 
-const isLit = sending => !look.frame || (sending !== null && sending.device.name === look.frame.station && sending.frame === look.frame.frame);
+/** Whether a sending is one of the frame that was chosen; all are where none was. */
+function isLit(sending) {
+  const { frame } = look;
+  return !frame || (sending !== null && sending.device.name === frame.station && sending.frame === frame.frame);
+}
+
 const colourOf = source => (source.station ? source.station.colour : theme.repeater);
 const isPale = colour => ["#e69f00", "#cc79a7", "#56b4e9", "#f0e442"].includes(colour);
 
@@ -157,9 +49,9 @@ function outlineOf(band, bends) {
 
 /** The segments that are in view, each with its bends and the bands that may be seen on it. */
 function segmentsInView() {
-  return net.segments.filter(segment => yOf(segment.bottom) > place.top && yOf(segment.top) < place.bottom).map(segment => ({
-    segment, bends: bendsOf(segment), bands: bandsNear(segment, Math.floor(look.from), Math.ceil(look.to)),
-  }));
+  const shown = net.segments.filter(segment => yOf(segment.bottom) > place.top && yOf(segment.top) < place.bottom);
+  const [from, to] = [Math.floor(look.from), Math.ceil(look.to)];
+  return shown.map(segment => ({ segment, bends: bendsOf(segment), bands: bandsNear(segment, from, to) }));
 }
 
 function drawBands(g, { bends, bands }) {
@@ -226,30 +118,34 @@ function drawBars(g, bands, thick) {
     g.setLineDash(band.tap.station ? [] : [4, 3]);
     g.strokeRect(left, y - thick / 2, right - left, thick);
     g.setLineDash([]);
-    if (thick > 0.9 * place.em) writeInBar(g, barWords(band, source), left, right, y, isPale(colour) ? "#000000" : "#ffffff", band.kind === "jam");
+    if (thick > 0.9 * place.em) writeInBar(g, band, left, right, y);
   }
   g.globalAlpha = 1;
 }
 
-function barWords(band, source) {
+/** What a bar may say, the longest first. */
+function barWords(band) {
+  const source = sourceOf(band);
   const told = source.sending ? `frame ${source.sending.frame}` : "frame";
   const attempt = source.sending && source.sending.attempt > 1 ? `, attempt ${source.sending.attempt}` : "";
-  if (band.tap.station) return band.kind === "jam" ? ["jam"] : [`${band.tap.name}: ${told}${attempt}`, `${told}${attempt}`, `${source.sending ? source.sending.frame : ""}`];
-  if (band.kind !== "repeat") return [{ extend: "extends", jam: "jams" }[band.kind]];
+  if (band.kind === "extend") return ["extends"];
+  if (band.kind === "jam") return [band.tap.station ? "jam" : "jams"];
+  if (band.kind === "frame") return [`${band.tap.name}: ${told}${attempt}`, told + attempt, told, told.slice(6)];
   const name = source.station ? source.station.name : "a signal";
   return [`repeats ${name}: ${told}`, `repeats ${name}`, "repeats"];
 }
 
-function writeInBar(g, texts, left, right, y, colour, isStriped) {
-  const text = texts.find(one => g.measureText(one).width * 1.02 < Math.min(right, place.right) - Math.max(left, place.left) - 6);
+function writeInBar(g, band, left, right, y) {
+  const x = Math.max(left, place.left) + 4, room = Math.min(right, place.right) - x - 2;
+  const isDark = !isPale(colourOf(sourceOf(band)));
+  setFont(g, 0.85);
+  const text = barWords(band).find(one => g.measureText(one).width < room);
   if (!text) return;
-  const x = Math.max(left, place.left) + 4;
-  g.font = `${(0.85 * place.em).toFixed(1)}px "DejaVu Sans", "Segoe UI", sans-serif`;
-  if (isStriped) {
-    g.fillStyle = colour === "#000000" ? "#ffffffcc" : "#000000cc";
+  if (band.kind === "jam") {
+    g.fillStyle = isDark ? "#000000cc" : "#ffffffcc";
     g.fillRect(x - 2, y - 0.45 * place.em, g.measureText(text).width + 4, 0.9 * place.em);
   }
-  write(g, text, x, y, { colour, size: 0.85 });
+  write(g, text, x, y, { colour: isDark ? "#ffffff" : "#000000", size: 0.85 });
 }
 
 /** Thin lines from where a repeater hears what it repeats to where it emits it. */
@@ -258,7 +154,9 @@ function drawRepeating(g, bands) {
   for (const band of bands.filter(one => one.kind === "repeat")) {
     const from = band.tap.repeater.ports[band.port - 1], later = band.tap.repeater.delay;
     g.globalAlpha = isLit(sourceOf(band).sending) ? 0.9 : 0.15;
-    for (const t of [band.start, band.end]) line(g, [[xOf(t - later), yOf(from.y)], [xOf(t), yOf(band.tap.y)]], theme.fore, 1);
+    for (const t of [band.start, band.end]) {
+      line(g, [[xOf(t - later), yOf(from.y)], [xOf(t), yOf(band.tap.y)]], theme.fore, 1);
+    }
   }
   g.setLineDash([]);
   g.globalAlpha = 1;
@@ -272,7 +170,7 @@ const MARKS = {
   hit: { isAbove: true, shape: [[-0.9, -2.9], [0.9, -2.9], [0, -1.3]], fill: "fore", says: "hears a collision" },
   late: { isAbove: true, shape: [[-0.9, -2.9], [0.9, -2.9], [0, -1.3]], fill: "bad", word: "late", says: "late hit" },
   given_up: { ring: 0.85, fill: "bad", lines: [[-0.5, 0, 0.5, 0]], says: "given up" },
-  cut: { shape: [[0, -1.2], [-0.4, -0.6], [0.4, 0], [-0.4, 0.6], [0, 1.2]], isOpen: true, says: "cut by the run's end" },
+  cut: { shape: [[0, -1.2], [-0.4, -0.6], [0.4, 0], [-0.4, 0.6], [0, 1.2]], isOpen: true, says: "cut by the end" },
   received: { ring: 0.6, fill: "fore", says: "received" },
   dropped: { lines: [[-0.65, -0.65, 0.65, 0.65], [-0.65, 0.65, 0.65, -0.65]], colour: "bad", says: "dropped" },
   clash: { shape: star(), fill: "mark", says: "repeater begins to jam" },
@@ -282,7 +180,10 @@ const MARKS = {
 };
 
 function star() {
-  return Array.from({ length: 12 }, (_, i) => [Math.sin(i * Math.PI / 6), Math.cos(i * Math.PI / 6)].map(part => part * (i % 2 ? 0.55 : 1.1)));
+  return Array.from({ length: 12 }, (_, i) => {
+    const angle = (i * Math.PI) / 6, r = i % 2 ? 0.55 : 1.1;
+    return [r * Math.sin(angle), r * Math.cos(angle)];
+  });
 }
 
 function drawMark(g, kind, x, y, r) {
@@ -304,8 +205,11 @@ function drawMark(g, kind, x, y, r) {
     g.stroke();
   }
   const pen = mark.fill === "bad" ? theme.back : colour;
-  for (const [a, b, c, d] of mark.lines || []) line(g, [[x + a * r, y + b * r], [x + c * r, y + d * r]], pen, Math.max(2, r / 3));
-  if (mark.word) write(g, mark.word, x + 1.3 * r, y - 2.2 * r, { colour: theme.bad, size: 0.8, bold: true, halo: true });
+  for (const [a, b, c, d] of mark.lines || []) {
+    line(g, [[x + a * r, y + b * r], [x + c * r, y + d * r]], pen, Math.max(2, r / 3));
+  }
+  const style = { colour: theme.bad, size: 0.8, bold: true, halo: true };
+  if (mark.word) write(g, mark.word, x + 1.3 * r, y - 2.2 * r, style);
 }
 
 /** The marks of a row: the kind, the half bit and the tap of each. */
@@ -348,7 +252,8 @@ function drawMarks(g, rows) {
 function drawWaits(g, stations) {
   for (const station of stations) {
     const y = yOf(station.tap.y), list = station.sendings;
-    for (let i = Math.max(0, countBelow(list, look.from, one => one.start) - 1); i < list.length && list[i].end < look.to; i++) {
+    const first = Math.max(0, countBelow(list, look.from, one => one.start) - 1);
+    for (let i = first; i < list.length && list[i].end < look.to; i++) {
       if (list[i].what !== "collided") continue;
       const until = list[i].end + SLOT_TIME * list[i].draw, after = list[i + 1] ? list[i + 1].start : net.to;
       g.globalAlpha = isLit(list[i]) ? 1 : 0.15;
@@ -388,8 +293,10 @@ function coverOf(segment) {
 /** Of each column of the plot the part that stretches cover. */
 function coverage(stretches, columns) {
   const parts = new Float32Array(columns), scale = columns / (look.to - look.from);
-  for (let i = countBelow(stretches, look.from, one => one[1]); i < stretches.length && stretches[i][0] < look.to; i++) {
-    const from = Math.max(0, (stretches[i][0] - look.from) * scale), to = Math.min(columns, (stretches[i][1] - look.from) * scale);
+  const first = countBelow(stretches, look.from, one => one[1]);
+  for (let i = first; i < stretches.length && stretches[i][0] < look.to; i++) {
+    const [start, end] = stretches[i].map(t => (t - look.from) * scale);
+    const from = Math.max(0, start), to = Math.min(columns, end);
     for (let k = Math.floor(from); k < to; k++) parts[k] += Math.min(to, k + 1) - Math.max(from, k);
   }
   return parts;
@@ -405,7 +312,8 @@ function dotOf(name) {
 function cells(columns, rows, tell) {
   const canvas = cells[rows > 2] || (cells[rows > 2] = document.createElement("canvas"));
   if (canvas.width !== columns || canvas.height !== rows) [canvas.width, canvas.height] = [columns, rows];
-  const g = canvas.getContext("2d"), image = g.createImageData(columns, rows), dots = new Uint32Array(image.data.buffer);
+  const g = canvas.getContext("2d"), image = g.createImageData(columns, rows);
+  const dots = new Uint32Array(image.data.buffer);
   for (let i = 0; i < dots.length; i++) dots[i] = tell(i);
   g.putImageData(image, 0, 0);
   return canvas;
@@ -414,14 +322,16 @@ function cells(columns, rows, tell) {
 const dotWith = (colour, strength) => (colour | (Math.round(255 * Math.min(1, strength)) << 24)) >>> 0;
 
 function drawDenseBands(g, segment) {
-  const columns = Math.max(1, Math.round(place.right - place.left)), [some, several] = coverOf(segment).map(one => coverage(one, columns));
+  const wide = place.right - place.left, columns = Math.max(1, Math.round(wide));
+  const [some, several] = coverOf(segment).map(one => coverage(one, columns));
   const calm = dotOf(COLOURS[0]), bad = dotOf(theme.bad);
   const top = yOf(segment.taps[0] ? segment.taps[0].y : segment.top) - 4, bottom = yOf(segment.bottom) - 4;
-  const image = cells(columns, 2, i => (i < columns ? dotWith(calm, 0.75 * some[i]) : dotWith(bad, 3 * several[i - columns])));
+  const tell = i => (i < columns ? dotWith(calm, 0.75 * some[i]) : dotWith(bad, 3 * several[i - columns]));
+  const image = cells(columns, 2, tell);
   const height = Math.max(3, bottom - top), split = several.some(part => part > 0) ? 0.8 : 1;
   g.imageSmoothingEnabled = false;
-  g.drawImage(image, 0, 0, columns, 1, place.left, top, place.right - place.left, height * split);
-  if (split < 1) g.drawImage(image, 0, 1, columns, 1, place.left, top + height * split, place.right - place.left, height * (1 - split));
+  g.drawImage(image, 0, 0, columns, 1, place.left, top, wide, height * split);
+  if (split < 1) g.drawImage(image, 0, 1, columns, 1, place.left, top + height * split, wide, height * (1 - split));
 }
 
 const BAD_ROWS = new Set(["collided", "given_up", "dropped", "clash", "closed", "halted"]);
@@ -429,8 +339,10 @@ const BAD_ROWS = new Set(["collided", "given_up", "dropped", "clash", "closed", 
 /** How many rows lie in each cell of the plot, in two lists: good ones, and bad ones. */
 function countCells(columns, rows, wide, high) {
   const counts = [new Float32Array(columns * rows), new Float32Array(columns * rows)], lanes = [];
-  for (const segment of net.segments) for (const tap of segment.taps) lanes[tap.number] = Math.floor((yOf(tap.y) - place.top) / high);
-  const to = countBelow(net.rows, look.to, row => row.t), scale = (place.right - place.left) / (look.to - look.from) / wide;
+  for (const tap of net.segments.flatMap(segment => segment.taps)) {
+    lanes[tap.number] = Math.floor((yOf(tap.y) - place.top) / high);
+  }
+  const to = countBelow(net.rows, look.to, row => row.t), scale = (xOf(look.from + 1) - xOf(look.from)) / wide;
   for (let i = countBelow(net.rows, look.from, row => row.t); i < to; i++) {
     const row = net.rows[i], x = Math.floor((row.t - look.from) * scale), y = lanes[row.tap.number];
     if (y >= 0 && y < rows && x < columns) counts[BAD_ROWS.has(row.what) ? 1 : 0][y * columns + x]++;
@@ -454,22 +366,25 @@ function drawDenseRows(g) {
 // ---- The whole plot
 
 function axisStep() {
-  const unit = UNITS[look.unit].halfBits, wide = ((look.to - look.from) / unit) * (7.5 * place.em) / (place.right - place.left);
+  const unit = UNITS[look.unit].halfBits, wide = (timeOf(7.5 * place.em) - timeOf(0)) / unit;
   const power = 10 ** Math.floor(Math.log10(wide));
   return Math.max([1, 2, 5, 10].find(times => times * power >= wide) * power, look.unit === 0 ? 1 : 0) * unit;
 }
 
 function drawAxis(g) {
-  const unit = UNITS[look.unit], step = axisStep(), digits = Math.max(0, Math.min(6, -Math.floor(Math.log10(step / unit.halfBits) + 1e-9)));
+  const unit = UNITS[look.unit], step = axisStep(), y = place.top - 0.75 * place.em;
+  const digits = Math.max(0, Math.min(6, -Math.floor(Math.log10(step / unit.halfBits) + 1e-9)));
+  const style = { colour: theme.dim, size: 0.85, align: "center" };
   g.fillStyle = theme.back;
   g.fillRect(0, 0, place.right + 40, place.top);
   for (let k = Math.ceil(look.from / step - 1e-9); k * step <= look.to + 1e-9; k++) {
-    const x = xOf(k * step), text = Math.abs((k * step) / unit.halfBits).toLocaleString("en-US", { maximumFractionDigits: digits });
+    const x = xOf(k * step), told = Math.abs((k * step) / unit.halfBits);
+    const text = told.toLocaleString("en-US", { maximumFractionDigits: digits });
     line(g, [[x, place.top], [x, place.bottom]], theme.line, 1);
     const half = text.length * 0.3 * place.em;
-    if (x + half < place.right + 0.6 * place.em) write(g, text, x, place.top - 0.75 * place.em, { colour: theme.dim, size: 0.85, align: "center" });
+    if (x + half < place.right + 0.6 * place.em) write(g, text, x, y, style);
   }
-  write(g, unit.short, place.left - 1.2 * place.em, place.top - 0.75 * place.em, { colour: theme.dim, size: 0.85, align: "right" });
+  write(g, unit.short, place.left - 1.2 * place.em, y, { ...style, align: "right" });
 }
 
 function shorten(g, text, most) {
@@ -551,8 +466,10 @@ function drawSignals(g, segments) {
   segments.forEach(one => drawBands(g, one));
   drawLanes(g, segments);
   segments.forEach(one => drawOverlaps(g, one));
-  if (laneHeight() >= 9) segments.forEach(one => drawRepeating(g, one.bands));
-  if (laneHeight() >= 9) drawWaits(g, segments.flatMap(one => one.segment.taps).filter(tap => tap.station).map(tap => tap.station));
+  if (laneHeight() >= 9) {
+    segments.forEach(one => drawRepeating(g, one.bands));
+    drawWaits(g, segments.flatMap(one => one.segment.taps).flatMap(tap => tap.station || []));
+  }
   const thick = Math.max(2, Math.min(1.15 * place.em, 0.6 * laneHeight()));
   segments.forEach(one => drawBars(g, one.bands, thick));
 }
@@ -570,12 +487,13 @@ function standsAt(band, t) {
 function drawCables(g, wide, high) {
   g.fillStyle = theme.back;
   g.fillRect(0, 0, wide, high);
-  const row = 3.4 * place.em, room = Math.max(1, Math.floor((high - 0.4 * place.em) / row + 0.01)), t = Math.floor(look.at);
-  const first = Math.min(drawCables.first || 0, Math.max(0, net.segments.length - room));
-  const shown = net.segments.slice(first, first + room), longest = Math.max(1, ...net.segments.map(segment => segment.span));
-  shown.forEach((segment, i) => drawCable(g, segment, t, i * row + 1.3 * place.em, (wide - place.left - 2 * place.em) / longest));
-  const text = shown.length < net.segments.length ? ` (${first + 1} to ${first + shown.length} of ${net.segments.length}; the wheel has more)` : "";
-  element("cables-title").textContent = `The cables at the cursor${text}`;
+  const row = 3.4 * place.em, room = Math.max(1, Math.floor((high - 0.4 * place.em) / row + 0.01));
+  const many = net.segments.length, first = Math.min(drawCables.first || 0, Math.max(0, many - room));
+  const shown = net.segments.slice(first, first + room);
+  const scale = (wide - place.left - 2 * place.em) / Math.max(1, ...net.segments.map(segment => segment.span));
+  shown.forEach((segment, i) => drawCable(g, segment, Math.floor(look.at), i * row + 1.3 * place.em, scale));
+  const more = shown.length < many ? ` (${first + 1} to ${first + shown.length} of ${many}; the wheel has more)` : "";
+  element("cables-title").textContent = `The cables at the cursor${more}`;
 }
 
 function drawCable(g, segment, t, y, scale) {
@@ -592,12 +510,10 @@ function drawCable(g, segment, t, y, scale) {
   }));
   g.globalAlpha = 1;
   g.fillStyle = theme.hatch.pattern;
-  for (let i = 0; i < bands.length; i++) for (let j = i + 1; j < Math.min(bands.length, i + 60); j++) {
-    for (const [a, b] of stretches[i]) for (const [c, d] of stretches[j]) {
-      const [from, to] = [Math.max(a, c), Math.min(b, d)];
-      if (from <= to) g.fillRect(xOfPlace(from) - 1, y - thick / 2, xOfPlace(to) - xOfPlace(from) + 2, thick);
-    }
-  }
+  stretches.forEach((some, i) => stretches.slice(i + 1, i + 60).flat().forEach(([c, d]) => some.forEach(([a, b]) => {
+    const [from, to] = [Math.max(a, c), Math.min(b, d)];
+    if (from < to) g.fillRect(xOfPlace(from) - 1, y - thick / 2, xOfPlace(to) - xOfPlace(from) + 2, thick);
+  })));
   drawTaps(g, segment, y, thick, xOfPlace);
 }
 
@@ -618,7 +534,7 @@ function drawTaps(g, segment, y, thick, xOfPlace) {
   for (const tap of segment.taps) {
     const x = xOfPlace(tap.place), colour = tap.station ? tap.station.colour : theme.repeater;
     if (x < right) continue;
-    g.font = `${0.85 * place.em}px "DejaVu Sans", sans-serif`;
+    setFont(g, 0.85);
     const wide = g.measureText(tap.name).width;
     if (x - wide / 2 < right) continue;
     line(g, [[x, y - 0.65 * place.em], [x, y + 0.75 * place.em]], theme.fore, 1.5);

@@ -55,20 +55,27 @@ function shareBar(station, t) {
 }
 
 function showCounters(t) {
-  const counted = countersAt(t), words = ["sent", "collided", "late", "given_up", "received", "dropped"];
+  const counted = countersAt(t);
   const told = stationsTold(t), names = JSON.stringify(told.map(one => one.name));
-  fill(element("shares").tBodies[0], t + names, () => told.map(one => [nameCell(one.name, one.colour), ...shareBar(one, t)]));
-  const head = element("counters").tHead;
-  if (!head.rows.length) head.append(make("tr", {}, ...["", ...words].map(word => make("th", { scope: "col", className: "number" }, word.replace("_", " ")))));
-  const row = (cell, counters) => [cell, ...words.map(word => group(counters[word]))];
+  const shares = () => told.map(one => [nameCell(one.name, one.colour), ...shareBar(one, t)]);
+  fill(element("shares").tBodies[0], t + names, shares);
+  const none = newCounters(), row = (words, cell, counters) => [cell, ...words.map(word => group(counters[word]))];
   fill(element("counters").tBodies[0], counted.next + names, () => [
-    ...told.map(one => row(nameCell(one.name, one.colour), counted.by.get(one) || newCounters())), row("all", counted.all),
+    ...told.map(one => row(TOLD_COUNTS, nameCell(one.name, one.colour), counted.by.get(one) || none)),
+    row(TOLD_COUNTS, "all", counted.all),
   ]);
-  if (!net.repeaters.length) return;
-  const others = ["clash", "closed", "opened", "halted"], top = element("repeaters").tHead;
-  if (!top.rows.length) top.append(make("tr", {}, ...["", ...others].map(word => make("th", { scope: "col", className: "number" }, word))));
   fill(element("repeaters").tBodies[0], String(counted.next), () => net.repeaters.slice(0, MOST_ROWS_TOLD).map(one =>
-    [nameCell(one.name, theme.repeater), ...others.map(word => group((counted.by.get(one) || newCounters())[word]))]));
+    row(REPEATER_COUNTS, nameCell(one.name, theme.repeater), counted.by.get(one) || none)));
+}
+
+const TOLD_COUNTS = STATION_COUNTS.filter(word => word !== "cut");
+
+/** The heads of the tables of counters, once. */
+function showHeads() {
+  for (const [id, words] of [["counters", TOLD_COUNTS], ["repeaters", net.repeaters.length ? REPEATER_COUNTS : []]]) {
+    const heads = ["", ...words].map(word => make("th", { scope: "col", className: "number" }, word.replace("_", " ")));
+    if (words.length) element(id).tHead.append(make("tr", {}, ...heads));
+  }
 }
 
 /** The lines of the log about the cursor: the first of a row at it or after it stands in the middle. */
@@ -80,7 +87,8 @@ function rowAtCursor() {
 function showLines() {
   const row = rowAtCursor(), list = element("lines");
   if (!row) return;
-  const first = Math.max(0, Math.min(row.index - (LINES_TOLD >> 1), net.rows.length - LINES_TOLD)), key = `${first} ${row.index} ${row.at === look.at}`;
+  const first = Math.max(0, Math.min(row.index - (LINES_TOLD >> 1), net.rows.length - LINES_TOLD));
+  const key = `${first} ${row.index} ${row.at === look.at}`;
   if (list.dataset.key === key) return;
   list.dataset.key = key;
   list.replaceChildren(...net.rows.slice(first, first + LINES_TOLD).map(one => {
@@ -90,6 +98,8 @@ function showLines() {
   }));
 }
 
+const RECEPTIONS = new Set(["received", "dropped"]);
+
 /** Of a frame its attempts, and the rows of what others made of them. */
 function frameFacts({ station, frame }) {
   const key = `${station} ${frame}`;
@@ -97,9 +107,11 @@ function frameFacts({ station, frame }) {
   const device = net.stations.find(one => one.name === station);
   const attempts = device ? device.sendings.filter(one => one.frame === frame) : [];
   const bands = net.bands.filter(band => attempts.includes(sourceOf(band).sending));
-  const from = Math.min(...bands.map(band => band.start)), to = Math.max(...bands.map(band => band.end + band.tap.segment.span));
-  const heard = net.rows.slice(countBelow(net.rows, from, row => row.t), countBelow(net.rows, to + 1, row => row.t)).filter(row =>
-    (row.what === "received" || row.what === "dropped") && bandsOfRow(row).some(band => attempts.includes(sourceOf(band).sending)));
+  const from = Math.min(...bands.map(band => band.start));
+  const to = Math.max(...bands.map(band => band.end + band.tap.segment.span));
+  const [first, last] = [from, to + 1].map(t => countBelow(net.rows, t, row => row.t));
+  const isOfIt = row => bandsOfRow(row).some(band => attempts.includes(sourceOf(band).sending));
+  const heard = net.rows.slice(first, last).filter(row => RECEPTIONS.has(row.what) && isOfIt(row));
   return (frameFacts.kept = { key, attempts, heard, rows: [...attempts, ...heard] });
 }
 
@@ -108,7 +120,8 @@ function showFrame() {
   box.hidden = !look.frame;
   if (!look.frame) return;
   const { attempts, heard } = frameFacts(look.frame);
-  const told = attempts.map(one => `attempt ${one.attempt}, ${toldTime(one.start)} to ${toldTime(one.end)}: ` + (one.what === "sent" ? "sent" : sentence(one)));
+  const told = attempts.map(one => `attempt ${one.attempt}, ${toldTime(one.start)} to ${toldTime(one.end)}: ` +
+    (one.what === "sent" ? "sent" : sentence(one)));
   const others = heard.slice(0, 12).map(row => `${toldTime(row.t)}: ${sentence(row)}`);
   if (heard.length > 12) others.push(`and ${group(heard.length - 12)} more`);
   box.replaceChildren(make("h3", {}, `Frame ${look.frame.frame} of ${look.frame.station}`),
@@ -150,7 +163,11 @@ function drawSample(g, { fill, dash, width }, x, y) {
   }
   g.setLineDash(dash || []);
   if (width === 3) line(g, [[left, y], [left + wide, y]], COLOURS[0], width);
-  else if (dash) line(g, [[left, top], [left + wide, top], [left + wide, top + high], [left, top + high], [left, top]], theme.fore, width);
+  else if (dash) {
+    g.strokeStyle = theme.fore;
+    g.lineWidth = width;
+    g.strokeRect(left, top, wide, high);
+  }
   g.setLineDash([]);
 }
 
@@ -161,7 +178,7 @@ function drawLegend(g, wide) {
   let x = 1.2 * place.em, y = place.em;
   for (const [kind, mark] of [...SAMPLES.map(sample => ["", sample]), ...Object.entries(MARKS)]) {
     const left = (mark.word ? 2.8 : 1.1) * place.em;
-    g.font = `${(0.85 * place.em).toFixed(1)}px "DejaVu Sans", "Segoe UI", sans-serif`;
+    setFont(g, 0.85);
     const width = left + g.measureText(mark.says).width + 1.8 * place.em;
     if (x + width > wide) [x, y] = [1.2 * place.em, y + 1.7 * place.em];
     if (!kind) drawSample(g, mark, x, y);
@@ -185,7 +202,8 @@ function changed(what = "") {
 
 /** A canvas's context, with as many dots as the screen has there. */
 function contextOf(canvas) {
-  const scale = devicePixelRatio || 1, wide = Math.round(canvas.clientWidth * scale), high = Math.round(canvas.clientHeight * scale);
+  const scale = devicePixelRatio || 1;
+  const [wide, high] = [canvas.clientWidth, canvas.clientHeight].map(length => Math.round(length * scale));
   if (canvas.width !== wide) canvas.width = wide;
   if (canvas.height !== high) canvas.height = high;
   const g = canvas.getContext("2d");
@@ -203,7 +221,9 @@ function show() {
     legend.style.height = `${drawLegend(legend.getContext("2d"), legend.clientWidth)}px`;
     drawLegend(contextOf(legend), legend.clientWidth);
   }
-  const told = [Math.floor(look.at), look.frame && look.frame.station, look.frame && look.frame.frame, look.dark, look.text, look.unit, drawCables.first, cables.clientWidth].join(" ");
+  const { at, row, frame, dark, text, unit } = look;
+  const others = [frame, dark, text, unit, drawCables.first, cables.clientWidth];
+  const told = JSON.stringify([Math.floor(at), row && row.index, others]);
   if (show.told !== told) {
     drawCables(contextOf(cables), cables.clientWidth, cables.clientHeight);
     showFacts();
@@ -237,12 +257,15 @@ function goTo(row) {
   if (!row) return;
   look.row = row;
   moveTo(row.at);
-  const others = rowsOfKind("row").filter(one => one.at === row.at && one !== row && isCollision(one) === isCollision(row));
+  const all = rowsOfKind("row"), [first, last] = [row.at, row.at + 1].map(t => countBelow(all, t, one => one.at));
+  const others = all.slice(first, last).filter(one => one !== row && isCollision(one) === isCollision(row));
   say(`${toldTime(row.at)}: ${[row, ...others.slice(0, 3)].map(sentence).join("; ")}.`);
 }
 
 function goByLine(step) {
-  const row = rowAtCursor(), at = row && row.at === look.at ? row.index + step : (row ? row.index : 0) - (step < 0 ? 1 : 0);
+  const row = rowAtCursor();
+  if (!row) return;
+  const at = row.index + (row.at === look.at ? step : Math.min(step, 0));
   goTo(net.rows[Math.min(Math.max(at, 0), net.rows.length - 1)]);
 }
 
@@ -263,7 +286,10 @@ function playOn(now) {
 
 function setFrame(sending) {
   look.frame = sending ? { station: sending.device.name, frame: sending.frame } : null;
-  if (sending) say(`Frame ${sending.frame} of ${sending.device.name}: ${group(frameFacts(look.frame).attempts.length)} attempts.`);
+  if (sending) {
+    const many = frameFacts(look.frame).attempts.length;
+    say(`Frame ${sending.frame} of ${sending.device.name}: ${many} ${many === 1 ? "attempt" : "attempts"}.`);
+  }
   changed();
 }
 
@@ -272,15 +298,18 @@ function setFrame(sending) {
 function keepView() {
   clearTimeout(keepView.timer);
   keepView.timer = setTimeout(() => {
-    const told = new URLSearchParams({ view: [look.from, look.to].map(t => t.toFixed(2).replace(/\.?0+$/, "")).join(","),
-      lanes: [look.spread.toFixed(3), look.down.toFixed(0)].join(","), at: String(Math.floor(look.at)), unit: look.unit, text: look.text, dark: +look.dark });
+    const told = new URLSearchParams({
+      view: [look.from, look.to].map(t => +t.toFixed(2)), lanes: [look.spread.toFixed(3), Math.round(look.down)],
+      at: Math.floor(look.at), unit: look.unit, text: look.text, dark: +look.dark,
+    });
     if (look.frame) told.set("frame", [look.frame.station, look.frame.frame].join(","));
     history.replaceState(null, "", "#" + decodeURIComponent(told.toString()));
   }, 250);
 }
 
 function readView() {
-  const told = new URLSearchParams(location.hash.slice(1)), numbers = name => (told.get(name) || "").split(",").map(Number);
+  const told = new URLSearchParams(location.hash.slice(1));
+  const numbers = name => (told.get(name) || "").split(",").map(Number);
   const isGood = list => list.length === 2 && list.every(Number.isFinite);
   look.unit = Math.min(2, Math.max(0, +told.get("unit") || 0));
   look.text = Math.min(3, Math.max(0, +told.get("text") || 0));
@@ -290,7 +319,8 @@ function readView() {
   fit();
   if (isGood(numbers("view")) && numbers("view")[0] < numbers("view")[1]) {
     [look.from, look.to] = numbers("view");
-    if (isGood(numbers("lanes"))) [look.spread, look.down] = [Math.min(4, Math.max(LEAST_SPREAD, numbers("lanes")[0])), numbers("lanes")[1]];
+    if (isGood(numbers("lanes"))) [look.spread, look.down] = numbers("lanes");
+    spreadLanes(1, place.top);
     zoom(1, look.from);
   }
   const [station, frame] = (told.get("frame") || "").split(",");
@@ -325,7 +355,8 @@ function hint(event) {
   box.hidden = !rows.length && !bands.length;
   if (box.hidden) return;
   box.replaceChildren(...rows.map(row => make("div", {}, sentence(row), make("small", {}, row.line))),
-    ...bands.map(band => make("div", {}, bandWords(band), make("small", {}, `${toldTime(band.start)} to ${toldTime(band.end)}`))));
+    ...bands.map(band => make("div", {}, bandWords(band),
+      make("small", {}, `${toldTime(band.start)} to ${toldTime(band.end)}`))));
   const [left, top] = [event.clientX + 14, event.clientY + 14];
   box.style.left = `${Math.min(left, innerWidth - box.offsetWidth - 8)}px`;
   box.style.top = `${top + box.offsetHeight > innerHeight ? event.clientY - box.offsetHeight - 10 : top}px`;
@@ -349,7 +380,7 @@ function movePointer(event) {
     zoom(apart(before) / apart(after), timeOf((after[0][0] + after[1][0]) / 2));
   } else if (moved > 4) {
     element("hint").hidden = true;
-    pan(((last[0] - x) * (look.to - look.from)) / (place.right - place.left));
+    pan(timeOf(last[0]) - timeOf(x));
     scrollDown(last[1] - y);
   }
 }
@@ -373,7 +404,7 @@ plot.addEventListener("wheel", event => {
   const step = (event.deltaY || event.deltaX) * (event.deltaMode === 1 ? 30 : 1);
   if (event.altKey) spreadLanes(Math.exp(-step / 500), event.offsetY);
   else if (event.shiftKey) scrollDown(step);
-  else if (Math.abs(event.deltaX) > Math.abs(event.deltaY)) pan((event.deltaX * (look.to - look.from)) / (place.right - place.left));
+  else if (Math.abs(event.deltaX) > Math.abs(event.deltaY)) pan(timeOf(event.deltaX) - timeOf(0));
   else zoom(Math.exp(step / 400), timeOf(event.offsetX));
 }, { passive: false });
 cables.addEventListener("wheel", event => {
@@ -383,70 +414,12 @@ cables.addEventListener("wheel", event => {
   changed();
 }, { passive: false });
 
-// ---- Saving: the view as PNG, or as SVG by a pen with the calls of a canvas's context
-
-class SvgPen {
-  constructor(wide, high) {
-    Object.assign(this, { wide, high, parts: [], states: [], clips: 0, way: "", globalAlpha: 1, dash: [], open: 0 });
-    this.measure = document.createElement("canvas").getContext("2d");
-  }
-  beginPath() { this.way = ""; }
-  moveTo(x, y) { this.way += `M${x.toFixed(1)} ${y.toFixed(1)}`; }
-  lineTo(x, y) { this.way += `L${x.toFixed(1)} ${y.toFixed(1)}`; }
-  closePath() { this.way += "z"; }
-  rect(x, y, w, h) { this.way += `M${x} ${y}h${w}v${h}h${-w}z`; }
-  arc(x, y, r) { this.way += `M${x - r} ${y}a${r} ${r} 0 1 0 ${2 * r} 0a${r} ${r} 0 1 0 ${-2 * r} 0z`; }
-  setLineDash(dash) { this.dash = dash; }
-  paint() {
-    const name = Object.keys(PATTERNS).find(one => theme[one].pattern === this.fillStyle);
-    return name ? `url(#${name})` : this.fillStyle;
-  }
-  add(text) { this.parts.push(text); }
-  fill() { this.add(`<path d="${this.way}" fill="${this.paint()}" opacity="${this.globalAlpha}"/>`); }
-  pen() { return `fill="none" stroke="${this.strokeStyle}" stroke-width="${this.lineWidth}" stroke-dasharray="${this.dash.join(" ") || "none"}" opacity="${this.globalAlpha}"`; }
-  stroke() { this.add(`<path d="${this.way}" ${this.pen()}/>`); }
-  fillRect(x, y, w, h) { this.add(`<path d="M${x} ${y}h${w}v${h}h${-w}z" fill="${this.paint()}" opacity="${this.globalAlpha}"/>`); }
-  strokeRect(x, y, w, h) { this.add(`<path d="M${x} ${y}h${w}v${h}h${-w}z" ${this.pen()}/>`); }
-  measureText(text) {
-    this.measure.font = this.font;
-    return this.measure.measureText(text);
-  }
-  text(text, x, y, paint) {
-    const anchor = { left: "start", center: "middle", right: "end" }[this.textAlign], [, bold, size] = /(bold )?([\d.]+)px/.exec(this.font);
-    this.add(`<text x="${x}" y="${y}" dy="0.35em" text-anchor="${anchor}" font-size="${size}" font-weight="${bold ? "bold" : "normal"}" ${paint}>${text}</text>`);
-  }
-  fillText(text, x, y) { this.text(text, x, y, `fill="${this.fillStyle}" opacity="${this.globalAlpha}"`); }
-  strokeText(text, x, y) { this.text(text, x, y, this.pen()); }
-  drawImage(image, ...at) {
-    const [, sy, , sh, x, y, w, h] = at, part = document.createElement("canvas");
-    [part.width, part.height] = [image.width, sh];
-    part.getContext("2d").drawImage(image, 0, sy, image.width, sh, 0, 0, image.width, sh);
-    this.add(`<image href="${part.toDataURL()}" x="${x}" y="${y}" width="${w}" height="${h}" preserveAspectRatio="none" style="image-rendering:pixelated"/>`);
-  }
-  save() { this.states.push([this.open, this.globalAlpha]); }
-  clip() {
-    this.add(`<clipPath id="c${++this.clips}"><path d="${this.way}"/></clipPath><g clip-path="url(#c${this.clips})">`);
-    this.open++;
-  }
-  restore() {
-    const [open, alpha] = this.states.pop();
-    for (; this.open > open; this.open--) this.add("</g>");
-    this.globalAlpha = alpha;
-  }
-  text_of() {
-    const patterns = Object.entries(PATTERNS).map(([name, [size, way]]) =>
-      `<pattern id="${name}" width="${size}" height="${size}" patternUnits="userSpaceOnUse"><path d="${way}" stroke="${theme.fore}" stroke-width="1.2"/></pattern>`);
-    return `<svg xmlns="http://www.w3.org/2000/svg" width="${this.wide}" height="${this.high}" viewBox="0 0 ${this.wide} ${this.high}" font-family="DejaVu Sans, sans-serif">` +
-      `<defs>${patterns.join("")}</defs>${this.parts.join("\n")}</svg>\n`;
-  }
-}
-
-const PATTERNS = { hatch: [8, "M-2 10L10 -2M-2 2L2 -2M6 10L10 6"], stripes: [5, "M2.5 0V5"] };
+// ---- Saving: the view as PNG or SVG
 
 function svgText() {
   const pen = new SvgPen(plot.clientWidth, plot.clientHeight);
   drawPlot(pen, pen.wide, pen.high);
-  return pen.text_of();
+  return pen.written();
 }
 
 function save(blob, name) {
@@ -478,8 +451,9 @@ const ACTIONS = {
   png: () => plot.toBlob(blob => save(blob, "netsim.png")),
 };
 const KEYS = {
-  "+": "in", "=": "in", "-": "out", 0: "fit", ArrowLeft: "back", ArrowRight: "on", "Shift ArrowLeft": "far_back", "Shift ArrowRight": "far_on",
-  PageUp: "view_back", PageDown: "view_on", Home: "begin", End: "end", ArrowUp: "line_back", ArrowDown: "line_on", " ": "play",
+  "+": "in", "=": "in", "-": "out", 0: "fit", PageUp: "view_back", PageDown: "view_on", Home: "begin", End: "end",
+  ArrowLeft: "back", ArrowRight: "on", "Shift ArrowLeft": "far_back", "Shift ArrowRight": "far_on",
+  ArrowUp: "line_back", ArrowDown: "line_on", " ": "play",
   "[": "slower", "]": "faster", u: "unit", t: "text", b: "theme", Enter: "frame", Escape: "none", s: "svg", S: "png",
 };
 const GO_KEYS = { c: "collision", d: "drop", l: "late", g: "given_up", p: "closed" };
@@ -495,8 +469,9 @@ function go(way, kind) {
 }
 
 addEventListener("keydown", event => {
-  const isButton = event.target.closest("button, summary");
-  if (event.ctrlKey || event.metaKey || event.altKey || (isButton && (event.key === " " || event.key === "Enter"))) return;
+  if (event.ctrlKey || event.metaKey || event.altKey) return;
+  if (event.target.closest("button, summary") && (event.key === " " || event.key === "Enter")) return;
+  if (event.target.closest("#facts") && /^(Arrow|Page|Home|End)/.test(event.key)) return;
   const kind = GO_KEYS[event.key.toLowerCase()];
   const action = KEYS[event.shiftKey && event.key.length > 1 ? `Shift ${event.key}` : event.key];
   if (!kind && !action) return;
@@ -517,13 +492,19 @@ window.netsimPage = {
   bands: () => net.bands.map(({ line, tap, start, end, kind }) => ({ line, tap: tap.name, start, end, kind })),
   rows: () => net.rows.map(row => row.line), row: number => net.rows[number],
   sources: () => net.bands.map(band => nameOfBand(band)),
-  countersAt: t => ({ all: countersAt(t).all, by: Object.fromEntries([...countersAt(t).by].map(([device, counters]) => [device.name, counters])) }),
+  countersAt: t => {
+    const { all, by } = countersAt(t);
+    return { all, by: Object.fromEntries([...by].map(([device, counters]) => [device.name, counters])) };
+  },
   stateAt: (name, t) => stateAt(net.stations.find(station => station.name === name), t).words,
-  look: () => ({ ...look, row: undefined }), drawn: () => ({ ...drawn, marks: drawn.marks.map(({ x, y, row }) => ({ x, y, line: row.line })) }),
+  look: () => ({ ...look, row: undefined }),
+  drawn: () => ({ ...drawn, marks: drawn.marks.map(({ x, y, row }) => ({ x, y, line: row.line })) }),
   timeOf, show, pan, zoomTo: (from, to) => { Object.assign(look, { from, to }); pan(0); },
 };
 
-element("window").textContent = `half bits ${group(net.from)} to ${group(net.to)} of ${group(net.halfBits)}; ${group(net.rows.length)} lines of the log`;
+element("window").textContent = `half bits ${group(net.from)} to ${group(net.to)} of ${group(net.halfBits)}; ` +
+  `${group(net.rows.length)} lines of the log`;
+showHeads();
 look.speed = Math.max(0, SPEEDS.findIndex(speed => speed >= (net.to - net.from) / 30));
 readView();
 show();

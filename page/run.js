@@ -72,8 +72,8 @@ function addBand(net, tap, words, line) {
 
 function addRow(net, device, words, line) {
   const t = +words[1], row = {
-    line: line.slice(4), index: net.rows.length, t, at: t, device, what: words[4], tap: null, frame: 0, start: 0, end: t,
-    attempt: 16, hit: null, draw: 0, octets: 0, port: 0, why: "", halves: 0,
+    line: line.slice(4), index: net.rows.length, t, at: t, device, what: words[4], tap: null,
+    frame: 0, start: 0, end: t, attempt: 16, hit: null, draw: 0, octets: 0, port: 0, why: "", halves: 0,
   };
   if (row.what === "dropped") {
     row.why = words[5];
@@ -114,9 +114,9 @@ const away = (band, tap) => Math.abs(band.tap.place - tap.place);
 
 /** The bands of a segment that may be somewhere on it from one half bit to below another, in order of their starts. */
 function bandsNear(segment, from, to) {
-  const found = [];
-  for (let i = countBelow(segment.bands, to, band => band.start) - 1; i >= 0 && segment.latest[i] + segment.span > from; i--) {
-    if (segment.bands[i].end + segment.span > from) found.push(segment.bands[i]);
+  const found = [], { bands, latest, span } = segment;
+  for (let i = countBelow(bands, to, band => band.start) - 1; i >= 0 && latest[i] + span > from; i--) {
+    if (bands[i].end + span > from) found.push(bands[i]);
   }
   return found.reverse();
 }
@@ -206,7 +206,8 @@ function stateAt(station, t) {
   if (last && last.what === "collided") {
     state.until = last.end + SLOT_TIME * last.draw;
     state.doing = t < state.until ? "backs off" : "waits";
-    said.push(t < state.until ? `backs off until ${toldTime(state.until)}` : `waits for its turn with frame ${last.frame}`);
+    const turn = `waits for its turn with frame ${last.frame}`;
+    said.push(t < state.until ? `backs off until ${toldTime(state.until)}` : turn);
   }
   if (heard.length === 1) {
     const verb = isDeaf(station, t, heard) ? "is deaf to" : said.length ? "hears" : "receives from";
@@ -217,13 +218,13 @@ function stateAt(station, t) {
   return state;
 }
 
-function newCounters() {
-  return { sent: 0, collided: 0, late: 0, given_up: 0, cut: 0, received: 0, dropped: 0, clash: 0, closed: 0, opened: 0, halted: 0 };
-}
+const STATION_COUNTS = ["sent", "collided", "late", "given_up", "cut", "received", "dropped"];
+const REPEATER_COUNTS = ["clash", "closed", "opened", "halted"], COUNTED = [...STATION_COUNTS, ...REPEATER_COUNTS];
+const newCounters = () => Object.fromEntries(COUNTED.map(word => [word, 0]));
 
 /** What the rows from the window's begin to a half bit, this one too, count: by device, and in all. */
 function countersAt(t) {
-  const counted = countersAt.kept && countersAt.kept.t <= t ? countersAt.kept : { next: 0, all: newCounters(), by: new Map() };
+  const { kept } = countersAt, counted = kept && kept.t <= t ? kept : { next: 0, all: newCounters(), by: new Map() };
   for (; counted.next < net.rows.length && net.rows[counted.next].t <= t; counted.next++) {
     const row = net.rows[counted.next];
     if (row.t < net.from) continue;
@@ -261,7 +262,8 @@ const KINDS = {
 function rowsOfKind(kind) {
   const kept = rowsOfKind.kept || (rowsOfKind.kept = {});
   if (!kept[kind]) {
-    kept[kind] = net.rows.filter(row => KINDS[kind](row) && row.at >= net.from && row.at < net.to).sort((a, b) => a.at - b.at);
+    const rows = net.rows.filter(row => KINDS[kind](row) && row.at >= net.from && row.at < net.to);
+    kept[kind] = rows.sort((a, b) => a.at - b.at);
   }
   return kept[kind];
 }
@@ -298,12 +300,14 @@ function drawWords(row) {
 }
 
 const SENTENCES = {
-  sent: row => `${row.device.name} sent frame ${row.frame} at attempt ${row.attempt}, in ${microseconds(row.end - row.start)}`,
+  sent: row => `${row.device.name} sent frame ${row.frame} at attempt ${row.attempt}, ` +
+    `in ${microseconds(row.t - row.start)}`,
   collided: row => `${row.device.name} heard ${heardAtHit(row)}, jammed, ${drawWords(row)}`,
   given_up: row => `${row.device.name} heard ${heardAtHit(row)} at attempt 16, jammed, and gave frame ${row.frame} up`,
   cut: row => `the run ended while ${row.device.name} was sending frame ${row.frame}, attempt ${row.attempt}`,
   received: row => `${row.device.name} received ${group(row.octets)} octets from ${namesOf(bandsOfRow(row))}`,
-  dropped: row => `${row.device.name} dropped ${group(row.halves)} half bits ${WHYS[row.why]}: it heard ${namesOf(bandsOfRow(row))}`,
+  dropped: row => `${row.device.name} dropped ${group(row.halves)} half bits ${WHYS[row.why]}: ` +
+    `it heard ${namesOf(bandsOfRow(row))}`,
   clash: row => `${row.device.name} hears a collision and jams all its ports`,
   closed: row => `${row.device.name} closed port ${row.port}: nothing comes in by it until it opens again`,
   opened: row => `${row.device.name} opened port ${row.port} again`,
@@ -324,7 +328,7 @@ const sentence = row => SENTENCES[row.what](row);
 function bandWords(band) {
   const source = sourceOf(band), sending = source.sending;
   const frame = sending ? ` frame ${sending.frame}, attempt ${sending.attempt}` : "";
-  if (band.tap.station) return `${band.tap.name} ${band.kind === "jam" ? "jams" + frame.replace(" ", " for ") : "sends" + frame}`;
+  if (band.tap.station) return `${band.tap.name} ${band.kind === "jam" ? "jams for" : "sends"}${frame || " a frame"}`;
   const what = { repeat: `repeats ${source.station ? source.station.name + (frame && ":" + frame) : "a signal"}`,
     extend: "extends a fragment", jam: "jams" }[band.kind];
   return `${band.tap.name} ${what}`;
