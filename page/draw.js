@@ -57,7 +57,7 @@ function segmentsInView() {
 function drawBands(g, { bends, bands }) {
   for (const band of bands) {
     const source = sourceOf(band);
-    g.globalAlpha = isLit(source.sending) ? 0.42 : 0.07;
+    g.globalAlpha = isLit(source.sending) ? theme.strength : 0.07;
     path(g, outlineOf(band, bends));
     g.closePath();
     g.fillStyle = colourOf(source);
@@ -382,7 +382,7 @@ function drawAxis(g) {
     const text = told.toLocaleString("en-US", { maximumFractionDigits: digits });
     line(g, [[x, place.top], [x, place.bottom]], theme.line, 1);
     const half = text.length * 0.3 * place.em;
-    if (x + half < place.right + 0.6 * place.em) write(g, text, x, y, style);
+    if (x - half > place.left - place.em && x + half < place.right + 0.6 * place.em) write(g, text, x, y, style);
   }
   write(g, unit.short, place.left - 1.2 * place.em, y, { ...style, align: "right" });
 }
@@ -446,8 +446,8 @@ function drawPlot(g, wide, high) {
   g.fillStyle = theme.back;
   g.fillRect(0, 0, wide, high);
   drawAxis(g);
-  Object.assign(drawn, { bands: [], marks: [], pictures: drawn.pictures + 1 });
   const segments = segmentsInView(), rows = rowsInView();
+  Object.assign(drawn, { bands: [], marks: [], rows: Boolean(rows), pictures: drawn.pictures + 1 });
   drawn.isDense = segments.reduce((sum, one) => sum + one.bands.length, 0) > MOST_BANDS;
   g.save();
   g.beginPath();

@@ -78,9 +78,12 @@ function showHeads() {
   }
 }
 
-/** The lines of the log about the cursor: the first of a row at it or after it stands in the middle. */
+const inWindow = t => Math.min(Math.max(t, net.from), net.to);
+const isAtCursor = row => inWindow(row.at) === look.at;
+
+/** The row that was gone to, where the cursor is still there, or else the first one from the cursor on. */
 function rowAtCursor() {
-  if (look.row && look.row.at === look.at) return look.row;
+  if (look.row && isAtCursor(look.row)) return look.row;
   return net.rows[Math.min(countBelow(net.rows, look.at, row => row.t), net.rows.length - 1)];
 }
 
@@ -88,12 +91,12 @@ function showLines() {
   const row = rowAtCursor(), list = element("lines");
   if (!row) return;
   const first = Math.max(0, Math.min(row.index - (LINES_TOLD >> 1), net.rows.length - LINES_TOLD));
-  const key = `${first} ${row.index} ${row.at === look.at}`;
+  const key = `${first} ${row.index} ${isAtCursor(row)}`;
   if (list.dataset.key === key) return;
   list.dataset.key = key;
   list.replaceChildren(...net.rows.slice(first, first + LINES_TOLD).map(one => {
     const button = make("button", { type: "button", title: sentence(one), onclick: () => goTo(one) }, one.line);
-    if (one === row && row.at === look.at) button.setAttribute("aria-current", "true");
+    if (one === row && isAtCursor(row)) button.setAttribute("aria-current", "true");
     return make("li", {}, button);
   }));
 }
@@ -211,6 +214,13 @@ function contextOf(canvas) {
   return g;
 }
 
+/** Fits the lanes to another size of the plot or of the text, where they weren't spread by hand. */
+function refit() {
+  setPlace(plot.clientWidth, plot.clientHeight);
+  if (!look.isSpread) fitLanes();
+  changed("size");
+}
+
 function show() {
   isDue = false;
   drawPlot(contextOf(plot), plot.clientWidth, plot.clientHeight);
@@ -239,7 +249,7 @@ const SPEEDS = [1, 2, 5, 10, 20, 50, 100, 200, 500, 1000, 2000, 5000, 10000, 200
 let playing = 0;
 
 function moveTo(t) {
-  look.at = Math.min(Math.max(t, net.from), net.to);
+  look.at = inWindow(t);
   const wide = look.to - look.from;
   if (look.at < look.from || look.at > look.to) {
     look.from = look.at - wide * (playing ? 0.1 : 0.4);
@@ -265,7 +275,7 @@ function goTo(row) {
 function goByLine(step) {
   const row = rowAtCursor();
   if (!row) return;
-  const at = row.index + (row.at === look.at ? step : Math.min(step, 0));
+  const at = row.index + (isAtCursor(row) ? step : Math.min(step, 0));
   goTo(net.rows[Math.min(Math.max(at, 0), net.rows.length - 1)]);
 }
 
@@ -299,9 +309,10 @@ function keepView() {
   clearTimeout(keepView.timer);
   keepView.timer = setTimeout(() => {
     const told = new URLSearchParams({
-      view: [look.from, look.to].map(t => +t.toFixed(2)), lanes: [look.spread.toFixed(3), Math.round(look.down)],
-      at: Math.floor(look.at), unit: look.unit, text: look.text, dark: +look.dark,
+      view: [look.from, look.to].map(t => +t.toFixed(2)), at: Math.floor(look.at),
+      unit: look.unit, text: look.text, dark: +look.dark,
     });
+    if (look.isSpread) told.set("lanes", [look.spread.toFixed(3), Math.round(look.down)]);
     if (look.frame) told.set("frame", [look.frame.station, look.frame.frame].join(","));
     history.replaceState(null, "", "#" + decodeURIComponent(told.toString()));
   }, 250);
@@ -319,13 +330,15 @@ function readView() {
   fit();
   if (isGood(numbers("view")) && numbers("view")[0] < numbers("view")[1]) {
     [look.from, look.to] = numbers("view");
-    if (isGood(numbers("lanes"))) [look.spread, look.down] = numbers("lanes");
-    spreadLanes(1, place.top);
     zoom(1, look.from);
+  }
+  if (isGood(numbers("lanes"))) {
+    [look.spread, look.down] = numbers("lanes");
+    spreadLanes(1, place.top);
   }
   const [station, frame] = (told.get("frame") || "").split(",");
   look.frame = net.stations.some(one => one.name === station) ? { station, frame: +frame } : null;
-  look.at = Math.min(Math.max(Math.floor(+told.get("at")) || net.from, net.from), net.to);
+  look.at = inWindow(Math.floor(+told.get("at")) || net.from);
   changed("size");
 }
 
@@ -344,19 +357,25 @@ function bandsAt(x, y) {
   });
 }
 
+/** The rows whose marks are near a dot, or where marks are too many, those in its cell. */
 function rowsAt(x, y) {
-  const near = drawn.marks.filter(mark => Math.hypot(mark.x - x, mark.y - y) < 0.8 * place.em);
-  return [...new Set(near.map(mark => mark.row))].slice(0, 4);
+  if (drawn.rows) {
+    const near = drawn.marks.filter(mark => Math.hypot(mark.x - x, mark.y - y) < 0.8 * place.em);
+    return [...new Set(near.map(mark => mark.row))];
+  }
+  const [first, last] = [x - 2, x + 2].map(one => countBelow(net.rows, timeOf(one), row => row.t));
+  return net.rows.slice(first, last).filter(row => Math.abs(yOf(row.tap.y) - y) <= 4);
 }
 
 function hint(event) {
   const box = element("hint"), [x, y] = [event.offsetX, event.offsetY];
   const rows = rowsAt(x, y), bands = rows.length || drawn.isDense ? [] : bandsAt(x, y).slice(0, 4);
+  const more = rows.length > 4 ? `and ${group(rows.length - 4)} more rows` : "";
   box.hidden = !rows.length && !bands.length;
   if (box.hidden) return;
-  box.replaceChildren(...rows.map(row => make("div", {}, sentence(row), make("small", {}, row.line))),
+  box.replaceChildren(...rows.slice(0, 4).map(row => make("div", {}, sentence(row), make("small", {}, row.line))),
     ...bands.map(band => make("div", {}, bandWords(band),
-      make("small", {}, `${toldTime(band.start)} to ${toldTime(band.end)}`))));
+      make("small", {}, `${toldTime(band.start)} to ${toldTime(band.end)}`))), more);
   const [left, top] = [event.clientX + 14, event.clientY + 14];
   box.style.left = `${Math.min(left, innerWidth - box.offsetWidth - 8)}px`;
   box.style.top = `${top + box.offsetHeight > innerHeight ? event.clientY - box.offsetHeight - 10 : top}px`;
@@ -443,7 +462,7 @@ const ACTIONS = {
   slower: () => { look.speed = Math.max(0, look.speed - 1); changed(); },
   faster: () => { look.speed = Math.min(SPEEDS.length - 1, look.speed + 1); changed(); },
   unit: () => { look.unit = (look.unit + 1) % UNITS.length; say(`Times in ${UNITS[look.unit].name}.`); changed(); },
-  text: () => { look.text = (look.text + 1) % 4; setTheme(); changed("size"); },
+  text: () => { look.text = (look.text + 1) % 4; setTheme(); refit(); },
   theme: () => { look.dark = !look.dark; setTheme(); changed("size"); },
   frame: () => { const row = rowAtCursor(); setFrame(row && SENDINGS.has(row.what) ? row : null); },
   none: () => setFrame(null),
@@ -480,9 +499,12 @@ addEventListener("keydown", event => {
   else ACTIONS[action]();
 });
 for (const button of document.querySelectorAll("[data-go]")) button.onclick = () => go(...button.dataset.go.split(" "));
+for (const button of document.querySelectorAll("button[title]")) {
+  button.setAttribute("aria-label", button.title.replace(/ \(.*/, ""));
+}
 for (const button of document.querySelectorAll("[data-do]")) button.onclick = () => ACTIONS[button.dataset.do]();
 element("play").onclick = () => ACTIONS.play();
-addEventListener("resize", () => changed("size"));
+addEventListener("resize", refit);
 addEventListener("hashchange", readView);
 
 // ---- What a test may ask
@@ -491,7 +513,9 @@ window.netsimPage = {
   errors, next, previous, sentence, goTo, svgText,
   bands: () => net.bands.map(({ line, tap, start, end, kind }) => ({ line, tap: tap.name, start, end, kind })),
   rows: () => net.rows.map(row => row.line), row: number => net.rows[number],
-  sources: () => net.bands.map(band => nameOfBand(band)),
+  outlines: () => net.bands.map(band => outlineOf(band, bendsOf(band.tap.segment))),
+  heights: () => Object.fromEntries(net.segments.flatMap(segment => segment.taps).map(tap => [tap.name, yOf(tap.y)])),
+  doMeet: (a, b) => doMeet(net.bands[a], net.bands[b]),
   countersAt: t => {
     const { all, by } = countersAt(t);
     return { all, by: Object.fromEntries([...by].map(([device, counters]) => [device.name, counters])) };

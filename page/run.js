@@ -17,41 +17,7 @@ document.addEventListener("securitypolicyviolation", event => errors.push("refus
 /** What the data lines say: segments with their taps and bands, stations with their sendings, repeaters, and rows. */
 function readNet(text) {
   const net = { from: 0, to: 1, halfBits: 1, segments: [], stations: [], repeaters: [], bands: [], rows: [] };
-  const segments = new Map(), taps = new Map(), stations = new Map(), repeaters = new Map();
-  const addTap = (tap, name) => {
-    tap.segment = segments.get(name);
-    tap.number = taps.size;
-    tap.segment.taps.push(tap);
-    taps.set(tap.name, tap);
-    return tap;
-  };
-  const readers = {
-    window: words => { [net.from, net.to] = [+words[1], +words[2]]; },
-    run: words => { net.halfBits = +words[1]; },
-    segment: words => {
-      const segment = { name: words[1], taps: [], bands: [] };
-      segments.set(words[1], segment);
-      net.segments.push(segment);
-    },
-    station: words => {
-      const station = { name: words[1], number: net.stations.length, sendings: [] };
-      station.colour = COLOURS[station.number % COLOURS.length];
-      station.tap = addTap({ name: words[1], place: +words[3], station, bands: [] }, words[2]);
-      stations.set(words[1], station);
-      net.stations.push(station);
-    },
-    repeater: words => {
-      const repeater = { name: words[1], delay: +words[2], ports: [], tap: null };
-      repeaters.set(words[1], repeater);
-      net.repeaters.push(repeater);
-    },
-    port: words => {
-      const repeater = repeaters.get(words[1]), name = `${words[1]}:${words[2]}`;
-      repeater.ports.push(addTap({ name, place: +words[4], repeater, bands: [] }, words[3]));
-    },
-    signal: (words, line) => addBand(net, taps.get(words[1]), words, line),
-    row: (words, line) => addRow(net, (words[2] === "repeater" ? repeaters : stations).get(words[3]), words, line),
-  };
+  const readers = readersOf(net);
   for (const line of text.split("\n")) {
     if (line === "") continue;
     const words = line.split(" "), read = readers[words[0]];
@@ -61,6 +27,38 @@ function readNet(text) {
   net.segments.forEach(finishSegment);
   net.stations.forEach(station => station.sendings.sort((a, b) => a.start - b.start));
   return net;
+}
+
+/** By its first word what reads a data line. */
+function readersOf(net) {
+  const segments = new Map(), taps = new Map(), stations = new Map(), repeaters = new Map();
+  const addTap = (tap, name) => {
+    taps.set(tap.name, Object.assign(tap, { segment: segments.get(name), number: taps.size, bands: [] }));
+    tap.segment.taps.push(tap);
+    return tap;
+  };
+  const add = (list, map, item) => {
+    map.set(item.name, item);
+    list.push(item);
+    return item;
+  };
+  return {
+    window: words => { [net.from, net.to] = [+words[1], +words[2]]; },
+    run: words => { net.halfBits = +words[1]; },
+    segment: words => add(net.segments, segments, { name: words[1], taps: [], bands: [] }),
+    station: words => {
+      const colour = COLOURS[net.stations.length % COLOURS.length];
+      const station = add(net.stations, stations, { name: words[1], colour, sendings: [] });
+      station.tap = addTap({ name: words[1], place: +words[3], station }, words[2]);
+    },
+    repeater: words => add(net.repeaters, repeaters, { name: words[1], delay: +words[2], ports: [], tap: null }),
+    port: words => {
+      const repeater = repeaters.get(words[1]), name = `${words[1]}:${words[2]}`;
+      repeater.ports.push(addTap({ name, place: +words[4], repeater }, words[3]));
+    },
+    signal: (words, line) => addBand(net, taps.get(words[1]), words, line),
+    row: (words, line) => addRow(net, (words[2] === "repeater" ? repeaters : stations).get(words[3]), words, line),
+  };
 }
 
 function addBand(net, tap, words, line) {
@@ -281,7 +279,7 @@ function previous(kind, t) {
 // ---- Words
 
 const group = number => number.toLocaleString("en-US");
-const microseconds = halfBits => `${group(halfBits / HALF_BITS_A_MICROSECOND)} \u00b5s`;
+const microseconds = halfBits => `${group(halfBits / HALF_BITS_A_MICROSECOND)}\u00a0\u00b5s`;
 const UNITS = [
   { name: "half bits", short: "half bits", halfBits: 1 },
   { name: "microseconds", short: "\u00b5s", halfBits: HALF_BITS_A_MICROSECOND },

@@ -5,10 +5,10 @@ const root = document.documentElement, element = id => document.getElementById(i
 const plot = element("plot"), cables = element("cables"), legend = element("legend");
 const look = {
   from: net.from, to: net.to, spread: 1, down: 0, at: net.from, row: null, frame: null,
-  unit: 0, text: 0, dark: false, speed: 0,
+  isSpread: false, unit: 0, text: 0, dark: false, speed: 0,
 };
 const place = { left: 100, top: 30, right: 800, bottom: 400, em: 14 };
-const drawn = { bands: [], marks: [], pictures: 0, isDense: false };
+const drawn = { bands: [], marks: [], pictures: 0, isDense: false, rows: true };
 let theme = {};
 
 function setTheme() {
@@ -17,6 +17,7 @@ function setTheme() {
   const style = getComputedStyle(root), names = ["back", "fore", "dim", "line", "panel", "mark"];
   theme = Object.fromEntries(names.map(name => [name, style.getPropertyValue("--" + name).trim()]));
   theme.bad = look.dark ? "#ff7b72" : "#b3001b";
+  theme.strength = look.dark ? 0.55 : 0.42;
   theme.repeater = look.dark ? "#8b97a5" : "#7a8590";
   theme.hatch = makePattern(8, g => [-8, 0, 8].forEach(x => line(g, [[x, 8], [x + 8, 0]], theme.fore, 1.3)));
   theme.stripes = makePattern(5, g => line(g, [[2.5, 0], [2.5, 5]], theme.fore, 1));
@@ -84,7 +85,13 @@ function placeOf(segment, y) {
 }
 
 function fit() {
-  [look.from, look.to, look.down] = [net.from, net.to, 0];
+  [look.from, look.to] = [net.from, net.to];
+  fitLanes();
+}
+
+function fitLanes() {
+  look.down = 0;
+  look.isSpread = false;
   look.spread = Math.min(1.5, Math.max(LEAST_SPREAD, (place.bottom - place.top) / place.height));
 }
 
@@ -114,5 +121,6 @@ function spreadLanes(factor, y) {
   const kept = look.down + (y - place.top) / look.spread;
   look.spread = Math.min(4, Math.max(LEAST_SPREAD, look.spread * factor));
   look.down = kept - (y - place.top) / look.spread;
+  look.isSpread = true;
   scrollDown(0);
 }
