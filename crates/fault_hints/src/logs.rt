@@ -1,18 +1,36 @@
 //! What is wrong with a log, a state or the names of files, by the program's own line.
 
-use input_hints::{Ended, after, read_line, show, show_front, word_at};
+use crate::lines::{row_fault, shape_fault};
+use crate::states::{StateLine, tell_form, tell_value};
+use input_hints::{Ended, Line, after, read_line, show, show_front, word_at};
 use lists::OutOfMemory;
 use outside::Store;
 use std::alloc::Global;
 
-/// Shows a place of a file, and a front of what stands there.
-fn tell_line<S: Store>(
+/// The line of a number; nothing for line 0, which is the whole file.
+fn line_at<S: Store>(
     alloc: Global,
-    out: &mut String,
     store: &mut S,
+    file: &str,
+    number: u64,
+) -> Result<Option<Line>, OutOfMemory> {
+    if number == 0 {
+        return Ok(None);
+    }
+    read_line(alloc, store, file, number)
+}
+
+fn text_of(line: &Line) -> &str {
+    str::from_utf8(line.front.as_slice()).unwrap_or("")
+}
+
+/// Tells of a line of a file, and shows a front of it where any of it is there.
+fn tell_line(
+    out: &mut String,
     file: &str,
     line: u64,
     what: &str,
+    found: &Option<Line>,
 ) -> Result<(), OutOfMemory> {
     out.push_str("netsim: ")?;
     show(out, file)?;
@@ -21,12 +39,25 @@ fn tell_line<S: Store>(
         return Ok(());
     }
     write!(out, ":{line}: {what}")?;
-    if let Some(front) = read_line(alloc, store, file, line)? {
-        out.push_str(": ")?;
-        show_front(out, front.as_slice())?;
+    match found {
+        Some(found) if found.front.len() > 0 || !found.ends_file => {
+            out.push_str(": ")?;
+            show_front(out, found.front.as_slice())?;
+        }
+        _ => {}
     }
     out.push_str("\n")?;
     Ok(())
+}
+
+/// What is wrong with a line that is none of a log.
+fn log_fault(found: &Option<Line>) -> &'static str {
+    match found {
+        Some(line) => shape_fault(text_of(line), line.ends_file)
+            .or(row_fault(text_of(line)))
+            .unwrap_or("this is no line of a log"),
+        None => "this is no line of a log, or its line feed is missing",
+    }
 }
 
 fn line_number(said: &str) -> u64 {
@@ -48,12 +79,14 @@ pub fn tell_log<S: Store>(
         2
     };
     let log = word_at(ended.words, place);
+    let number = line_number(ended.said);
+    let found = line_at(alloc, store, log, number)?;
     let what = match after(ended.said, "fault").unwrap_or("") {
         "1" => "a log has at most 268435456 octets",
         "3" => "this is of an earlier half bit than the line before",
-        _ => "this is no line of a log, or its line feed is missing",
+        _ => log_fault(&found),
     };
-    tell_line(alloc, out, store, log, line_number(ended.said), what)
+    tell_line(out, log, number, what, &found)
 }
 
 /// Tells of a log that doesn't fit the layout.
@@ -65,7 +98,9 @@ pub fn tell_stranger<S: Store>(
 ) -> Result<(), OutOfMemory> {
     let log = word_at(ended.words, 2);
     let what = "the layout lacks what this line names; is the log of a run of another layout?";
-    tell_line(alloc, out, store, log, line_number(ended.said), what)
+    let number = line_number(ended.said);
+    let found = line_at(alloc, store, log, number)?;
+    tell_line(out, log, number, what, &found)
 }
 
 /// Tells of a state's fault.
@@ -77,19 +112,27 @@ pub fn tell_state<S: Store>(
 ) -> Result<(), OutOfMemory> {
     let prefix = word_at(ended.words, 2);
     let name = format!(in alloc; "{prefix}.state")?;
-    let what = match after(ended.said, "fault").unwrap_or("") {
-        "1" => "a state has at most 268435456 octets",
-        "2" => "this is not the line that is due here; is it the state of another layout?",
-        _ => "the numbers of this line are no state of this layout",
-    };
-    tell_line(
-        alloc,
-        out,
-        store,
-        name.as_str(),
-        line_number(ended.said),
-        what,
-    )?;
+    let number = line_number(ended.said);
+    let found = line_at(alloc, store, name.as_str(), number)?;
+    let mut what = String::new(alloc);
+    if let Some(line) = &found {
+        let line = StateLine {
+            layout: word_at(ended.words, 1),
+            file: name.as_str(),
+            number,
+            text: text_of(line),
+            ends_file: line.ends_file,
+        };
+        match after(ended.said, "fault") {
+            Some("2") => tell_form(alloc, &mut what, store, &line)?,
+            _ => tell_value(alloc, &mut what, store, &line)?,
+        }
+    } else if number == 0 {
+        what.push_str("a state has at most 268435456 octets")?;
+    } else {
+        what.push_str("this is no state of this layout")?;
+    }
+    tell_line(out, name.as_str(), number, what.as_str(), &found)?;
     out.push_str("netsim: 'netsim stop' writes a state anew\n")?;
     Ok(())
 }
