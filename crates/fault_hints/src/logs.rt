@@ -1,30 +1,13 @@
 //! What is wrong with a log, a state or the names of files, by the program's own line.
 
-use crate::lines::{row_fault, shape_fault};
-use crate::states::{StateLine, tell_form, tell_value};
+use crate::lines::{first_word, row_fault, shape_fault};
+use crate::states::{form_fault, order_fault, tell_value};
 use input_hints::{Ended, Line, after, read_line, show, show_front, word_at};
 use lists::OutOfMemory;
 use outside::Store;
 use std::alloc::Global;
 
-/// The line of a number; nothing for line 0, which is the whole file.
-fn line_at<S: Store>(
-    alloc: Global,
-    store: &mut S,
-    file: &str,
-    number: u64,
-) -> Result<Option<Line>, OutOfMemory> {
-    if number == 0 {
-        return Ok(None);
-    }
-    read_line(alloc, store, file, number)
-}
-
-fn text_of(line: &Line) -> &str {
-    str::from_utf8(line.front.as_slice()).unwrap_or("")
-}
-
-/// Tells of a line of a file, and shows a front of it where any of it is there.
+/// Shows a place of a file, and a front of what stands there, where anything does.
 fn tell_line(
     out: &mut String,
     file: &str,
@@ -50,11 +33,19 @@ fn tell_line(
     Ok(())
 }
 
+fn text_of(line: &Option<Line>) -> &str {
+    match line {
+        Some(line) => str::from_utf8(line.front.as_slice()).unwrap_or(""),
+        None => "",
+    }
+}
+
 /// What is wrong with a line that is none of a log.
 fn log_fault(found: &Option<Line>) -> &'static str {
+    let text = text_of(found);
     match found {
-        Some(line) => shape_fault(text_of(line), line.ends_file)
-            .or(row_fault(text_of(line)))
+        Some(line) => shape_fault(text, line.ends_file)
+            .or(row_fault(text))
             .unwrap_or("this is no line of a log"),
         None => "this is no line of a log, or its line feed is missing",
     }
@@ -80,7 +71,7 @@ pub fn tell_log<S: Store>(
     };
     let log = word_at(ended.words, place);
     let number = line_number(ended.said);
-    let found = line_at(alloc, store, log, number)?;
+    let found = read_line(alloc, store, log, number)?;
     let what = match after(ended.said, "fault").unwrap_or("") {
         "1" => "a log has at most 268435456 octets",
         "3" => "this is of an earlier half bit than the line before",
@@ -99,8 +90,27 @@ pub fn tell_stranger<S: Store>(
     let log = word_at(ended.words, 2);
     let what = "the layout lacks what this line names; is the log of a run of another layout?";
     let number = line_number(ended.said);
-    let found = line_at(alloc, store, log, number)?;
+    let found = read_line(alloc, store, log, number)?;
     tell_line(out, log, number, what, &found)
+}
+
+/// What is wrong with the order of a row, where it is known: the row before it may have its frame's octets after it.
+fn row_order<S: Store>(
+    alloc: Global,
+    store: &mut S,
+    layout: &str,
+    file: &str,
+    number: u64,
+    row: &str,
+) -> Result<Option<&'static str>, OutOfMemory> {
+    if first_word(row) != "row" {
+        return Ok(None);
+    }
+    let mut before = read_line(alloc, store, file, number.saturating_sub(1))?;
+    if first_word(text_of(&before)) == "octets" {
+        before = read_line(alloc, store, file, number.saturating_sub(2))?;
+    }
+    order_fault(alloc, store, layout, row, text_of(&before))
 }
 
 /// Tells of a state's fault.
@@ -113,24 +123,20 @@ pub fn tell_state<S: Store>(
     let prefix = word_at(ended.words, 2);
     let name = format!(in alloc; "{prefix}.state")?;
     let number = line_number(ended.said);
-    let found = line_at(alloc, store, name.as_str(), number)?;
+    let found = read_line(alloc, store, name.as_str(), number)?;
+    let text = text_of(&found);
+    let is_end = found.as_ref().is_some_and(|line| line.ends_file);
     let mut what = String::new(alloc);
-    if let Some(line) = &found {
-        let line = StateLine {
-            layout: word_at(ended.words, 1),
-            file: name.as_str(),
-            number,
-            text: text_of(line),
-            ends_file: line.ends_file,
-        };
-        match after(ended.said, "fault") {
-            Some("2") => tell_form(alloc, &mut what, store, &line)?,
-            _ => tell_value(alloc, &mut what, store, &line)?,
+    match after(ended.said, "fault").unwrap_or("") {
+        "1" => what.push_str("a state has at most 268435456 octets")?,
+        "2" => what.push_str(form_fault(text, is_end).unwrap_or(
+            "this is not the line that is due here; is it the state of another layout?",
+        ))?,
+        _ => {
+            let layout = word_at(ended.words, 1);
+            let order = row_order(alloc, store, layout, name.as_str(), number, text)?;
+            tell_value(&mut what, text, order)?;
         }
-    } else if number == 0 {
-        what.push_str("a state has at most 268435456 octets")?;
-    } else {
-        what.push_str("this is no state of this layout")?;
     }
     tell_line(out, name.as_str(), number, what.as_str(), &found)?;
     out.push_str("netsim: 'netsim stop' writes a state anew\n")?;

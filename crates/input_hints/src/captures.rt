@@ -1,6 +1,6 @@
 //! What is wrong with a capture's link type and with its records.
 
-use crate::records::{Walk, end_of};
+use crate::records::{end_of, walk_over};
 use lists::OutOfMemory;
 use outside::Store;
 
@@ -32,7 +32,6 @@ pub fn tell_record<S: Store>(
     out: &mut String,
     store: &mut S,
     load: &str,
-    head: &[u8],
     code: &str,
     record: &str,
 ) -> Result<bool, OutOfMemory> {
@@ -40,23 +39,21 @@ pub fn tell_record<S: Store>(
         Ok(number) if matches!(code, "5" | "6") => number,
         _ => return Ok(false),
     };
-    let Some(walk) = Walk::new(head, number.saturating_sub(1), 0).over(store, load) else {
+    let walk = walk_over(store, load, number.saturating_sub(1), 0);
+    let begin = walk.map_or(0, |walk| walk.next);
+    let Some(end) = end_of(store, load, begin) else {
         return Ok(false);
     };
-    let begin = walk.next;
     if code == "5" {
         write!(
             out,
             "record {number} that begins at octet {begin} says that it has more than 262144 octets: the file is damaged"
         )?;
-        return Ok(true);
+    } else {
+        write!(
+            out,
+            "it ends at octet {end}, within record {number} that begins at octet {begin}: was it still being written, or copied in part?"
+        )?;
     }
-    let Some(end) = end_of(store, load, begin) else {
-        return Ok(false);
-    };
-    write!(
-        out,
-        "it ends at octet {end}, within record {number} that begins at octet {begin}: was it still being written, or copied in part?"
-    )?;
     Ok(true)
 }

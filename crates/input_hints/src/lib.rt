@@ -4,11 +4,11 @@
 mod asked;
 mod captures;
 mod digits;
-mod dues;
 mod files;
 mod layouts;
 mod loads;
 mod near;
+mod order;
 mod places;
 mod records;
 mod rows;
@@ -21,11 +21,11 @@ mod tomls;
 mod ways;
 
 pub use asked::{Ended, after, word_at};
-pub use dues::{comes_before, half_bits_of, tell_due};
 pub use files::{Line, read_line};
 pub use layouts::tell_layout;
 pub use loads::tell_load;
 pub use near::Nearest;
+pub use order::comes_before;
 pub use shown::{show, show_front, show_word};
 pub use skips::tell_skips;
 pub use taps::{tell_range, tell_tap};

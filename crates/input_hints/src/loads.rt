@@ -155,7 +155,7 @@ pub fn tell_load<S: Store>(
     let code = after(ended.said, "fault").unwrap_or("");
     let record = after(ended.said, "record").unwrap_or("0");
     let head = octets.as_slice();
-    if !tell_record(out, store, load, head, code, record)? {
+    if !tell_record(out, store, load, code, record)? {
         tell_code(out, code, record, head)?;
     }
     out.push_str("\n")?;

@@ -8,10 +8,8 @@ const PIECE: usize = 16_384;
 
 const MOST_PIECES: u32 = 16_400;
 
-/// The octets of a capture's head, and of a record's; the most records whose heads are in a piece.
-const HEAD: u64 = 24;
-
-const RECORD_HEAD: usize = 16;
+/// The octets of a record's head, and the most heads that are in a piece.
+const HEAD: usize = 16;
 
 const MOST_HEADS: usize = 1_024;
 
@@ -21,82 +19,75 @@ pub struct Walk {
     is_little: bool,
     /// How many nanoseconds the fraction of a second counts.
     unit: u64,
-    /// After how many records the walk ends, and the most octets of a frame.
-    limit: u64,
+    /// The most octets of a frame.
     most: u32,
     pub records: u64,
     /// The octet, from 0, at which the next record begins.
     pub next: u64,
+    /// Whether the first record has no octets: it says when half bit 0 is, and isn't meant to be sent.
+    pub is_timed: bool,
     /// The least time of the records, and that of the first one that is sent, in nanoseconds.
     pub least: u64,
     pub first: Option<u64>,
 }
 
 impl Walk {
-    /// No record of the load that begins so.
-    pub fn new(head: &[u8], limit: u64, most: u32) -> Walk {
-        let is_nanos = matches!(head, [0x4d, ..] | [_, _, 0x3c, ..]);
-        Walk {
-            is_little: is_little(head),
-            unit: if is_nanos { 1 } else { 1_000 },
-            limit,
-            most,
-            records: 0,
-            next: HEAD,
-            least: u64::MAX,
-            first: None,
-        }
-    }
-
-    fn field(&self, head: &[u8], place: usize) -> u32 {
-        number_of(self.is_little, head.get(place..).unwrap_or(&[]))
-    }
-
     /// Takes the head of a record.
     fn take(&mut self, head: &[u8]) {
-        let fraction = u64::from(self.field(head, 4)).saturating_mul(self.unit);
-        let seconds = u64::from(self.field(head, 0));
-        let nanos = seconds.saturating_mul(1_000_000_000).saturating_add(fraction);
-        let captured = self.field(head, 8);
-        let is_sent = captured >= self.field(head, 12) && captured >= 14 && captured <= self.most;
+        let field = |place: usize| number_of(self.is_little, head.get(place..).unwrap_or(&[]));
+        let fraction = u64::from(field(4)).saturating_mul(self.unit);
+        let seconds = u64::from(field(0)).saturating_mul(1_000_000_000);
+        let nanos = seconds.saturating_add(fraction);
+        let (captured, original) = (field(8), field(12));
+        let is_sent = captured >= original && captured >= 14 && captured <= self.most;
         if is_sent && self.first.is_none() {
             self.first = Some(nanos);
         }
+        self.is_timed = self.is_timed || (self.records == 0 && captured == 0 && original == 0);
         self.least = self.least.min(nanos);
         self.records = self.records.saturating_add(1);
-        self.next = self
-            .next
-            .saturating_add(RECORD_HEAD as u64)
-            .saturating_add(u64::from(captured));
+        let length = u64::from(captured).saturating_add(HEAD as u64);
+        self.next = self.next.saturating_add(length);
     }
 
-    /// Takes the heads that are whole in a piece of the load, which begins with one.
-    fn take_piece(&mut self, piece: &[u8]) {
+    /// Takes the heads that are whole in a piece of the load, which begins with one, up to so many records.
+    fn take_piece(&mut self, piece: &[u8], limit: u64) {
         let from = self.next;
         for _head in 0..MOST_HEADS {
             let place = self.next.saturating_sub(from) as usize;
             match piece.get(place..) {
-                Some(head) if head.len() >= RECORD_HEAD && self.records < self.limit => {
-                    self.take(head);
-                }
+                Some(head) if head.len() >= HEAD && self.records < limit => self.take(head),
                 _ => break,
             }
         }
     }
+}
 
-    /// The walk over the records of a load, up to the first one that isn't whole; nothing where it can't be read.
-    pub fn over<S: Store>(mut self, store: &mut S, load: &str) -> Option<Walk> {
-        let mut room = [0u8; PIECE];
-        for _piece in 0..MOST_PIECES {
-            let before = self.records;
-            let count = store.read(load, self.next, &mut room).ok()?;
-            self.take_piece(room.get(..count).unwrap_or(&[]));
-            if self.records == before {
-                break;
-            }
+/// The walk over so many records of a load, up to the first one that isn't whole; nothing where it can't be read.
+pub fn walk_over<S: Store>(store: &mut S, load: &str, limit: u64, most: u32) -> Option<Walk> {
+    let mut room = [0u8; PIECE];
+    let count = store.read(load, 0, &mut room).ok()?;
+    let head = room.get(..count).unwrap_or(&[]);
+    let is_nanos = matches!(head, [0x4d, ..] | [_, _, 0x3c, ..]);
+    let mut walk = Walk {
+        is_little: is_little(head),
+        unit: if is_nanos { 1 } else { 1_000 },
+        most,
+        records: 0,
+        next: 24,
+        is_timed: false,
+        least: u64::MAX,
+        first: None,
+    };
+    for _piece in 0..MOST_PIECES {
+        let before = walk.records;
+        let count = store.read(load, walk.next, &mut room).ok()?;
+        walk.take_piece(room.get(..count).unwrap_or(&[]), limit);
+        if walk.records == before {
+            break;
         }
-        Some(self)
     }
+    Some(walk)
 }
 
 /// The octet at which a load ends, which has at least so many.

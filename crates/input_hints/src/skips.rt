@@ -3,10 +3,10 @@
 use crate::asked::{Ended, after, word_at};
 use crate::files::read_file;
 use crate::layouts::{document_of, number_at};
-use crate::records::Walk;
+use crate::records::walk_over;
 use crate::rows::{rows_of, word_of};
 use crate::shown::show;
-use lists::{List, OutOfMemory};
+use lists::OutOfMemory;
 use mac_parameters::{NANOSECONDS_A_HALF_BIT, most_octets};
 use outside::Store;
 use std::alloc::Global;
@@ -14,9 +14,6 @@ use toml::{Table, Value};
 
 /// The most octets of counters that are read: more than those of all devices have.
 const MOST_COUNTERS: usize = 1_048_576;
-
-/// The octets of a capture's head, and of its first record's, which may be one of no octets that says when time begins.
-const HEADS: usize = 40;
 
 /// How many stations are told of.
 const MOST_TOLD: u64 = 5;
@@ -30,200 +27,143 @@ fn count_of(line: &str, word: &str) -> u64 {
         .unwrap_or(0)
 }
 
+fn skipped_of(line: &str) -> u64 {
+    count_of(line, "snapped")
+        .saturating_add(count_of(line, "short"))
+        .saturating_add(count_of(line, "long"))
+}
+
 /// Whether a station has frames and began to send none.
 fn is_silent(line: &str) -> bool {
     let queued = count_of(line, "queued");
-    queued > 0
-        && queued == count_of(line, "left")
-        && count_of(line, "collided") == 0
-        && count_of(line, "cut") == 0
+    let begun = count_of(line, "collided").saturating_add(count_of(line, "cut"));
+    queued > 0 && queued == count_of(line, "left") && begun == 0
 }
 
-fn is_short(line: &str) -> bool {
-    ["snapped", "short", "long"]
-        .iter()
-        .any(|word| count_of(line, word) > 0)
-}
-
-/// The times of loads, in nanoseconds: the least one, and that of each station's first record that is sent.
-#[derive(Drop)]
-struct Times {
-    least: u64,
-    firsts: List<Option<u64>>,
-}
-
-impl Times {
-    /// The half bit from which on a station's first frame may be sent.
-    fn ready(&self, place: usize) -> Option<u64> {
-        let first = *self.firsts.as_slice().get(place)?;
-        Some(first?.saturating_sub(self.least) / NANOSECONDS_A_HALF_BIT)
-    }
-}
-
-/// The times of all loads; nothing where one can't be read.
-fn times_of<S: Store>(
-    alloc: Global,
-    store: &mut S,
-    document: &Table,
-) -> Result<Option<Times>, OutOfMemory> {
-    let most = most_octets(number_at(document, "format") == Some(2));
-    let mut least = u64::MAX;
-    let mut firsts = List::new(alloc);
-    for row in rows_of(document, "station") {
-        let mut first = None;
-        if let Some(load) = word_of(row, "load") {
-            let Some(head) = read_file(alloc, store, load, HEADS)? else {
-                return Ok(None);
-            };
-            let Some(walk) = Walk::new(head.as_slice(), u64::MAX, most).over(store, load) else {
-                return Ok(None);
-            };
-            least = least.min(walk.least);
-            first = walk.first;
-        }
-        firsts.push(first)?;
-    }
-    Ok(Some(Times { least, firsts }))
-}
-
-/// Whether the first record of a load has no octets: it says when half bit 0 is, and isn't meant to be sent.
-fn begins_time<S: Store>(alloc: Global, store: &mut S, load: &str) -> Result<bool, OutOfMemory> {
-    let heads = read_file(alloc, store, load, HEADS)?.unwrap_or(List::new(alloc));
-    let lengths = heads.as_slice().get(32..HEADS);
-    Ok(lengths.is_some_and(|lengths| lengths.iter().all(|octet| *octet == 0)))
-}
-
-/// A load that wasn't sent whole: its station, what was skipped, and when its first frame is ready, if that is too late.
+/// What a layout and its loads say of a run.
 #[derive(Clone, Copy)]
-struct Unsent<'a> {
-    load: &'a str,
-    station: &'a str,
-    snapped: u64,
-    short: u64,
-    long: u64,
-    ready: Option<u64>,
+struct Run<'a> {
+    document: &'a Table,
+    half_bits: u64,
+    /// The most octets of a frame.
+    most: u32,
+    /// The least time of all loads, in nanoseconds, which is half bit 0, where it was looked for.
+    start: Option<u64>,
 }
 
-impl Unsent<'_> {
-    fn skipped(&self) -> u64 {
-        self.snapped.saturating_add(self.short).saturating_add(self.long)
+/// The least time of all loads, in nanoseconds; nothing where one can't be read.
+fn start_of<S: Store>(store: &mut S, document: &Table) -> Option<u64> {
+    let mut start = u64::MAX;
+    for row in rows_of(document, "station") {
+        if let Some(load) = word_of(row, "load") {
+            let walk = walk_over(store, load, u64::MAX, 0)?;
+            start = start.min(walk.least);
+        }
     }
+    Some(start)
 }
 
-/// What wasn't sent of the load of a station's row, where anything is to be told.
-fn unsent_of<'a, S: Store>(
-    alloc: Global,
-    store: &mut S,
-    row: &'a Value,
-    line: &str,
-    ready: Option<u64>,
-) -> Result<Option<Unsent<'a>>, OutOfMemory> {
-    let (Some(load), Some(station)) = (word_of(row, "load"), word_of(row, "name")) else {
-        return Ok(None);
-    };
-    let mut short = count_of(line, "short");
-    if short > 0 && begins_time(alloc, store, load)? {
-        short = short.saturating_sub(1);
+/// The half bit in which a load's first frame is ready, where that is at the run's end or later.
+fn late_start<S: Store>(store: &mut S, run: &Run<'_>, load: &str) -> Option<u64> {
+    let first = walk_over(store, load, u64::MAX, run.most)?.first?;
+    let ready = first.saturating_sub(run.start?) / NANOSECONDS_A_HALF_BIT;
+    if ready < run.half_bits {
+        return None;
     }
-    let unsent = Unsent {
-        load,
-        station,
-        snapped: count_of(line, "snapped"),
-        short,
-        long: count_of(line, "long"),
-        ready,
-    };
-    let is_told = unsent.skipped() > 0 || ready.is_some();
-    Ok(if is_told { Some(unsent) } else { None })
+    Some(ready)
 }
 
 /// Tells how many records were skipped, and why.
 fn tell_skipped(
     out: &mut String,
-    unsent: &Unsent<'_>,
+    line: &str,
+    timed: u64,
     frames: u64,
     most: u32,
 ) -> Result<(), OutOfMemory> {
-    let skipped = unsent.skipped();
+    let skipped = skipped_of(line).saturating_sub(timed);
     let records = frames.saturating_add(skipped);
     let were = if skipped == 1 { "was" } else { "were" };
     write!(out, "{skipped} of {records} records {were} skipped")?;
     let mut before = ":";
-    if unsent.snapped > 0 {
-        let snapped = unsent.snapped;
-        write!(out, "{before} {snapped} snapped (not all octets were captured)")?;
-        before = ",";
-    }
-    if unsent.short > 0 {
-        let short = unsent.short;
-        write!(out, "{before} {short} short (below 14 octets)")?;
-        before = ",";
-    }
-    if unsent.long > 0 {
-        let long = unsent.long;
-        write!(out, "{before} {long} long (above {most} octets)")?;
+    for (word, why, timed) in [
+        ("snapped", "not all octets were captured", 0),
+        ("short", "below 14 octets", timed),
+        ("long", "above ", 0),
+    ] {
+        let count = count_of(line, word).saturating_sub(timed);
+        if count > 0 {
+            write!(out, "{before} {count} {word} ({why}")?;
+            if word == "long" {
+                write!(out, "{most} octets")?;
+            }
+            out.push_str(")")?;
+            before = ",";
+        }
     }
     Ok(())
 }
 
-/// Tells what wasn't sent of a load.
-fn tell_unsent(
+/// Tells what wasn't sent of the load of a station, and whether anything is told: not where the first record alone was
+/// skipped, since it says when time begins.
+fn tell_load_of<S: Store>(
     out: &mut String,
-    document: &Table,
-    unsent: &Unsent<'_>,
+    store: &mut S,
+    run: &Run<'_>,
+    row: &Value,
     line: &str,
-    end: u64,
-) -> Result<(), OutOfMemory> {
-    let sends = rows_of(document, "send")
-        .iter()
-        .filter(|send| word_of(send, "station") == Some(unsent.station))
-        .count();
+) -> Result<bool, OutOfMemory> {
+    let (Some(load), Some(station)) = (word_of(row, "load"), word_of(row, "name")) else {
+        return Ok(false);
+    };
+    let skipped = skipped_of(line);
+    let first = if skipped > 0 { walk_over(store, load, 1, 0) } else { None };
+    let timed = if first.is_some_and(|walk| walk.is_timed) { 1 } else { 0 };
+    let late = if is_silent(line) { late_start(store, run, load) } else { None };
+    let is_skipped = skipped > timed;
+    if !is_skipped && late.is_none() {
+        return Ok(false);
+    }
+    let sends = rows_of(run.document, "send").iter();
+    let sends = sends.filter(|send| word_of(send, "station") == Some(station)).count();
     let frames = count_of(line, "queued").saturating_sub(sends as u64);
     out.push_str("netsim: ")?;
-    show(out, unsent.load)?;
+    show(out, load)?;
     out.push_str(", the load of station ")?;
-    show(out, unsent.station)?;
-    out.push_str(": ")?;
-    if unsent.skipped() > 0 {
-        let most = most_octets(number_at(document, "format") == Some(2));
-        tell_skipped(out, unsent, frames, most)?;
-        out.push_str(if unsent.ready.is_some() { "; " } else { "" })?;
+    show(out, station)?;
+    let mut before = ": ";
+    if is_skipped {
+        out.push_str(before)?;
+        tell_skipped(out, line, timed, frames, run.most)?;
+        before = "; ";
     }
-    if let Some(ready) = unsent.ready {
+    if let Some(ready) = late {
+        let end = run.half_bits;
         match frames {
-            1 => out.push_str("its frame was not sent: it is")?,
-            _ => write!(out, "none of its {frames} frames was sent: the first is")?,
+            1 => write!(out, "{before}its frame was not sent: it is")?,
+            _ => write!(out, "{before}none of its {frames} frames was sent: the first is")?,
         }
         write!(out, " ready at half bit {ready}, and the run ends at {end}")?;
     }
     out.push_str("\n")?;
-    Ok(())
+    Ok(true)
 }
 
-/// Tells of the first stations of whose loads not all was sent, and how many more there are.
-fn tell_stations<S: Store>(
+/// Tells of the loads of the first stations, and how many more such there are.
+fn tell_all<S: Store>(
     alloc: Global,
     out: &mut String,
     store: &mut S,
-    document: &Table,
+    run: &Run<'_>,
     counters: &str,
 ) -> Result<(), OutOfMemory> {
-    let times = if counters.lines().any(is_silent) {
-        times_of(alloc, store, document)?
-    } else {
-        None
-    };
-    let bits = number_at(document, "until_bits").and_then(|bits| u64::try_from(bits).ok());
-    let end = bits.unwrap_or(u64::MAX).saturating_mul(2);
     let mut told = 0u64;
-    let rows = rows_of(document, "station").iter();
-    for (place, (line, row)) in counters.lines().zip(rows).enumerate() {
-        let ready = times.as_ref().and_then(|times| times.ready(place));
-        let late = ready.filter(|ready| *ready >= end && is_silent(line));
-        if let Some(unsent) = unsent_of(alloc, store, row, line, late)? {
+    for (line, row) in counters.lines().zip(rows_of(run.document, "station")) {
+        let mut text = String::new(alloc);
+        if tell_load_of(&mut text, store, run, row, line)? {
             told = told.saturating_add(1);
             if told <= MOST_TOLD {
-                tell_unsent(out, document, &unsent, line, end)?;
+                out.push_str(text.as_str())?;
             }
         }
     }
@@ -246,11 +186,20 @@ pub fn tell_skips<S: Store>(
         return Ok(());
     };
     let counters = str::from_utf8(octets.as_slice()).unwrap_or("");
-    if !counters.lines().any(|line| is_short(line) || is_silent(line)) {
+    if !counters.lines().any(|line| skipped_of(line) > 0 || is_silent(line)) {
         return Ok(());
     }
-    match document_of(alloc, word_at(ended.words, 1), store)? {
-        Some(document) => tell_stations(alloc, out, store, &document, counters),
-        None => Ok(()),
-    }
+    let Some(document) = document_of(alloc, word_at(ended.words, 1), store)? else {
+        return Ok(());
+    };
+    let mut stations = counters.lines().zip(rows_of(&document, "station"));
+    let is_timed = stations.any(|(line, row)| is_silent(line) && word_of(row, "load").is_some());
+    let bits = number_at(&document, "until_bits").and_then(|bits| u64::try_from(bits).ok());
+    let run = Run {
+        document: &document,
+        half_bits: bits.unwrap_or(u64::MAX).saturating_mul(2),
+        most: most_octets(number_at(&document, "format") == Some(2)),
+        start: if is_timed { start_of(store, &document) } else { None },
+    };
+    tell_all(alloc, out, store, &run, counters)
 }
