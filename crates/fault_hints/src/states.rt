@@ -27,7 +27,10 @@ fn tell_range(out: &mut String, kind: &str, body: &str) -> Result<bool, OutOfMem
     ] {
         let number = after(body, word).unwrap_or("");
         if line == kind && is_outside(number, least, most) {
-            write!(out, "{word} {number} is out of its range, {least} to {most}")?;
+            write!(
+                out,
+                "{word} {number} is out of its range, {least} to {most}"
+            )?;
             return Ok(true);
         }
     }

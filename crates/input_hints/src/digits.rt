@@ -7,7 +7,10 @@ use mac_parameters::{CHECK_SEQUENCE, most_octets};
 /// Tells which digit is none.
 fn tell_digit(out: &mut String, place: usize, sign: char) -> Result<(), OutOfMemory> {
     let number = place.saturating_add(1);
-    write!(out, "octets wants hexadecimal digits alone: digit {number} is ")?;
+    write!(
+        out,
+        "octets wants hexadecimal digits alone: digit {number} is "
+    )?;
     if sign == ' ' {
         out.push_str("a blank")?;
         return Ok(());

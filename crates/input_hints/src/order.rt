@@ -19,13 +19,15 @@ pub fn comes_before<S: Store>(
     };
     let stations = rows_of(&document, "station");
     let repeaters = rows_of(&document, "repeater");
-    Ok(match (row_named(stations, name), row_named(stations, other)) {
-        (Some(first), Some(second)) => first < second,
-        (Some(_), None) => row_named(repeaters, other).is_some(),
-        (None, Some(_)) => false,
-        (None, None) => match (row_named(repeaters, name), row_named(repeaters, other)) {
+    Ok(
+        match (row_named(stations, name), row_named(stations, other)) {
             (Some(first), Some(second)) => first < second,
-            _ => false,
+            (Some(_), None) => row_named(repeaters, other).is_some(),
+            (None, Some(_)) => false,
+            (None, None) => match (row_named(repeaters, name), row_named(repeaters, other)) {
+                (Some(first), Some(second)) => first < second,
+                _ => false,
+            },
         },
-    })
+    )
 }

@@ -20,7 +20,9 @@ pub fn word_of<'a>(row: &'a Value, key: &str) -> Option<&'a str> {
 
 /// The row of a name, from 1.
 pub fn row_named(rows: &[Value], name: &str) -> Option<usize> {
-    let row = rows.iter().position(|row| word_of(row, "name") == Some(name))?;
+    let row = rows
+        .iter()
+        .position(|row| word_of(row, "name") == Some(name))?;
     Some(row.saturating_add(1))
 }
 

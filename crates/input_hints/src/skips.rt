@@ -117,15 +117,29 @@ fn tell_load_of<S: Store>(
         return Ok(false);
     };
     let skipped = skipped_of(line);
-    let first = if skipped > 0 { walk_over(store, load, 1, 0) } else { None };
-    let timed = if first.is_some_and(|walk| walk.is_timed) { 1 } else { 0 };
-    let late = if is_silent(line) { late_start(store, run, load) } else { None };
+    let first = if skipped > 0 {
+        walk_over(store, load, 1, 0)
+    } else {
+        None
+    };
+    let timed = if first.is_some_and(|walk| walk.is_timed) {
+        1
+    } else {
+        0
+    };
+    let late = if is_silent(line) {
+        late_start(store, run, load)
+    } else {
+        None
+    };
     let is_skipped = skipped > timed;
     if !is_skipped && late.is_none() {
         return Ok(false);
     }
     let sends = rows_of(run.document, "send").iter();
-    let sends = sends.filter(|send| word_of(send, "station") == Some(station)).count();
+    let sends = sends
+        .filter(|send| word_of(send, "station") == Some(station))
+        .count();
     let frames = count_of(line, "queued").saturating_sub(sends as u64);
     out.push_str("netsim: ")?;
     show(out, load)?;
@@ -141,7 +155,10 @@ fn tell_load_of<S: Store>(
         let end = run.half_bits;
         match frames {
             1 => write!(out, "{before}its frame was not sent: it is")?,
-            _ => write!(out, "{before}none of its {frames} frames was sent: the first is")?,
+            _ => write!(
+                out,
+                "{before}none of its {frames} frames was sent: the first is"
+            )?,
         }
         write!(out, " ready at half bit {ready}, and the run ends at {end}")?;
     }
@@ -186,7 +203,10 @@ pub fn tell_skips<S: Store>(
         return Ok(());
     };
     let counters = str::from_utf8(octets.as_slice()).unwrap_or("");
-    if !counters.lines().any(|line| skipped_of(line) > 0 || is_silent(line)) {
+    if !counters
+        .lines()
+        .any(|line| skipped_of(line) > 0 || is_silent(line))
+    {
         return Ok(());
     }
     let Some(document) = document_of(alloc, word_at(ended.words, 1), store)? else {
@@ -199,7 +219,11 @@ pub fn tell_skips<S: Store>(
         document: &document,
         half_bits: bits.unwrap_or(u64::MAX).saturating_mul(2),
         most: most_octets(number_at(&document, "format") == Some(2)),
-        start: if is_timed { start_of(store, &document) } else { None },
+        start: if is_timed {
+            start_of(store, &document)
+        } else {
+            None
+        },
     };
     tell_all(alloc, out, store, &run, counters)
 }

@@ -11,7 +11,8 @@ use toml::Table;
 
 /// The first tap at a place of a segment.
 fn tap_at(taps: &[Tap], segment: usize, at: u32) -> Option<&Tap> {
-    taps.iter().find(|tap| tap.segment == segment && tap.at == at)
+    taps.iter()
+        .find(|tap| tap.segment == segment && tap.at == at)
 }
 
 /// The least free place of a segment above one, else the greatest below.
@@ -22,7 +23,9 @@ fn next_free(taps: &[Tap], segment: usize, at: u32) -> Option<u32> {
             return Some(place);
         }
     }
-    (0..at).rev().find(|place| tap_at(taps, segment, *place).is_none())
+    (0..at)
+        .rev()
+        .find(|place| tap_at(taps, segment, *place).is_none())
 }
 
 /// Shows a tap that stands in the file.
