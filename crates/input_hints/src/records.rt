@@ -50,20 +50,26 @@ impl Walk {
         self.next = self.next.saturating_add(length);
     }
 
-    /// Takes the heads that are whole in a piece of the load, which begins with one, up to so many records.
+    fn is_before(&self, limit: u64) -> bool {
+        self.records < limit && self.first.is_none()
+    }
+
+    /// Takes the heads that are whole in a piece of the load, which begins with one, up to so many records or to the
+    /// first one that is sent.
     fn take_piece(&mut self, piece: &[u8], limit: u64) {
         let from = self.next;
         for _head in 0..MOST_HEADS {
             let place = self.next.saturating_sub(from) as usize;
             match piece.get(place..) {
-                Some(head) if head.len() >= HEAD && self.records < limit => self.take(head),
+                Some(head) if head.len() >= HEAD && self.is_before(limit) => self.take(head),
                 _ => break,
             }
         }
     }
 }
 
-/// The walk over so many records of a load, up to the first one that isn't whole; nothing where it can't be read.
+/// The walk over so many records of a load, up to the first one that isn't whole or is sent: with no most octets none
+/// is. Nothing where the load can't be read.
 pub fn walk_over<S: Store>(store: &mut S, load: &str, limit: u64, most: u32) -> Option<Walk> {
     let mut room = [0u8; PIECE];
     let count = store.read(load, 0, &mut room).ok()?;
