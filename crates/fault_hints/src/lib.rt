@@ -3,7 +3,10 @@
 
 mod early;
 mod failures;
+mod lines;
+mod loads;
 mod logs;
+mod states;
 mod told;
 mod words;
 

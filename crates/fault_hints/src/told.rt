@@ -1,12 +1,14 @@
 //! What is told of a run, by its status.
 
 use crate::failures::tell_failure;
+use crate::loads::tell_loads;
 use crate::logs::{tell_log, tell_no_quiet, tell_output, tell_state, tell_stranger};
 use crate::words::tell_words;
 use input_hints::{Ended, after, show, tell_layout, tell_load, tell_range, tell_tap, word_at};
 use lists::OutOfMemory;
 use outside::{Failure, Store};
 use std::alloc::Global;
+use std::rt::Files;
 
 fn number_after(line: &str, word: &str) -> u64 {
     after(line, word)
@@ -14,8 +16,14 @@ fn number_after(line: &str, word: &str) -> u64 {
         .unwrap_or(0)
 }
 
-/// What a run that is done has to warn of: a round trip that is too long, and late collisions.
-fn tell_warnings(out: &mut String, ended: &Ended<'_>) -> Result<(), OutOfMemory> {
+/// What a run that is done has to warn of: a round trip that is too long, late collisions, and loads that weren't sent whole.
+fn tell_warnings<R: Files, S: Store>(
+    rt: &R,
+    alloc: Global,
+    out: &mut String,
+    ended: &Ended<'_>,
+    store: &mut S,
+) -> Result<(), OutOfMemory> {
     if !matches!(word_at(ended.words, 0), "plain" | "run" | "resume") {
         return Ok(());
     }
@@ -31,7 +39,7 @@ fn tell_warnings(out: &mut String, ended: &Ended<'_>) -> Result<(), OutOfMemory>
             )?;
         }
     }
-    Ok(())
+    tell_loads(rt, alloc, out, ended, store)
 }
 
 fn tell_over(out: &mut String, ended: &Ended<'_>, over: &str) -> Result<(), OutOfMemory> {
@@ -46,7 +54,8 @@ fn tell_over(out: &mut String, ended: &Ended<'_>, over: &str) -> Result<(), OutO
 }
 
 /// The lines for standard error: each begins with `netsim: `, and what can't be found out is left unsaid.
-pub fn hints<S: Store>(
+pub fn hints<R: Files, S: Store>(
+    rt: &R,
     alloc: Global,
     ended: &Ended<'_>,
     failure: Option<&Failure>,
@@ -54,7 +63,7 @@ pub fn hints<S: Store>(
 ) -> Result<String, OutOfMemory> {
     let mut out = String::new(alloc);
     match ended.status {
-        0 => tell_warnings(&mut out, ended)?,
+        0 => tell_warnings(rt, alloc, &mut out, ended, store)?,
         1 => tell_words(alloc, &mut out, ended.help, ended.words)?,
         2 => tell_layout(alloc, &mut out, ended, store)?,
         3 => tell_load(alloc, &mut out, ended, store)?,

@@ -80,7 +80,7 @@ fn range_of(name: &str) -> Option<(u32, u32)> {
     }
 }
 
-fn are_digits(word: &str) -> bool {
+pub fn are_digits(word: &str) -> bool {
     !word.is_empty() && word.bytes().all(|octet| octet.is_ascii_digit())
 }
 

@@ -9,8 +9,8 @@ const PIECE: usize = 16_384;
 
 const MOST_PIECES: u32 = 16_400;
 
-/// The most octets of a line that are kept: one more than is shown.
-const MOST_OF_LINE: usize = 81;
+/// The most octets of a line that are kept: more than are shown, and than a line of a log has.
+const MOST_OF_LINE: usize = 256;
 
 /// A file, or a front of it of some 256 MiB; nothing where it can't be read.
 pub fn read_file<S: Store>(
@@ -34,11 +34,19 @@ pub fn read_file<S: Store>(
     Ok(Some(octets))
 }
 
+/// The front of a line, and whether the file ends before its line feed.
+#[derive(Drop)]
+pub struct Line {
+    pub front: List<u8>,
+    pub ends_file: bool,
+}
+
 /// A line that is found while a file goes by.
 #[derive(Drop)]
 struct LineAt {
     line: List<u8>,
     before: u64,
+    ends_file: bool,
 }
 
 impl LineAt {
@@ -50,6 +58,7 @@ impl LineAt {
                     self.before -= 1;
                 }
             } else if *octet == b'\n' || self.line.len() >= MOST_OF_LINE {
+                self.ends_file = false;
                 return Ok(true);
             } else {
                 self.line.push(*octet)?;
@@ -65,10 +74,11 @@ pub fn read_line<S: Store>(
     store: &mut S,
     name: &str,
     number: u64,
-) -> Result<Option<List<u8>>, OutOfMemory> {
+) -> Result<Option<Line>, OutOfMemory> {
     let mut found = LineAt {
         line: List::new(alloc),
         before: number.saturating_sub(1),
+        ends_file: true,
     };
     let mut room = [0u8; PIECE];
     let mut from = 0u64;
@@ -87,5 +97,8 @@ pub fn read_line<S: Store>(
     if found.before > 0 {
         return Ok(None);
     }
-    Ok(Some(found.line))
+    Ok(Some(Line {
+        front: found.line,
+        ends_file: found.ends_file,
+    }))
 }

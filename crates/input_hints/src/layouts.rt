@@ -1,13 +1,16 @@
 //! What is wrong with a layout file, by the program's own line and by the file, which is read again.
 
 use crate::asked::{Ended, word_at};
+use crate::digits::tell_digits;
 use crate::files::read_file;
 use crate::near::Nearest;
 use crate::places::{Place, Spot, place_in, spot_of};
 use crate::shown::{show, show_word};
+use crate::tables::{is_table, tell_no_table};
+use crate::taken::tell_taken;
 use crate::tomls::{tell_no_text, tell_no_toml};
+use crate::ways::tell_loop;
 use lists::OutOfMemory;
-use mac_parameters::{MOST_OCTETS_TAGGED, MOST_OCTETS_UNTAGGED};
 use outside::Store;
 use std::alloc::Global;
 use toml::{Table, Value};
@@ -24,7 +27,7 @@ fn row_of<'a>(document: &'a Table, table: &str, row: usize) -> Option<&'a Table>
 }
 
 /// The table of a place: the file's own, a row's, or a port's.
-fn table_of<'a>(document: &'a Table, place: &Place<'_>) -> Option<&'a Table> {
+pub fn table_of<'a>(document: &'a Table, place: &Place<'_>) -> Option<&'a Table> {
     if place.row == 0 {
         return Some(document);
     }
@@ -64,7 +67,7 @@ fn keys_of(place: &Place<'_>, format: i64) -> &'static str {
 }
 
 /// Shows where a place is: the row with its name, or the file's head.
-fn show_row(out: &mut String, document: &Table, place: &Place<'_>) -> Result<(), OutOfMemory> {
+pub fn show_row(out: &mut String, document: &Table, place: &Place<'_>) -> Result<(), OutOfMemory> {
     if place.row == 0 {
         out.push_str("the head of the file")?;
         return Ok(());
@@ -225,45 +228,6 @@ fn is_row(document: &Table, table: &str, name: &str) -> bool {
     }
 }
 
-/// What is wrong with the digits of a frame.
-fn tell_digits(out: &mut String, digits: &str, format: i64) -> Result<(), OutOfMemory> {
-    let most = if format == 2 {
-        MOST_OCTETS_TAGGED
-    } else {
-        MOST_OCTETS_UNTAGGED
-    };
-    let count = digits.len();
-    let octets = count / 2;
-    if let Some(sign) = digits.chars().find(|sign| !sign.is_ascii_hexdigit()) {
-        out.push_str("octets wants hexadecimal digits alone, without blanks, and has '")?;
-        show(out, sign.encode_utf8(&mut [0u8; 4]))?;
-        out.push_str("'")?;
-    } else if count % 2 == 1 {
-        write!(out, "octets has {count} digits, and an octet has two")?;
-    } else {
-        write!(
-            out,
-            "octets has {octets} octets, and a frame without its check sequence has 14 to {most}"
-        )?;
-    }
-    Ok(())
-}
-
-/// Tells of a tap's place that is taken.
-fn tell_taken(out: &mut String, document: &Table, place: &Place<'_>) -> Result<(), OutOfMemory> {
-    show_row(out, document, place)?;
-    let table = table_of(document, place);
-    match table.and_then(|table| number_at(table, "at")) {
-        Some(at) => write!(
-            out,
-            " stands at {at} of its segment, where an earlier tap stands"
-        )?,
-        None => out.push_str(" stands where an earlier tap of its segment stands")?,
-    }
-    out.push_str(": give it another place")?;
-    Ok(())
-}
-
 /// The sentence of a fault, after its place.
 fn tell_fault(
     alloc: Global,
@@ -293,13 +257,8 @@ fn tell_fault(
         8 => out.push_str("an earlier station or repeater has this name")?,
         9 => tell_no_such(alloc, out, document, "segment", text)?,
         10 => tell_no_such(alloc, out, document, "station", text)?,
-        11 => tell_taken(out, document, place)?,
-        12 => {
-            show_row(out, document, place)?;
-            out.push_str(
-                " joins its repeater to a segment that is joined to it already: no network has a loop",
-            )?;
-        }
+        11 => tell_taken(alloc, out, document, place)?,
+        12 => tell_loop(alloc, out, document, place, text)?,
         13 => out.push_str("no path over repeaters joins this segment to the first one")?,
         14 => tell_digits(out, text, format)?,
         _ => out.push_str("it has a fault")?,
@@ -320,6 +279,9 @@ fn tell_stranger_key(
         .and_then(|table| stranger(table, keys))
         .unwrap_or("-");
     begin_at(out, file, spot_of(text, place, key))?;
+    if place.row == 0 && is_table(document, key) {
+        return tell_no_table(alloc, out, key);
+    }
     show_word(out, key)?;
     out.push_str(" in ")?;
     show_row(out, document, place)?;

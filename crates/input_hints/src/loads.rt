@@ -1,6 +1,7 @@
 //! What is wrong with a load.
 
 use crate::asked::{Ended, after, word_at};
+use crate::captures::{tell_kept, tell_record};
 use crate::files::read_file;
 use crate::layouts::{document_of, tell_unread, text_at};
 use crate::shown::show;
@@ -44,7 +45,7 @@ fn other_form(head: &[u8]) -> &'static str {
     }
 }
 
-fn number_of(order: bool, octets: &[u8]) -> u32 {
+pub fn number_of(order: bool, octets: &[u8]) -> u32 {
     match octets {
         [a, b, c, d, ..] if order => u32::from_le_bytes([*a, *b, *c, *d]),
         [a, b, c, d, ..] => u32::from_be_bytes([*a, *b, *c, *d]),
@@ -69,12 +70,15 @@ fn link_name(link: u32) -> &'static str {
     }
 }
 
-fn is_little(head: &[u8]) -> bool {
+pub fn is_little(head: &[u8]) -> bool {
     matches!(head, [0xd4 | 0x4d, ..])
 }
 
 fn tell_link(out: &mut String, head: &[u8]) -> Result<(), OutOfMemory> {
     let link = number_of(is_little(head), head.get(20..).unwrap_or(&[]));
+    if tell_kept(out, link)? {
+        return Ok(());
+    }
     let name = link_name(link);
     write!(
         out,
@@ -150,7 +154,10 @@ pub fn tell_load<S: Store>(
     write!(out, ", the load of station {station}: ")?;
     let code = after(ended.said, "fault").unwrap_or("");
     let record = after(ended.said, "record").unwrap_or("0");
-    tell_code(out, code, record, octets.as_slice())?;
+    let head = octets.as_slice();
+    if !tell_record(out, store, load, code, record)? {
+        tell_code(out, code, record, head)?;
+    }
     out.push_str("\n")?;
     Ok(())
 }

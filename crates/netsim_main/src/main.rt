@@ -62,7 +62,7 @@ fn tell<R: Files + Drop, P: Print + Drop>(
         status,
         said: str::from_utf8(out.said()).unwrap_or(""),
     };
-    let _ = match hints(rt.alloc(), &ended, failure.as_ref(), store) {
+    let _ = match hints(rt, rt.alloc(), &ended, failure.as_ref(), store) {
         Ok(text) => eprint!(rt; "{text}"),
         Err(OutOfMemory) => eprint!(rt; "{NO_MEMORY}"),
     };
