@@ -281,7 +281,7 @@ function goByLine(step) {
 
 function play(isOn) {
   playing = isOn ? performance.now() : 0;
-  if (isOn && look.at >= net.to) look.at = net.from;
+  look.at = isOn && look.at >= net.to ? net.from : Math.floor(look.at);
   if (isOn) requestAnimationFrame(playOn);
   changed();
 }
