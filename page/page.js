@@ -148,7 +148,7 @@ function showButtons() {
   element("unit").textContent = UNITS[look.unit].name;
   document.querySelector("[data-do=theme]").textContent = look.dark ? "light" : "dark";
   element("play").textContent = playing ? "stop" : "play";
-  element("speed").textContent = `${group(SPEEDS[look.speed])} a second`;
+  element("speed").textContent = `${group(SPEEDS[look.speed])} half bits/s`;
 }
 
 const SAMPLES = [
@@ -281,7 +281,7 @@ function goByLine(step) {
 
 function play(isOn) {
   playing = isOn ? performance.now() : 0;
-  if (isOn && look.at >= net.to) look.at = net.from;
+  look.at = isOn && look.at >= net.to ? net.from : Math.floor(look.at);
   if (isOn) requestAnimationFrame(playOn);
   changed();
 }
@@ -527,7 +527,7 @@ window.netsimPage = {
 };
 
 element("window").textContent = `half bits ${group(net.from)} to ${group(net.to)} of ${group(net.halfBits)}; ` +
-  `${group(net.rows.length)} lines of the log`;
+  `${group(net.rows.length)} ${net.rows.length === 1 ? "line" : "lines"} of the log`;
 showHeads();
 look.speed = Math.max(0, SPEEDS.findIndex(speed => speed >= (net.to - net.from) / 30));
 readView();

@@ -268,11 +268,11 @@ function rowsOfKind(kind) {
 
 function next(kind, t) {
   const rows = rowsOfKind(kind);
-  return rows[countBelow(rows, t + 1, row => row.at)] || null;
+  return rows[countBelow(rows, Math.floor(t) + 1, row => row.at)] || null;
 }
 
 function previous(kind, t) {
-  const rows = rowsOfKind(kind), count = countBelow(rows, t, row => row.at);
+  const rows = rowsOfKind(kind), count = countBelow(rows, Math.floor(t), row => row.at);
   return count ? rows[countBelow(rows, rows[count - 1].at, row => row.at)] : null;
 }
 
