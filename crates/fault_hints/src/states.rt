@@ -9,8 +9,8 @@ use mac_parameters::{
 use outside::Store;
 use std::alloc::Global;
 
-/// Tells of a number of a line's body that is out of its range, and whether there is one.
-fn tell_range(out: &mut String, kind: &str, body: &str) -> Result<bool, OutOfMemory> {
+/// The word before a number of a line's body that is out of its range, and that range.
+fn broken_range(kind: &str, body: &str) -> Option<(&'static str, u64, u64)> {
     for (line, word, least, most) in [
         ("station", "backoff", 0, 2_100_000_000),
         ("station", "gap", 1, u64::from(INTERFRAME_GAP)),
@@ -27,14 +27,10 @@ fn tell_range(out: &mut String, kind: &str, body: &str) -> Result<bool, OutOfMem
     ] {
         let number = after(body, word).unwrap_or("");
         if line == kind && is_outside(number, least, most) {
-            write!(
-                out,
-                "{word} {number} is out of its range, {least} to {most}"
-            )?;
-            return Ok(true);
+            return Some((word, least, most));
         }
     }
-    Ok(false)
+    None
 }
 
 /// What is wrong with the form of a line, where it is known.
@@ -81,7 +77,12 @@ pub fn order_fault<S: Store>(
 pub fn tell_value(out: &mut String, line: &str, order: Option<&str>) -> Result<(), OutOfMemory> {
     let kind = first_word(line);
     let body = after_words(line, if kind == "row" { 4 } else { 2 });
-    if tell_range(out, kind, body)? {
+    if let Some((word, least, most)) = broken_range(kind, body) {
+        let number = after(body, word).unwrap_or("");
+        write!(
+            out,
+            "{word} {number} is out of its range, {least} to {most}"
+        )?;
         return Ok(());
     }
     out.push_str(match kind {

@@ -31,14 +31,20 @@ pub struct Walk {
     pub first: Option<u64>,
 }
 
+/// A number of a record's head.
+fn field(is_little: bool, head: &[u8], place: usize) -> u32 {
+    number_of(is_little, head.get(place..).unwrap_or(&[]))
+}
+
 impl Walk {
     /// Takes the head of a record.
     fn take(&mut self, head: &[u8]) {
-        let field = |place: usize| number_of(self.is_little, head.get(place..).unwrap_or(&[]));
-        let fraction = u64::from(field(4)).saturating_mul(self.unit);
-        let seconds = u64::from(field(0)).saturating_mul(1_000_000_000);
+        let is_little = self.is_little;
+        let fraction = u64::from(field(is_little, head, 4)).saturating_mul(self.unit);
+        let seconds = u64::from(field(is_little, head, 0)).saturating_mul(1_000_000_000);
         let nanos = seconds.saturating_add(fraction);
-        let (captured, original) = (field(8), field(12));
+        let captured = field(is_little, head, 8);
+        let original = field(is_little, head, 12);
         let is_sent = captured >= original && captured >= 14 && captured <= self.most;
         if is_sent && self.first.is_none() {
             self.first = Some(nanos);

@@ -73,6 +73,20 @@ fn late_start<S: Store>(store: &mut S, run: &Run<'_>, load: &str) -> Option<u64>
     Some(ready)
 }
 
+/// Tells how many records were skipped for one reason, where any were, and answers what stands before the next one.
+fn tell_why<'a>(
+    out: &mut String,
+    before: &'a str,
+    count: u64,
+    why: &str,
+) -> Result<&'a str, OutOfMemory> {
+    if count == 0 {
+        return Ok(before);
+    }
+    write!(out, "{before} {count} {why}")?;
+    Ok(",")
+}
+
 /// Tells how many records were skipped, and why.
 fn tell_skipped(
     out: &mut String,
@@ -85,21 +99,12 @@ fn tell_skipped(
     let records = frames.saturating_add(skipped);
     let were = if skipped == 1 { "was" } else { "were" };
     write!(out, "{skipped} of {records} records {were} skipped")?;
-    let mut before = ":";
-    for (word, why, timed) in [
-        ("snapped", "not all octets were captured", 0),
-        ("short", "below 14 octets", timed),
-        ("long", "above ", 0),
-    ] {
-        let count = count_of(line, word).saturating_sub(timed);
-        if count > 0 {
-            write!(out, "{before} {count} {word} ({why}")?;
-            if word == "long" {
-                write!(out, "{most} octets")?;
-            }
-            out.push_str(")")?;
-            before = ",";
-        }
+    let (snapped, long) = (count_of(line, "snapped"), count_of(line, "long"));
+    let short = count_of(line, "short").saturating_sub(timed);
+    let before = tell_why(out, ":", snapped, "snapped (not all octets were captured)")?;
+    let before = tell_why(out, before, short, "short (below 14 octets)")?;
+    if long > 0 {
+        write!(out, "{before} {long} long (above {most} octets)")?;
     }
     Ok(())
 }
