@@ -1,7 +1,8 @@
 //! What of the loads a run didn't send.
 
-use input_hints::{Ended, tell_skips, word_at};
+use input_hints::{Ended, word_at};
 use lists::OutOfMemory;
+use load_hints::tell_skips;
 use outside::Store;
 use std::alloc::Global;
 use std::fs;

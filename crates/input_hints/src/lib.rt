@@ -1,19 +1,15 @@
-//! What is wrong with a layout file, a load or a tap, told by the input itself, which is read again.
+//! What is wrong with a layout file or a tap, told by the layout file itself, which is read again.
 #![tactic(auto)]
 
 mod asked;
-mod captures;
 mod digits;
 mod files;
 mod layouts;
-mod loads;
 mod near;
 mod order;
 mod places;
-mod records;
 mod rows;
 mod shown;
-mod skips;
 mod tables;
 mod taken;
 mod taps;
@@ -21,11 +17,10 @@ mod tomls;
 mod ways;
 
 pub use asked::{Ended, after, word_at};
-pub use files::{Line, read_line};
-pub use layouts::tell_layout;
-pub use loads::tell_load;
+pub use files::{Line, read_file, read_line};
+pub use layouts::{document_of, number_at, tell_layout, tell_unread, text_at};
 pub use near::Nearest;
 pub use order::comes_before;
+pub use rows::{rows_of, word_of};
 pub use shown::{show, show_front, show_word};
-pub use skips::tell_skips;
 pub use taps::{tell_range, tell_tap};

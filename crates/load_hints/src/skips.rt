@@ -1,11 +1,9 @@
 //! What of the stations' loads a run didn't send, by the counters that it wrote.
 
-use crate::asked::{Ended, after, word_at};
-use crate::files::read_file;
-use crate::layouts::{document_of, number_at};
 use crate::records::walk_over;
-use crate::rows::{rows_of, word_of};
-use crate::shown::show;
+use input_hints::{
+    Ended, after, document_of, number_at, read_file, rows_of, show, word_at, word_of,
+};
 use lists::OutOfMemory;
 use mac_parameters::{NANOSECONDS_A_HALF_BIT, most_octets};
 use outside::Store;
@@ -109,6 +107,43 @@ fn tell_skipped(
     Ok(())
 }
 
+/// How many records of a load only say when time begins, as its first one may: not looked for where none was skipped.
+fn timed_of<S: Store>(store: &mut S, load: &str, skipped: u64) -> u64 {
+    if skipped == 0 {
+        return 0;
+    }
+    match walk_over(store, load, 1, 0) {
+        Some(walk) if walk.is_timed => 1,
+        _ => 0,
+    }
+}
+
+/// How many frames of a station are of its load.
+fn frames_of(document: &Table, station: &str, line: &str) -> u64 {
+    let sends = rows_of(document, "send").iter();
+    let own = sends.filter(|send| word_of(send, "station") == Some(station));
+    count_of(line, "queued").saturating_sub(own.count() as u64)
+}
+
+/// Tells that none of a load's frames was sent, since the first is ready too late.
+fn tell_late(
+    out: &mut String,
+    before: &str,
+    frames: u64,
+    ready: u64,
+    end: u64,
+) -> Result<(), OutOfMemory> {
+    match frames {
+        1 => write!(out, "{before}its frame was not sent: it is")?,
+        _ => write!(
+            out,
+            "{before}none of its {frames} frames was sent: the first is"
+        )?,
+    }
+    write!(out, " ready at half bit {ready}, and the run ends at {end}")?;
+    Ok(())
+}
+
 /// Tells what wasn't sent of the load of a station, and whether anything is told: not where the first record alone was
 /// skipped, since it says when time begins.
 fn tell_load_of<S: Store>(
@@ -122,50 +157,28 @@ fn tell_load_of<S: Store>(
         return Ok(false);
     };
     let skipped = skipped_of(line);
-    let first = if skipped > 0 {
-        walk_over(store, load, 1, 0)
-    } else {
-        None
-    };
-    let timed = if first.is_some_and(|walk| walk.is_timed) {
-        1
-    } else {
-        0
-    };
+    let timed = timed_of(store, load, skipped);
     let late = if is_silent(line) {
         late_start(store, run, load)
     } else {
         None
     };
-    let is_skipped = skipped > timed;
-    if !is_skipped && late.is_none() {
+    if skipped <= timed && late.is_none() {
         return Ok(false);
     }
-    let sends = rows_of(run.document, "send").iter();
-    let sends = sends
-        .filter(|send| word_of(send, "station") == Some(station))
-        .count();
-    let frames = count_of(line, "queued").saturating_sub(sends as u64);
+    let frames = frames_of(run.document, station, line);
     out.push_str("netsim: ")?;
     show(out, load)?;
     out.push_str(", the load of station ")?;
     show(out, station)?;
     let mut before = ": ";
-    if is_skipped {
+    if skipped > timed {
         out.push_str(before)?;
         tell_skipped(out, line, timed, frames, run.most)?;
         before = "; ";
     }
     if let Some(ready) = late {
-        let end = run.half_bits;
-        match frames {
-            1 => write!(out, "{before}its frame was not sent: it is")?,
-            _ => write!(
-                out,
-                "{before}none of its {frames} frames was sent: the first is"
-            )?,
-        }
-        write!(out, " ready at half bit {ready}, and the run ends at {end}")?;
+        tell_late(out, before, frames, ready, run.half_bits)?;
     }
     out.push_str("\n")?;
     Ok(true)

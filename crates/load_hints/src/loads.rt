@@ -1,10 +1,7 @@
 //! What is wrong with a load.
 
-use crate::asked::{Ended, after, word_at};
 use crate::captures::{tell_kept, tell_record};
-use crate::files::read_file;
-use crate::layouts::{document_of, tell_unread, text_at};
-use crate::shown::show;
+use input_hints::{Ended, after, document_of, read_file, show, tell_unread, text_at, word_at};
 use lists::OutOfMemory;
 use outside::Store;
 use std::alloc::Global;
