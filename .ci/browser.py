@@ -43,6 +43,7 @@ class Browser:
         self.session = self.call("Target.attachToTarget", {"targetId": target, "flatten": True}, session=None)["sessionId"]
         for domain in ("Page", "Runtime", "Network", "Log"):
             self.call(f"{domain}.enable")
+        self.call("Performance.enable", {"timeDomain": "threadTicks"})
 
     def message(self, until):
         """The next message of the browser."""
@@ -109,7 +110,6 @@ class Browser:
 
     def busy(self):
         """For how many seconds of processor time the page's own thread was at work since the page was begun."""
-        self.call("Performance.enable", {"timeDomain": "threadTicks"})
         told = {one["name"]: one["value"] for one in self.call("Performance.getMetrics")["metrics"]}
         return told["TaskDuration"]
 
