@@ -43,6 +43,7 @@ class Browser:
         self.session = self.call("Target.attachToTarget", {"targetId": target, "flatten": True}, session=None)["sessionId"]
         for domain in ("Page", "Runtime", "Network", "Log"):
             self.call(f"{domain}.enable")
+        self.call("Performance.enable", {"timeDomain": "threadTicks"})
 
     def message(self, until):
         """The next message of the browser."""
@@ -69,7 +70,7 @@ class Browser:
         elif method == "Log.entryAdded" and told["entry"]["level"] in ("error", "warning"):
             self.errors.append(told["entry"]["text"])
 
-    def call(self, method, params=None, session="own", seconds=60):
+    def call(self, method, params=None, session="own", seconds=300):
         """What the browser answers to a call."""
         self.count += 1
         told = {"id": self.count, "method": method, "params": params or {}}
@@ -93,19 +94,24 @@ class Browser:
         self.call("Page.navigate", {"url": "about:blank"})
         self.requests, self.errors = [], []
         self.call("Page.navigate", {"url": url})
-        until = time.monotonic() + 60
+        until = time.monotonic() + 300
         while self.ask("document.URL == 'about:blank' || document.readyState") != "complete":
             if time.monotonic() > until:
                 raise TimeoutError(url)
             time.sleep(0.02)
 
-    def ask(self, text, seconds=60):
+    def ask(self, text, seconds=300):
         """The value of an expression, as JSON tells it; a promise is waited for."""
         answer = self.call("Runtime.evaluate", {"expression": text, "returnByValue": True, "awaitPromise": True},
                            seconds=seconds)
         if "exceptionDetails" in answer:
             raise RuntimeError(answer["exceptionDetails"].get("exception", {}).get("description", text))
         return answer["result"].get("value")
+
+    def busy(self):
+        """For how many seconds of processor time the page's own thread was at work since the page was begun."""
+        told = {one["name"]: one["value"] for one in self.call("Performance.getMetrics")["metrics"]}
+        return told["TaskDuration"]
 
     def key(self, key, shift=False):
         """A key is pressed, as at a keyboard."""

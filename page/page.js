@@ -231,15 +231,15 @@ function show() {
     legend.style.height = `${drawLegend(legend.getContext("2d"), legend.clientWidth)}px`;
     drawLegend(contextOf(legend), legend.clientWidth);
   }
-  const { at, row, frame, dark, text, unit } = look;
-  const others = [frame, dark, text, unit, drawCables.first, cables.clientWidth];
+  const { at, row, frame, dark, text, unit, speed } = look;
+  const others = [frame, dark, text, unit, speed, playing > 0, drawCables.first, cables.clientWidth];
   const told = JSON.stringify([Math.floor(at), row && row.index, others]);
   if (show.told !== told) {
     drawCables(contextOf(cables), cables.clientWidth, cables.clientHeight);
     showFacts();
+    showButtons();
   }
   show.told = told;
-  showButtons();
   keepView();
 }
 
