@@ -82,7 +82,9 @@ pub fn hints<R: Files, S: Store>(
         10 => tell_state(alloc, &mut out, ended, store)?,
         11 => tell_stranger(alloc, &mut out, ended, store)?,
         12 => tell_output(&mut out, ended)?,
-        _ => out.push_str("netsim: there was not enough memory\n")?,
+        _ => out.push_str(
+            "netsim: there was not enough memory: what is on standard output isn't whole\n",
+        )?,
     }
     Ok(out)
 }
