@@ -134,6 +134,48 @@ def figures_of_names(count: str) -> bytes:
         for name in names)).encode()
 
 
+TABLE_HEAD = 'station,frame,octets,ready,first,start,end,attempts,outcome,reached,missed\n'
+
+
+@maker
+def table_of_lines(count: str) -> bytes:
+    """The table of so many frames of b that are ready at once, by many_lines: their ends find port 2 closed, and a
+    receives in no half bit in which one comes to it."""
+    starts = ((k, 4 * k - 3) for k in range(1, int(count) + 1))
+    return (TABLE_HEAD + ''.join(f'b,{k},64,0,{t},{t},{t + 1},1,sent,0,1\n' for k, t in starts)).encode()
+
+
+@maker
+def table_left(station: str, count: str) -> bytes:
+    """The table of so many frames of a station that are ready at once, and weren't tried."""
+    return (TABLE_HEAD + ''.join(f'{station},{k},64,0,,,,0,left,,\n' for k in range(1, int(count) + 1))).encode()
+
+
+def way_from_first(station: int) -> int:
+    """From s0, at 1 of g1, to another station of the greatest network: along g1, or by r0 to g2, or by r0, g0 and the
+    repeater of its segment."""
+    leaf, at = next((leaf, on.index(station) + 1) for leaf, on in enumerate(leaves(), 1) if station in on)
+    repeater = (leaf - 1) // 2
+    if leaf == 1:
+        return at - 1
+    return 1 + 1 + at if repeater == 0 else 1 + 1 + repeater + 1 + at
+
+
+@maker
+def heard_by_all() -> bytes:
+    """The log of the frame that s0 sends in the greatest network, which each other station receives."""
+    rows = sorted((1152 + way_from_first(s), s) for s in range(1, STATIONS))
+    return ('1152 station s0 sent frame 1 start 0 attempt 1\n' + ''.join(
+        f'{t} station s{s} received octets 64\n' for t, s in rows)).encode()
+
+
+@maker
+def table_of_greatest() -> bytes:
+    """The table of a frame of each station, each ready at 37 times its number, of which that of s0 reached all others."""
+    return (TABLE_HEAD + 's0,1,64,0,0,0,1152,1,sent,1023,0\n' + ''.join(
+        f's{s},1,64,{37 * s},,,,0,left,,\n' for s in range(1, STATIONS))).encode()
+
+
 def mark(t: int) -> str:
     """The mark of a line in a picture from half bit 1 on, in which a half bit is one unit wide: docs/formats.md says which
     shapes it has."""
