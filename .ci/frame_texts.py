@@ -1,5 +1,5 @@
 """Layouts, loads and logs of a few lines with the table that they must give, or the refusal, worked by hand from
-docs/formats.md and the table's description in recipes/latency/README.md. Rows are as no run need leave them."""
+docs/formats.md. Rows are as no run need leave them."""
 import struct
 
 HEAD = "station,frame,octets,ready,first,start,end,attempts,outcome,reached,missed\n"

@@ -1,4 +1,5 @@
-"""The command frames: its words, its statuses, and what it prints. README.md has them."""
+"""The command frames: its words, its statuses, and what it prints. docs/formats.md has them. Of a layout's fault it
+prints less than netsim."""
 import os
 
 import frames_table

@@ -1,7 +1,6 @@
-"""How long frames wait: runs, and a table of what `frames` tells of each."""
+"""How long frames wait: runs, and a table of what `netsim frames` tells of each."""
 import csv
 import math
-import pathlib
 import typing
 
 import asked
@@ -10,7 +9,6 @@ import runs
 
 HEAD = ("stations,share,seed,offered,frames,sent,given_up,left,throughput,mean_ms,median_ms,p95_ms,greatest_ms,"
         "one_queue_ms,slowest,fairness").split(",")
-COMMAND = str(pathlib.Path(__file__).resolve().parent / "frames")
 
 # Half bits of 50 ns in a millisecond.
 MILLISECOND = 20_000
@@ -31,7 +29,7 @@ class Point(typing.NamedTuple):
     @property
     def run(self):
         name = "-".join(f"{word}-{text}" for word, text in self._asdict().items())
-        prints = {"frames.csv": (COMMAND, "l.toml", "out.log")}
+        prints = {"frames.csv": (runs.PROGRAM, "frames", "l.toml", "out.log")}
         return runs.Run(name, lambda folder: loads.write(folder, self.asked), prints=prints)
 
 
