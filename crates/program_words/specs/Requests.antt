@@ -12,7 +12,7 @@ use Rattle.program_words.specs.declared.words.Request.TheVariants as request
 -- many workers, a run that stops at or after a half bit with the same names, one that goes on from where such a run
 -- stopped, a run of the layout of demo of a number on so many workers, what the taps of these words hear from one half
 -- bit on and before another, told so, the figures of a log, the picture of what a log tells of the half bits from one
--- on and before another, or a fixed text
+-- on and before another, what became by a log of each frame of a layout, or a fixed text
 pub data Asked : Type 0 where
   Check : (layout : List ℕ) → Asked
   Slack : (layout : List ℕ) → Asked
@@ -24,6 +24,7 @@ pub data Asked : Type 0 where
   Probe : (told : Hearing) (layout : List ℕ) (from to : ℕ) (taps : List (List ℕ)) → Asked
   Meter : (log : List ℕ) → Asked
   Picture : (layout log : List ℕ) (from to : ℕ) → Asked
+  Frames : (layout log : List ℕ) → Asked
   Help : Asked
   Version : Asked
 
@@ -82,12 +83,17 @@ abbrev pub asked_demo : List ℕ → List ℕ → Option Asked
 asked_demo number workers =
     asked_numbers (number_between 1 most_repeaters number) (number_between 1 most_workers workers)
 
--- what three words ask for: plain LAYOUT PREFIX, resume LAYOUT PREFIX or demo NUMBER WORKERS
+-- what the words after frames ask for: LAYOUT LOG
+abbrev pub asked_frames : List ℕ → List ℕ → Option Asked
+asked_frames layout log = if is_file_name layout && is_file_name log then Some (Frames layout log) else None
+
+-- what three words ask for: plain LAYOUT PREFIX, resume LAYOUT PREFIX, demo NUMBER WORKERS or frames LAYOUT LOG
 abbrev pub asked_three : List ℕ → List ℕ → List ℕ → Option Asked
 asked_three word first second =
     if bytes_eq word (codes "plain") then asked_plain first second
     else if bytes_eq word (codes "resume") then asked_resume first second
     else if bytes_eq word (codes "demo") then asked_demo first second
+    else if bytes_eq word (codes "frames") then asked_frames first second
     else None
 
 -- what the words after run ask for: LAYOUT PREFIX WORKERS
@@ -170,6 +176,7 @@ asked_of (request.Demo number workers) = Demo number workers
 asked_of (request.Probe told layout from to taps) = Probe told layout.now from to taps.now
 asked_of (request.Meter log) = Meter log.now
 asked_of (request.Picture layout log from to) = Picture layout.now log.now from to
+asked_of (request.Frames layout log) = Frames layout.now log.now
 asked_of request.Help = Help
 asked_of request.Version = Version
 
@@ -187,5 +194,6 @@ HasNumbersInRange (request.Probe told layout from to taps) =
     (from < to) × (to ≤ from + most_probed) × (to ≤ most_half_bits) × (length taps.now ≤ most_taps)
 HasNumbersInRange (request.Meter log) = Unit {0}
 HasNumbersInRange (request.Picture layout log from to) = (from < to) × (to ≤ from + most_probed) × (to ≤ most_half_bits)
+HasNumbersInRange (request.Frames layout log) = Unit {0}
 HasNumbersInRange request.Help = Unit {0}
 HasNumbersInRange request.Version = Unit {0}

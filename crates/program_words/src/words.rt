@@ -2,7 +2,7 @@
 ghost use Rattle.std.specs.Prelude.{◌≡◌, ◌≤◌, ◌<◌, ◌+◌, ◌^◌, IfSome, length, option_map};
 ghost use Rattle.layout.specs.Limits.{most_half_bits};
 ghost use Rattle.program_words.specs.WordLimits.{most_probed, most_taps};
-ghost use Rattle.program_words.specs.Requests.{HasNumbersInRange, are_tap_words, asked, asked_demo, asked_file, asked_long, asked_of, asked_four, asked_picture, asked_plain, asked_probe, asked_resume, asked_run, asked_stop, asked_text, asked_three, is_file_name, is_prefix, is_tap_word, number_between, stretch_between};
+ghost use Rattle.program_words.specs.Requests.{HasNumbersInRange, are_tap_words, asked, asked_demo, asked_file, asked_frames, asked_long, asked_of, asked_four, asked_picture, asked_plain, asked_probe, asked_resume, asked_run, asked_stop, asked_text, asked_three, is_file_name, is_prefix, is_tap_word, number_between, stretch_between};
 
 use layout::{MOST_HALF_BITS, MOST_REPEATERS};
 use lists::{List, Text};
@@ -94,6 +94,11 @@ pub enum Request<'a> {
         log: &'a str,
         from: u32,
         to: u32,
+    },
+    /// Says by a log what became of each frame that the stations of a layout have to send.
+    Frames {
+        layout: &'a str,
+        log: &'a str,
     },
     /// What the program is called with.
     Help,
@@ -227,6 +232,7 @@ fn read_three<'a>(word: &str, first: &'a str, second: &'a str) -> Option<Request
         "plain" => read_plain(first, second),
         "resume" => read_resume(first, second),
         "demo" => read_demo(first, second),
+        "frames" => read_frames(first, second),
         _ => None,
     }
 }
@@ -260,6 +266,17 @@ fn read_demo(number: &str, workers: &str) -> Option<Request<'static>>
     let number = read_number(number, 1, MOST_REPEATERS as u32)?;
     let workers = read_number(workers, 1, MOST_WORKERS)?;
     Some(Request::Demo { number, workers })
+}
+
+fn read_frames<'a>(layout: &'a str, log: &'a str) -> Option<Request<'a>>
+    ensures asked { option_map asked_of result ≡ asked_frames layout.now log.now }
+    ensures range { IfSome result HasNumbersInRange }
+{
+    if is_file_name(layout) && is_file_name(log) {
+        Some(Request::Frames { layout, log })
+    } else {
+        None
+    }
 }
 
 fn read_four<'a>(word: &str, layout: &'a str, prefix: &'a str, number: &str) -> Option<Request<'a>>
