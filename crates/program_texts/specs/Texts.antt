@@ -49,6 +49,10 @@ line_of_range_fault = codes "probe fault range\n"
 unfoldable pub line_of_stranger : ℕ → List ℕ
 line_of_stranger n = codes "picture fault line " ++ decimal n ++ codes "\n"
 
+-- the line of a log whose line with this number, from 1, is the first that names what the layout and its loads lack
+unfoldable pub line_of_unplanned : ℕ → List ℕ
+line_of_unplanned n = codes "frames fault line " ++ decimal n ++ codes "\n"
+
 -- the line of a run that stopped before this half bit, from 0
 unfoldable pub line_of_stopped : ℕ → List ℕ
 line_of_stopped t = codes "stopped " ++ decimal t ++ codes "\n"
