@@ -1,11 +1,12 @@
 -- Where what is read has no fault and nothing outside fails, the answer is one to rely on: form by form.
 use Rattle.std.proofs.Common.{◌≡◌, ◌⊎◌, ℕ, Option, None, Some, Ok, List, refl, ap, inl, inr}
 use Rattle.std.specs.Prelude.{IfSome}
+use Rattle.frame_table.specs.Unplanned.{first_unplanned}
 use Rattle.layout.specs.declared.lines.Layout.{Layout}
 use Rattle.load_plan.specs.declared.plan.Plan.{Plan}
 use Rattle.log_meter.specs.declared.line.LogLine.{LogLine}
 use Rattle.outside.specs.Files.{Files, Rose}
-use Rattle.program_words.specs.Requests.{Asked, asked, Check, Slack, Plain, Run, Stop, Resume, Demo, Probe, Meter, Picture, Help, Version}
+use Rattle.program_words.specs.Requests.{Asked, asked, Check, Slack, Plain, Run, Stop, Resume, Demo, Probe, Meter, Picture, Frames, Help, Version}
 use Rattle.program_words.specs.declared.words.Hearing.{Hearing}
 use Rattle.program_texts.specs.SlackTexts.{IsSlackText}
 use Rattle.program_texts.specs.Verdicts.{IsVerdictLine}
@@ -14,14 +15,15 @@ use Rattle.run_picture.specs.Pictures.{picture_of}
 use Rattle.run_picture.specs.Strangers.{first_stranger}
 use Rattle.program_endings.specs.declared.endings.Ending.{Ending}
 use Rattle.program_endings.specs.declared.endings.Ending.TheVariants as ending
-use Rattle.program_endings.specs.Endings.{IsAimEnd, IsEarly, IsEndOf, IsJudged, IsPictureEnd, IsPlainEnd, IsProbeEnd, IsStopEnd, IsStrangeEnd, IsTaken, IsTellingEnd, IsUnloadedSaid, status_of}
+use Rattle.program_endings.specs.Endings.{IsAimEnd, IsEarly, IsEndOf, IsJudged, IsPictureEnd, IsPlainEnd, IsProbeEnd, IsStopEnd, IsStrangeEnd, IsTaken, IsTellingEnd, IsUnloadedSaid, status_of, IsFramesEnd}
+use Rattle.program_endings.specs.FrameTables.{IsUnplannedEnd}
 use Rattle.program_endings.specs.Moments.{Moment}
 use Rattle.program_endings.specs.Probes.{HasNoAim}
 use Rattle.program_endings.specs.Runs.{IsStopLine, IsSummary, run_files, state_files}
 use Rattle.program_endings.specs.SoundInputs.{AreAnswersReliable, AreInputsSound, IsNotThere}
 use Rattle.program_endings.specs.Statuses.{IsDoneOrMemory, IsNetworkWith}
 use Rattle.program_endings.specs.WrittenNames.{AreNamesFree, RunOf, StateOf, ToWrite}
-use Rattle.program_endings.proofs.EndingsByStatus.{by_demo, by_meter, by_picture, by_probe, by_stop, by_way}
+use Rattle.program_endings.proofs.EndingsByStatus.{by_demo, by_meter, by_picture, by_probe, by_stop, by_way, by_frames}
 use Rattle.program_endings.proofs.LoadsDecideStatus.{AnyNetwork, early_known, early_told, filed_whole, known_telling, taken_known, telling_known, text_whole, unloaded_known}
 use Rattle.program_endings.proofs.LayoutDecidesStatus.{some_of}
 use Rattle.program_endings.proofs.MetersAreTold.{LogSays, unmetered_whole}
@@ -70,6 +72,23 @@ strange_with network lines written now refused risen ending.Stranger h = inr (re
 strange_with network lines written now refused risen ending.Unquiet h = absurd h
 strange_with network lines written now refused risen ending.State h = absurd h
 strange_with network lines written now refused risen ending.Output h = absurd h
+
+-- an ending after which it was said which line of a log names what a plan lacks, with its status
+unplanned_with : (plan : Plan) (lines : List LogLine) (written now : Option (List ℕ)) (refused risen : ℕ) (e : Ending) → IsUnplannedEnd plan lines written now refused risen e
+    → IsDoneOrMemory (status_of e) ⊎ ((status_of e ≡ 11) × ((n : ℕ) × (first_unplanned plan lines ≡ Some n)))
+unplanned_with plan lines written now refused risen ending.Done h = absurd h
+unplanned_with plan lines written now refused risen ending.Words h = absurd h
+unplanned_with plan lines written now refused risen ending.Layout h = absurd h
+unplanned_with plan lines written now refused risen ending.Load h = absurd h
+unplanned_with plan lines written now refused risen ending.Read h = absurd h
+unplanned_with plan lines written now refused risen ending.Write h = absurd h
+unplanned_with plan lines written now refused risen ending.Memory h = inl (inr refl)
+unplanned_with plan lines written now refused risen ending.Probe h = absurd h
+unplanned_with plan lines written now refused risen ending.Log h = absurd h
+unplanned_with plan lines written now refused risen ending.Stranger h = inr (refl, (h.0, h.1))
+unplanned_with plan lines written now refused risen ending.Unquiet h = absurd h
+unplanned_with plan lines written now refused risen ending.State h = absurd h
+unplanned_with plan lines written now refused risen ending.Output h = absurd h
 
 module _ (entry exit : Moment) (r : ¬ Rose entry.reads exit.reads) (w : ¬ Rose entry.writes exit.writes) (f : ¬ Rose entry.faults exit.faults) where
   early_done : (Q : Layout → Type 0) (layout : List ℕ) (e : Ending) → IsEarly layout entry exit e → IfPlanned layout entry.held (PlanWith Q) (IsDoneOrMemory (status_of e))
@@ -144,6 +163,21 @@ module _ (entry exit : Moment) (r : ¬ Rose entry.reads exit.reads) (w : ¬ Rose
       ]))
       (λ drawn pictured. some_of entry.held _ (λ files has. inl (text_whole (picture_of drawn.network drawn.lines from to) entry exit e pictured.text f))) h
 
+  table_done : (layout log : List ℕ) (e : Ending) → IsFramesEnd layout log entry exit e
+      → IfSome entry.held (λ files. AreInputsSound (Some (Frames layout log)) files → IsDoneOrMemory (status_of e) ⊎ IsNotThere (Some (Frames layout log)) entry.held (status_of e))
+  table_done layout log e h =
+      let X : Type 0 = IsDoneOrMemory (status_of e) ⊎ IsNotThere (Some (Frames layout log)) entry.held (status_of e) in
+      by_frames (IfSome entry.held (λ files. AreInputsSound (Some (Frames layout log)) files → X)) layout log entry exit e
+      (λ early. if_some entry.held _ _ (λ files known has. inl (known has.0)) (early_done AnyNetwork layout e early))
+      (λ unqueued. if_some entry.held _ _ (λ files known has. inl (known has.0)) (unloaded_done AnyNetwork layout unqueued.network e unqueued.judged tt unqueued.said))
+      (λ untabled. if_some entry.held _ _ (λ files says has. inl (says has.1.0 has.1.1 r f)) (unmetered_whole log entry exit e untabled.said))
+      (λ d unplanned. some_of entry.held _ (λ files has.
+      elim (unplanned_with d.plan d.lines entry.written exit.written entry.refused exit.refused e unplanned) [
+        | inl done ↦ inl done
+        | inr named ↦ inr (named.0, (d.plan, d.planned, (named.1.0, record { lines = d.lines; read = d.read; first = named.1.1 })))
+      ]))
+      (λ d tabled. some_of entry.held _ (λ files has. inl (text_whole tabled.table entry exit e tabled.text f))) h
+
   reliable_of : (o : Option Asked) (e : Ending) → IsEndOf o entry exit e
       → IfSome entry.held (λ files. AreInputsSound o files → IsDoneOrMemory (status_of e) ⊎ IsNotThere o entry.held (status_of e))
   reliable_of None e h = some_of entry.held _ (λ files sound. absurd sound)
@@ -161,6 +195,7 @@ module _ (entry exit : Moment) (r : ¬ Rose entry.reads exit.reads) (w : ¬ Rose
       (by_meter (IfSome entry.held (LogSays log entry.reads exit.reads entry.faults exit.faults (status_of e))) log entry exit e (unmetered_whole log entry exit e)
       (λ m. some_of entry.held _ (λ files lines has never unfailed. text_whole m.text entry exit e m.written unfailed)) h)
   reliable_of (Some (Picture layout log from to)) e h = picture_done layout log from to e h
+  reliable_of (Some (Frames layout log)) e h = table_done layout log e h
   reliable_of (Some Help) e h = some_of entry.held _ (λ files sound. inl (text_whole HELP.now entry exit e h.0 f))
   reliable_of (Some Version) e h = some_of entry.held _ (λ files sound. inl (text_whole VERSION.now entry exit e h.0 f))
 

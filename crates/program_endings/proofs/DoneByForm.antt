@@ -6,9 +6,10 @@ use Rattle.program_endings.specs.Moments.{Moment}
 use Rattle.program_endings.specs.Statuses.{IsDone}
 use Rattle.program_texts.specs.SlackTexts.{IsSlackText}
 use Rattle.program_texts.specs.Verdicts.{IsVerdictLine}
-use Rattle.program_words.specs.Requests.{Asked, asked, Check, Slack, Plain, Run, Stop, Resume, Demo, Probe, Meter, Picture, Help, Version}
+use Rattle.program_words.specs.Requests.{Asked, asked, Check, Slack, Plain, Run, Stop, Resume, Demo, Probe, Meter, Picture, Frames, Help, Version}
 use Rattle.program_endings.proofs.EndingsByStatus.{end_at}
 use Rattle.program_endings.proofs.FilesAfterRuns.{demo_done, run_done, telling_done}
+use Rattle.program_endings.proofs.FramesAreTold.{table_done}
 use Rattle.program_endings.proofs.MetersAreTold.{meter_done}
 use Rattle.program_endings.proofs.PicturesAreTold.{picture_done}
 use Rattle.program_endings.proofs.ProbesAreTold.{probe_done}
@@ -31,6 +32,7 @@ done_of (Some (Demo number workers)) entry exit h = demo_done number entry exit 
 done_of (Some (Probe told layout from to taps)) entry exit h = probe_done told layout from to taps entry exit h
 done_of (Some (Meter log)) entry exit h = meter_done log entry exit h
 done_of (Some (Picture layout log from to)) entry exit h = picture_done layout log from to entry exit h
+done_of (Some (Frames layout log)) entry exit h = table_done layout log entry exit h
 
 -- status 0
 pub done : (words : List (List ℕ)) (entry exit : Moment) (status : ℕ) → IsAnswer words entry exit status → status ≡ 0 → IsDone (asked words) entry exit

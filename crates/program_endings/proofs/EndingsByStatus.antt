@@ -4,10 +4,11 @@ use Rattle.layout.specs.declared.lines.Layout.{Layout}
 use Rattle.program_endings.specs.declared.endings.Ending.{Ending}
 use Rattle.program_endings.specs.declared.endings.Ending.TheVariants as ending
 use Rattle.program_texts.specs.declared.texts.TheConstants.{HELP, VERSION}
-use Rattle.program_endings.specs.Endings.{ArePictured, IsAnswer, IsCheckEnd, IsDemoEnd, IsDrawn, IsEarly, IsEndOf, IsLoadEnd, IsMeterEnd, IsMetered, IsMissed, IsPictureEnd, IsPlainEnd, IsProbed, IsProbeEnd, HasResumed, IsResumeEnd, IsRun, IsSlackEnd, IsStopEnd, HasStopped, IsStrangeEnd, IsTaken, IsText, IsTellingEnd, IsTextEnd, IsUnlogged, IsUnmetered, IsUnprobed, IsUnresumed, IsUnrun, IsUnstopped, status_of}
+use Rattle.program_endings.specs.Endings.{ArePictured, IsAnswer, IsCheckEnd, IsDemoEnd, IsDrawn, IsEarly, IsEndOf, IsLoadEnd, IsMeterEnd, IsMetered, IsMissed, IsPictureEnd, IsPlainEnd, IsProbed, IsProbeEnd, HasResumed, IsResumeEnd, IsRun, IsSlackEnd, IsStopEnd, HasStopped, IsStrangeEnd, IsTaken, IsText, IsTellingEnd, IsTextEnd, IsUnlogged, IsUnmetered, IsUnprobed, IsUnresumed, IsUnrun, IsUnstopped, status_of, AreTabled, IsFramesEnd, IsTabled, IsUnqueued, IsUntabled}
 use Rattle.program_endings.specs.Demos.{IsDemoText}
+use Rattle.program_endings.specs.FrameTables.{IsUnplannedEnd}
 use Rattle.program_endings.specs.Moments.{Moment}
-use Rattle.program_words.specs.Requests.{Asked, asked, Check, Demo, Meter, Picture, Probe, Resume, Slack, Stop}
+use Rattle.program_words.specs.Requests.{Asked, asked, Check, Demo, Meter, Picture, Frames, Probe, Resume, Slack, Stop}
 use Rattle.program_words.specs.declared.words.Hearing.{Hearing}
 use Rattle.program_texts.specs.SlackTexts.{IsSlackText}
 use Rattle.program_endings.specs.WrittenNames.{RunOf, StateOf}
@@ -78,6 +79,22 @@ meter_end o log entry exit e is end = subst (λ a. IsEndOf a entry exit e) is en
 
 pub picture_end : (o : Option Asked) (layout log : List ℕ) (from to : ℕ) (entry exit : Moment) (e : Ending) → o ≡ Some (Picture layout log from to) → IsEndOf o entry exit e → IsPictureEnd layout log from to entry exit e
 picture_end o layout log from to entry exit e is end = subst (λ a. IsEndOf a entry exit e) is end
+
+pub frames_end : (o : Option Asked) (layout log : List ℕ) (entry exit : Moment) (e : Ending) → o ≡ Some (Frames layout log) → IsEndOf o entry exit e → IsFramesEnd layout log entry exit e
+frames_end o layout log entry exit e is end = subst (λ a. IsEndOf a entry exit e) is end
+
+-- what comes of each of the five ways in which frames ends comes of its end
+pub by_frames : (X : Type 0) (layout log : List ℕ) (before after : Moment) (e : Ending) → (IsEarly layout before after e → X) → (IsUnqueued layout before after e → X) → (IsUntabled layout log before after e → X)
+    → ((d : IsTabled layout log before after e) → IsUnplannedEnd d.plan d.lines before.written after.written before.refused after.refused e → X)
+    → ((d : IsTabled layout log before after e) → AreTabled d.plan d.lines before.written after.written before.faults after.faults e → X) → IsFramesEnd layout log before after e → X
+by_frames X layout log before after e early unqueued untabled unplanned tabled h =
+    elim h.1 [
+      | inl one ↦ early one
+      | inr later ↦ elim later [
+        | inl two ↦ unqueued two
+        | inr last ↦ elim last [ inl three ↦ untabled three | inr d ↦ elim d.tabled [ inl four ↦ unplanned d four | inr five ↦ tabled d five ] ]
+      ]
+    ]
 
 -- what comes of each of the four ways in which picture ends comes of its end
 pub by_picture : (X : Type 0) (layout log : List ℕ) (from to : ℕ) (before after : Moment) (e : Ending) → (IsEarly layout before after e → X) → (IsUnlogged layout log before after e → X)

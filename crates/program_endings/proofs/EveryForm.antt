@@ -4,13 +4,13 @@ use Rattle.outside.specs.Files.{Rose}
 use Rattle.outside.specs.declared.memory.File.{File}
 use Rattle.program_endings.specs.declared.endings.Ending.{Ending}
 use Rattle.program_endings.specs.declared.endings.Ending.TheVariants as ending
-use Rattle.program_endings.specs.Endings.{IsAnswer, IsDemoEnd, IsEndOf, IsFiledEnd, IsMeterEnd, IsPictureEnd, IsPlainEnd, IsProbeEnd, IsResumeEnd, IsStopEnd, status_of}
+use Rattle.program_endings.specs.Endings.{IsAnswer, IsDemoEnd, IsEndOf, IsFiledEnd, IsMeterEnd, IsPictureEnd, IsPlainEnd, IsProbeEnd, IsResumeEnd, IsStopEnd, status_of, IsFramesEnd}
 use Rattle.program_endings.specs.Moments.{Moment}
 use Rattle.program_endings.specs.Runs.{IsResumedSummary, IsStopLine, IsSummary, resumed_files, run_files, state_files}
-use Rattle.program_words.specs.Requests.{Asked, asked, Check, Slack, Plain, Run, Stop, Resume, Demo, Probe, Meter, Picture, Help, Version}
+use Rattle.program_words.specs.Requests.{Asked, asked, Check, Slack, Plain, Run, Stop, Resume, Demo, Probe, Meter, Picture, Frames, Help, Version}
 use Rattle.program_words.specs.declared.words.Hearing.{Hearing}
 use Rattle.program_endings.specs.Statuses.{IsRefusal}
-use Rattle.program_endings.proofs.EndingsByStatus.{by_demo, by_meter, by_picture, by_probe, by_resume, by_stop, by_way, end_at}
+use Rattle.program_endings.proofs.EndingsByStatus.{by_demo, by_meter, by_picture, by_probe, by_resume, by_stop, by_way, end_at, by_frames}
 
 words_done : ending.Write ≡ ending.Words → ⊥
 words_done e = cc
@@ -40,6 +40,10 @@ pub never_picture : (layout log : List ℕ) (from to : ℕ) (entry exit : Moment
 never_picture layout log from to entry exit h =
     by_picture ⊥ layout log from to entry exit ending.Words (λ early. early) (λ unlogged. unlogged.said) (λ drawn strange. strange) (λ drawn pictured. pictured.text) h
 
+pub never_frames : (layout log : List ℕ) (entry exit : Moment) → IsFramesEnd layout log entry exit ending.Words → ⊥
+never_frames layout log entry exit h =
+    by_frames ⊥ layout log entry exit ending.Words (λ early. early) (λ unqueued. unqueued.said) (λ untabled. untabled.said) (λ d unplanned. unplanned) (λ d tabled. tabled.text) h
+
 pub never_stop : (layout prefix : List ℕ) (from : ℕ) (entry exit : Moment) → IsStopEnd layout prefix from entry exit ending.Words → ⊥
 never_stop layout prefix from entry exit h =
     by_stop ⊥ layout prefix from entry exit ending.Words (λ early. early) (λ taken. taken.said) (λ unloaded. unloaded.said) (λ unrun. words_unrun unrun.0) (λ un. un.said) (λ ran. elim ran.filed [ inl all ↦ all.1.2 | inr some ↦ some ]) h
@@ -63,6 +67,7 @@ none_of (Some (Demo number workers)) entry exit h = absurd (never_demo number en
 none_of (Some (Probe told layout from to taps)) entry exit h = absurd (never_probe told layout from to taps entry exit h)
 none_of (Some (Meter log)) entry exit h = absurd (never_meter log entry exit h)
 none_of (Some (Picture layout log from to)) entry exit h = absurd (never_picture layout log from to entry exit h)
+none_of (Some (Frames layout log)) entry exit h = absurd (never_frames layout log entry exit h)
 
 one_of : (o : Option Asked) (entry exit : Moment) (e : Ending) → o ≡ None → IsEndOf o entry exit e → status_of e ≡ 1
 one_of o entry exit e none end = let h : IsEndOf None entry exit e = subst (λ a. IsEndOf a entry exit e) none end in ap status_of h.0
@@ -158,6 +163,7 @@ kept_of (Some (Demo number workers)) entry exit e h r = h.1
 kept_of (Some (Probe told layout from to taps)) entry exit e h r = h.0
 kept_of (Some (Meter log)) entry exit e h r = h.0
 kept_of (Some (Picture layout log from to)) entry exit e h r = h.0
+kept_of (Some (Frames layout log)) entry exit e h r = h.0
 
 -- the statuses 1 to 4 and 7 to 12 leave every file as at entry
 pub refused : (words : List (List ℕ)) (entry exit : Moment) (status : ℕ) → IsAnswer words entry exit status → IsRefusal status → exit.held ≡ entry.held
@@ -194,6 +200,11 @@ picture_failed layout log from to entry exit h =
     by_picture (Rose entry.writes exit.writes ⊎ Rose entry.faults exit.faults) layout log from to entry exit ending.Write (λ early. absurd early) (λ unlogged. absurd unlogged.said) (λ drawn strange. absurd strange)
     (λ drawn pictured. inr pictured.text.1) h
 
+frames_failed : (layout log : List ℕ) (entry exit : Moment) → IsFramesEnd layout log entry exit ending.Write → Rose entry.writes exit.writes ⊎ Rose entry.faults exit.faults
+frames_failed layout log entry exit h =
+    by_frames (Rose entry.writes exit.writes ⊎ Rose entry.faults exit.faults) layout log entry exit ending.Write (λ early. absurd early) (λ unqueued. absurd unqueued.said) (λ untabled. absurd untabled.said)
+    (λ d unplanned. absurd unplanned) (λ d tabled. inr tabled.text.1) h
+
 failed_of : (o : Option Asked) (entry exit : Moment) → IsEndOf o entry exit ending.Write → Rose entry.writes exit.writes ⊎ Rose entry.faults exit.faults
 failed_of None entry exit h = absurd (words_done h.0)
 failed_of (Some Help) entry exit h = inr h.0.1
@@ -208,6 +219,7 @@ failed_of (Some (Demo number workers)) entry exit h = demo_failed number entry e
 failed_of (Some (Probe told layout from to taps)) entry exit h = probe_failed told layout from to taps entry exit h
 failed_of (Some (Meter log)) entry exit h = meter_failed log entry exit h
 failed_of (Some (Picture layout log from to)) entry exit h = picture_failed layout log from to entry exit h
+failed_of (Some (Frames layout log)) entry exit h = frames_failed layout log entry exit h
 
 -- status 5 comes of a failed write
 pub failed : (words : List (List ℕ)) (entry exit : Moment) (status : ℕ) → IsAnswer words entry exit status → status ≡ 5 → Rose entry.writes exit.writes ⊎ Rose entry.faults exit.faults

@@ -6,7 +6,7 @@ use Rattle.program_endings.specs.declared.endings.Ending.{Ending}
 use Rattle.program_endings.specs.declared.endings.Ending.TheVariants as ending
 use Rattle.program_endings.specs.Endings.{IsAnswer, IsDemoEnd, IsEarly, IsEndOf, IsPlainEnd, IsRun, IsTakenEnd, IsTellingEnd, IsText, IsTold, IsUnloadedSaid, Says, status_of}
 use Rattle.program_endings.specs.Moments.{Moment}
-use Rattle.program_words.specs.Requests.{Asked, asked, Check, Slack, Plain, Run, Stop, Resume, Demo, Probe, Meter, Picture, Help, Version}
+use Rattle.program_words.specs.Requests.{Asked, asked, Check, Slack, Plain, Run, Stop, Resume, Demo, Probe, Meter, Picture, Frames, Help, Version}
 use Rattle.program_endings.specs.Statuses.{AskForFiles, IfFiles, IsDemoCut, IsDemoDone, IsDemoStatus, IsRunBroken, IsRunDone, IsRunRefused, IsSummaryCut, IsTellingCut, IsTellingDone}
 use Rattle.program_endings.specs.StatusLaws.{AreDemosCutShort, AreDemosRefused, AreFailuresSilent, AreFilesWhole, AreTellingsCutShort, AreTellingsRefused, AreTextsCutShort, AreTextsFailed, AreWordsSaid, DoDemosKeepFiles, DoTellingsKeepFiles, DoTextsKeepFiles, HaveDemosStatuses}
 use Rattle.program_texts.specs.Texts.{line_of_words_fault}
@@ -14,7 +14,7 @@ use Rattle.program_endings.specs.Runs.{run_files}
 use Rattle.program_endings.specs.WrittenNames.{RunOf}
 use Rattle.program_endings.specs.Writing.{IsBrokenAmong, IsCutShort}
 use Rattle.program_endings.proofs.EndingsByStatus.{by_demo, by_way, demo_end, end_at, files_end, of_tellings, of_texts}
-use Rattle.program_endings.proofs.EveryForm.{never_demo, never_meter, never_picture, never_probe, never_resume, never_stop, never_words}
+use Rattle.program_endings.proofs.EveryForm.{never_demo, never_meter, never_picture, never_probe, never_resume, never_stop, never_words, never_frames}
 
 -- an ending that comes neither early nor of want of memory is that of a run
 run_of : (layout prefix : List ℕ) (before after : Moment) (e : Ending) → (IsEarly layout before after e → ⊥) → ((network : Layout) → IsTakenEnd layout (RunOf prefix) network before.written after.written before.refused after.refused e → ⊥) → ((network : Layout) → IsUnloadedSaid network before after e → ⊥) → (e ≡ ending.Memory → ⊥)
@@ -198,6 +198,7 @@ words_said_of (Some (Demo number workers)) entry exit h = absurd (never_demo num
 words_said_of (Some (Probe told layout from to taps)) entry exit h = absurd (never_probe told layout from to taps entry exit h)
 words_said_of (Some (Meter log)) entry exit h = absurd (never_meter log entry exit h)
 words_said_of (Some (Picture layout log from to)) entry exit h = absurd (never_picture layout log from to entry exit h)
+words_said_of (Some (Frames layout log)) entry exit h = absurd (never_frames layout log entry exit h)
 
 pub words_are_said : AreWordsSaid
 words_are_said words entry exit status answer one = words_said_of (asked words) entry exit (end_at words entry exit status 1 answer one)

@@ -21,7 +21,7 @@ use Rattle.program_endings.specs.OutputLaws.{AreInputsKept}
 use Rattle.program_endings.specs.Runs.{IsResumedSummary, IsStopLine, IsSummary, capture_files, output_files, resumed_files, run_files, state_files}
 use Rattle.program_endings.specs.Writing.{IsBrokenAmong, put_all}
 use Rattle.program_endings.specs.WrittenNames.{AreNamesFree, RunOf, StateOf, ToWrite, capture_names, first_name_of_input, first_taken_name, is_name_of_input, names_to_write}
-use Rattle.program_endings.proofs.EndingsByStatus.{files_end, resume_end, stop_end}
+use Rattle.program_endings.proofs.EndingsByStatus.{files_end, resume_end, stop_end, frames_end}
 use Rattle.program_endings.proofs.LayoutDecidesStatus.{same_network}
 use Rattle.program_endings.proofs.LogAmongFiles.{AreOthers, file_of_other, files_same, put_others}
 
@@ -164,4 +164,6 @@ inputs_are_kept words entry exit status answer = (
       stop_inputs layout prefix name entry exit files now network answer.by told left judged input from (stop_end (asked words) layout prefix from entry exit answer.by is answer.allowed)),
   λ layout prefix is. kept_told entry.held _ (λ files told now left network judged name input.
       resume_inputs layout prefix name entry exit files now network answer.by told left judged input (resume_end (asked words) layout prefix entry exit answer.by is answer.allowed)),
+  λ layout log is. kept_told entry.held _ (λ files told now left network judged name input.
+      kept_all name entry exit files now told left (frames_end (asked words) layout log entry exit answer.by is answer.allowed).0),
 )

@@ -7,13 +7,13 @@ use Rattle.layout_file.specs.declared.fault.LayoutFault.{LayoutFault}
 use Rattle.program_endings.specs.declared.endings.Ending.{Ending}
 use Rattle.program_endings.specs.declared.endings.Ending.TheVariants as ending
 use Rattle.program_endings.specs.Moments.{Moment}
-use Rattle.program_endings.specs.Endings.{IsDemoEnd, IsEndOf, IsMeterEnd, IsPictureEnd, IsPlainEnd, IsProbeEnd, IsResumeEnd, IsStopEnd, IsTellingEnd, IsJudged, HasFault, IsEarly, IsFaultSaid, IsUnrun, status_of}
+use Rattle.program_endings.specs.Endings.{IsDemoEnd, IsEndOf, IsMeterEnd, IsPictureEnd, IsPlainEnd, IsProbeEnd, IsResumeEnd, IsStopEnd, IsTellingEnd, IsJudged, HasFault, IsEarly, IsFaultSaid, IsUnrun, status_of, IsFramesEnd}
 use Rattle.program_endings.specs.Reading.{front_of}
-use Rattle.program_words.specs.Requests.{Asked, asked, Check, Slack, Plain, Run, Stop, Resume, Demo, Probe, Meter, Picture, Help, Version}
+use Rattle.program_words.specs.Requests.{Asked, asked, Check, Slack, Plain, Run, Stop, Resume, Demo, Probe, Meter, Picture, Frames, Help, Version}
 use Rattle.program_words.specs.declared.words.Hearing.{Hearing}
 use Rattle.program_endings.specs.Statuses.{IsFaultStatus, IsLayoutWith, IsUnreadOrMemory}
 use Rattle.program_endings.specs.StatusLaws.{AreLayoutFaultsSaid, DoAbsentLayoutsDecide, DoLayoutFaultsDecide}
-use Rattle.program_endings.proofs.EndingsByStatus.{by_demo, by_meter, by_picture, by_probe, by_resume, by_stop, by_way, end_at, files_end, of_tellings, picture_end, probe_end, resume_end, stop_end}
+use Rattle.program_endings.proofs.EndingsByStatus.{by_demo, by_meter, by_picture, by_probe, by_resume, by_stop, by_way, end_at, files_end, of_tellings, picture_end, probe_end, resume_end, stop_end, by_frames, frames_end}
 
 pub absent_unjudged : (name : List ℕ) (held : Option Files) (verdict : Result Layout LayoutFault) → IsAbsent name held → IsJudged name held verdict → ⊥
 unfolding front_of
@@ -125,6 +125,15 @@ picture_faulty layout log from to before after e h =
     (λ drawn strange. no_fault_of (IsFaultStatus 2 (status_of e) before.reads after.reads) layout before.held drawn.network drawn.judged)
     (λ drawn pictured. no_fault_of (IsFaultStatus 2 (status_of e) before.reads after.reads) layout before.held drawn.network drawn.judged) h
 
+frames_faulty : (layout log : List ℕ) (before after : Moment) (e : Ending) → IsFramesEnd layout log before after e
+    → IfSome before.held (λ files. HasFault layout (Some files) → IsFaultStatus 2 (status_of e) before.reads after.reads)
+frames_faulty layout log before after e h =
+    by_frames (IfSome before.held (λ files. HasFault layout (Some files) → IsFaultStatus 2 (status_of e) before.reads after.reads)) layout log before after e (λ early. early_faulty layout before after e early)
+    (λ unqueued. no_fault_of (IsFaultStatus 2 (status_of e) before.reads after.reads) layout before.held unqueued.network unqueued.judged)
+    (λ untabled. no_fault_of (IsFaultStatus 2 (status_of e) before.reads after.reads) layout before.held untabled.planned.network untabled.planned.judged)
+    (λ d unplanned. no_fault_of (IsFaultStatus 2 (status_of e) before.reads after.reads) layout before.held d.planned.network d.planned.judged)
+    (λ d tabled. no_fault_of (IsFaultStatus 2 (status_of e) before.reads after.reads) layout before.held d.planned.network d.planned.judged) h
+
 -- status 2 where the layout has a fault
 pub layout_faults_decide : DoLayoutFaultsDecide
 layout_faults_decide words entry exit status answer =
@@ -136,6 +145,7 @@ layout_faults_decide words entry exit status answer =
       λ layout prefix is. resume_faulty layout prefix entry exit answer.by (resume_end (asked words) layout prefix entry exit answer.by is answer.allowed),
       λ told layout from to taps is. probe_faulty told layout from to taps entry exit answer.by (probe_end (asked words) told layout from to taps entry exit answer.by is answer.allowed),
       λ layout log from to is. picture_faulty layout log from to entry exit answer.by (picture_end (asked words) layout log from to entry exit answer.by is answer.allowed),
+      λ layout log is. frames_faulty layout log entry exit answer.by (frames_end (asked words) layout log entry exit answer.by is answer.allowed),
     )
 
 telling_absent : (Tells : Layout → List ℕ → Type 0) (layout : List ℕ) (before after : Moment) (e : Ending) → IsTellingEnd Tells layout before after e → IsAbsent layout before.held → IsUnreadOrMemory (status_of e)
@@ -170,6 +180,12 @@ picture_absent layout log from to before after e h absent =
     (λ unlogged. absurd (absent_unjudged layout before.held (Ok unlogged.network) absent unlogged.judged)) (λ drawn strange. absurd (absent_unjudged layout before.held (Ok drawn.network) absent drawn.judged))
     (λ drawn pictured. absurd (absent_unjudged layout before.held (Ok drawn.network) absent drawn.judged)) h
 
+frames_absent : (layout log : List ℕ) (before after : Moment) (e : Ending) → IsFramesEnd layout log before after e → IsAbsent layout before.held → IsUnreadOrMemory (status_of e)
+frames_absent layout log before after e h absent =
+    by_frames (IsUnreadOrMemory (status_of e)) layout log before after e (λ early. early_absent layout before after e absent early)
+    (λ unqueued. absurd (absent_unjudged layout before.held (Ok unqueued.network) absent unqueued.judged)) (λ untabled. absurd (absent_unjudged layout before.held (Ok untabled.planned.network) absent untabled.planned.judged))
+    (λ d unplanned. absurd (absent_unjudged layout before.held (Ok d.planned.network) absent d.planned.judged)) (λ d tabled. absurd (absent_unjudged layout before.held (Ok d.planned.network) absent d.planned.judged)) h
+
 -- a layout that isn't held is not judged
 pub absent_layouts_decide : DoAbsentLayoutsDecide
 absent_layouts_decide words entry exit status answer =
@@ -181,6 +197,7 @@ absent_layouts_decide words entry exit status answer =
       λ layout prefix is. resume_absent layout prefix entry exit answer.by (resume_end (asked words) layout prefix entry exit answer.by is answer.allowed),
       λ told layout from to taps is. probe_absent told layout from to taps entry exit answer.by (probe_end (asked words) told layout from to taps entry exit answer.by is answer.allowed),
       λ layout log from to is. picture_absent layout log from to entry exit answer.by (picture_end (asked words) layout log from to entry exit answer.by is answer.allowed),
+      λ layout log is. frames_absent layout log entry exit answer.by (frames_end (asked words) layout log entry exit answer.by is answer.allowed),
     )
 
 layout_unrun : ending.Layout ≡ ending.Memory → ⊥
@@ -208,6 +225,10 @@ picture_said : (layout log : List ℕ) (from to : ℕ) (entry exit : Moment) →
 picture_said layout log from to entry exit h =
     by_picture (IsFaultSaid layout entry exit) layout log from to entry exit ending.Layout (λ early. early) (λ unlogged. absurd unlogged.said) (λ drawn strange. absurd strange) (λ drawn pictured. absurd pictured.text) h
 
+frames_said : (layout log : List ℕ) (entry exit : Moment) → IsFramesEnd layout log entry exit ending.Layout → IsFaultSaid layout entry exit
+frames_said layout log entry exit h =
+    by_frames (IsFaultSaid layout entry exit) layout log entry exit ending.Layout (λ early. early) (λ unqueued. absurd unqueued.said) (λ untabled. absurd untabled.said) (λ d unplanned. absurd unplanned) (λ d tabled. absurd tabled.text) h
+
 -- status 2 comes of a layout with a fault
 faulty_of : (o : Option Asked) (entry exit : Moment) → IsEndOf o entry exit ending.Layout → IsLayoutWith o (λ layout. IsFaultSaid layout entry exit)
 faulty_of None entry exit h = absurd (words_layout h.0)
@@ -225,6 +246,7 @@ faulty_of (Some (Demo number workers)) entry exit h = demo_said number entry exi
 faulty_of (Some (Probe told layout from to taps)) entry exit h = probe_said told layout from to taps entry exit h
 faulty_of (Some (Meter log)) entry exit h = meter_said log entry exit h
 faulty_of (Some (Picture layout log from to)) entry exit h = picture_said layout log from to entry exit h
+faulty_of (Some (Frames layout log)) entry exit h = frames_said layout log entry exit h
 
 pub layout_faults_are_said : AreLayoutFaultsSaid
 layout_faults_are_said words entry exit status answer is = faulty_of (asked words) entry exit (end_at words entry exit status 2 answer is)

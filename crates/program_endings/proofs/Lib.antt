@@ -8,6 +8,7 @@ pub mod MetersAreTold
 pub mod ProbesAreTold
 pub mod PicturesAreTold
 pub mod StopsAreTold
+pub mod FramesAreTold
 pub mod StopsAreLeft
 pub mod OutputsAreTold
 pub mod AnswersAreReliable

@@ -13,13 +13,13 @@ use Rattle.load_plan.specs.declared.plan.Plan.{Plan}
 use Rattle.program_endings.specs.declared.endings.Ending.{Ending}
 use Rattle.program_endings.specs.declared.endings.Ending.TheVariants as ending
 use Rattle.program_endings.specs.Moments.{Moment}
-use Rattle.program_endings.specs.Endings.{IsAnswer, IsDemoEnd, IsEndOf, IsMeterEnd, IsPictureEnd, IsPlainEnd, IsProbeEnd, IsResumeEnd, IsStopEnd, IsTellingEnd, IsJudged, IsEarly, IsLoadFaultSaid, IsPlanned, IsTakenEnd, IsUnloadedSaid, IsUnreadSaid, IsUnrun, IsFiledEnd, IsText, status_of}
-use Rattle.program_endings.specs.WrittenNames.{AreNamesFree, RunOf, StateOf, ToWrite, first_taken_name}
-use Rattle.program_words.specs.Requests.{Asked, asked, Check, Slack, Plain, Run, Stop, Resume, Demo, Probe, Meter, Picture, Help, Version}
+use Rattle.program_endings.specs.Endings.{IsAnswer, IsDemoEnd, IsEndOf, IsMeterEnd, IsPictureEnd, IsPlainEnd, IsProbeEnd, IsResumeEnd, IsStopEnd, IsTellingEnd, IsJudged, IsEarly, IsLoadFaultSaid, IsPlanned, IsTakenEnd, IsUnloadedSaid, IsUnreadSaid, IsUnrun, IsFiledEnd, IsText, status_of, IsFramesEnd}
+use Rattle.program_endings.specs.WrittenNames.{AreNamesFree, RunOf, StateOf, ToWrite, first_taken_name, NoFile}
+use Rattle.program_words.specs.Requests.{Asked, asked, Check, Slack, Plain, Run, Stop, Resume, Demo, Probe, Meter, Picture, Frames, Help, Version}
 use Rattle.program_words.specs.declared.words.Hearing.{Hearing}
-use Rattle.program_endings.specs.Statuses.{HasAbsentLoad, HasLoadFault, IsDoneOrMemory, IsFaultStatus, IsInputFaultSaid, IsLoadedWith, IsNetworkWith, IsPictureUnreadSaid, IsReadFaultSaid, IsResumeFaultSaid, IsUnhindered, IsUnreadOrMemory}
+use Rattle.program_endings.specs.Statuses.{HasAbsentLoad, HasLoadFault, IsDoneOrMemory, IsFaultStatus, IsInputFaultSaid, IsLoadedWith, IsNetworkWith, IsPictureUnreadSaid, IsReadFaultSaid, IsResumeFaultSaid, IsUnhindered, IsUnreadOrMemory, IsTableFaultSaid}
 use Rattle.program_endings.specs.StatusLaws.{AreDemosComplete, AreLoadFaultsSaid, AreReadFaultsSaid, AreTellingsComplete, AreTextsComplete, DoAbsentLoadsDecide, DoLoadFaultsDecide}
-use Rattle.program_endings.proofs.EndingsByStatus.{by_demo, by_meter, by_picture, by_probe, by_resume, by_stop, by_way, demo_end, end_at, files_end, of_tellings, of_texts, resume_end, stop_end}
+use Rattle.program_endings.proofs.EndingsByStatus.{by_demo, by_meter, by_picture, by_probe, by_resume, by_stop, by_way, demo_end, end_at, files_end, of_tellings, of_texts, resume_end, stop_end, by_frames, frames_end}
 use Rattle.program_endings.proofs.LayoutDecidesStatus.{absent_unjudged, good_or_faulty, same_network}
 
 -- of every network
@@ -174,6 +174,21 @@ resume_known X layout prefix before after e says whole h =
     (λ un. known_loads (AreNamesFree layout (RunOf prefix)) layout before.held un.planned.network (Whole un.planned.is.loads) (X (status_of e)) un.planned.judged (of_planned (AreNamesFree layout (RunOf prefix)) layout before.held un.plan un.planned un.free) un.planned.is.loaded (whole un.planned.is.loads))
     (λ ran. known_loads (AreNamesFree layout (RunOf prefix)) layout before.held ran.planned.network (Whole ran.planned.is.loads) (X (status_of e)) ran.planned.judged (of_planned (AreNamesFree layout (RunOf prefix)) layout before.held ran.plan ran.planned ran.free) ran.planned.is.loaded (whole ran.planned.is.loads)) h
 
+-- a form that writes nothing writes over nothing
+pub no_names : (layout : List ℕ) (network : Layout) → AreNamesFree layout NoFile network
+unfolding first_taken_name
+no_names layout network = refl
+
+-- what an end of frames says, where it is known what it says of whole loads
+frames_known : (X : ℕ → Loaded → Type 0) (layout log : List ℕ) (before after : Moment) (e : Ending) → Says X before.reads after.reads → ((loads : List (List Record)) → X (status_of e) (Whole loads))
+    → IsFramesEnd layout log before after e → IfKnown (AreNamesFree layout NoFile) layout before.held (X (status_of e))
+frames_known X layout log before after e says whole h =
+    by_frames (IfKnown (AreNamesFree layout NoFile) layout before.held (X (status_of e))) layout log before after e (λ early. early_known (AreNamesFree layout NoFile) X layout before after says e early)
+    (λ unqueued. unloaded_known (AreNamesFree layout NoFile) X layout before after says unqueued.network e unqueued.judged (no_names layout unqueued.network) unqueued.said)
+    (λ untabled. known_loads (AreNamesFree layout NoFile) layout before.held untabled.planned.network (Whole untabled.planned.is.loads) (X (status_of e)) untabled.planned.judged (no_names layout untabled.planned.network) untabled.planned.is.loaded (whole untabled.planned.is.loads))
+    (λ d unplanned. known_loads (AreNamesFree layout NoFile) layout before.held d.planned.network (Whole d.planned.is.loads) (X (status_of e)) d.planned.judged (no_names layout d.planned.network) d.planned.is.loaded (whole d.planned.is.loads))
+    (λ d tabled. known_loads (AreNamesFree layout NoFile) layout before.held d.planned.network (Whole d.planned.is.loads) (X (status_of e)) d.planned.judged (no_names layout d.planned.network) d.planned.is.loaded (whole d.planned.is.loads)) h
+
 -- a fault of a load has its status
 abbrev FaultSays : ℕ → ℕ → ℕ → Loaded → Type 0
 FaultSays reads risen n l = (station : ℕ) (f : CaptureFault) → l ≡ Faulty station f → IsFaultStatus 3 n reads risen
@@ -209,6 +224,8 @@ load_faults_decide words entry exit status answer =
           (stop_known X layout prefix from entry exit answer.by says (λ loads station f w. whole_or _ loads station f w) (stop_end (asked words) layout prefix from entry exit answer.by is answer.allowed)),
       λ layout prefix is. known_fault layout (RunOf prefix) entry.held n entry.reads exit.reads
           (resume_known X layout prefix entry exit answer.by says (λ loads station f w. whole_or _ loads station f w) (resume_end (asked words) layout prefix entry exit answer.by is answer.allowed)),
+      λ layout log is. known_fault layout NoFile entry.held n entry.reads exit.reads
+          (frames_known X layout log entry exit answer.by says (λ loads station f w. whole_or _ loads station f w) (frames_end (asked words) layout log entry exit answer.by is answer.allowed)),
     )
 
 -- a load that isn't held has its status
@@ -243,6 +260,8 @@ absent_loads_decide words entry exit status answer =
           (stop_known AbsentSays layout prefix from entry exit answer.by says (λ loads name w. whole_absent _ loads name w) (stop_end (asked words) layout prefix from entry exit answer.by is answer.allowed)),
       λ layout prefix is. known_missing layout (RunOf prefix) entry.held n
           (resume_known AbsentSays layout prefix entry exit answer.by says (λ loads name w. whole_absent _ loads name w) (resume_end (asked words) layout prefix entry exit answer.by is answer.allowed)),
+      λ layout log is. known_missing layout NoFile entry.held n
+          (frames_known AbsentSays layout log entry exit answer.by says (λ loads name w. whole_absent _ loads name w) (frames_end (asked words) layout log entry exit answer.by is answer.allowed)),
     )
 
 -- whole loads, and no fault of the outside
@@ -382,6 +401,11 @@ load_picture : (layout log : List ℕ) (from to : ℕ) (entry exit : Moment) →
 load_picture layout log from to entry exit h =
     by_picture ⊥ layout log from to entry exit ending.Load (λ early. early) (λ unlogged. unlogged.said) (λ drawn strange. strange) (λ drawn pictured. pictured.text) h
 
+load_frames : (layout log : List ℕ) (entry exit : Moment) → IsFramesEnd layout log entry exit ending.Load → IsNetworkWith layout entry.held (λ network. IsLoadFaultSaid network entry exit)
+load_frames layout log entry exit h =
+    by_frames (IsNetworkWith layout entry.held (λ network. IsLoadFaultSaid network entry exit)) layout log entry exit ending.Load (λ early. absurd early) (λ unqueued. (unqueued.network, unqueued.judged, unqueued.said))
+    (λ untabled. absurd untabled.said) (λ d unplanned. absurd unplanned) (λ d tabled. absurd tabled.text) h
+
 load_faulty_of : (o : Option Asked) (entry exit : Moment) → IsEndOf o entry exit ending.Load → IsLoadedWith o (λ layout. IsNetworkWith layout entry.held (λ network. IsLoadFaultSaid network entry exit))
 load_faulty_of None entry exit h = absurd (words_load h.0)
 load_faulty_of (Some Help) entry exit h = absurd h.0
@@ -398,6 +422,7 @@ load_faulty_of (Some (Demo number workers)) entry exit h = absurd (load_demo num
 load_faulty_of (Some (Probe told layout from to taps)) entry exit h = load_probe told layout from to taps entry exit h
 load_faulty_of (Some (Meter log)) entry exit h = absurd (load_meter log entry exit h)
 load_faulty_of (Some (Picture layout log from to)) entry exit h = absurd (load_picture layout log from to entry exit h)
+load_faulty_of (Some (Frames layout log)) entry exit h = load_frames layout log entry exit h
 
 -- status 3 comes of a load with a fault
 pub load_faults_are_said : AreLoadFaultsSaid
@@ -424,6 +449,11 @@ unread_picture layout log from to entry exit h =
     by_picture (IsPictureUnreadSaid layout log entry exit) layout log from to entry exit ending.Read (λ early. inl early) (λ unlogged. inr (unlogged.network, unlogged.judged, unlogged.said)) (λ drawn strange. absurd strange)
     (λ drawn pictured. absurd pictured.text) h
 
+unread_frames : (layout log : List ℕ) (entry exit : Moment) → IsFramesEnd layout log entry exit ending.Read → IsTableFaultSaid layout log entry exit
+unread_frames layout log entry exit h =
+    by_frames (IsTableFaultSaid layout log entry exit) layout log entry exit ending.Read (λ early. inl (inl early)) (λ unqueued. inl (inr (unqueued.network, unqueued.judged, unqueued.said)))
+    (λ untabled. inr (untabled.plan, untabled.planned, untabled.said)) (λ d unplanned. absurd unplanned) (λ d tabled. absurd tabled.text) h
+
 unread_of : (o : Option Asked) (entry exit : Moment) → IsEndOf o entry exit ending.Read → IsReadFaultSaid o entry exit
 unread_of None entry exit h = absurd (words_read h.0)
 unread_of (Some Help) entry exit h = absurd h.0
@@ -440,6 +470,7 @@ unread_of (Some (Demo number workers)) entry exit h = unread_demo number entry e
 unread_of (Some (Probe told layout from to taps)) entry exit h = unread_probe told layout from to taps entry exit h
 unread_of (Some (Meter log)) entry exit h = unread_meter log entry exit h
 unread_of (Some (Picture layout log from to)) entry exit h = unread_picture layout log from to entry exit h
+unread_of (Some (Frames layout log)) entry exit h = unread_frames layout log entry exit h
 
 -- status 4 comes of a file that isn't held or of a failed read
 pub read_faults_are_said : AreReadFaultsSaid

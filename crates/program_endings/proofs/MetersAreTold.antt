@@ -14,9 +14,9 @@ use Rattle.program_endings.specs.MeterLaws.{AreLogFaultsSaid, AreMetersComplete,
 use Rattle.program_endings.specs.Meters.{HasLog, HasLogFault, IsFaultOfLog, IsFaultyLog, IsMeterText, IsReadLog}
 use Rattle.program_endings.specs.Moments.{Moment}
 use Rattle.program_endings.specs.Reading.{front_of}
-use Rattle.program_words.specs.Requests.{Asked, asked, Check, Slack, Plain, Run, Stop, Resume, Demo, Probe, Meter, Picture, Help, Version}
+use Rattle.program_words.specs.Requests.{Asked, asked, Check, Slack, Plain, Run, Stop, Resume, Demo, Probe, Meter, Picture, Frames, Help, Version}
 use Rattle.program_endings.specs.Statuses.{IsDoneOrMemory, IsFaultStatus, IsMeterCut, IsMeterDone, IsLogWith, IsUnreadOrMemory}
-use Rattle.program_endings.proofs.EndingsByStatus.{by_demo, by_meter, by_picture, by_probe, by_resume, by_stop, by_way, end_at, meter_end}
+use Rattle.program_endings.proofs.EndingsByStatus.{by_demo, by_meter, by_picture, by_probe, by_resume, by_stop, by_way, end_at, meter_end, by_frames}
 use Rattle.program_endings.proofs.LayoutDecidesStatus.{some_of, unread_status}
 use Rattle.program_endings.proofs.LoadsDecideStatus.{text_whole}
 
@@ -121,6 +121,8 @@ log_faulty_of (Some (Probe told layout from to taps)) entry exit h =
 log_faulty_of (Some (Meter log)) entry exit h = by_meter (IsLogFaultSaid log entry exit) log entry exit ending.Log (λ unmetered. unmetered) (λ metered. absurd metered.written) h
 log_faulty_of (Some (Picture layout log from to)) entry exit h =
     by_picture (IsLogFaultSaid log entry exit) layout log from to entry exit ending.Log (λ early. absurd early) (λ unlogged. unlogged.said) (λ drawn strange. absurd strange) (λ drawn pictured. absurd pictured.text) h
+log_faulty_of (Some (Frames layout log)) entry exit h =
+    by_frames (IsLogFaultSaid log entry exit) layout log entry exit ending.Log (λ early. absurd early) (λ unqueued. absurd unqueued.said) (λ untabled. untabled.said) (λ d unplanned. absurd unplanned) (λ d tabled. absurd tabled.text) h
 
 pub log_faults_are_said : AreLogFaultsSaid
 log_faults_are_said words entry exit status answer is = log_faulty_of (asked words) entry exit (end_at words entry exit status 8 answer is)

@@ -1,11 +1,11 @@
 -- Status 12 is that of a file to be written that has the name of an input.
-use Rattle.std.proofs.Common.{◌≡◌, ◌⊎◌, ℕ, Option, None, Some, Ok, Err, List, refl, ap, subst, ◌∙◌, inl, inr}
+use Rattle.std.proofs.Common.{◌≡◌, ◌⊎◌, ℕ, Option, None, Some, Ok, Err, List, refl, ap, subst, ◌∙◌, inl, inr, sym}
 use Rattle.std.specs.Prelude.{IfSome}
 use Rattle.layout.specs.declared.lines.Layout.{Layout}
 use Rattle.layout_file.specs.declared.fault.LayoutFault.{LayoutFault}
 use Rattle.load_plan.specs.declared.plan.Plan.{Plan}
 use Rattle.outside.specs.Files.{Files, IsAbsent, Rose}
-use Rattle.program_words.specs.Requests.{Asked, asked, Check, Slack, Plain, Run, Stop, Resume, Demo, Probe, Meter, Picture, Help, Version}
+use Rattle.program_words.specs.Requests.{Asked, asked, Check, Slack, Plain, Run, Stop, Resume, Demo, Probe, Meter, Picture, Frames, Help, Version}
 use Rattle.program_words.specs.declared.words.Hearing.{Hearing}
 use Rattle.program_endings.specs.declared.endings.Ending.{Ending}
 use Rattle.program_endings.specs.declared.endings.Ending.TheVariants as ending
@@ -13,10 +13,10 @@ use Rattle.program_endings.specs.Moments.{Moment}
 use Rattle.program_endings.specs.Endings.{IsEarly, IsEndOf, IsJudged, IsPlainEnd, IsPlanned, IsResumeEnd, IsStopEnd, IsTakenEnd, status_of}
 use Rattle.program_endings.specs.Statuses.{HasTakenName, IsFaultStatus, IsNetworkWith, IsTakenNameSaid, IsWritingWith}
 use Rattle.program_endings.specs.OutputLaws.{AreOutputFaultsSaid, DoOutputFaultsDecide}
-use Rattle.program_endings.specs.WrittenNames.{AreNamesFree, RunOf, StateOf, ToWrite}
-use Rattle.program_endings.proofs.EndingsByStatus.{by_demo, by_meter, by_picture, by_probe, by_resume, by_stop, by_way, end_at, files_end, resume_end, stop_end}
+use Rattle.program_endings.specs.WrittenNames.{AreNamesFree, RunOf, StateOf, ToWrite, NoFile}
+use Rattle.program_endings.proofs.EndingsByStatus.{by_demo, by_meter, by_picture, by_probe, by_resume, by_stop, by_way, end_at, files_end, resume_end, stop_end, by_frames}
 use Rattle.program_endings.proofs.LayoutDecidesStatus.{absent_unjudged, good_or_faulty, some_of, unread_status}
-use Rattle.program_endings.proofs.LoadsDecideStatus.{of_planned, taken_or_free}
+use Rattle.program_endings.proofs.LoadsDecideStatus.{of_planned, taken_or_free, no_names}
 use Rattle.program_endings.proofs.StopsAreTold.{unrun_status}
 
 -- X holds where a store tells a layout without fault, and a file to be written has the name of an input
@@ -97,6 +97,10 @@ resume_taken layout prefix before after e h =
     (λ unloaded. never_taken layout (RunOf prefix) before.held X unloaded.network unloaded.judged unloaded.free) (λ unrun. unrun_taken layout (RunOf prefix) before after e (unrun_status before after e unrun))
     (λ un. planned_taken layout (RunOf prefix) before after e un.plan un.planned un.free) (λ ran. planned_taken layout (RunOf prefix) before after e ran.plan ran.planned ran.free) h
 
+-- a form that writes nothing has no file with the name of an input
+nothing_taken : (layout : List ℕ) (held : Option Files) (X : Type 0) → IfTaken layout NoFile held X
+nothing_taken layout held X = some_of held _ (λ files has. let both = sym has.2.1 ∙ no_names layout has.0 in absurd (cc))
+
 -- status 12 where a file to be written has the name of an input
 pub output_faults_decide : DoOutputFaultsDecide
 output_faults_decide words entry exit status answer =
@@ -104,6 +108,7 @@ output_faults_decide words entry exit status answer =
       λ layout prefix is. plain_taken layout prefix entry exit answer.by (files_end (asked words) layout prefix entry exit answer.by is answer.allowed),
       λ layout prefix from is. stop_taken layout prefix from entry exit answer.by (stop_end (asked words) layout prefix from entry exit answer.by is answer.allowed),
       λ layout prefix is. resume_taken layout prefix entry exit answer.by (resume_end (asked words) layout prefix entry exit answer.by is answer.allowed),
+      λ layout log is. nothing_taken layout entry.held (IsFaultStatus 12 (status_of answer.by) entry.reads exit.reads),
     )
 
 words_output : ending.Output ≡ ending.Words → ⊥
@@ -141,6 +146,8 @@ output_said_of (Some (Probe told layout from to taps)) entry exit h =
 output_said_of (Some (Meter log)) entry exit h = absurd (by_meter ⊥ log entry exit ending.Output (λ unmetered. unmetered) (λ metered. metered.written) h)
 output_said_of (Some (Picture layout log from to)) entry exit h =
     absurd (by_picture ⊥ layout log from to entry exit ending.Output (λ early. early) (λ unlogged. unlogged.said) (λ drawn strange. strange) (λ drawn pictured. pictured.text) h)
+output_said_of (Some (Frames layout log)) entry exit h =
+    absurd (by_frames ⊥ layout log entry exit ending.Output (λ early. early) (λ unqueued. unqueued.said) (λ untabled. untabled.said) (λ d unplanned. unplanned) (λ d tabled. tabled.text) h)
 
 -- status 12 comes of a file to be written that has the name of an input
 pub output_faults_are_said : AreOutputFaultsSaid

@@ -8,7 +8,7 @@ use Rattle.log_meter.specs.Logs.{IsLogOf}
 use Rattle.log_meter.specs.declared.fault.LogFault.{LogFault}
 use Rattle.log_meter.specs.declared.line.LogLine.{LogLine}
 use Rattle.outside.specs.Files.{Files, IsAbsent, Rose}
-use Rattle.program_words.specs.Requests.{Asked, asked, Check, Slack, Plain, Run, Stop, Resume, Demo, Probe, Meter, Picture, Help, Version}
+use Rattle.program_words.specs.Requests.{Asked, asked, Check, Slack, Plain, Run, Stop, Resume, Demo, Probe, Meter, Picture, Frames, Help, Version}
 use Rattle.run_picture.specs.Pictures.{picture_of}
 use Rattle.run_picture.specs.Strangers.{first_stranger}
 use Rattle.program_endings.specs.declared.endings.Ending.{Ending}
@@ -17,8 +17,8 @@ use Rattle.program_endings.specs.Endings.{ArePictured, IsDrawn, IsEarly, IsEndOf
 use Rattle.program_endings.specs.Meters.{HasLog, HasLogFault, IsFaultyLog}
 use Rattle.program_endings.specs.Moments.{Moment}
 use Rattle.program_endings.specs.PictureLaws.{ArePicturesComplete, ArePicturesCutShort, ArePicturesRefused, AreStrangersSaid, DoPicturedAbsentLogsDecide, DoPicturedLogFaultsDecide, DoPicturesKeepFiles, DoStrangersDecide}
-use Rattle.program_endings.specs.Statuses.{HasStranger, IsDoneOrMemory, IsFaultStatus, IsNetworkWith, IsPictureCut, IsPictureDone, IsPictureText, IsPictureWith, IsStrangerSaid, IsUnreadOrMemory}
-use Rattle.program_endings.proofs.EndingsByStatus.{by_demo, by_meter, by_picture, by_probe, by_resume, by_stop, by_way, end_at, picture_end}
+use Rattle.program_endings.specs.Statuses.{HasStranger, IsDoneOrMemory, IsFaultStatus, IsNetworkWith, IsPictureCut, IsPictureDone, IsPictureText, IsStrangerSaid, IsUnreadOrMemory, IsComparedWith, IsPlannedWith, IsUnplannedSaid}
+use Rattle.program_endings.proofs.EndingsByStatus.{by_demo, by_meter, by_picture, by_probe, by_resume, by_stop, by_way, end_at, picture_end, by_frames}
 use Rattle.program_endings.proofs.LayoutDecidesStatus.{absent_unjudged, good_or_faulty, same_network}
 use Rattle.program_endings.proofs.LoadsDecideStatus.{text_whole}
 use Rattle.program_endings.proofs.MetersAreTold.{absent_faulty, absent_unread, log_or_fault, same_octets}
@@ -27,7 +27,7 @@ use Rattle.program_endings.proofs.MetersAreTold.{absent_faulty, absent_unread, l
 one_log : (octets : List ℕ) (a b : List LogLine) → IsLogOf octets a → IsLogOf octets b → a ≡ b
 one_log octets a b one two = let e = one_judgement octets (Ok a) (Ok b) one two in cc
 
-same_lines : (log : List ℕ) (files : Files) (a b : List LogLine) → HasLog log (Some files) a → HasLog log (Some files) b → a ≡ b
+pub same_lines : (log : List ℕ) (files : Files) (a b : List LogLine) → HasLog log (Some files) a → HasLog log (Some files) b → a ≡ b
 same_lines log files a b one two =
     one_log one.octets a b one.log_of (subst (λ (xs : List ℕ). IsLogOf xs b) (same_octets log files two.octets one.octets two.read one.read) two.log_of)
 
@@ -311,9 +311,9 @@ words_strange e = cc
 strange_unrun : ending.Stranger ≡ ending.Memory → ⊥
 strange_unrun e = cc
 
--- status 11 comes of a line that names what the layout lacks
+-- status 11 comes of a line that names what the layout or its plan lacks
 stranger_said_of : (o : Option Asked) (entry exit : Moment) → IsEndOf o entry exit ending.Stranger
-    → IsPictureWith o (λ layout log. IsNetworkWith layout entry.held (λ network. IsStrangerSaid network log entry exit))
+    → IsComparedWith o (λ layout log. IsNetworkWith layout entry.held (λ network. IsStrangerSaid network log entry exit)) (λ layout log. IsPlannedWith layout entry.held (λ plan. IsUnplannedSaid plan log entry exit))
 stranger_said_of None entry exit h = absurd (words_strange h.0)
 stranger_said_of (Some Help) entry exit h = absurd h.0
 stranger_said_of (Some Version) entry exit h = absurd h.0
@@ -334,6 +334,9 @@ stranger_said_of (Some (Meter log)) entry exit h = by_meter ⊥ log entry exit e
 stranger_said_of (Some (Picture layout log from to)) entry exit h =
     by_picture (IsNetworkWith layout entry.held (λ network. IsStrangerSaid network log entry exit)) layout log from to entry exit ending.Stranger (λ early. absurd early) (λ unlogged. absurd unlogged.said)
     (λ drawn strange. (drawn.network, drawn.judged, (strange.0, record { lines = drawn.lines; read = drawn.read; first = strange.1 }, strange.2))) (λ drawn pictured. absurd pictured.text) h
+stranger_said_of (Some (Frames layout log)) entry exit h =
+    by_frames (IsPlannedWith layout entry.held (λ plan. IsUnplannedSaid plan log entry exit)) layout log entry exit ending.Stranger (λ early. absurd early) (λ unqueued. absurd unqueued.said) (λ untabled. absurd untabled.said)
+    (λ d unplanned. (d.plan, d.planned, (unplanned.0, record { lines = d.lines; read = d.read; first = unplanned.1 }, unplanned.2))) (λ d tabled. absurd tabled.text) h
 
 pub strangers_are_said : AreStrangersSaid
 strangers_are_said words entry exit status answer is = stranger_said_of (asked words) entry exit (end_at words entry exit status 11 answer is)

@@ -15,10 +15,10 @@ use Rattle.program_endings.specs.Endings.{IsAimEnd, IsEarly, IsEndOf, IsJudged, 
 use Rattle.program_endings.specs.Moments.{Moment}
 use Rattle.program_endings.specs.ProbeLaws.{AreMissesSaid, AreProbesComplete, AreProbesCutShort, AreProbesRefused, DoMissesDecide, DoProbedAbsentLoadsDecide, DoProbedLoadFaultsDecide, DoProbesKeepFiles}
 use Rattle.program_endings.specs.Probes.{AreTapsOf, HasAim, HasNoAim}
-use Rattle.program_words.specs.Requests.{Asked, asked, Check, Slack, Plain, Run, Stop, Resume, Demo, Probe, Meter, Picture, Help, Version}
+use Rattle.program_words.specs.Requests.{Asked, asked, Check, Slack, Plain, Run, Stop, Resume, Demo, Probe, Meter, Picture, Frames, Help, Version}
 use Rattle.program_words.specs.declared.words.Hearing.{Hearing}
 use Rattle.program_endings.specs.Statuses.{IsDoneOrMemory, IsFaultStatus, IsMissSaid, IsNetworkWith, IsProbeCut, IsProbeDone, IsProbeWith, IsUnreadOrMemory}
-use Rattle.program_endings.proofs.EndingsByStatus.{by_demo, by_meter, by_picture, by_probe, by_resume, by_stop, by_way, end_at, probe_end}
+use Rattle.program_endings.proofs.EndingsByStatus.{by_demo, by_meter, by_picture, by_probe, by_resume, by_stop, by_way, end_at, probe_end, by_frames}
 use Rattle.program_endings.proofs.LayoutDecidesStatus.{absent_unjudged, good_or_faulty, same_network, some_of, unread_status}
 use Rattle.program_endings.proofs.LoadsDecideStatus.{AnyNetwork, IfKnown, IsKnown, Says, absent_says, early_known, fault_says, known_loads, text_whole, unloaded_known}
 
@@ -150,6 +150,8 @@ missed_said_of (Some (Probe told layout from to taps)) entry exit h =
 missed_said_of (Some (Meter log)) entry exit h = by_meter ⊥ log entry exit ending.Probe (λ unmetered. unmetered) (λ metered. metered.written) h
 missed_said_of (Some (Picture layout log from to)) entry exit h =
     by_picture ⊥ layout log from to entry exit ending.Probe (λ early. early) (λ unlogged. unlogged.said) (λ drawn strange. strange) (λ drawn pictured. pictured.text) h
+missed_said_of (Some (Frames layout log)) entry exit h =
+    by_frames ⊥ layout log entry exit ending.Probe (λ early. early) (λ unqueued. unqueued.said) (λ untabled. untabled.said) (λ d unplanned. unplanned) (λ d tabled. tabled.text) h
 
 pub misses_are_said : AreMissesSaid
 misses_are_said words entry exit status answer is = missed_said_of (asked words) entry exit (end_at words entry exit status 7 answer is)

@@ -7,7 +7,7 @@ use Rattle.load_files.specs.Loaded.{Loaded, Whole}
 use Rattle.load_plan.specs.declared.plan.Plan.{Plan}
 use Rattle.outside.specs.Files.{Files, IsAbsent}
 use Rattle.program_texts.specs.Texts.{line_of_no_quiet, name_of_state}
-use Rattle.program_words.specs.Requests.{Asked, asked, Check, Slack, Plain, Run, Stop, Resume, Demo, Probe, Meter, Picture, Help, Version}
+use Rattle.program_words.specs.Requests.{Asked, asked, Check, Slack, Plain, Run, Stop, Resume, Demo, Probe, Meter, Picture, Frames, Help, Version}
 use Rattle.quiet_state.specs.declared.state.NetState.{NetState}
 use Rattle.run_checkpoint.specs.Judging.{judged_state, most_state_octets}
 use Rattle.run_checkpoint.specs.declared.fault.StateFault.{StateFault}
@@ -22,7 +22,7 @@ use Rattle.program_endings.specs.Runs.{IsPlanOf}
 use Rattle.program_endings.specs.Statuses.{IsFaultStatus, IsPlannedWith, IsResumeDone, IsResumeWith, IsStopDone, IsStopWith, IsUnreadOrMemory}
 use Rattle.program_endings.specs.StopLaws.{AreStateFaultsSaid, AreUnquietSaid, DoAbsentStatesDecide, DoStateFaultsDecide, DoUnquietDecide}
 use Rattle.program_endings.specs.Writing.{added}
-use Rattle.program_endings.proofs.EndingsByStatus.{by_demo, by_meter, by_picture, by_probe, by_resume, by_stop, by_way, end_at, resume_end, stop_end}
+use Rattle.program_endings.proofs.EndingsByStatus.{by_demo, by_meter, by_picture, by_probe, by_resume, by_stop, by_way, end_at, resume_end, stop_end, by_frames}
 use Rattle.program_endings.proofs.LayoutDecidesStatus.{same_network, unread_status}
 use Rattle.program_endings.specs.WrittenNames.{AreNamesFree, RunOf, StateOf, ToWrite}
 use Rattle.program_endings.proofs.LoadsDecideStatus.{IfKnown, Says as SaysOfLoads, early_known, of_planned, taken_known, unloaded_known}
@@ -92,6 +92,8 @@ unquiet_said_of (Some (Probe told layout from to taps)) entry exit h =
 unquiet_said_of (Some (Meter log)) entry exit h = absurd (by_meter ⊥ log entry exit ending.Unquiet (λ unmetered. unmetered) (λ metered. metered.written) h)
 unquiet_said_of (Some (Picture layout log from to)) entry exit h =
     absurd (by_picture ⊥ layout log from to entry exit ending.Unquiet (λ early. early) (λ unlogged. unlogged.said) (λ drawn strange. strange) (λ drawn pictured. pictured.text) h)
+unquiet_said_of (Some (Frames layout log)) entry exit h =
+    absurd (by_frames ⊥ layout log entry exit ending.Unquiet (λ early. early) (λ unqueued. unqueued.said) (λ untabled. untabled.said) (λ d unplanned. unplanned) (λ d tabled. tabled.text) h)
 
 pub unquiet_are_said : AreUnquietSaid
 unquiet_are_said words entry exit status answer is = unquiet_said_of (asked words) entry exit (end_at words entry exit status 9 answer is)
@@ -119,6 +121,8 @@ state_faulty_of (Some (Probe told layout from to taps)) entry exit h =
 state_faulty_of (Some (Meter log)) entry exit h = absurd (by_meter ⊥ log entry exit ending.State (λ unmetered. unmetered) (λ metered. metered.written) h)
 state_faulty_of (Some (Picture layout log from to)) entry exit h =
     absurd (by_picture ⊥ layout log from to entry exit ending.State (λ early. early) (λ unlogged. unlogged.said) (λ drawn strange. strange) (λ drawn pictured. pictured.text) h)
+state_faulty_of (Some (Frames layout log)) entry exit h =
+    absurd (by_frames ⊥ layout log entry exit ending.State (λ early. early) (λ unqueued. unqueued.said) (λ untabled. untabled.said) (λ d unplanned. unplanned) (λ d tabled. tabled.text) h)
 
 pub state_faults_are_said : AreStateFaultsSaid
 state_faults_are_said words entry exit status answer is = state_faulty_of (asked words) entry exit (end_at words entry exit status 10 answer is)

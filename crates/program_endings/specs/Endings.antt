@@ -7,6 +7,8 @@ use Rattle.outside.specs.declared.memory.File.{File}
 use Rattle.quiet_state.specs.declared.state.NetState.{NetState}
 use Rattle.run_checkpoint.specs.Faults.{line_of_state_with}
 use Rattle.run_checkpoint.specs.declared.fault.StateFault.{StateFault}
+use Rattle.frame_table.specs.Tables.{IsFrameTable}
+use Rattle.frame_table.specs.Unplanned.{first_unplanned}
 use Rattle.layout_file.specs.Faults.{judged}
 use Rattle.layout.specs.declared.lines.Layout.{Layout}
 use Rattle.layout.specs.declared.lines.StationLine.{StationLine}
@@ -25,10 +27,11 @@ use Rattle.program_endings.specs.Writing.{put_all, added, IsBrokenAmong, IsSaid,
 use Rattle.program_endings.specs.Moments.{Moment}
 use Rattle.program_endings.specs.CheckpointFiles.{HasState, IsStateFaulty}
 use Rattle.program_endings.specs.Demos.{IsDemoText}
+use Rattle.program_endings.specs.FrameTables.{IsUnplannedEnd}
 use Rattle.program_endings.specs.Meters.{HasLog, HasLogFault, IsMeterText}
 use Rattle.program_endings.specs.Probes.{AreTapsOf, HasAim, IsMissLine}
 use Rattle.program_texts.specs.HeardTexts.{IsTextOfTaps}
-use Rattle.program_words.specs.Requests.{Asked, asked, Check, Slack, Plain, Run, Stop, Resume, Demo, Probe, Meter, Picture, Help, Version}
+use Rattle.program_words.specs.Requests.{Asked, asked, Check, Slack, Plain, Run, Stop, Resume, Demo, Probe, Meter, Picture, Frames, Help, Version}
 use Rattle.program_words.specs.declared.words.Hearing.{Hearing}
 use Rattle.program_words.specs.declared.words.Hearing.TheVariants as hearing
 use Rattle.program_endings.specs.Runs.{IsPlanOf, IsResumedSummary, IsStopLine, IsSummary, resumed_files, run_files, state_files}
@@ -498,6 +501,51 @@ IsPictureEnd layout log from to before after e =
     × (IsEarly layout before after e ⊎ IsUnlogged layout log before after e
     ⊎ IsDrawn layout log from to before after e)
 
+-- the layout has no fault, and the call ended before its loads, without fault, were read
+pub record IsUnqueued (layout : List ℕ) (before after : Moment) (e : Ending) : Type 0 where
+  pub network : Layout
+  pub judged : IsJudged layout before.held (Ok network)
+  pub said : IsUnloadedSaid network before after e
+
+-- the layout and its loads have no fault, and the call ended before a log without fault was read
+pub record IsUntabled (layout log : List ℕ) (before after : Moment) (e : Ending) : Type 0 where
+  pub plan : Plan
+  pub planned : IsPlanned layout before.held plan
+  pub said : IsUnmetered log before after e
+
+-- the table of a plan and of these lines, none of which names what the plan lacks, was written, or a front of it; the
+-- last two numbers count the failed writes
+pub record AreTabled (plan : Plan) (lines : List LogLine) (written now : Option (List ℕ)) (faults risen : ℕ)
+    (e : Ending) : Type 0 where
+  pub known : first_unplanned plan lines ≡ None
+  pub table : List ℕ
+  pub right : IsFrameTable plan lines table
+  pub text : IsText table written now faults risen e
+
+-- the table of a plan and of these lines was written, or one of them names what the plan lacks, or there was no memory;
+-- of the last four numbers two count the failed writes, and two what the sink refused
+abbrev pub IsTableEnd :
+    Plan → List LogLine → Option (List ℕ) → Option (List ℕ) → ℕ → ℕ → ℕ → ℕ → Ending → Type 0
+IsTableEnd plan lines written now faults faulted refused risen e =
+    IsUnplannedEnd plan lines written now refused risen e ⊎ AreTabled plan lines written now faults faulted e
+
+-- the layout, its loads and the log have no fault, and the table of the plan and of the log's lines was written, or a
+-- line names what the plan lacks
+pub record IsTabled (layout log : List ℕ) (before after : Moment) (e : Ending) : Type 0 where
+  pub plan : Plan
+  pub planned : IsPlanned layout before.held plan
+  pub lines : List LogLine
+  pub read : HasLog log before.held lines
+  pub tabled :
+      IsTableEnd plan lines before.written after.written before.faults after.faults before.refused after.refused e
+
+-- the end of the form frames LAYOUT LOG: it writes no file
+abbrev pub IsFramesEnd : List ℕ → List ℕ → Moment → Moment → Ending → Type 0
+IsFramesEnd layout log before after e =
+    (after.held ≡ before.held)
+    × (IsEarly layout before after e ⊎ IsUnqueued layout before after e ⊎ IsUntabled layout log before after e
+    ⊎ IsTabled layout log before after e)
+
 -- the end of words that ask for this; the words are none of the forms where they ask for nothing
 abbrev pub IsEndOf : Option Asked → Moment → Moment → Ending → Type 0
 IsEndOf None before after e = (e ≡ ending.Words) × (after.held ≡ before.held) × Says line_of_words_fault before after
@@ -511,6 +559,7 @@ IsEndOf (Some (Demo number workers)) before after e = IsDemoEnd number before af
 IsEndOf (Some (Probe told layout from to words)) before after e = IsProbeEnd told layout from to words before after e
 IsEndOf (Some (Meter log)) before after e = IsMeterEnd log before after e
 IsEndOf (Some (Picture layout log from to)) before after e = IsPictureEnd layout log from to before after e
+IsEndOf (Some (Frames layout log)) before after e = IsFramesEnd layout log before after e
 IsEndOf (Some Help) before after e = IsTextEnd HELP.now before after e
 IsEndOf (Some Version) before after e = IsTextEnd VERSION.now before after e
 

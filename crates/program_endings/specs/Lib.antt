@@ -5,6 +5,7 @@ pub mod Writing
 pub mod Runs
 pub mod Demos
 pub mod Meters
+pub mod FrameTables
 pub mod Probes
 pub mod CheckpointFiles
 pub mod WrittenNames
@@ -16,6 +17,7 @@ pub mod SoundInputs
 pub mod MeterLaws
 pub mod ProbeLaws
 pub mod PictureLaws
+pub mod FrameLaws
 pub mod StopLaws
 pub mod LoggedCollisions
 pub mod LogLaws

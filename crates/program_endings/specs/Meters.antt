@@ -1,4 +1,4 @@
--- What the octets of a log are to the forms meter and picture (profile). Lines count from 1.
+-- What the octets of a log are to the forms meter, picture and frames (profile). Lines count from 1.
 use Rattle.std.specs.Prelude.{◌<◌, ◌≤◌, ℕ, List, length, Option}
 use Rattle.log_meter.specs.FigureTexts.{IsFiguresText}
 use Rattle.log_meter.specs.Logs.{IsBadAt, IsFallingAt, IsLogOf, most_log_octets}

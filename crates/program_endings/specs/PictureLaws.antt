@@ -1,4 +1,5 @@
--- What each status says of the form picture LAYOUT LOG FROM TO: laws of every answer (profile). Lines count from 1.
+-- What each status says of the form picture LAYOUT LOG FROM TO, and status 11 of frames LAYOUT LOG too: laws of every
+-- answer (profile). Lines count from 1.
 use Rattle.std.specs.Prelude.{◌≡◌, ◌⊎◌, ℕ, List, None, Some, IfSome}
 use Rattle.outside.specs.Files.{IsAbsent, Rose}
 use Rattle.log_meter.specs.declared.line.LogLine.{LogLine}
@@ -6,16 +7,18 @@ use Rattle.program_words.specs.Requests.{asked}
 use Rattle.run_picture.specs.Strangers.{first_stranger}
 use Rattle.program_endings.specs.Meters.{HasLog, IsFaultyLog}
 use Rattle.program_endings.specs.StatusLaws.{OfAnswers}
-use Rattle.program_endings.specs.Statuses.{HasStranger, IfPicture, IsDoneOrMemory, IsFaultStatus, IsNetworkWith, IsPictureCut, IsPictureWith, IsStrangerSaid, IsUnreadOrMemory}
+use Rattle.program_endings.specs.Statuses.{HasStranger, IfPicture, IsComparedWith, IsDoneOrMemory, IsFaultStatus, IsNetworkWith, IsPictureCut, IsPlannedWith, IsStrangerSaid, IsUnplannedSaid, IsUnreadOrMemory}
 
--- with status 11 the layout and the log held at entry have no fault, a line of the log names what the layout lacks, and
--- the first such line was said
+-- with status 11 of picture the layout and the log held at entry have no fault, and a line of the log names what the
+-- layout lacks; of frames they and the loads have none, and a line names what their plan lacks; the first such line was
+-- said
 abbrev pub AreStrangersSaid : Type 0
 AreStrangersSaid =
     OfAnswers (λ words entry exit status.
     status ≡ 11
-    → IsPictureWith (asked words) (λ layout log.
-    IsNetworkWith layout entry.held (λ network. IsStrangerSaid network log entry exit)))
+    → IsComparedWith (asked words)
+    (λ layout log. IsNetworkWith layout entry.held (λ network. IsStrangerSaid network log entry exit))
+    (λ layout log. IsPlannedWith layout entry.held (λ plan. IsUnplannedSaid plan log entry exit)))
 
 -- where the layout and the log held at entry have no fault and a line of the log names what the layout lacks the
 -- status is 11, but for a failed read and want of memory

@@ -5,9 +5,10 @@ use Rattle.log_meter.specs.declared.line.LogLine.{LogLine}
 use Rattle.net_step.specs.Stops.{HasNoQuiet}
 use Rattle.outside.specs.Files.{Files, Rose}
 use Rattle.program_texts.specs.Texts.{name_of_state}
-use Rattle.program_words.specs.Requests.{Asked, asked, Check, Slack, Plain, Run, Stop, Resume, Demo, Probe, Meter, Picture, Help, Version}
+use Rattle.program_words.specs.Requests.{Asked, asked, Check, Slack, Plain, Run, Stop, Resume, Demo, Probe, Meter, Picture, Frames, Help, Version}
 use Rattle.quiet_state.specs.declared.state.NetState.{NetState}
 use Rattle.program_endings.specs.CheckpointFiles.{HasState}
+use Rattle.program_endings.specs.FrameTables.{HasUnplanned}
 use Rattle.program_endings.specs.Meters.{HasLog}
 use Rattle.program_endings.specs.Probes.{HasNoAim}
 use Rattle.program_endings.specs.Statuses.{HasStranger, IsDoneOrMemory, IsNetworkWith, IsPlannedWith}
@@ -35,12 +36,14 @@ AreInputsSound (Some (Meter log)) files = (lines : List LogLine) × HasLog log (
 AreInputsSound (Some (Picture layout log from to)) files =
     IsNetworkWith layout (Some files) (λ network. Unit {0})
     × ((lines : List LogLine) × HasLog log (Some files) lines)
+AreInputsSound (Some (Frames layout log)) files =
+    IsPlannedWith layout (Some files) (λ plan. Unit {0}) × ((lines : List LogLine) × HasLog log (Some files) lines)
 AreInputsSound (Some Help) files = Unit {0}
 AreInputsSound (Some Version) files = Unit {0}
 AreInputsSound None files = ⊥
 
 -- what is asked for isn't there: a quiet half bit of a stop (status 9), a tap or the half bits of a probe (7), or what
--- a line of a log names, for a picture (11)
+-- a line of a log names, for a picture and for a table (11)
 abbrev pub IsNotThere : Option Asked → Option Files → ℕ → Type 0
 IsNotThere (Some (Stop layout prefix from)) held status =
     (status ≡ 9) × IsPlannedWith layout held (λ plan. HasNoQuiet plan from)
@@ -48,6 +51,8 @@ IsNotThere (Some (Probe told layout from to taps)) held status =
     (status ≡ 7) × IsNetworkWith layout held (λ network. HasNoAim network to taps)
 IsNotThere (Some (Picture layout log from to)) held status =
     (status ≡ 11) × IsNetworkWith layout held (λ network. (n : ℕ) × HasStranger network log held n)
+IsNotThere (Some (Frames layout log)) held status =
+    (status ≡ 11) × IsPlannedWith layout held (λ plan. (n : ℕ) × HasUnplanned plan log held n)
 IsNotThere _ held status = ⊥
 
 -- where the store tells its files, what a form reads has no fault, and no read or write failed, the status is 0 or 6,

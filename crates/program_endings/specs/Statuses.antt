@@ -3,6 +3,8 @@ use Rattle.std.specs.Prelude.{◌≡◌, ◌⊎◌, ℕ, List, Option, None, Som
 use Rattle.capture_file.specs.declared.entries.Record.{Record}
 use Rattle.capture_file.specs.declared.fault.CaptureFault.{CaptureFault}
 use Rattle.outside.specs.Files.{Files, Rose}
+use Rattle.frame_table.specs.Tables.{IsFrameTable}
+use Rattle.frame_table.specs.Unplanned.{first_unplanned}
 use Rattle.layout.specs.declared.lines.Layout.{Layout}
 use Rattle.load_files.specs.Loaded.{IsLoaded, IsFirstAbsent, Faulty, Whole}
 use Rattle.load_plan.specs.declared.plan.Plan.{Plan}
@@ -10,10 +12,11 @@ use Rattle.log_meter.specs.declared.line.LogLine.{LogLine}
 use Rattle.program_endings.specs.CheckpointFiles.{HasState}
 use Rattle.program_endings.specs.Demos.{IsDemoText}
 use Rattle.program_endings.specs.Endings.{IsJudged, IsLoadUnreadSaid, IsPlanned, IsProbeText, IsUnreadSaid, Says}
+use Rattle.program_endings.specs.FrameTables.{HasUnplanned}
 use Rattle.program_endings.specs.Meters.{HasLog, IsMeterText}
 use Rattle.program_endings.specs.Moments.{Moment}
 use Rattle.program_endings.specs.Probes.{IsMissLine}
-use Rattle.program_words.specs.Requests.{Asked, asked, Check, Slack, Plain, Run, Stop, Resume, Demo, Probe, Meter, Picture, Help, Version}
+use Rattle.program_words.specs.Requests.{Asked, asked, Check, Slack, Plain, Run, Stop, Resume, Demo, Probe, Meter, Picture, Frames, Help, Version}
 use Rattle.program_words.specs.declared.words.Hearing.{Hearing}
 use Rattle.quiet_state.specs.Resumed.{state_at}
 use Rattle.quiet_state.specs.declared.state.NetState.{NetState}
@@ -21,10 +24,10 @@ use Rattle.run_checkpoint.specs.States.{text_of_state}
 use Rattle.net_step.specs.Stops.{IsFirstQuiet}
 use Rattle.run_picture.specs.Pictures.{picture_of}
 use Rattle.run_picture.specs.Strangers.{first_stranger}
-use Rattle.program_endings.specs.WrittenNames.{AreNamesFree, RunOf, StateOf, ToWrite, first_taken_name}
+use Rattle.program_endings.specs.WrittenNames.{AreNamesFree, NoFile, RunOf, StateOf, ToWrite, first_taken_name}
 use Rattle.program_endings.specs.Runs.{IsResumedSummary, IsSummary, resumed_files, run_files}
 use Rattle.program_texts.specs.SlackTexts.{IsSlackText}
-use Rattle.program_texts.specs.Texts.{line_of_output_fault, line_of_stopped, line_of_stranger, name_of_state}
+use Rattle.program_texts.specs.Texts.{line_of_output_fault, line_of_stopped, line_of_stranger, line_of_unplanned, name_of_state}
 use Rattle.program_texts.specs.Verdicts.{IsVerdictLine}
 use Rattle.program_endings.specs.Writing.{put_all, put_file, added, IsBrokenAmong, IsCutShort}
 use Rattle.program_texts.specs.declared.texts.TheConstants.{HELP, VERSION}
@@ -89,19 +92,24 @@ abbrev pub IfPicture : Option Asked → (List ℕ → List ℕ → ℕ → ℕ �
 IfPicture o P =
     (layout log : List ℕ) (from to : ℕ) → o ≡ Some (Picture layout log from to) → P layout log from to
 
+-- if the words are frames LAYOUT LOG, this holds of the two names
+abbrev pub IfFrames : Option Asked → (List ℕ → List ℕ → Type 0) → Type 0
+IfFrames o P = (layout log : List ℕ) → o ≡ Some (Frames layout log) → P layout log
+
 -- if the words are of a form with a layout, this holds of its name
 abbrev pub IfLayout : Option Asked → (List ℕ → Type 0) → Type 0
 IfLayout o P =
     IfTelling o (λ Tells layout. P layout) × IfFiles o (λ layout prefix. P layout)
     × IfStop o (λ layout prefix from. P layout) × IfResume o (λ layout prefix. P layout)
     × IfHeard o (λ told layout from to taps. P layout) × IfPicture o (λ layout log from to. P layout)
+    × IfFrames o (λ layout log. P layout)
 
--- if the words are of a form that writes files, and reads the loads of a layout as soon as it has no fault and no file
--- to be written has its name or that of a load, this holds of the layout's name and of what is written
+-- if the words are of a form that reads the loads of a layout as soon as it has no fault and no file to be written has
+-- its name or that of a load, this holds of the layout's name and of what is written
 abbrev pub IfLoaded : Option Asked → (List ℕ → ToWrite → Type 0) → Type 0
 IfLoaded o P =
     IfFiles o (λ layout prefix. P layout (RunOf prefix)) × IfStop o (λ layout prefix from. P layout (StateOf prefix))
-    × IfResume o (λ layout prefix. P layout (RunOf prefix))
+    × IfResume o (λ layout prefix. P layout (RunOf prefix)) × IfFrames o (λ layout log. P layout NoFile)
 
 -- if the words ask for a fixed text, this holds of it
 abbrev pub IfText : Option Asked → (List ℕ → Type 0) → Type 0
@@ -119,6 +127,7 @@ IsLayoutWith (Some (Demo number workers)) P = ⊥
 IsLayoutWith (Some (Probe told layout from to taps)) P = P layout
 IsLayoutWith (Some (Meter log)) P = ⊥
 IsLayoutWith (Some (Picture layout log from to)) P = P layout
+IsLayoutWith (Some (Frames layout log)) P = P layout
 IsLayoutWith (Some Help) P = ⊥
 IsLayoutWith (Some Version) P = ⊥
 IsLayoutWith None P = ⊥
@@ -135,6 +144,7 @@ IsLoadedWith (Some (Demo number workers)) P = ⊥
 IsLoadedWith (Some (Probe told layout from to taps)) P = P layout
 IsLoadedWith (Some (Meter log)) P = ⊥
 IsLoadedWith (Some (Picture layout log from to)) P = ⊥
+IsLoadedWith (Some (Frames layout log)) P = P layout
 IsLoadedWith (Some Help) P = ⊥
 IsLoadedWith (Some Version) P = ⊥
 IsLoadedWith None P = ⊥
@@ -151,6 +161,7 @@ IsWritingWith (Some (Demo number workers)) P = ⊥
 IsWritingWith (Some (Probe told layout from to taps)) P = ⊥
 IsWritingWith (Some (Meter log)) P = ⊥
 IsWritingWith (Some (Picture layout log from to)) P = ⊥
+IsWritingWith (Some (Frames layout log)) P = ⊥
 IsWritingWith (Some Help) P = ⊥
 IsWritingWith (Some Version) P = ⊥
 IsWritingWith None P = ⊥
@@ -168,11 +179,13 @@ IsProbeWith (Some (Demo number workers)) P = ⊥
 IsProbeWith (Some (Probe told layout from to taps)) P = P layout to taps
 IsProbeWith (Some (Meter log)) P = ⊥
 IsProbeWith (Some (Picture layout log from to)) P = ⊥
+IsProbeWith (Some (Frames layout log)) P = ⊥
 IsProbeWith (Some Help) P = ⊥
 IsProbeWith (Some Version) P = ⊥
 IsProbeWith None P = ⊥
 
--- the words are of a form that reads a log, meter LOG or picture LAYOUT LOG FROM TO, and this holds of the log's name
+-- the words are of a form that reads a log, meter LOG, picture LAYOUT LOG FROM TO or frames LAYOUT LOG, and this holds
+-- of the log's name
 abbrev pub IsLogWith : Option Asked → (List ℕ → Type 0) → Type 0
 IsLogWith (Some (Check layout)) P = ⊥
 IsLogWith (Some (Slack layout)) P = ⊥
@@ -184,25 +197,29 @@ IsLogWith (Some (Demo number workers)) P = ⊥
 IsLogWith (Some (Probe told layout from to taps)) P = ⊥
 IsLogWith (Some (Meter log)) P = P log
 IsLogWith (Some (Picture layout log from to)) P = P log
+IsLogWith (Some (Frames layout log)) P = P log
 IsLogWith (Some Help) P = ⊥
 IsLogWith (Some Version) P = ⊥
 IsLogWith None P = ⊥
 
--- the words are picture LAYOUT LOG FROM TO, and this holds of the two names
-abbrev pub IsPictureWith : Option Asked → (List ℕ → List ℕ → Type 0) → Type 0
-IsPictureWith (Some (Check layout)) P = ⊥
-IsPictureWith (Some (Slack layout)) P = ⊥
-IsPictureWith (Some (Plain layout prefix)) P = ⊥
-IsPictureWith (Some (Run layout prefix workers)) P = ⊥
-IsPictureWith (Some (Stop layout prefix from)) P = ⊥
-IsPictureWith (Some (Resume layout prefix)) P = ⊥
-IsPictureWith (Some (Demo number workers)) P = ⊥
-IsPictureWith (Some (Probe told layout from to taps)) P = ⊥
-IsPictureWith (Some (Meter log)) P = ⊥
-IsPictureWith (Some (Picture layout log from to)) P = P layout log
-IsPictureWith (Some Help) P = ⊥
-IsPictureWith (Some Version) P = ⊥
-IsPictureWith None P = ⊥
+-- the words are of a form that compares a log with a layout, picture LAYOUT LOG FROM TO or frames LAYOUT LOG, and the
+-- first or the second of these holds of the two names
+abbrev pub IsComparedWith :
+    Option Asked → (List ℕ → List ℕ → Type 0) → (List ℕ → List ℕ → Type 0) → Type 0
+IsComparedWith (Some (Check layout)) P Q = ⊥
+IsComparedWith (Some (Slack layout)) P Q = ⊥
+IsComparedWith (Some (Plain layout prefix)) P Q = ⊥
+IsComparedWith (Some (Run layout prefix workers)) P Q = ⊥
+IsComparedWith (Some (Stop layout prefix from)) P Q = ⊥
+IsComparedWith (Some (Resume layout prefix)) P Q = ⊥
+IsComparedWith (Some (Demo number workers)) P Q = ⊥
+IsComparedWith (Some (Probe told layout from to taps)) P Q = ⊥
+IsComparedWith (Some (Meter log)) P Q = ⊥
+IsComparedWith (Some (Picture layout log from to)) P Q = P layout log
+IsComparedWith (Some (Frames layout log)) P Q = Q layout log
+IsComparedWith (Some Help) P Q = ⊥
+IsComparedWith (Some Version) P Q = ⊥
+IsComparedWith None P Q = ⊥
 
 -- the statuses of a call that begins no file and writes its line alone
 abbrev pub IsRefusal : ℕ → Type 0
@@ -274,8 +291,14 @@ IsResumeFaultSaid layout prefix entry exit =
     IsInputFaultSaid layout entry exit
     ⊎ IsPlannedWith layout entry.held (λ plan. IsUnreadSaid (name_of_state prefix) entry exit)
 
--- a file to be read, which is the log, or the layout or, for a run and a probe, one of its loads, or the state that a
--- run goes on from, isn't held or a read failed, and its name was said
+-- the layout or one of its loads isn't held or a read failed, or they have no fault and so it is with the log, and the
+-- name was said
+abbrev pub IsTableFaultSaid : List ℕ → List ℕ → Moment → Moment → Type 0
+IsTableFaultSaid layout log entry exit =
+    IsInputFaultSaid layout entry exit ⊎ IsPlannedWith layout entry.held (λ plan. IsUnreadSaid log entry exit)
+
+-- a file to be read, which is the log, or the layout or, for a run, a probe and a table, one of its loads, or the state
+-- that a run goes on from, isn't held or a read failed, and its name was said
 abbrev pub IsReadFaultSaid : Option Asked → Moment → Moment → Type 0
 IsReadFaultSaid (Some (Check layout)) entry exit = IsUnreadSaid layout entry exit
 IsReadFaultSaid (Some (Slack layout)) entry exit = IsUnreadSaid layout entry exit
@@ -287,6 +310,7 @@ IsReadFaultSaid (Some (Demo number workers)) entry exit = ⊥
 IsReadFaultSaid (Some (Probe told layout from to taps)) entry exit = IsInputFaultSaid layout entry exit
 IsReadFaultSaid (Some (Meter log)) entry exit = IsUnreadSaid log entry exit
 IsReadFaultSaid (Some (Picture layout log from to)) entry exit = IsPictureUnreadSaid layout log entry exit
+IsReadFaultSaid (Some (Frames layout log)) entry exit = IsTableFaultSaid layout log entry exit
 IsReadFaultSaid (Some Help) entry exit = ⊥
 IsReadFaultSaid (Some Version) entry exit = ⊥
 IsReadFaultSaid None entry exit = ⊥
@@ -455,6 +479,30 @@ pub record IsPictureCut (layout log : List ℕ) (from to : ℕ) (entry exit : Mo
   pub right : IsPictureText layout log entry.held from to text
   pub cut : IsCutShort text entry.written exit.written
 
+-- the layout, its loads and the log have no fault, no line of the log names what the plan lacks, and this is the table
+-- of the plan and of the log's lines
+pub record IsTableText (layout log : List ℕ) (held : Option Files) (text : List ℕ) : Type 0 where
+  pub plan : Plan
+  pub planned : IsPlanned layout held plan
+  pub lines : List LogLine
+  pub read : HasLog log held lines
+  pub known : first_unplanned plan lines ≡ None
+  pub is : IsFrameTable plan lines text
+
+-- a table is told: the sink got the table of the frames of the layout with the loads held at entry, by the log held
+-- then, and every file is as at entry
+pub record IsTableDone (layout log : List ℕ) (entry exit : Moment) : Type 0 where
+  pub text : List ℕ
+  pub right : IsTableText layout log entry.held text
+  pub written : exit.written ≡ added text entry.written
+  pub held : exit.held ≡ entry.held
+
+-- the sink got a front of that table
+pub record IsTableCut (layout log : List ℕ) (entry exit : Moment) : Type 0 where
+  pub text : List ℕ
+  pub right : IsTableText layout log entry.held text
+  pub cut : IsCutShort text entry.written exit.written
+
 -- a fixed text is told: the sink got it, and every file is as at entry
 pub record IsTextDone (text : List ℕ) (entry exit : Moment) : Type 0 where
   pub written : exit.written ≡ added text entry.written
@@ -472,6 +520,7 @@ IsDone (Some (Demo number workers)) entry exit = IsDemoDone number entry exit
 IsDone (Some (Probe told layout from to taps)) entry exit = IsProbeDone told layout from to taps entry exit
 IsDone (Some (Meter log)) entry exit = IsMeterDone log entry exit
 IsDone (Some (Picture layout log from to)) entry exit = IsPictureDone layout log from to entry exit
+IsDone (Some (Frames layout log)) entry exit = IsTableDone layout log entry exit
 IsDone (Some Help) entry exit = IsTextDone HELP.now entry exit
 IsDone (Some Version) entry exit = IsTextDone VERSION.now entry exit
 IsDone None entry exit = ⊥
@@ -486,6 +535,11 @@ pub record HasStranger (network : Layout) (log : List ℕ) (held : Option Files)
 abbrev pub IsStrangerSaid : Layout → List ℕ → Moment → Moment → Type 0
 IsStrangerSaid network log entry exit =
     (n : ℕ) × HasStranger network log entry.held n × Says (line_of_stranger n) entry exit
+
+-- a line of the log names what a plan lacks, and the first such line was said
+abbrev pub IsUnplannedSaid : Plan → List ℕ → Moment → Moment → Type 0
+IsUnplannedSaid plan log entry exit =
+    (n : ℕ) × HasUnplanned plan log entry.held n × Says (line_of_unplanned n) entry exit
 
 -- a run that nothing hinders: the words are of a form that writes the files of a run, the store tells its files, the
 -- layout and the loads are held without fault, no file to be written has the name of one of them, and no count of

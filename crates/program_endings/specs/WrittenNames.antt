@@ -5,10 +5,11 @@ use Rattle.layout.specs.declared.lines.Layout.{Layout}
 use Rattle.layout.specs.declared.lines.StationLine.{StationLine}
 use Rattle.program_texts.specs.Texts.{name_of_capture, name_of_counters, name_of_log, name_of_state}
 
--- what a form writes to the store: the files of a run of this prefix, or the state of this prefix
+-- what a form writes to the store: the files of a run of this prefix, the state of this prefix, or nothing
 pub data ToWrite : Type 0 where
   RunOf : (prefix : List ℕ) → ToWrite
   StateOf : (prefix : List ℕ) → ToWrite
+  NoFile : ToWrite
 
 -- the names of the captures of stations, in their order
 abbrev pub capture_names : List ℕ → List StationLine → List (List ℕ)
@@ -20,6 +21,7 @@ abbrev pub names_to_write : ToWrite → Layout → List (List ℕ)
 names_to_write (RunOf prefix) network =
     name_of_log prefix ∷ name_of_counters prefix ∷ capture_names prefix network.stations
 names_to_write (StateOf prefix) network = name_of_state prefix ∷ []
+names_to_write NoFile network = []
 
 -- a load, if there is one, has this name
 abbrev pub is_load_named : Option (List ℕ) → List ℕ → Bool

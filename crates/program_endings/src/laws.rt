@@ -2,6 +2,7 @@
 ghost use Rattle.program_endings.specs.LogLaws.{AreRunCollisionsDetected, IsEmptyLogRefused, IsInfixRefused, IsLateHitRefused};
 ghost use Rattle.program_endings.specs.MeterLaws.{AreLogFaultsSaid, AreMetersComplete, AreMetersCutShort, AreMetersRefused, DoAbsentLogsDecide, DoLogFaultsDecide, DoMetersKeepFiles};
 ghost use Rattle.program_endings.specs.OutputLaws.{AreInputsKept, AreOutputFaultsSaid, DoOutputFaultsDecide};
+ghost use Rattle.program_endings.specs.FrameLaws.{AreTablesComplete, AreTablesCutShort, AreTablesRefused, DoTabledAbsentLogsDecide, DoTabledLogFaultsDecide, DoTablesKeepFiles, DoUnplannedDecide};
 ghost use Rattle.program_endings.specs.PictureLaws.{ArePicturesComplete, ArePicturesCutShort, ArePicturesRefused, AreStrangersSaid, DoPicturedAbsentLogsDecide, DoPicturedLogFaultsDecide, DoPicturesKeepFiles, DoStrangersDecide};
 ghost use Rattle.program_endings.specs.ProbeLaws.{AreMissesSaid, AreProbesComplete, AreProbesCutShort, AreProbesRefused, DoMissesDecide, DoProbedAbsentLoadsDecide, DoProbedLoadFaultsDecide, DoProbesKeepFiles};
 ghost use Rattle.program_endings.specs.StopLaws.{AreStateFaultsSaid, AreStopFilesWhole, AreStoppedRunsWhole, AreStopsBroken, AreStopsComplete, AreStopsRefused, AreStopsSilent, AreUnquietSaid, DoAbsentStatesDecide, DoStateFaultsDecide, DoUnquietDecide};
@@ -113,10 +114,12 @@ pub fn meters_are_told()
 {}
 
 /// Status 11 comes exactly of a picture of a layout and a log without fault where a line of the log names what the
-/// layout lacks, but for a failed read and want of memory, and the first such line is on the sink.
+/// layout lacks, and of a table of a layout, loads and a log without fault where a line names what their plan lacks, but
+/// for a failed read and want of memory, and the first such line is on the sink.
 pub fn strangers_decide()
     ensures said { AreStrangersSaid }
     ensures only { DoStrangersDecide }
+    ensures unplanned { DoUnplannedDecide }
 {}
 
 /// Statuses 8 and 4 of a picture whose layout has no fault come of its log as those of `meter` do.
@@ -132,6 +135,21 @@ pub fn pictures_are_told()
     ensures refused { ArePicturesRefused }
     ensures held { DoPicturesKeepFiles }
     ensures complete { ArePicturesComplete }
+{}
+
+/// Statuses 8 and 4 of a table whose layout and loads have no fault come of its log as those of `meter` do.
+pub fn tabled_logs_decide()
+    ensures fault { DoTabledLogFaultsDecide }
+    ensures absent { DoTabledAbsentLogsDecide }
+{}
+
+/// `frames` leaves a front of its table on the sink with status 5 or 6, and every file as at entry; with 5 a write to
+/// the sink failed. One that nothing hinders has the status 0 or 6.
+pub fn tables_are_told()
+    ensures failed { AreTablesCutShort }
+    ensures refused { AreTablesRefused }
+    ensures held { DoTablesKeepFiles }
+    ensures complete { AreTablesComplete }
 {}
 
 /// Status 9 comes exactly of a stop of a layout and loads without fault, the name of none of which is that of the state,

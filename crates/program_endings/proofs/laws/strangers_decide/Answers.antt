@@ -1,3 +1,4 @@
+use Rattle.program_endings.proofs.FramesAreTold.{unplanned_decide}
 use Rattle.program_endings.proofs.PicturesAreTold.{strangers_are_said, strangers_decide}
 use Rattle.program_endings.proofs.laws.strangers_decide.Goals as goal
 
@@ -6,3 +7,6 @@ returns-clause-said c = strangers_are_said
 
 pub returns-clause-only : goal.returns-clause-only
 returns-clause-only c = strangers_decide
+
+pub returns-clause-unplanned : goal.returns-clause-unplanned
+returns-clause-unplanned c = unplanned_decide
