@@ -4,6 +4,7 @@ pub mod FilesInTurn
 pub mod RunEnds
 pub mod ProbeEnds
 pub mod PictureEnds
+pub mod FrameEnds
 pub mod StopEnds
 pub mod EndsOfRequests
 pub mod TapsOfWords

@@ -20,7 +20,7 @@ use Rattle.netsim.proofs.RunEnds.{rose-before, said_before}
 pub picture-early : (layout log : List ℕ) (from to : ℕ) (before after : Moment) (e : Ending) → after.held ≡ before.held → IsEarly layout before after e → IsPictureEnd layout log from to before after e
 picture-early layout log from to before after e held early = (held, inl early)
 
-unmetered_before : (log : List ℕ) (before mid after : Moment) (e : Ending) → HasOnlyRead before mid → IsUnmetered log mid after e → IsUnmetered log before after e
+pub unmetered_before : (log : List ℕ) (before mid after : Moment) (e : Ending) → HasOnlyRead before mid → IsUnmetered log mid after e → IsUnmetered log before after e
 unmetered_before log before mid after ending.Done read said = said
 unmetered_before log before mid after ending.Words read said = said
 unmetered_before log before mid after ending.Layout read said = said
@@ -42,7 +42,7 @@ pub picture-unlogged : (layout log : List ℕ) (from to : ℕ) (network : Layout
 picture-unlogged layout log from to network before mid after e read judged held said =
     (held ∙ read.held, inr (inl (record { network = network; judged = judged; said = unmetered_before log before mid after e read said })))
 
-log_before : (log : List ℕ) (held now : Option Files) (lines : List LogLine) → now ≡ held → HasLog log now lines → HasLog log held lines
+pub log_before : (log : List ℕ) (held now : Option Files) (lines : List LogLine) → now ≡ held → HasLog log now lines → HasLog log held lines
 log_before log held now lines is has = rw is at has
 
 drawn_before : (network : Layout) (lines : List LogLine) (from to : ℕ) (before mid after : Moment) (e : Ending) → HasOnlyRead before mid

@@ -4,6 +4,7 @@
 mod aim;
 mod demo;
 mod files;
+mod frames;
 mod judge;
 mod loads;
 mod meter;

@@ -35,7 +35,7 @@ fn say_stranger<K: Sink>(alloc: Global, line: u32, out: &mut K) -> Result<(), Ou
 }
 
 /// Reads the lines of a log, or says why there are none.
-fn read_lines<S: Store, K: Sink>(
+pub(crate) fn read_lines<S: Store, K: Sink>(
     alloc: Global,
     log: &str,
     store: &mut S,

@@ -8,6 +8,7 @@ ghost use Rattle.program_words.specs.Requests.{asked};
 ghost use Rattle.program_endings.specs.Statuses.{IfFiles, IsDone, IsDoneOrMemory, IsRefusal, IsRunBroken, IsRunRefused, IsUnhindered};
 
 use crate::demo::demo;
+use crate::frames::frames;
 use crate::meter::meter;
 use crate::picture::picture;
 use crate::probe::probe;
@@ -73,6 +74,7 @@ pub fn run_words<X: Threads + Wait + Sync, S: Store, K: Sink, G: Gate>(
             from,
             to,
         } => picture(alloc, layout, log, from, to, store, out),
+        Request::Frames { layout, log } => frames(alloc, layout, log, store, out),
         Request::Help => write_line(out, HELP.as_bytes()),
         Request::Version => write_line(out, VERSION.as_bytes()),
     }
@@ -89,15 +91,16 @@ pub fn run_words<X: Threads + Wait + Sync, S: Store, K: Sink, G: Gate>(
 /// demo of 1 to 128 on workers, and writes its size and the summary to the sink. `probe LAYOUT FROM TO TAP ..` runs
 /// the network by half bits and writes to the sink what 1 to 16 taps hear from half bit FROM on and before TO, as runs
 /// of one symbol and bursts, and `waves LAYOUT FROM TO TAP ..` the same as a value change dump. `meter LOG` writes the
-/// figures of a log to the sink, and `picture LAYOUT LOG FROM TO` what the log tells of the half bits from FROM on and
-/// before TO as a picture. `--help` and `--version` write a fixed text to the sink. LAYOUT, PREFIX and LOG have 1 to
-/// 200 octets, and a TAP 1 to 40; PREFIX doesn't end in a slash; FROM is below TO, which is at most 2,000,000,000 and at
-/// most 1,000,000 more, and the FROM of `stop` is at most 2,000,000,000. The statuses are 0 for done, 1 for words of no
-/// form, 2 for a layout with a fault, 3 for a load with a fault, 4 for a file that can't be read, 5 for a failed write,
-/// 6 for want of memory, which alone is free, 7 for a tap that the layout hasn't or a TO past the run, 8 for a log with
-/// a fault, 9 for a run without a quiet half bit from FROM on, 10 for a state with a fault, 11 for a log that names what
-/// the layout lacks, and 12 for a file to be written that has the name of LAYOUT or of a load. The forms `run` and
-/// `demo` may wait.
+/// figures of a log to the sink, `picture LAYOUT LOG FROM TO` what the log tells of the half bits from FROM on and
+/// before TO as a picture, and `frames LAYOUT LOG` what became by the log of each frame that the stations of the layout
+/// have to send, with its loads, as a table. `--help` and `--version` write a fixed text to the sink. LAYOUT, PREFIX and
+/// LOG have 1 to 200 octets, and a TAP 1 to 40; PREFIX doesn't end in a slash; FROM is below TO, which is at most
+/// 2,000,000,000 and at most 1,000,000 more, and the FROM of `stop` is at most 2,000,000,000. The statuses are 0 for
+/// done, 1 for words of no form, 2 for a layout with a fault, 3 for a load with a fault, 4 for a file that can't be
+/// read, 5 for a failed write, 6 for want of memory, which alone is free, 7 for a tap that the layout hasn't or a TO
+/// past the run, 8 for a log with a fault, 9 for a run without a quiet half bit from FROM on, 10 for a state with a
+/// fault, 11 for a log that names what the layout lacks, or for `frames` a frame that no station has to send, and 12 for
+/// a file to be written that has the name of LAYOUT or of a load. The forms `run` and `demo` may wait.
 pub fn netsim<X: Threads + Wait + Sync, S: Store, K: Sink, G: Gate>(
     rt: &X,
     alloc: Global,
