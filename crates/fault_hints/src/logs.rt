@@ -80,7 +80,16 @@ pub fn tell_log<S: Store>(
     tell_line(out, log, number, what, &found)
 }
 
-/// Tells of a log that doesn't fit the layout.
+/// What is wrong with a line that names what isn't there: `frames` looks for its frames in the loads, too.
+fn stranger_fault(form: &str) -> &'static str {
+    if form == "frames" {
+        "the layout and its loads lack what this line names; is the log of a run of another layout, or of other loads?"
+    } else {
+        "the layout lacks what this line names; is the log of a run of another layout?"
+    }
+}
+
+/// Tells of a log that doesn't fit the layout, or for `frames` the layout with its loads.
 pub fn tell_stranger<S: Store>(
     alloc: Global,
     out: &mut String,
@@ -88,7 +97,7 @@ pub fn tell_stranger<S: Store>(
     store: &mut S,
 ) -> Result<(), OutOfMemory> {
     let log = word_at(ended.words, 2);
-    let what = "the layout lacks what this line names; is the log of a run of another layout?";
+    let what = stranger_fault(word_at(ended.words, 0));
     let number = line_number(ended.said);
     let found = read_line(alloc, store, log, number)?;
     tell_line(out, log, number, what, &found)
