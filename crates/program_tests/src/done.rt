@@ -21,7 +21,7 @@ pub fn holds_one_frame(store: &MemoryStore) -> bool {
 }
 
 /// Forms with what they say; demo reads no file, so that a store of which the first read fails changes nothing.
-const FORMS: [(&[&str], u32, &str); 9] = [
+const FORMS: [(&[&str], u32, &str); 10] = [
     (&["--help"], 0, HELP),
     (&["--version"], 0, "netsim 0.1.0\n"),
     (&["check", "l.toml"], 0, "within 212 a b\n"),
@@ -49,6 +49,11 @@ const FORMS: [(&[&str], u32, &str); 9] = [
         &["meter", "m.log"],
         0,
         "rows 2 sending 1152\nstation a sent 1 collided 0 given_up 0 cut 0 received 0 dropped 0 half_bits 1152 share 0 longest 1\nstation b sent 0 collided 0 given_up 0 cut 0 received 1 dropped 0 half_bits 0 share 0 longest 0\n",
+    ),
+    (
+        &["frames", "l.toml", "m.log"],
+        0,
+        "station,frame,octets,ready,first,start,end,attempts,outcome,reached,missed\na,1,64,0,0,0,1152,1,sent,1,0\n",
     ),
     (&["stop", "l.toml", "new", "500"], 0, "stopped 1163\n"),
 ];

@@ -7,7 +7,7 @@ use std::sync::Wait;
 use std::thread::Threads;
 
 /// Forms with the names of the files that they read, a piece and then the end of each.
-const READS: [(&[&str], &[&str]); 14] = [
+const READS: [(&[&str], &[&str]); 15] = [
     (&["check", "l.toml"], &["l.toml", "l.toml"]),
     (&["slack", "l.toml"], &["l.toml", "l.toml"]),
     (
@@ -64,6 +64,10 @@ const READS: [(&[&str], &[&str]); 14] = [
         &["picture", "l.toml", "m.log", "0", "1400"],
         &["l.toml", "l.toml", "m.log", "m.log"],
     ),
+    (
+        &["frames", "l.toml", "m.log"],
+        &["l.toml", "l.toml", "b.pcap", "b.pcap", "m.log", "m.log"],
+    ),
 ];
 
 /// Whether each read that fails, in turn, is told by the name of its file.
@@ -99,7 +103,7 @@ fn reads_that_fail(rt: HostRuntime) -> Result<(), OutOfMemory> {
 }
 
 /// Forms that say nothing where the first write fails, which begin no file; a refusal keeps its status.
-const WRITES: [(&[&str], u8); 19] = [
+const WRITES: [(&[&str], u8); 21] = [
     (&["--help"], 5),
     (&["--version"], 5),
     (&["check", "l.toml"], 5),
@@ -109,6 +113,7 @@ const WRITES: [(&[&str], u8); 19] = [
     (&["waves", "l.toml", "8", "16", "b"], 5),
     (&["meter", "m.log"], 5),
     (&["picture", "l.toml", "m.log", "0", "1400"], 5),
+    (&["frames", "l.toml", "m.log"], 5),
     (&["check"], 1),
     (&["plain", "none", "out"], 2),
     (&["plain", "load.toml", "out"], 3),
@@ -118,6 +123,7 @@ const WRITES: [(&[&str], u8); 19] = [
     (&["stop", "l.toml", "out", "1400"], 9),
     (&["resume", "l.toml", "none"], 10),
     (&["picture", "l.toml", "other.log", "0", "1400"], 11),
+    (&["frames", "l.toml", "other.log"], 11),
     (&["plain", "in.log", "in"], 12),
 ];
 
