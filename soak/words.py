@@ -31,7 +31,7 @@ def is_form(words):
         return False
     form, rest = words[0], words[1:]
     many = {"check": 1, "slack": 1, "plain": 2, "run": 3, "stop": 3, "resume": 2, "demo": 2, "meter": 1, "picture": 4,
-            "--help": 0, "--version": 0}
+            "frames": 2, "--help": 0, "--version": 0}
     if form in ("probe", "waves"):
         return (4 <= len(rest) <= 19 and is_name(rest[0]) and is_range(*rest[1:3])
                 and all(is_name(tap, 40) for tap in rest[3:]))
@@ -72,13 +72,14 @@ def answer(words, files):
     return None
 
 
-WORDS = ["check", "slack", "plain", "run", "stop", "resume", "demo", "probe", "waves", "meter", "picture", "--help",
-         "--version", "-h", "Check", "", "l.toml", "no.toml", "out", "none/out", "none/", "/", "0", "1", "2", "01", "+1", "-1", "1 ",
-         "1e3", "64", "65", "128", "129", "2000000000", "2000000001", "1000000", "1000001", "99999999999999999999",
-         "a", "b", "a:1", "r1:1", "r1:2", "r1:3", "r1:01", "r1", "r1:0", "x" * 40, "x" * 41, "y" * 200, "z" * 201,
-         "\u00e9" * 20, "\u00e9" * 21, "\u0661", "\n", "..", "l.toml\n"]
+WORDS = ["check", "slack", "plain", "run", "stop", "resume", "demo", "probe", "waves", "meter", "picture", "frames",
+         "--help", "--version", "-h", "Check", "", "l.toml", "no.toml", "out", "none/out", "none/", "/", "0", "1", "2",
+         "01", "+1", "-1", "1 ", "1e3", "64", "65", "128", "129", "2000000000", "2000000001", "1000000", "1000001",
+         "99999999999999999999", "a", "b", "a:1", "r1:1", "r1:2", "r1:3", "r1:01", "r1", "r1:0", "x" * 40, "x" * 41,
+         "y" * 200, "z" * 201, "\u00e9" * 20, "\u00e9" * 21, "\u0661", "\n", "..", "l.toml\n"]
 SHAPES = {"check": "l", "slack": "l", "plain": "lp", "run": "lpn", "stop": "lpn", "resume": "lp", "probe": "lnnttt",
-          "waves": "lnnt", "meter": "l", "picture": "llnn", "demo": "nn", "--help": "", "--version": ""}
+          "waves": "lnnt", "meter": "l", "picture": "llnn", "frames": "ll", "demo": "nn", "--help": "",
+          "--version": ""}
 
 
 def random_word(dice, shape):
