@@ -16,3 +16,5 @@ mod slacks;
 mod states;
 #[cfg(test)]
 mod stores;
+#[cfg(test)]
+mod tables;

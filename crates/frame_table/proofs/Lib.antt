@@ -1,0 +1,12 @@
+pub mod FoundLast
+pub mod DeviceSteps
+pub mod HistorySteps
+pub mod ReceptionsFound
+pub mod PortChanges
+pub mod WaysOn
+pub mod WaysFound
+pub mod ToldSteps
+pub mod ReachSteps
+pub mod TableSteps
+pub mod OneTable
+pub mod SentFrames

@@ -1,0 +1,12 @@
+pub mod Devices
+pub mod Found
+pub mod Histories
+pub mod Receptions
+pub mod Ports
+pub mod Unplanned
+pub mod Ways
+pub mod Led
+pub mod Told
+pub mod Reached
+pub mod Tables
+pub mod TableLaws
