@@ -3,9 +3,11 @@
 use crate::asked::{Ended, word_at};
 use crate::digits::tell_digits;
 use crate::files::read_file;
-use crate::near::Nearest;
+use crate::message::Message;
+use crate::near::{Nearest, nearest_in, take_names, tell_nearest};
 use crate::places::{Place, Spot, place_in, spot_of};
-use crate::shown::{show, show_word};
+use crate::rows::{row_named, rows_of};
+use crate::said::{WANTED, keys_of, said_of};
 use crate::tables::{is_table, tell_no_table};
 use crate::taken::tell_taken;
 use crate::tomls::{tell_no_text, tell_no_toml};
@@ -18,25 +20,23 @@ use toml::{Table, Value};
 /// The octets of the longest layout file.
 pub const LONGEST_FILE: usize = 1_048_576;
 
-/// The rows of a document's array of tables.
+/// A row of an array of tables, from 1.
 fn row_of<'a>(document: &'a Table, table: &str, row: usize) -> Option<&'a Table> {
-    match document.get(table) {
-        Some(Value::Array(rows)) => rows.as_slice().get(row.checked_sub(1)?)?.as_table(),
-        _ => None,
-    }
+    rows_of(document, table)
+        .get(row.saturating_sub(1))?
+        .as_table()
 }
 
 /// The table of a place: the file's own, a row's, or a port's.
-pub fn table_of<'a>(document: &'a Table, place: &Place<'_>) -> Option<&'a Table> {
+fn table_of<'a>(document: &'a Table, place: &Place<'_>) -> Option<&'a Table> {
     if place.row == 0 {
         return Some(document);
     }
-    let row = row_of(document, place.table, place.row)?;
+    let row = row_of(document, place.table, place.row);
     if place.port == 0 {
-        Some(row)
-    } else {
-        row_of(row, "port", place.port)
+        return row;
     }
+    row_of(row?, "port", place.port)
 }
 
 pub fn text_at<'a>(table: &'a Table, key: &str) -> Option<&'a str> {
@@ -53,62 +53,70 @@ pub fn number_at(table: &Table, key: &str) -> Option<i64> {
     }
 }
 
-/// The keys that the table of a place may have, one blank between them.
-fn keys_of(place: &Place<'_>, format: i64) -> &'static str {
-    match place.table {
-        "segment" => "name",
-        "station" if format == 2 => "name segment at load lose_bits",
-        "station" => "name segment at load",
-        "repeater" if place.port > 0 => "segment at",
-        "repeater" => "name delay port",
-        "send" => "station at octets",
-        _ => "format seed until_bits segment station repeater send",
+/// The text of a key of a place, or the empty one.
+pub fn text_of<'a>(document: &'a Table, place: &Place<'_>, key: &str) -> &'a str {
+    match table_of(document, place) {
+        Some(table) => text_at(table, key).unwrap_or(""),
+        None => "",
     }
+}
+
+/// The name of a row, from 1.
+pub fn name_at<'a>(document: &'a Table, table: &str, row: usize) -> Option<&'a str> {
+    text_at(row_of(document, table, row)?, "name")
 }
 
 /// Shows where a place is: the row with its name, or the file's head.
-pub fn show_row(out: &mut String, document: &Table, place: &Place<'_>) -> Result<(), OutOfMemory> {
+pub fn show_row(out: &mut Message, document: &Table, place: &Place<'_>) {
     if place.row == 0 {
-        out.push_str("the head of the file")?;
-        return Ok(());
+        out.add("the head of the file");
+        return;
     }
-    let table = place.table;
     if place.port > 0 {
-        let port = place.port;
-        write!(out, "port {port} of ")?;
+        out.add("port ");
+        out.add_number(place.port as u64);
+        out.add(" of ");
     }
-    write!(out, "[[{table}]] ")?;
-    match row_of(document, table, place.row).and_then(|row| text_at(row, "name")) {
-        Some(name) => show_word(out, name),
-        None => {
-            let row = place.row;
-            write!(out, "{row}")?;
-            Ok(())
-        }
+    out.add("[[");
+    out.add(place.table);
+    out.add("]] ");
+    match name_at(document, place.table, place.row) {
+        Some(name) => out.show_word(name),
+        None => out.add_number(place.row as u64),
     }
+}
+
+/// Begins a sentence on a file.
+pub fn begin(out: &mut Message, file: &str) {
+    out.add("netsim: ");
+    out.show(file);
 }
 
 /// Begins a sentence on a file, at a line and a column where they are known.
-pub fn begin_at(out: &mut String, file: &str, spot: Option<Spot>) -> Result<(), OutOfMemory> {
-    out.push_str("netsim: ")?;
-    show(out, file)?;
+pub fn begin_at(out: &mut Message, file: &str, spot: Option<Spot>) {
+    begin(out, file);
     if let Some(spot) = spot {
-        let (line, column) = (spot.line, spot.column);
-        write!(out, ":{line}:{column}")?;
+        out.add(":");
+        out.add_number(spot.line as u64);
+        out.add(":");
+        out.add_number(spot.column as u64);
     }
-    out.push_str(": ")?;
-    Ok(())
+    out.add(": ");
 }
 
 /// Tells that no more can be told of a file, since a pipe is read only once.
-pub fn tell_unread(out: &mut String, file: &str) -> Result<(), OutOfMemory> {
-    begin_at(out, file, None)?;
-    out.push_str("it can't be read again to say more: save it as a file\n")?;
-    Ok(())
+pub fn tell_unread(out: &mut Message, file: &str) {
+    begin(out, file);
+    out.add(": it can't be read again to say more: save it as a file\n");
 }
 
 fn is_listed(keys: &str, key: &str) -> bool {
-    keys.split_whitespace().any(|known| known == key)
+    for known in keys.split_whitespace() {
+        if known == key {
+            return true;
+        }
+    }
+    false
 }
 
 /// The first key of a table that isn't listed.
@@ -122,192 +130,125 @@ fn stranger<'a>(table: &'a Table, keys: &str) -> Option<&'a str> {
 }
 
 /// Goes on after an unknown key: what may have been meant.
-fn tell_meant(alloc: Global, out: &mut String, keys: &str, key: &str) -> Result<(), OutOfMemory> {
+fn tell_meant(out: &mut Message, keys: &str, key: &str) {
     if key == "lose_bits" {
-        out.push_str(": it needs format = 2")?;
-        return Ok(());
+        out.add(": it needs format = 2");
+        return;
     }
-    let mut nearest = Nearest::new(alloc, key);
-    for known in keys.split_whitespace() {
-        nearest.take(known)?;
-    }
-    match nearest.found() {
-        Some(known) => write!(out, ": did you mean '{known}'?")?,
-        None if is_listed("format seed until_bits", key) => {
-            out.push_str(": it belongs to the head of the file, before the first table")?;
+    match nearest_in(out, keys, key) {
+        Some(known) => {
+            out.add(": did you mean '");
+            out.add(known);
+            out.add("'?");
         }
-        None => write!(out, " is none of its keys: {keys}")?,
+        None if is_listed("format seed until_bits", key) => {
+            out.add(": it belongs to the head of the file, before the first table");
+        }
+        None => {
+            out.add(" is none of its keys: ");
+            out.add(keys);
+        }
     }
-    Ok(())
-}
-
-/// What a key wants where it has another type, and its range.
-fn wanted(place: &Place<'_>) -> &'static str {
-    match (place.table, place.key) {
-        ("send", "at") =>
-            "a whole number of half bits, without quotes or a point, 0 to 2000000000; a half bit is 50 ns",
-        (_, "at") =>
-            "a whole number of half bits, without quotes or a point, 0 to 2000; a half bit is 50 ns",
-        (_, "delay") =>
-            "a whole number of half bits, without quotes or a point, 1 to 200; a half bit is 50 ns",
-        (_, "format") => "1, or 2 for frames with a tag and for lose_bits",
-        (_, "seed") => "a whole number, without quotes or a point, 0 to 9223372036854775807",
-        (_, "until_bits") =>
-            "a whole number of bits, without quotes or a point, 1 to 1000000000; a bit is 100 ns",
-        (_, "lose_bits") => "a whole number of bits, without quotes or a point, 0 to 48",
-        ("file", "segment") => "at least one table, as [[segment]]",
-        ("file", _) => "tables, each with its name in two brackets, as [[station]]",
-        (_, "port") => "at least two tables, as [[repeater.port]]",
-        (_, "octets") => "hexadecimal digits in quotes, two an octet",
-        _ => "a text in quotes",
-    }
-}
-
-/// The limit that a file is beyond.
-fn limit(place: &Place<'_>) -> &'static str {
-    match (place.table, place.key) {
-        (_, "segment") => "there are at most 256 segments",
-        (_, "station") => "there are at most 1024 stations",
-        (_, "repeater") => "there are at most 128 repeaters",
-        (_, "port") => "a repeater has at most 32 ports",
-        (_, "send") =>
-            "there are at most 65536 sends; a load, a capture that a station sends, has room for more",
-        (_, "until_bits") =>
-            "until_bits times the number of devices is at most 4000000000: make the run shorter",
-        _ => "a layout file has at most 1048576 octets",
-    }
-}
-
-fn tell_name(out: &mut String, place: &Place<'_>) -> Result<(), OutOfMemory> {
-    match place.key {
-        "load" => out.push_str(
-            "a load is the name of a file, of 1 to 255 octets, none of them zero",
-        )?,
-        _ => out.push_str("a name has 1 to 32 of a to z, A to Z, 0 to 9, '_' and '-'")?,
-    }
-    Ok(())
 }
 
 /// Tells that nothing has this name, and which one is near.
-fn tell_no_such(
-    alloc: Global,
-    out: &mut String,
-    document: &Table,
-    table: &str,
-    name: &str,
-) -> Result<(), OutOfMemory> {
-    write!(out, "there is no [[{table}]] ")?;
-    show_word(out, name)?;
-    if table == "station" && is_row(document, "repeater", name) {
-        out.push_str(": it is a repeater, and repeaters send no frames of their own")?;
-        return Ok(());
+fn tell_no_such(out: &mut Message, document: &Table, table: &str, name: &str) {
+    out.add("there is no [[");
+    out.add(table);
+    out.add("]] ");
+    out.show_word(name);
+    if table == "station" && row_named(rows_of(document, "repeater"), name).is_some() {
+        out.add(": it is a repeater, and repeaters send no frames of their own");
+        return;
     }
-    let mut nearest = Nearest::new(alloc, name);
-    if let Some(Value::Array(rows)) = document.get(table) {
-        for row in rows.as_slice() {
-            if let Some(known) = row.as_table().and_then(|row| text_at(row, "name")) {
-                nearest.take(known)?;
-            }
-        }
-    }
-    if let Some(known) = nearest.found() {
-        out.push_str(": did you mean ")?;
-        show_word(out, known)?;
-        out.push_str("?")?;
-    }
-    Ok(())
+    let mut nearest = Nearest::new(out.alloc, name);
+    take_names(out, &mut nearest, rows_of(document, table));
+    tell_nearest(out, nearest.found());
 }
 
-/// Whether a row of a table has this name.
-fn is_row(document: &Table, table: &str, name: &str) -> bool {
-    match document.get(table) {
-        Some(Value::Array(rows)) => rows.as_slice().iter().any(|row| row
-            .as_table()
-            .is_some_and(|row| text_at(row, "name") == Some(name))),
-        _ => false,
+/// Tells that a place lacks its key.
+fn tell_lack(out: &mut Message, document: &Table, place: &Place<'_>) {
+    if place.row == 0 && place.key == "segment" {
+        out.add("the file has no [[segment]]");
+        return;
     }
+    show_row(out, document, place);
+    out.add(" lacks its key '");
+    out.add(place.key);
+    out.add("': ");
+    out.add(said_of(WANTED, place.table, place.key));
 }
 
 /// The sentence of a fault, after its place.
-fn tell_fault(
-    alloc: Global,
-    out: &mut String,
-    document: &Table,
-    place: &Place<'_>,
-) -> Result<(), OutOfMemory> {
-    let key = place.key;
-    let format = number_at(document, "format").unwrap_or(0);
-    let text = table_of(document, place)
-        .and_then(|table| text_at(table, key))
-        .unwrap_or("");
+fn tell_fault(out: &mut Message, document: &Table, place: &Place<'_>) {
+    let text = text_of(document, place, place.key);
     match place.code {
-        3 if place.row == 0 && key == "segment" => out.push_str("the file has no [[segment]]")?,
-        3 => {
-            show_row(out, document, place)?;
-            let wanted = wanted(place);
-            write!(out, " lacks its key '{key}': {wanted}")?;
-        }
+        3 => tell_lack(out, document, place),
         4 | 6 => {
-            let wanted = wanted(place);
-            write!(out, "{key} wants {wanted}")?;
+            out.add(place.key);
+            out.add(" wants ");
+            out.add(said_of(WANTED, place.table, place.key));
         }
-        5 => tell_name(out, place)?,
-        7 => out.push_str(limit(place))?,
-        8 if place.table == "segment" => out.push_str("an earlier segment has this name")?,
-        8 => out.push_str("an earlier station or repeater has this name")?,
-        9 => tell_no_such(alloc, out, document, "segment", text)?,
-        10 => tell_no_such(alloc, out, document, "station", text)?,
-        11 => tell_taken(alloc, out, document, place)?,
-        12 => tell_loop(alloc, out, document, place, text)?,
-        13 => out.push_str("no path over repeaters joins this segment to the first one")?,
-        14 => tell_digits(out, text, format)?,
-        _ => out.push_str("it has a fault")?,
+        9 => tell_no_such(out, document, "segment", text),
+        10 => tell_no_such(out, document, "station", text),
+        11 => tell_taken(out, document, place),
+        12 => tell_loop(out, document, place, text),
+        14 => tell_digits(out, text, number_at(document, "format").unwrap_or(0)),
+        code => out.add(said_of(code, place.table, place.key)),
     }
-    Ok(())
 }
 
+/// Tells of a key that a table may not have.
 fn tell_stranger_key(
-    alloc: Global,
-    out: &mut String,
+    out: &mut Message,
     file: &str,
     text: &str,
     document: &Table,
     place: &Place<'_>,
-) -> Result<(), OutOfMemory> {
+) {
     let keys = keys_of(place, number_at(document, "format").unwrap_or(0));
-    let key = table_of(document, place)
-        .and_then(|table| stranger(table, keys))
-        .unwrap_or("-");
-    begin_at(out, file, spot_of(text, place, key))?;
+    let key = match table_of(document, place) {
+        Some(table) => stranger(table, keys).unwrap_or("-"),
+        None => "-",
+    };
+    begin_at(out, file, spot_of(text, place, key));
     if place.row == 0 && is_table(document, key) {
-        return tell_no_table(alloc, out, key);
+        tell_no_table(out, key);
+        return;
     }
-    show_word(out, key)?;
-    out.push_str(" in ")?;
-    show_row(out, document, place)?;
-    tell_meant(alloc, out, keys, key)
+    out.show_word(key);
+    out.add(" in ");
+    show_row(out, document, place);
+    tell_meant(out, keys, key);
 }
 
 /// Tells of a layout's fault, by its text.
-fn tell_in(
-    alloc: Global,
-    out: &mut String,
-    file: &str,
-    text: &str,
-    place: &Place<'_>,
-) -> Result<(), OutOfMemory> {
-    match toml::table_from_str(alloc, text) {
-        Ok(document) if place.code == 2 => tell_stranger_key(
-            alloc, out, file, text, &document, place,
-        )?,
+fn tell_in(out: &mut Message, file: &str, text: &str, place: &Place<'_>) {
+    match toml::table_from_str(out.alloc, text) {
         Ok(document) => {
-            begin_at(out, file, spot_of(text, place, place.key))?;
-            tell_fault(alloc, out, &document, place)?;
+            if place.code == 2 {
+                tell_stranger_key(out, file, text, &document, place);
+            } else {
+                begin_at(out, file, spot_of(text, place, place.key));
+                tell_fault(out, &document, place);
+            }
+            out.add("\n");
         }
-        Err(error) => return tell_no_toml(out, file, text, &error),
+        Err(error) => tell_no_toml(out, file, text, &error),
     }
-    out.push_str("\n")?;
-    Ok(())
+}
+
+/// Tells of a layout's fault, by the octets of the file.
+fn tell_octets(out: &mut Message, file: &str, octets: &[u8], place: &Place<'_>) {
+    if octets.len() > LONGEST_FILE {
+        begin(out, file);
+        out.add(": a layout file has at most 1048576 octets\n");
+        return;
+    }
+    match str::from_utf8(octets) {
+        Ok(text) => tell_in(out, file, text, place),
+        Err(_) => tell_no_text(out, file, octets),
+    }
 }
 
 /// Tells of a layout's fault.
@@ -321,18 +262,12 @@ pub fn tell_layout<S: Store>(
     let Some(place) = place_in(ended.said) else {
         return Ok(());
     };
-    let Some(octets) = read_file(alloc, store, file, LONGEST_FILE)? else {
-        return tell_unread(out, file);
-    };
-    if octets.len() > LONGEST_FILE {
-        begin_at(out, file, None)?;
-        out.push_str("a layout file has at most 1048576 octets\n")?;
-        return Ok(());
+    let mut message = Message::new(alloc);
+    match read_file(alloc, store, file, LONGEST_FILE)? {
+        Some(octets) => tell_octets(&mut message, file, octets.as_slice(), &place),
+        None => tell_unread(&mut message, file),
     }
-    match str::from_utf8(octets.as_slice()) {
-        Ok(text) => tell_in(alloc, out, file, text, &place),
-        Err(_) => tell_no_text(out, file, octets.as_slice()),
-    }
+    message.put_into(out)
 }
 
 /// The document of a layout file that has no fault.

@@ -1,8 +1,11 @@
 //! The nearest of known words.
 
+use crate::message::Message;
+use crate::rows::word_of;
 use lists::OutOfMemory;
 use std::alloc::Global;
 use strsim::levenshtein;
+use toml::Value;
 
 /// No edits at all lead from words of more octets to another.
 const MOST_COMPARED: usize = 64;
@@ -48,5 +51,34 @@ impl<'a> Nearest<'a> {
 
     pub fn found(&self) -> Option<&'a str> {
         self.found
+    }
+}
+
+/// The nearest of words with blanks between them.
+pub fn nearest_in<'a>(out: &mut Message, words: &'a str, word: &'a str) -> Option<&'a str> {
+    let mut nearest = Nearest::new(out.alloc, word);
+    for known in words.split_whitespace() {
+        let done = nearest.take(known);
+        out.note(done);
+    }
+    nearest.found()
+}
+
+/// Takes the names of rows into account.
+pub fn take_names<'a>(out: &mut Message, nearest: &mut Nearest<'a>, rows: &'a [Value]) {
+    for row in rows {
+        if let Some(name) = word_of(row, "name") {
+            let done = nearest.take(name);
+            out.note(done);
+        }
+    }
+}
+
+/// Goes on after a name that nothing has: what may have been meant.
+pub fn tell_nearest(out: &mut Message, found: Option<&str>) {
+    if let Some(name) = found {
+        out.add(": did you mean ");
+        out.show_word(name);
+        out.add("?");
     }
 }

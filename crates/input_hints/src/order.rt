@@ -5,8 +5,21 @@ use crate::rows::{row_named, rows_of};
 use lists::OutOfMemory;
 use outside::Store;
 use std::alloc::Global;
+use toml::Table;
 
-/// Whether a device comes before another one in a layout: stations come before repeaters.
+/// The place of a device in the order, from 1: stations come before repeaters.
+fn order_of(document: &Table, name: &str) -> Option<usize> {
+    let stations = rows_of(document, "station");
+    match row_named(stations, name) {
+        Some(row) => Some(row),
+        None => {
+            let row = row_named(rows_of(document, "repeater"), name)?;
+            Some(row.saturating_add(stations.len()))
+        }
+    }
+}
+
+/// Whether a device comes before another one in a layout.
 pub fn comes_before<S: Store>(
     alloc: Global,
     store: &mut S,
@@ -17,17 +30,8 @@ pub fn comes_before<S: Store>(
     let Some(document) = document_of(alloc, layout, store)? else {
         return Ok(false);
     };
-    let stations = rows_of(&document, "station");
-    let repeaters = rows_of(&document, "repeater");
-    Ok(
-        match (row_named(stations, name), row_named(stations, other)) {
-            (Some(first), Some(second)) => first < second,
-            (Some(_), None) => row_named(repeaters, other).is_some(),
-            (None, Some(_)) => false,
-            (None, None) => match (row_named(repeaters, name), row_named(repeaters, other)) {
-                (Some(first), Some(second)) => first < second,
-                _ => false,
-            },
-        },
-    )
+    match (order_of(&document, name), order_of(&document, other)) {
+        (Some(first), Some(second)) => Ok(first < second),
+        _ => Ok(false),
+    }
 }

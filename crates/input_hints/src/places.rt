@@ -5,20 +5,24 @@ use crate::asked::after;
 /// A place as the program's line of a layout's fault names it.
 #[derive(Clone, Copy)]
 pub struct Place<'a> {
-    pub code: u32,
+    pub code: usize,
     pub table: &'a str,
     pub row: usize,
     pub port: usize,
     pub key: &'a str,
 }
 
+fn count_after(said: &str, word: &str) -> Option<usize> {
+    after(said, word)?.parse::<usize>().ok()
+}
+
 /// The place that a line `layout fault ..` names.
 pub fn place_in(said: &str) -> Option<Place<'_>> {
     Some(Place {
-        code: after(said, "fault")?.parse::<u32>().ok()?,
+        code: count_after(said, "fault")?,
         table: after(said, "table")?,
-        row: after(said, "row")?.parse::<usize>().ok()?,
-        port: after(said, "port")?.parse::<usize>().ok()?,
+        row: count_after(said, "row")?,
+        port: count_after(said, "port")?,
         key: after(said, "key")?,
     })
 }
@@ -38,14 +42,8 @@ fn header_of(line: &str) -> Option<&str> {
     Some(name.trim())
 }
 
-/// The key of a line and what stands after `=`.
-fn entry_of(line: &str) -> Option<(&str, &str)> {
-    let (key, value) = line.split_once('=')?;
-    Some((key.trim().trim_matches('"'), value))
-}
-
 /// What was seen of a file's headers so far.
-#[derive(Drop)]
+#[derive(Clone, Copy)]
 struct Seen<'a> {
     header: Option<&'a str>,
     rows: usize,
@@ -73,19 +71,21 @@ impl<'a> Seen<'a> {
     }
 }
 
-fn spot_of_value(number: usize, line: &str, value: &str) -> Spot {
-    let after = value.trim_start().len();
+/// The spot in a line at which its rest begins.
+fn spot_before(number: usize, line: &str, rest: &str) -> Spot {
     Spot {
         line: number,
-        column: line.len().saturating_sub(after).saturating_add(1),
+        column: line.len().saturating_sub(rest.len()).saturating_add(1),
     }
 }
 
-fn spot_of_key(number: usize, line: &str) -> Spot {
-    let indent = line.len().saturating_sub(line.trim_start().len());
-    Spot {
-        line: number,
-        column: indent.saturating_add(1),
+/// Where the value of a key stands in a line that has it.
+fn spot_in_entry(number: usize, line: &str, key: &str) -> Option<Spot> {
+    let (known, value) = line.split_once('=')?;
+    if known.trim().trim_matches('"') == key {
+        Some(spot_before(number, line, value.trim_start()))
+    } else {
+        None
     }
 }
 
@@ -103,14 +103,12 @@ pub fn spot_of(text: &str, place: &Place<'_>, key: &str) -> Option<Spot> {
         if let Some(header) = header_of(line) {
             seen.take(place.table, header);
             if seen.is_at(place) || (place.row == 0 && header == key) {
-                row = Some(spot_of_key(number, line));
+                row = Some(spot_before(number, line, line.trim_start()));
             }
         } else if seen.is_at(place) {
-            match entry_of(line) {
-                Some((known, value)) if known == key => return Some(spot_of_value(
-                    number, line, value,
-                )),
-                _ => {}
+            let spot = spot_in_entry(number, line, key);
+            if spot.is_some() {
+                return spot;
             }
         }
     }

@@ -1,8 +1,8 @@
 //! The rows of a layout file's tables, and the taps that they name.
 
 use crate::layouts::{number_at, text_at};
-use lists::{List, OutOfMemory};
-use std::alloc::Global;
+use crate::message::Message;
+use lists::List;
 use toml::{Table, Value};
 
 /// The rows of an array of tables.
@@ -15,15 +15,27 @@ pub fn rows_of<'a>(table: &'a Table, key: &str) -> &'a [Value] {
 
 /// What a row has as a text.
 pub fn word_of<'a>(row: &'a Value, key: &str) -> Option<&'a str> {
-    row.as_table().and_then(|row| text_at(row, key))
+    text_at(row.as_table()?, key)
+}
+
+/// Whether a row has a text.
+pub fn is_named(row: &Value, key: &str, text: &str) -> bool {
+    match word_of(row, key) {
+        Some(known) => known == text,
+        None => false,
+    }
 }
 
 /// The row of a name, from 1.
 pub fn row_named(rows: &[Value], name: &str) -> Option<usize> {
-    let row = rows
-        .iter()
-        .position(|row| word_of(row, "name") == Some(name))?;
-    Some(row.saturating_add(1))
+    let mut number = 0usize;
+    for row in rows {
+        number = number.saturating_add(1);
+        if is_named(row, "name", name) {
+            return Some(number);
+        }
+    }
+    None
 }
 
 /// A tap: its row, its port or 0 for a station's, its segment's row, each from 1, and its place there.
@@ -37,32 +49,49 @@ pub struct Tap {
 
 fn tap_of(document: &Table, line: &Value, row: usize, port: usize) -> Option<Tap> {
     let line = line.as_table()?;
+    let segment = text_at(line, "segment")?;
     Some(Tap {
         row,
         port,
-        segment: row_named(rows_of(document, "segment"), text_at(line, "segment")?)?,
+        segment: row_named(rows_of(document, "segment"), segment)?,
         at: u32::try_from(number_at(line, "at")?).ok()?,
     })
 }
 
-/// All taps: those of stations, then those of ports, as the file has them.
-pub fn taps_of(alloc: Global, document: &Table) -> Result<List<Tap>, OutOfMemory> {
-    let mut taps = List::new(alloc);
-    for (row, station) in rows_of(document, "station").iter().enumerate() {
-        if let Some(tap) = tap_of(document, station, row.saturating_add(1), 0) {
-            taps.push(tap)?;
-        }
-    }
-    for (row, repeater) in rows_of(document, "repeater").iter().enumerate() {
-        let Some(repeater) = repeater.as_table() else {
-            continue;
+/// Takes the taps of lines: of stations, or of the ports of a repeater in a row.
+fn take_taps(
+    out: &mut Message,
+    taps: &mut List<Tap>,
+    document: &Table,
+    lines: &[Value],
+    repeater: usize,
+) {
+    let mut number = 0usize;
+    for line in lines {
+        number = number.saturating_add(1);
+        let (row, port) = if repeater == 0 {
+            (number, 0)
+        } else {
+            (repeater, number)
         };
-        for (port, line) in rows_of(repeater, "port").iter().enumerate() {
-            let (row, port) = (row.saturating_add(1), port.saturating_add(1));
-            if let Some(tap) = tap_of(document, line, row, port) {
-                taps.push(tap)?;
-            }
+        if let Some(tap) = tap_of(document, line, row, port) {
+            let done = taps.push(tap);
+            out.note(done);
         }
     }
-    Ok(taps)
+}
+
+/// All taps: those of stations, then those of ports, as the file has them.
+pub fn taps_of(out: &mut Message, document: &Table) -> List<Tap> {
+    let mut taps = List::new(out.alloc);
+    take_taps(out, &mut taps, document, rows_of(document, "station"), 0);
+    let mut number = 0usize;
+    for repeater in rows_of(document, "repeater") {
+        number = number.saturating_add(1);
+        if let Some(repeater) = repeater.as_table() {
+            let ports = rows_of(repeater, "port");
+            take_taps(out, &mut taps, document, ports, number);
+        }
+    }
+    taps
 }

@@ -11,24 +11,25 @@ fn acts(sign: char) -> bool {
         || matches!(sign, '\u{200e}'..='\u{200f}' | '\u{2028}'..='\u{202e}' | '\u{2066}'..='\u{2069}')
 }
 
-fn show_octet(out: &mut String, octet: u8) -> Result<(), OutOfMemory> {
-    write!(out, "\\x{octet:02x}")?;
-    Ok(())
+/// How a character that acts is escaped by a letter, or nothing.
+fn escape_of(sign: char) -> &'static str {
+    match sign {
+        '\n' => "\\n",
+        '\t' => "\\t",
+        '\r' => "\\r",
+        _ => "",
+    }
 }
 
 fn show_sign(out: &mut String, sign: char) -> Result<(), OutOfMemory> {
-    match sign {
-        '\n' => out.push_str("\\n")?,
-        '\t' => out.push_str("\\t")?,
-        '\r' => out.push_str("\\r")?,
-        _ => {
-            if acts(sign) {
-                let code = u32::from(sign);
-                write!(out, "\\u{{{code:x}}}")?;
-            } else {
-                out.push(sign)?;
-            }
-        }
+    let escape = escape_of(sign);
+    if !acts(sign) {
+        out.push(sign)?;
+    } else if escape.is_empty() {
+        let code = u32::from(sign);
+        write!(out, "\\u{{{code:x}}}")?;
+    } else {
+        out.push_str(escape)?;
     }
     Ok(())
 }
@@ -42,11 +43,11 @@ pub fn show(out: &mut String, text: &str) -> Result<(), OutOfMemory> {
 }
 
 /// Shows octets, with all that is no UTF-8 escaped too.
-pub fn show_octets(out: &mut String, octets: &[u8]) -> Result<(), OutOfMemory> {
+fn show_octets(out: &mut String, octets: &[u8]) -> Result<(), OutOfMemory> {
     for chunk in octets.utf8_chunks() {
         show(out, chunk.valid())?;
         for octet in chunk.invalid() {
-            show_octet(out, *octet)?;
+            write!(out, "\\x{octet:02x}")?;
         }
     }
     Ok(())
@@ -55,16 +56,9 @@ pub fn show_octets(out: &mut String, octets: &[u8]) -> Result<(), OutOfMemory> {
 /// Shows a front of a line of at most 80 octets, between quotes.
 pub fn show_front(out: &mut String, line: &[u8]) -> Result<(), OutOfMemory> {
     out.push_str("'")?;
-    match line.get(..MOST_SHOWN) {
-        Some(front) if line.len() > MOST_SHOWN => {
-            show_octets(out, front)?;
-            out.push_str("' ..")?;
-        }
-        _ => {
-            show_octets(out, line)?;
-            out.push_str("'")?;
-        }
-    }
+    let front = line.get(..MOST_SHOWN).unwrap_or(line);
+    show_octets(out, front)?;
+    out.push_str(if line.len() > MOST_SHOWN { "' .." } else { "'" })?;
     Ok(())
 }
 

@@ -1,33 +1,37 @@
 //! Tables that no layout file has.
 
-use crate::near::Nearest;
-use crate::shown::show_word;
-use lists::OutOfMemory;
-use std::alloc::Global;
+use crate::message::Message;
+use crate::near::nearest_in;
 use toml::{Table, Value};
 
 /// Whether a key of the file is a table, or an array of them.
 pub fn is_table(document: &Table, key: &str) -> bool {
     match document.get(key) {
         Some(Value::Table(_)) => true,
-        Some(Value::Array(rows)) => rows.as_slice().iter().any(|row| row.is_table()),
+        Some(Value::Array(rows)) => {
+            for row in rows.as_slice() {
+                if row.is_table() {
+                    return true;
+                }
+            }
+            false
+        }
         _ => false,
     }
 }
 
 /// Tells that there is no table of a name, and which one may have been meant.
-pub fn tell_no_table(alloc: Global, out: &mut String, name: &str) -> Result<(), OutOfMemory> {
-    out.push_str("there is no table ")?;
-    show_word(out, name)?;
-    let mut nearest = Nearest::new(alloc, name);
-    for known in ["segment", "station", "repeater", "send"] {
-        nearest.take(known)?;
-    }
-    match nearest.found() {
-        Some(known) => write!(out, ": did you mean [[{known}]]?")?,
-        None => out.push_str(
+pub fn tell_no_table(out: &mut Message, name: &str) {
+    out.add("there is no table ");
+    out.show_word(name);
+    match nearest_in(out, "segment station repeater send", name) {
+        Some(known) => {
+            out.add(": did you mean [[");
+            out.add(known);
+            out.add("]]?");
+        }
+        None => out.add(
             ": the tables are [[segment]], [[station]], [[repeater]], [[repeater.port]] and [[send]]",
-        )?,
+        ),
     }
-    Ok(())
 }

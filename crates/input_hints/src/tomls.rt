@@ -1,9 +1,8 @@
 //! Why a layout file is no TOML document.
 
 use crate::layouts::begin_at;
+use crate::message::Message;
 use crate::places::Spot;
-use crate::shown::{show, show_front};
-use lists::OutOfMemory;
 use toml::de::Error;
 
 /// Where octet `place` stands, counted in characters.
@@ -22,127 +21,105 @@ fn spot_at(octets: &[u8], place: usize) -> Spot {
 }
 
 /// Tells of octets that are no UTF-8.
-pub fn tell_no_text(out: &mut String, file: &str, octets: &[u8]) -> Result<(), OutOfMemory> {
+pub fn tell_no_text(out: &mut Message, file: &str, octets: &[u8]) {
     let place = match str::from_utf8(octets) {
         Ok(_) => 0,
         Err(error) => error.valid_up_to(),
     };
-    begin_at(out, file, Some(spot_at(octets, place)))?;
-    match octets {
-        [0xff, 0xfe, ..] | [0xfe, 0xff, ..] => out.push_str(
-            "the file is UTF-16: save it as UTF-8\n",
-        )?,
-        _ => {
-            let octet = octets.get(place).copied().unwrap_or(0);
-            write!(
-                out,
-                "the octet 0x{octet:02x} is no UTF-8: save the file as UTF-8\n"
-            )?;
-        }
+    begin_at(out, file, Some(spot_at(octets, place)));
+    if octets.starts_with(&[0xff, 0xfe]) || octets.starts_with(&[0xfe, 0xff]) {
+        out.add("the file is UTF-16: save it as UTF-8\n");
+    } else {
+        let octet = octets.get(place).copied().unwrap_or(0);
+        out.add("the octet 0x");
+        out.add_octet(octet);
+        out.add(" is no UTF-8: save the file as UTF-8\n");
     }
-    Ok(())
 }
 
-/// The line of a number, from 1.
-fn line_at(text: &str, number: usize) -> &str {
-    let mut at = 0usize;
-    for line in text.lines() {
-        at = at.saturating_add(1);
-        if at == number {
-            return line;
+/// How many characters stand before the first quote that isn't straight.
+fn smart_at(text: &str) -> Option<usize> {
+    let mut count = 0usize;
+    for sign in text.chars() {
+        if matches!(sign, '\u{2018}'..='\u{201f}' | '\u{ab}' | '\u{bb}') {
+            return Some(count);
         }
+        count = count.saturating_add(1);
     }
-    ""
+    None
 }
 
-fn is_smart(sign: char) -> bool {
-    matches!(sign, '\u{2018}'..='\u{201f}' | '\u{ab}' | '\u{bb}')
+/// Whether a value is a text that stands without quotes.
+fn is_bare(value: &str) -> bool {
+    match value.as_bytes().first() {
+        Some(octet) => octet.is_ascii_alphabetic() && value != "true" && value != "false",
+        None => false,
+    }
 }
 
-fn is_word(text: &str) -> bool {
-    text.chars()
-        .next()
-        .is_some_and(|sign| sign.is_ascii_alphabetic())
-}
-
-/// The spot in a line of the text that stands after its first `length` octets.
-fn spot_in(number: usize, length: usize) -> Spot {
-    Spot {
+/// The spot in a line of the text that stands after its first `length` characters or octets.
+fn spot_in(number: usize, length: usize) -> Option<Spot> {
+    Some(Spot {
         line: number,
         column: length.saturating_add(1),
-    }
+    })
 }
 
 /// Tells what is often wrong with a line, and whether it is.
-fn tell_often(
-    out: &mut String,
-    file: &str,
-    number: usize,
-    line: &str,
-) -> Result<bool, OutOfMemory> {
+fn tell_often(out: &mut Message, file: &str, number: usize, line: &str) -> bool {
     let (front, _) = line.split_once('#').unwrap_or((line, ""));
-    if let Some((before, _)) = front.split_once(is_smart) {
-        let column = before.chars().count();
-        begin_at(out, file, Some(spot_in(number, column)))?;
-        out.push_str("a text stands between straight quotes, \"\"\n")?;
-        return Ok(true);
+    if let Some(column) = smart_at(front) {
+        begin_at(out, file, spot_in(number, column));
+        out.add("a text stands between straight quotes, \"\"\n");
+        return true;
     }
     let Some((key, value)) = front.split_once('=') else {
         return tell_colon(out, file, number, front);
     };
     let value = value.trim();
-    if is_word(value) && value != "true" && value != "false" {
-        let column = front.trim_end().len().saturating_sub(value.len());
-        begin_at(out, file, Some(spot_in(number, column)))?;
-        out.push_str("a text needs quotes: ")?;
-        show(out, key.trim())?;
-        out.push_str(" = \"")?;
-        show(out, value.trim_matches('"'))?;
-        out.push_str("\"\n")?;
-        return Ok(true);
+    if !is_bare(value) {
+        return false;
     }
-    Ok(false)
+    let column = front.trim_end().len().saturating_sub(value.len());
+    begin_at(out, file, spot_in(number, column));
+    out.add("a text needs quotes: ");
+    out.show(key.trim());
+    out.add(" = \"");
+    out.show(value.trim_matches('"'));
+    out.add("\"\n");
+    true
 }
 
-fn tell_colon(
-    out: &mut String,
-    file: &str,
-    number: usize,
-    front: &str,
-) -> Result<bool, OutOfMemory> {
-    let Some((key, value)) = front.split_once(':') else {
-        return Ok(false);
-    };
-    begin_at(out, file, Some(spot_in(number, key.len())))?;
-    out.push_str("'=' stands between a key and its value: ")?;
-    show(out, key.trim())?;
-    out.push_str(" = ")?;
-    show(out, value.trim())?;
-    out.push_str("\n")?;
-    Ok(true)
+/// Tells of a colon in place of `=`, and whether there is one.
+fn tell_colon(out: &mut Message, file: &str, number: usize, front: &str) -> bool {
+    match front.split_once(':') {
+        Some((key, value)) => {
+            begin_at(out, file, spot_in(number, key.len()));
+            out.add("'=' stands between a key and its value: ");
+            out.show(key.trim());
+            out.add(" = ");
+            out.show(value.trim());
+            out.add("\n");
+            true
+        }
+        None => false,
+    }
 }
 
 /// Tells why a text is no TOML document.
-pub fn tell_no_toml(
-    out: &mut String,
-    file: &str,
-    text: &str,
-    error: &Error,
-) -> Result<(), OutOfMemory> {
+pub fn tell_no_toml(out: &mut Message, file: &str, text: &str, error: &Error) {
     let Some(span) = error.span() else {
-        out.push_str("netsim: there was not enough memory\n")?;
-        return Ok(());
+        out.add("netsim: there was not enough memory\n");
+        return;
     };
     let spot = spot_at(text.as_bytes(), span.start);
-    let line = line_at(text, spot.line);
-    if tell_often(out, file, spot.line, line)? {
-        return Ok(());
+    let line = text.lines().nth(spot.line.saturating_sub(1)).unwrap_or("");
+    if !tell_often(out, file, spot.line, line) {
+        begin_at(out, file, Some(spot));
+        out.add("this is no TOML, ");
+        out.show(error.message());
+        out.add(": ");
+        out.show_word(line);
+        out.add("\n");
     }
-    begin_at(out, file, Some(spot))?;
-    out.push_str("this is no TOML, ")?;
-    show(out, error.message())?;
-    out.push_str(": ")?;
-    show_front(out, line.as_bytes())?;
-    out.push_str("\n")?;
-    Ok(())
 }

@@ -1,11 +1,10 @@
 //! The loop that a port closes.
 
-use crate::layouts::show_row;
+use crate::layouts::{name_at, show_row};
+use crate::message::Message;
 use crate::places::Place;
-use crate::rows::{Tap, row_named, rows_of, taps_of, word_of};
-use crate::shown::show_word;
-use lists::{List, OutOfMemory};
-use std::alloc::Global;
+use crate::rows::{Tap, row_named, rows_of, taps_of};
+use lists::List;
 use toml::Table;
 
 /// The most segments of a loop that are told, and how many of a longer loop's.
@@ -16,112 +15,114 @@ const FIRST_TOLD: usize = 4;
 /// More segments and repeaters than a network has.
 const DEVICES: usize = 512;
 
-fn is_port_before(tap: &Tap, place: &Place<'_>) -> bool {
-    tap.port > 0 && (tap.row < place.row || (tap.row == place.row && tap.port < place.port))
+fn at_segment(ports: &[Tap], segment: usize) -> Option<Tap> {
+    for port in ports {
+        if port.segment == segment {
+            return Some(*port);
+        }
+    }
+    None
 }
 
-fn at_segment(ports: &[Tap], segment: usize) -> Option<&Tap> {
-    ports.iter().find(|port| port.segment == segment)
+fn at_repeater(ports: &[Tap], repeater: usize) -> Option<Tap> {
+    for port in ports {
+        if port.row == repeater {
+            return Some(*port);
+        }
+    }
+    None
 }
 
-fn at_repeater(ports: &[Tap], repeater: usize) -> Option<&Tap> {
-    ports.iter().find(|port| port.row == repeater)
+/// Whether a port before a place joins what was reached to what wasn't.
+fn leads_on(reached: &[Tap], port: &Tap, place: &Place<'_>) -> bool {
+    let is_own = port.row == place.row;
+    if port.port == 0 || port.row > place.row || (is_own && port.port >= place.port) {
+        return false;
+    }
+    let repeater = is_own || at_repeater(reached, port.row).is_some();
+    repeater != at_segment(reached, port.segment).is_some()
 }
 
 /// The ports before a place over which its repeater is reached, in an order in which each is joined to one before it.
 /// So the first one of a segment or of another repeater leads to it. They make no loop yet.
-fn reached_before(
-    alloc: Global,
-    taps: &[Tap],
-    place: &Place<'_>,
-) -> Result<List<Tap>, OutOfMemory> {
-    let mut reached = List::new(alloc);
+fn reached_before(out: &mut Message, taps: &[Tap], place: &Place<'_>) -> List<Tap> {
+    let mut reached = List::new(out.alloc);
     for _round in 0..DEVICES {
         let before = reached.len();
-        for port in taps.iter().filter(|tap| is_port_before(tap, place)) {
-            let ports = reached.as_slice();
-            let repeater = port.row == place.row || at_repeater(ports, port.row).is_some();
-            if repeater != at_segment(ports, port.segment).is_some() {
-                reached.push(*port)?;
+        for port in taps {
+            if leads_on(reached.as_slice(), port, place) {
+                let done = reached.push(*port);
+                out.note(done);
             }
         }
         if reached.len() == before {
             break;
         }
     }
-    Ok(reached)
+    reached
 }
 
 /// The way from a segment to the repeater of a place: a port for each segment of it, with the repeater after it.
-fn way_of(
-    alloc: Global,
-    reached: &[Tap],
-    from: usize,
-    place: &Place<'_>,
-) -> Result<List<Tap>, OutOfMemory> {
-    let mut way = List::new(alloc);
+fn way_of(out: &mut Message, reached: &[Tap], from: usize, place: &Place<'_>) -> List<Tap> {
+    let mut way = List::new(out.alloc);
     let mut segment = from;
     for _step in 0..DEVICES {
         let Some(port) = at_segment(reached, segment) else {
             break;
         };
-        way.push(*port)?;
+        let done = way.push(port);
+        out.note(done);
         match at_repeater(reached, port.row) {
             Some(next) if port.row != place.row => segment = next.segment,
             _ => break,
         }
     }
-    Ok(way)
+    way
 }
 
-fn show_named(
-    out: &mut String,
-    document: &Table,
-    table: &str,
-    row: usize,
-) -> Result<(), OutOfMemory> {
-    let row = rows_of(document, table).get(row.saturating_sub(1));
-    write!(out, "{table} ")?;
-    show_word(out, row.and_then(|row| word_of(row, "name")).unwrap_or(""))
+fn show_named(out: &mut Message, document: &Table, table: &str, row: usize) {
+    out.add(table);
+    out.add(" ");
+    out.show_word(name_at(document, table, row).unwrap_or(""));
+}
+
+/// Shows the segments and the repeaters of the first ports of a way.
+fn show_front_of(out: &mut Message, document: &Table, way: &[Tap], told: usize) {
+    for port in way.get(..told).unwrap_or(way) {
+        show_named(out, document, "segment", port.segment);
+        out.add(", ");
+        show_named(out, document, "repeater", port.row);
+        out.add(", ");
+    }
 }
 
 /// Tells a way: all of a short one and its first segment again, or how many segments there are and the first ones.
-fn tell_way(out: &mut String, document: &Table, way: &[Tap]) -> Result<(), OutOfMemory> {
+fn tell_way(out: &mut Message, document: &Table, way: &[Tap]) {
     let count = way.len();
-    let mut told = count;
     if count > MOST_TOLD {
-        write!(out, " of {count} segments")?;
-        told = FIRST_TOLD;
+        out.add(" of ");
+        out.add_number(count as u64);
+        out.add(" segments: ");
+        show_front_of(out, document, way, FIRST_TOLD);
+        out.add("..");
+        return;
     }
-    out.push_str(": ")?;
-    for port in way.iter().take(told) {
-        show_named(out, document, "segment", port.segment)?;
-        out.push_str(", ")?;
-        show_named(out, document, "repeater", port.row)?;
-        out.push_str(", ")?;
-    }
+    out.add(": ");
+    show_front_of(out, document, way, count);
     match way.first() {
-        Some(port) if told == count => show_named(out, document, "segment", port.segment)?,
-        _ => out.push_str("..")?,
+        Some(port) => show_named(out, document, "segment", port.segment),
+        None => out.add(".."),
     }
-    Ok(())
 }
 
 /// Tells of a port that closes a loop: the loop from its segment on.
-pub fn tell_loop(
-    alloc: Global,
-    out: &mut String,
-    document: &Table,
-    place: &Place<'_>,
-    segment: &str,
-) -> Result<(), OutOfMemory> {
-    show_row(out, document, place)?;
-    let taps = taps_of(alloc, document)?;
-    let reached = reached_before(alloc, taps.as_slice(), place)?;
+pub fn tell_loop(out: &mut Message, document: &Table, place: &Place<'_>, segment: &str) {
+    show_row(out, document, place);
+    let taps = taps_of(out, document);
+    let reached = reached_before(out, taps.as_slice(), place);
     let from = row_named(rows_of(document, "segment"), segment).unwrap_or(0);
-    let way = way_of(alloc, reached.as_slice(), from, place)?;
-    out.push_str(" closes a loop")?;
-    tell_way(out, document, way.as_slice())?;
-    out.push_str("; no network has one: take a port of it away")?;
-    Ok(())
+    let way = way_of(out, reached.as_slice(), from, place);
+    out.add(" closes a loop");
+    tell_way(out, document, way.as_slice());
+    out.add("; no network has one: take a port of it away");
 }

@@ -1,7 +1,7 @@
 //! What is wrong with a capture's link type and with its records.
 
 use crate::records::{end_of, walk_over};
-use lists::OutOfMemory;
+use input_hints::Message;
 use outside::Store;
 
 /// The octets of check sequence that frames keep, as an Ethernet capture's link type says it: four bits count pairs of
@@ -16,44 +16,72 @@ fn kept_octets(link: u32) -> u32 {
 
 /// Tells of frames that keep their check sequence, and whether they do. editcap chops it off: without -L every record
 /// would say that octets of it are missing.
-pub fn tell_kept(out: &mut String, link: u32) -> Result<bool, OutOfMemory> {
-    let kept = kept_octets(link);
-    if kept > 0 {
-        write!(
-            out,
-            "its link type says that frames keep their check sequence of {kept} octets: editcap -F pcap -L -C -{kept} OLD NEW drops it"
-        )?;
+pub fn tell_kept(out: &mut Message, link: u32) -> bool {
+    let kept = u64::from(kept_octets(link));
+    if kept == 0 {
+        return false;
     }
-    Ok(kept > 0)
+    out.add("its link type says that frames keep their check sequence of ");
+    out.add_number(kept);
+    out.add(" octets: editcap -F pcap -L -C -");
+    out.add_number(kept);
+    out.add(" OLD NEW drops it");
+    true
+}
+
+/// Where a record of a load begins, and where the load ends.
+#[derive(Clone, Copy)]
+struct Reach {
+    begin: u64,
+    end: u64,
+}
+
+fn reach_of<S: Store>(store: &mut S, load: &str, number: u64) -> Option<Reach> {
+    let begin = match walk_over(store, load, number.saturating_sub(1), 0) {
+        Some(walk) => walk.next,
+        None => 0,
+    };
+    let end = end_of(store, load, begin)?;
+    Some(Reach { begin, end })
+}
+
+/// Tells of a record that says too great a length.
+fn tell_long(out: &mut Message, number: u64, reach: Reach) {
+    out.add("record ");
+    out.add_number(number);
+    out.add(" that begins at octet ");
+    out.add_number(reach.begin);
+    out.add(" says that it has more than 262144 octets: the file is damaged");
+}
+
+/// Tells of a record that is cut off.
+fn tell_cut(out: &mut Message, number: u64, reach: Reach) {
+    out.add("it ends at octet ");
+    out.add_number(reach.end);
+    out.add(", within record ");
+    out.add_number(number);
+    out.add(" that begins at octet ");
+    out.add_number(reach.begin);
+    out.add(": was it still being written, or copied in part?");
 }
 
 /// Tells of a record that is cut off, or that says too great a length, and whether its place is known.
 pub fn tell_record<S: Store>(
-    out: &mut String,
+    out: &mut Message,
     store: &mut S,
     load: &str,
-    code: &str,
-    record: &str,
-) -> Result<bool, OutOfMemory> {
-    let number = match record.parse::<u64>() {
-        Ok(number) if matches!(code, "5" | "6") => number,
-        _ => return Ok(false),
-    };
-    let walk = walk_over(store, load, number.saturating_sub(1), 0);
-    let begin = walk.map_or(0, |walk| walk.next);
-    let Some(end) = end_of(store, load, begin) else {
-        return Ok(false);
-    };
-    if code == "5" {
-        write!(
-            out,
-            "record {number} that begins at octet {begin} says that it has more than 262144 octets: the file is damaged"
-        )?;
-    } else {
-        write!(
-            out,
-            "it ends at octet {end}, within record {number} that begins at octet {begin}: was it still being written, or copied in part?"
-        )?;
+    code: u64,
+    number: u64,
+) -> bool {
+    match reach_of(store, load, number) {
+        Some(reach) => {
+            if code == 5 {
+                tell_long(out, number, reach);
+            } else {
+                tell_cut(out, number, reach);
+            }
+            true
+        }
+        None => false,
     }
-    Ok(true)
 }

@@ -2,6 +2,7 @@
 #![tactic(auto)]
 
 mod captures;
+mod heads;
 mod loads;
 mod records;
 mod skips;

@@ -1,6 +1,6 @@
 //! The records of a load, whose heads are read again.
 
-use crate::loads::{is_little, number_of};
+use crate::heads::{is_little, number_in, octet_at};
 use outside::Store;
 
 /// How many octets are read at a time, and how many pieces at most of a load of at most 64 MiB.
@@ -31,20 +31,15 @@ pub struct Walk {
     pub first: Option<u64>,
 }
 
-/// A number of a record's head.
-fn field(is_little: bool, head: &[u8], place: usize) -> u32 {
-    number_of(is_little, head.get(place..).unwrap_or(&[]))
-}
-
 impl Walk {
     /// Takes the head of a record.
     fn take(&mut self, head: &[u8]) {
         let is_little = self.is_little;
-        let fraction = u64::from(field(is_little, head, 4)).saturating_mul(self.unit);
-        let seconds = u64::from(field(is_little, head, 0)).saturating_mul(1_000_000_000);
+        let fraction = u64::from(number_in(is_little, head, 4)).saturating_mul(self.unit);
+        let seconds = u64::from(number_in(is_little, head, 0)).saturating_mul(1_000_000_000);
         let nanos = seconds.saturating_add(fraction);
-        let captured = field(is_little, head, 8);
-        let original = field(is_little, head, 12);
+        let captured = number_in(is_little, head, 8);
+        let original = number_in(is_little, head, 12);
         let is_sent = captured >= original && captured >= 14 && captured <= self.most;
         if is_sent && self.first.is_none() {
             self.first = Some(nanos);
@@ -80,7 +75,7 @@ pub fn walk_over<S: Store>(store: &mut S, load: &str, limit: u64, most: u32) -> 
     let mut room = [0u8; PIECE];
     let count = store.read(load, 0, &mut room).ok()?;
     let head = room.get(..count).unwrap_or(&[]);
-    let is_nanos = matches!(head, [0x4d, ..] | [_, _, 0x3c, ..]);
+    let is_nanos = octet_at(head, 0) == 0x4d || octet_at(head, 2) == 0x3c;
     let mut walk = Walk {
         is_little: is_little(head),
         unit: if is_nanos { 1 } else { 1_000 },
