@@ -19,6 +19,14 @@ pub fn word_at<'a>(words: &'a [Text], place: usize) -> &'a str {
     }
 }
 
+/// A text, or the empty one.
+pub fn or_empty(text: Option<&str>) -> &str {
+    match text {
+        Some(text) => text,
+        None => "",
+    }
+}
+
 /// The word of a line after the first that is as given.
 pub fn after<'a>(line: &'a str, word: &str) -> Option<&'a str> {
     let mut found = false;

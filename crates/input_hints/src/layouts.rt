@@ -1,13 +1,13 @@
 //! What is wrong with a layout file, by the program's own line and by the file, which is read again.
 
-use crate::asked::{Ended, word_at};
+use crate::asked::{Ended, or_empty, word_at};
 use crate::digits::tell_digits;
 use crate::files::read_file;
 use crate::message::Message;
 use crate::near::{Nearest, nearest_in, take_names, tell_nearest};
 use crate::places::{Place, Spot, place_in, spot_of};
 use crate::rows::{row_named, rows_of};
-use crate::said::{WANTED, keys_of, said_of};
+use crate::said::{EARLIER, LIMITS, NAMES, WANTED, keys_of, said_in};
 use crate::tables::{is_table, tell_no_table};
 use crate::taken::tell_taken;
 use crate::tomls::{tell_no_text, tell_no_toml};
@@ -53,12 +53,9 @@ pub fn number_at(table: &Table, key: &str) -> Option<i64> {
     }
 }
 
-/// The text of a key of a place, or the empty one.
-pub fn text_of<'a>(document: &'a Table, place: &Place<'_>, key: &str) -> &'a str {
-    match table_of(document, place) {
-        Some(table) => text_at(table, key).unwrap_or(""),
-        None => "",
-    }
+/// The text of a key of a place.
+pub fn text_of<'a>(document: &'a Table, place: &Place<'_>, key: &str) -> Option<&'a str> {
+    text_at(table_of(document, place)?, key)
 }
 
 /// The name of a row, from 1.
@@ -176,25 +173,29 @@ fn tell_lack(out: &mut Message, document: &Table, place: &Place<'_>) {
     out.add(" lacks its key '");
     out.add(place.key);
     out.add("': ");
-    out.add(said_of(WANTED, place.table, place.key));
+    out.add(said_in(WANTED, place.table, place.key));
 }
 
 /// The sentence of a fault, after its place.
 fn tell_fault(out: &mut Message, document: &Table, place: &Place<'_>) {
-    let text = text_of(document, place, place.key);
+    let text = or_empty(text_of(document, place, place.key));
     match place.code {
         3 => tell_lack(out, document, place),
         4 | 6 => {
             out.add(place.key);
             out.add(" wants ");
-            out.add(said_of(WANTED, place.table, place.key));
+            out.add(said_in(WANTED, place.table, place.key));
         }
         9 => tell_no_such(out, document, "segment", text),
         10 => tell_no_such(out, document, "station", text),
         11 => tell_taken(out, document, place),
         12 => tell_loop(out, document, place, text),
         14 => tell_digits(out, text, number_at(document, "format").unwrap_or(0)),
-        code => out.add(said_of(code, place.table, place.key)),
+        5 => out.add(said_in(NAMES, place.table, place.key)),
+        7 => out.add(said_in(LIMITS, place.table, place.key)),
+        8 => out.add(said_in(EARLIER, place.table, place.key)),
+        13 => out.add("no path over repeaters joins this segment to the first one"),
+        _ => out.add("it has a fault"),
     }
 }
 

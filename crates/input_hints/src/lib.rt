@@ -18,7 +18,7 @@ mod taps;
 mod tomls;
 mod ways;
 
-pub use asked::{Ended, after, word_at};
+pub use asked::{Ended, after, or_empty, word_at};
 pub use files::{Line, read_file, read_line};
 pub use layouts::{begin, document_of, number_at, tell_layout, tell_unread, text_at};
 pub use message::Message;

@@ -37,9 +37,11 @@ pub struct Spot {
 /// The name of a header line, as `station` of `[[station]]`.
 fn header_of(line: &str) -> Option<&str> {
     let inner = line.trim().strip_prefix('[')?;
-    let inner = inner.strip_prefix('[').unwrap_or(inner);
     let (name, _) = inner.split_once(']')?;
-    Some(name.trim())
+    match name.strip_prefix('[') {
+        Some(name) => Some(name.trim()),
+        None => Some(name.trim()),
+    }
 }
 
 /// What was seen of a file's headers so far.

@@ -47,14 +47,23 @@ pub struct Tap {
     pub at: u32,
 }
 
+fn place_of(line: &Table) -> Option<u32> {
+    match number_at(line, "at") {
+        Some(at) => u32::try_from(at).ok(),
+        None => None,
+    }
+}
+
 fn tap_of(document: &Table, line: &Value, row: usize, port: usize) -> Option<Tap> {
     let line = line.as_table()?;
     let segment = text_at(line, "segment")?;
+    let segment = row_named(rows_of(document, "segment"), segment)?;
+    let at = place_of(line)?;
     Some(Tap {
         row,
         port,
-        segment: row_named(rows_of(document, "segment"), segment)?,
-        at: u32::try_from(number_at(line, "at")?).ok()?,
+        segment,
+        at,
     })
 }
 

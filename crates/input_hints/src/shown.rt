@@ -11,25 +11,21 @@ fn acts(sign: char) -> bool {
         || matches!(sign, '\u{200e}'..='\u{200f}' | '\u{2028}'..='\u{202e}' | '\u{2066}'..='\u{2069}')
 }
 
-/// How a character that acts is escaped by a letter, or nothing.
-fn escape_of(sign: char) -> &'static str {
-    match sign {
-        '\n' => "\\n",
-        '\t' => "\\t",
-        '\r' => "\\r",
-        _ => "",
-    }
-}
-
 fn show_sign(out: &mut String, sign: char) -> Result<(), OutOfMemory> {
-    let escape = escape_of(sign);
+    let letter = match sign {
+        '\n' => 'n',
+        '\t' => 't',
+        '\r' => 'r',
+        _ => ' ',
+    };
     if !acts(sign) {
         out.push(sign)?;
-    } else if escape.is_empty() {
+    } else if letter == ' ' {
         let code = u32::from(sign);
         write!(out, "\\u{{{code:x}}}")?;
     } else {
-        out.push_str(escape)?;
+        out.push('\\')?;
+        out.push(letter)?;
     }
     Ok(())
 }
@@ -42,13 +38,18 @@ pub fn show(out: &mut String, text: &str) -> Result<(), OutOfMemory> {
     Ok(())
 }
 
+fn show_escaped(out: &mut String, octets: &[u8]) -> Result<(), OutOfMemory> {
+    for octet in octets {
+        write!(out, "\\x{octet:02x}")?;
+    }
+    Ok(())
+}
+
 /// Shows octets, with all that is no UTF-8 escaped too.
 fn show_octets(out: &mut String, octets: &[u8]) -> Result<(), OutOfMemory> {
     for chunk in octets.utf8_chunks() {
         show(out, chunk.valid())?;
-        for octet in chunk.invalid() {
-            write!(out, "\\x{octet:02x}")?;
-        }
+        show_escaped(out, chunk.invalid())?;
     }
     Ok(())
 }

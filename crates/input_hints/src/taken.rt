@@ -1,5 +1,6 @@
 //! Which tap stands where another one is put, and where there is room for it.
 
+use crate::asked::or_empty;
 use crate::layouts::{show_row, text_of};
 use crate::message::Message;
 use crate::places::Place;
@@ -53,7 +54,7 @@ pub fn tell_taken(out: &mut Message, document: &Table, place: &Place<'_>) {
             out.add(" stands at ");
             out.add_number(u64::from(earlier.at));
             out.add(" of segment ");
-            out.show_word(text_of(document, place, "segment"));
+            out.show_word(or_empty(text_of(document, place, "segment")));
             out.add(", where ");
             let stands = Place {
                 code: 0,

@@ -1,6 +1,6 @@
 //! What is wrong with the taps and the half bits of a probe.
 
-use crate::asked::{Ended, word_at};
+use crate::asked::{Ended, or_empty, word_at};
 use crate::layouts::{document_of, number_at};
 use crate::message::Message;
 use crate::near::{Nearest, take_names, tell_nearest};
@@ -32,21 +32,14 @@ pub fn tell_range<S: Store>(
     message.put_into(out)
 }
 
-/// How many ports a repeater has.
-fn count_ports(repeater: &Value) -> Option<u64> {
-    match repeater.as_table()?.get("port") {
-        Some(Value::Array(ports)) => Some(ports.len() as u64),
-        _ => None,
-    }
-}
-
 /// How many ports the repeater of a name has.
 fn ports_of(document: &Table, name: &str) -> Option<u64> {
     for row in rows_of(document, "repeater") {
         if is_named(row, "name", name) {
-            let ports = count_ports(row);
-            if ports.is_some() {
-                return ports;
+            if let Some(row) = row.as_table() {
+                if let Some(Value::Array(ports)) = row.get("port") {
+                    return Some(ports.len() as u64);
+                }
             }
         }
     }
@@ -82,7 +75,7 @@ pub fn tell_tap<S: Store>(
     store: &mut S,
 ) -> Result<(), OutOfMemory> {
     let layout = word_at(ended.words, 1);
-    let line = ended.said.lines().next().unwrap_or("");
+    let line = or_empty(ended.said.lines().next());
     let Some(tap) = line.strip_prefix("probe fault tap ") else {
         return Ok(());
     };

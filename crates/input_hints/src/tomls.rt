@@ -1,5 +1,6 @@
 //! Why a layout file is no TOML document.
 
+use crate::asked::or_empty;
 use crate::layouts::begin_at;
 use crate::message::Message;
 use crate::places::Spot;
@@ -49,27 +50,20 @@ fn smart_at(text: &str) -> Option<usize> {
     None
 }
 
-/// Whether a value is a text that stands without quotes.
-fn is_bare(value: &str) -> bool {
-    match value.as_bytes().first() {
-        Some(octet) => octet.is_ascii_alphabetic() && value != "true" && value != "false",
-        None => false,
-    }
-}
-
-/// The spot in a line of the text that stands after its first `length` characters or octets.
-fn spot_in(number: usize, length: usize) -> Option<Spot> {
-    Some(Spot {
-        line: number,
-        column: length.saturating_add(1),
-    })
+/// Begins a sentence on a file, in a line after its first `length` characters or octets.
+fn begin_after(out: &mut Message, file: &str, line: usize, length: usize) {
+    let column = length.saturating_add(1);
+    begin_at(out, file, Some(Spot { line, column }));
 }
 
 /// Tells what is often wrong with a line, and whether it is.
 fn tell_often(out: &mut Message, file: &str, number: usize, line: &str) -> bool {
-    let (front, _) = line.split_once('#').unwrap_or((line, ""));
+    let front = match line.split_once('#') {
+        Some((front, _)) => front,
+        None => line,
+    };
     if let Some(column) = smart_at(front) {
-        begin_at(out, file, spot_in(number, column));
+        begin_after(out, file, number, column);
         out.add("a text stands between straight quotes, \"\"\n");
         return true;
     }
@@ -77,11 +71,12 @@ fn tell_often(out: &mut Message, file: &str, number: usize, line: &str) -> bool 
         return tell_colon(out, file, number, front);
     };
     let value = value.trim();
-    if !is_bare(value) {
+    let first = value.as_bytes().first().copied().unwrap_or(b' ');
+    if !first.is_ascii_alphabetic() || value == "true" || value == "false" {
         return false;
     }
     let column = front.trim_end().len().saturating_sub(value.len());
-    begin_at(out, file, spot_in(number, column));
+    begin_after(out, file, number, column);
     out.add("a text needs quotes: ");
     out.show(key.trim());
     out.add(" = \"");
@@ -94,7 +89,7 @@ fn tell_often(out: &mut Message, file: &str, number: usize, line: &str) -> bool 
 fn tell_colon(out: &mut Message, file: &str, number: usize, front: &str) -> bool {
     match front.split_once(':') {
         Some((key, value)) => {
-            begin_at(out, file, spot_in(number, key.len()));
+            begin_after(out, file, number, key.len());
             out.add("'=' stands between a key and its value: ");
             out.show(key.trim());
             out.add(" = ");
@@ -113,7 +108,7 @@ pub fn tell_no_toml(out: &mut Message, file: &str, text: &str, error: &Error) {
         return;
     };
     let spot = spot_at(text.as_bytes(), span.start);
-    let line = text.lines().nth(spot.line.saturating_sub(1)).unwrap_or("");
+    let line = or_empty(text.lines().nth(spot.line.saturating_sub(1)));
     if !tell_often(out, file, spot.line, line) {
         begin_at(out, file, Some(spot));
         out.add("this is no TOML, ");

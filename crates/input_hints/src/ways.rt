@@ -1,5 +1,6 @@
 //! The loop that a port closes.
 
+use crate::asked::or_empty;
 use crate::layouts::{name_at, show_row};
 use crate::message::Message;
 use crate::places::Place;
@@ -83,35 +84,28 @@ fn way_of(out: &mut Message, reached: &[Tap], from: usize, place: &Place<'_>) ->
 fn show_named(out: &mut Message, document: &Table, table: &str, row: usize) {
     out.add(table);
     out.add(" ");
-    out.show_word(name_at(document, table, row).unwrap_or(""));
+    out.show_word(or_empty(name_at(document, table, row)));
 }
 
-/// Shows the segments and the repeaters of the first ports of a way.
-fn show_front_of(out: &mut Message, document: &Table, way: &[Tap], told: usize) {
-    for port in way.get(..told).unwrap_or(way) {
+/// Tells a way: all of a short one and its first segment again, or how many segments there are and the first ones.
+fn tell_way(out: &mut Message, document: &Table, way: &[Tap]) {
+    let is_long = way.len() > MOST_TOLD;
+    if is_long {
+        out.add(" of ");
+        out.add_number(way.len() as u64);
+        out.add(" segments");
+    }
+    out.add(": ");
+    let told = if is_long { FIRST_TOLD } else { MOST_TOLD };
+    for port in way.iter().take(told) {
         show_named(out, document, "segment", port.segment);
         out.add(", ");
         show_named(out, document, "repeater", port.row);
         out.add(", ");
     }
-}
-
-/// Tells a way: all of a short one and its first segment again, or how many segments there are and the first ones.
-fn tell_way(out: &mut Message, document: &Table, way: &[Tap]) {
-    let count = way.len();
-    if count > MOST_TOLD {
-        out.add(" of ");
-        out.add_number(count as u64);
-        out.add(" segments: ");
-        show_front_of(out, document, way, FIRST_TOLD);
-        out.add("..");
-        return;
-    }
-    out.add(": ");
-    show_front_of(out, document, way, count);
     match way.first() {
-        Some(port) => show_named(out, document, "segment", port.segment),
-        None => out.add(".."),
+        Some(port) if !is_long => show_named(out, document, "segment", port.segment),
+        _ => out.add(".."),
     }
 }
 

@@ -3,8 +3,8 @@
 use crate::captures::tell_record;
 use crate::heads::{other_form, tell_link, tell_short, tell_version};
 use input_hints::{
-    Ended, Message, after, begin, document_of, is_named, read_file, rows_of, tell_unread, word_at,
-    word_of,
+    Ended, Message, after, begin, document_of, is_named, or_empty, read_file, rows_of, tell_unread,
+    word_at, word_of,
 };
 use lists::OutOfMemory;
 use outside::Store;
@@ -97,7 +97,7 @@ fn tell_in<S: Store>(
     document: &Table,
     said: &str,
 ) -> Result<(), OutOfMemory> {
-    let station = after(said, "station").unwrap_or("");
+    let station = or_empty(after(said, "station"));
     if let Some(load) = load_of(document, station) {
         match read_file(out.alloc, store, load, HEAD)? {
             Some(octets) => tell_of(out, store, load, station, said, octets.as_slice()),

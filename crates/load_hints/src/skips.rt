@@ -3,7 +3,8 @@
 use crate::loads::number_after;
 use crate::records::walk_over;
 use input_hints::{
-    Ended, Message, begin, document_of, is_named, number_at, read_file, rows_of, word_at, word_of,
+    Ended, Message, begin, document_of, is_named, number_at, or_empty, read_file, rows_of, word_at,
+    word_of,
 };
 use lists::OutOfMemory;
 use mac_parameters::{NANOSECONDS_A_HALF_BIT, most_octets};
@@ -25,7 +26,7 @@ fn counts_in(line: &str) -> Option<&str> {
 
 /// The count of a word in a station's line.
 fn count_of(line: &str, word: &str) -> u64 {
-    number_after(counts_in(line).unwrap_or(""), word).unwrap_or(0)
+    number_after(or_empty(counts_in(line)), word).unwrap_or(0)
 }
 
 fn skipped_of(line: &str) -> u64 {
@@ -319,7 +320,7 @@ pub fn tell_skips<S: Store>(
     let Some(octets) = read_file(alloc, store, name, MOST_COUNTERS)? else {
         return Ok(());
     };
-    let counters = str::from_utf8(octets.as_slice()).unwrap_or("");
+    let counters = or_empty(str::from_utf8(octets.as_slice()).ok());
     if !has_unsent(counters) {
         return Ok(());
     }
