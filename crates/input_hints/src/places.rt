@@ -13,7 +13,10 @@ pub struct Place<'a> {
 }
 
 fn count_after(said: &str, word: &str) -> Option<usize> {
-    after(said, word)?.parse::<usize>().ok()
+    match after(said, word)?.parse::<u64>() {
+        Ok(count) => Some(count as usize),
+        Err(_) => None,
+    }
 }
 
 /// The place that a line `layout fault ..` names.

@@ -38,19 +38,22 @@ pub fn row_named(rows: &[Value], name: &str) -> Option<usize> {
     None
 }
 
+/// No place is beyond this.
+const MOST_AT: i64 = 4_294_967_295;
+
 /// A tap: its row, its port or 0 for a station's, its segment's row, each from 1, and its place there.
 #[derive(Clone, Copy)]
 pub struct Tap {
     pub row: usize,
     pub port: usize,
     pub segment: usize,
-    pub at: u32,
+    pub at: u64,
 }
 
-fn place_of(line: &Table) -> Option<u32> {
+fn place_of(line: &Table) -> Option<u64> {
     match number_at(line, "at") {
-        Some(at) => u32::try_from(at).ok(),
-        None => None,
+        Some(at) if at <= MOST_AT => u64::try_from(at).ok(),
+        _ => None,
     }
 }
 

@@ -9,7 +9,7 @@ use mac_parameters::GREATEST_PLACE;
 use toml::Table;
 
 /// The first tap at a place of a segment.
-fn tap_at(taps: &[Tap], segment: usize, at: u32) -> Option<Tap> {
+fn tap_at(taps: &[Tap], segment: usize, at: u64) -> Option<Tap> {
     for tap in taps {
         if tap.segment == segment && tap.at == at {
             return Some(*tap);
@@ -29,9 +29,10 @@ fn earlier_tap(taps: &[Tap], place: &Place<'_>) -> Option<Tap> {
 }
 
 /// The least free place of a segment above one, else the greatest below.
-fn next_free(taps: &[Tap], segment: usize, at: u32) -> Option<u32> {
-    let at = at.min(GREATEST_PLACE);
-    for place in at..=GREATEST_PLACE {
+fn next_free(taps: &[Tap], segment: usize, at: u64) -> Option<u64> {
+    let greatest = u64::from(GREATEST_PLACE);
+    let at = at.min(greatest);
+    for place in at..=greatest {
         if tap_at(taps, segment, place).is_none() {
             return Some(place);
         }
@@ -52,7 +53,7 @@ pub fn tell_taken(out: &mut Message, document: &Table, place: &Place<'_>) {
     match earlier_tap(taps.as_slice(), place) {
         Some(earlier) => {
             out.add(" stands at ");
-            out.add_number(u64::from(earlier.at));
+            out.add_number(earlier.at);
             out.add(" of segment ");
             out.show_word(or_empty(text_of(document, place, "segment")));
             out.add(", where ");
@@ -71,7 +72,7 @@ pub fn tell_taken(out: &mut Message, document: &Table, place: &Place<'_>) {
             out.add(" stands: ");
             match next_free(taps.as_slice(), earlier.segment, earlier.at) {
                 Some(free) => {
-                    out.add_number(u64::from(free));
+                    out.add_number(free);
                     out.add(" is the next free place");
                 }
                 None => out.add("no place of it is free"),

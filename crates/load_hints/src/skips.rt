@@ -81,8 +81,8 @@ fn timed_of<S: Store>(store: &mut S, load: &str, skipped: u64) -> u64 {
         return 0;
     }
     match walk_over(store, load, 1, 0) {
-        Some(walk) if walk.is_timed => 1,
-        _ => 0,
+        Some(walk) => u64::from(walk.is_timed),
+        None => 0,
     }
 }
 
