@@ -12,6 +12,7 @@ use Rattle.repeater_core.specs.Calm.{silent_step}
 use Rattle.repeater_core.specs.Step.{State}
 use Rattle.network.specs.Net.{Net, next, emitted_before, emitted_in, decided_in}
 use Rattle.quiet_state.specs.Resumed.{later_net}
+use Rattle.net_step.specs.CalmNets.{IsSilentHalfBit}
 use Rattle.net_step.proofs.IdleHistory.{settled_idle}
 use Rattle.net_step.proofs.SignalsSettle.{AllOver}
 use Rattle.net_step.proofs.CalmHalfBit.{IsCalm, calm_next, calm_on}
@@ -67,3 +68,9 @@ calm_later (suc m) x c =
       silent = rest.silent;
       over = λ s reaches delays h. rest.over s reaches delays (settled_idle s x.t reaches delays (emitted_in x) (decided_in x) x.emitted x.decided one.emitted one.decided h);
     })
+
+-- each half bit of them is silent
+pub silent_at : (i m : ℕ) (x : Net) → i < m → IsCalm m x → IsSilentHalfBit (later_net x i)
+silent_at i zero x l c = absurd (omega (arith, l))
+silent_at zero (suc m) x l c = let one = calm_next m x c in record { emits = one.emitted; decides = one.decided }
+silent_at (suc i) (suc m) x l c = subst IsSilentHalfBit (later_first x i) (silent_at i m (next x) (omega (arith, l)) (calm_on m x c))

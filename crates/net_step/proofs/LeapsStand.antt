@@ -23,11 +23,11 @@ use Rattle.kept_devices.specs.KeptReceivers.{AllHear}
 use Rattle.kept_devices.proofs.Receivers.{length-AllHear}
 use Rattle.quiet_state.specs.LastSignals.{reach_over, line_delays, IsOverBy, last_signal}
 use Rattle.quiet_state.specs.Resumed.{later_net}
-use Rattle.net_step.specs.CalmNets.{WaitsFor, IsCalmNet}
+use Rattle.net_step.specs.CalmNets.{WaitsFor, IsCalmNet, IsSilentHalfBit}
 use Rattle.net_step.specs.KeptNet.{KeptNet, AreOver, IsWhole, IsWire, Stands}
 use Rattle.net_step.specs.Wires.{wire_at, places_from, IsPlaced}
 use Rattle.net_step.proofs.CalmHalfBit as half_bit
-use Rattle.net_step.proofs.CalmHalfBits.{IsCalmLater, calm_later}
+use Rattle.net_step.proofs.CalmHalfBits.{IsCalmLater, calm_later, silent_at}
 use Rattle.net_step.proofs.IdleHistory.{none_since}
 use Rattle.net_step.proofs.SignalsSettle.{AllOver}
 use Rattle.net_step.proofs.WholeNet.{length-places, many_alike, ports_alike}
@@ -169,6 +169,9 @@ module _ (m : ℕ) (n : Net) (k : KeptNet) (h e p c r s v l : ℕ) (w : IsWhole 
         repeaters = silent m n.repeaters (recursion_from_All (λ (x : State). IsCalm x m) n.repeaters (subst (All (λ (x : State). IsCalm x m)) st.repeaters calm.repeaters))
             (subst (λ (rs : List State). map (λ (x : State). length x.guards) (map (iterate silent_step m) rs) ≡ map (λ (x : State). length x.guards) rs) st.repeaters ports);
       }
+
+  pub silent_half_bit : (i : ℕ) → i < m → IsSilentHalfBit (later_net n i)
+  silent_half_bit i l = silent_at i m n l is_calm
 
   later : IsCalmLater m n (later_net n m)
   later = calm_later m n is_calm

@@ -25,11 +25,11 @@ use lists::OutOfMemory;
 use load_plan::Plan;
 use mac_parameters::{GREATEST_PLACE, HALF_BITS_A_BIT, most_octets};
 use mac_receive::Receiver;
-use mac_transmit::Transmitter;
+use mac_transmit::{Phase, Transmitter};
 use manchester_line::Sym;
 use network::{Captures, Outputs, TakenList};
 use quiet_state::NetState;
-use repeater_core::RepeaterEvents;
+use repeater_core::{Mode, RepeaterEvents};
 use std::alloc::Global;
 use std::marker::Model;
 
@@ -117,12 +117,15 @@ fn tap_number(stations: usize, relays: &[Relay], device: usize, port: usize) -> 
 }
 
 impl PlainNet {
-    ghost use Rattle.std.specs.Prelude.{◌≡◌, ◌<◌, ◌≤◌, ◌+◌, ◌-◌, ◌^◌, ◌++◌, ◌↔◌, length, map, All, OnOk, IfOk, IsTrue, slice_index_or};
+    ghost use Rattle.std.specs.Prelude.{◌≡◌, ◌<◌, ◌≤◌, ◌+◌, ◌-◌, ◌^◌, ◌++◌, ◌↔◌, ℕ, length, map, All, OnOk, IfOk, IsTrue, slice_index_or};
     ghost use Rattle.load_plan.specs.declared.plan.Plan.{Plan};
+    ghost use Rattle.mac_transmit.specs.Sender.{Sender};
+    ghost use Rattle.repeater_core.specs.Counts.{resting_count};
+    ghost use Rattle.repeater_core.specs.Step.{State, new_state};
     ghost use Rattle.manchester_line.specs.declared.Sym.TheVariants.{Idle};
     ghost use Rattle.network.specs.Net.{Net, net, next, heard_in};
     ghost use Rattle.network.specs.Outputs.{cut_rows};
-    ghost use Rattle.net_step.specs.CalmNets.{IsCalmNet};
+    ghost use Rattle.net_step.specs.CalmNets.{IsCalmNet, IsSilentHalfBit};
     ghost use Rattle.net_step.specs.KeptNet.{IsNextKept, IsSilentNet, Stands, IsKeptTap, kept_tap_number};
     ghost use Rattle.quiet_state.specs.LastSignals.{IsQuietAsKept};
     ghost use Rattle.quiet_state.specs.PlanStates.{IsResumable};
@@ -233,6 +236,31 @@ impl PlainNet {
         self.segments[place.segment as usize].heard(place.local)
     }
 
+    /// What the sender of a station, counted from 0, is doing.
+    pub fn phase(&self, station: u32) -> Phase
+        requires { station < length self.now.senders }
+        ensures { (d : Sender) → result ≡ (slice_index_or self.now.senders station d).phase }
+    {
+        self.senders[station as usize].phase()
+    }
+
+    /// The mode of a repeater, counted from 0.
+    pub fn mode(&self, repeater: u32) -> Mode
+        requires { repeater < length self.now.repeaters }
+        ensures { (d : State) → result ≡ (slice_index_or self.now.repeaters repeater d).mode }
+    {
+        self.relays[repeater as usize].mode()
+    }
+
+    /// The half bits of rest that a port of a repeater has left, both counted from 0.
+    pub fn rest(&self, repeater: u32, port: u32) -> u32
+        requires repeater { repeater < length self.now.repeaters }
+        requires port { port < length (slice_index_or self.now.repeaters repeater (new_state 0 0)).guards }
+        ensures { (d : State) → result ≡ (slice_index_or (slice_index_or self.now.repeaters repeater d).counts port (resting_count 0)).rest }
+    {
+        self.relays[repeater as usize].rest(port)
+    }
+
     /// The next half bit. After an `Err` the net is only dropped.
     fn go_on(&mut self) -> Result<(), OutOfMemory>
         requires { self.old.t < 2000000000 }
@@ -311,6 +339,7 @@ impl PlainNet {
         requires in_time { self.old.t + count ≤ 2000000000 }
         ensures stands { (n : Net) → Stands n self.old → Stands (later_net n count) self.new }
         ensures time { self.new.t ≡ self.old.t + count }
+        ensures silent { (n : Net) → Stands n self.old → (i : ℕ) → i < count → IsSilentHalfBit (later_net n i) }
     {
         let t = self.t;
         leap_senders(t, count, &mut self.senders);
@@ -337,6 +366,26 @@ impl PlainNet {
         }
         self.step()?;
         Ok(t + 1)
+    }
+
+    /// Goes over half bits in which nothing happens, if the next ones are such, but not beyond half bit `until`: the
+    /// half bit before which the net is then. In those that it went over no tap emits.
+    pub fn pass_silence(&mut self, until: u64) -> u64
+        requires before { self.old.t < until }
+        requires short { until ≤ 2000000000 }
+        ensures stands { (n : Net) → Stands n self.old → Stands (later_net n (result - self.old.t)) self.new }
+        ensures time { self.new.t ≡ result }
+        ensures later { self.old.t ≤ result }
+        ensures within { result ≤ until }
+        ensures silent { (n : Net) → Stands n self.old → (i : ℕ) → i < result - self.old.t → IsSilentHalfBit (later_net n i) }
+    {
+        let t = self.t;
+        let count = self.calm(until - t);
+        if count > 0 {
+            self.leap(count);
+            return t + count;
+        }
+        t
     }
 
     /// Goes on to before half bit `until`. A net that stands for a state of the network stands for the one as many half

@@ -33,8 +33,9 @@ impl Model for Relay {
 }
 
 impl Relay {
-    ghost use Rattle.std.specs.Prelude.{◌≡◌, ◌<◌, ◌≤◌, ◌++◌, length, map, replicate, All, IfOk, OnOk, IsTrue, ◌↔◌};
+    ghost use Rattle.std.specs.Prelude.{◌≡◌, ◌<◌, ◌≤◌, ◌++◌, length, map, replicate, slice_index_or, All, IfOk, OnOk, IsTrue, ◌↔◌};
     ghost use Rattle.mac_parameters.specs.Parameters.{jabber_rest};
+    ghost use Rattle.repeater_core.specs.Counts.{resting_count};
     ghost use Rattle.repeater_core.specs.declared.modes.Mode.TheVariants.{Idle};
     ghost use Rattle.repeater_core.specs.Step.{new_state, resumed_state, after, decided_by, emitted_by};
     ghost use Rattle.repeater_core.specs.Calm.{IsCalm, silent_step};
@@ -93,6 +94,21 @@ impl Relay {
         ensures { IsTrue result ↔ (self.now.mode ≡ Idle) }
     {
         self.repeater.mode() == Mode::Idle
+    }
+
+    /// Its mode.
+    pub fn mode(&self) -> Mode
+        ensures { result ≡ self.now.mode }
+    {
+        self.repeater.mode()
+    }
+
+    /// The half bits of rest that a port, counted from 0, has left.
+    pub fn rest(&self, port: u32) -> u32
+        requires { port < length self.now.guards }
+        ensures { result ≡ (slice_index_or self.now.counts port (resting_count 0)).rest }
+    {
+        self.repeater.rest(port)
     }
 
     /// Puts the guards of its ports at the end of a list.

@@ -13,7 +13,7 @@ use Rattle.network.specs.Net.{Net}
 use Rattle.quiet_state.specs.Resumed.{later_net}
 use Rattle.net_step.specs.CalmNets.{IsCalmNet, WaitsFor}
 use Rattle.net_step.specs.KeptNet.{KeptNet, Stands}
-use Rattle.net_step.proofs.LeapsStand.{leapt_kept, stands_leapt, whole_leapt}
+use Rattle.net_step.proofs.LeapsStand.{silent_half_bit, stands_leapt, whole_leapt}
 use Rattle.net_step.proofs.WholeNet.{kept_of}
 use Rattle.net_step.proofs.plain.PlainNet.leap.Goals as goal
 
@@ -62,3 +62,15 @@ returns-clause-stands c = λ n st.
     subst (λ (xs : List Kept). Hears (receiver_after r (replicate m Idle) false) (get_or xs i d)) (sym receivers)
     (c.leap_receivers.ensures.states i d r (let size = ap length receivers in omega (arith, l, size)) (subst (λ (xs : List Kept). Hears r (get_or xs i d)) (sym c.deref_mut-2.ensures.value) here)))
     (relays ∙ states)
+
+pub returns-clause-silent : goal.returns-clause-silent
+returns-clause-silent c = λ n st i below.
+    let q = c.self.inside in
+    let m = c.args.count in
+    let first : KeptNet = record { t = q.t; senders = q.senders.items; receivers = q.receivers.items; repeaters = q.relays.items; wires = q.segments.items; places = q.places.items; rows = q.rows; captures = q.captures.items; reaches = q.settling.reaches.items; delays = q.settling.delays.items; settled = q.settling.settled } in
+    let now : Stands n first = subst (Stands n) (sym c.self.view_is) st in
+    let calm : IsCalmNet m first = subst (IsCalmNet m) (sym c.self.view_is) c.requires.calm in
+    let states : c.leap_relays.new.relays ≡ map (iterate silent_step m) q.relays.items = c.leap_relays.ensures.states ∙ ap (map (iterate silent_step m)) c.deref_mut-3.ensures.value in
+    let ports : map (λ (x : State). length x.guards) (map (iterate silent_step m) q.relays.items) ≡ map (λ (x : State). length x.guards) q.relays.items =
+    sym (ap (map (λ (x : State). length x.guards)) states) ∙ c.leap_relays.ensures.ports ∙ ap (map (λ (x : State). length x.guards)) c.deref_mut-3.ensures.value in
+    silent_half_bit m n first _ _ _ _ _ _ _ _ c.self.invariant calm now ports i below
