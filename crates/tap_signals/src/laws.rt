@@ -1,0 +1,12 @@
+//! Laws of the definitions.
+ghost use Rattle.tap_signals.specs.Laws.{RestIsIdle, StretchesAreApart};
+
+/// Where a tap emits no signal of any kind, it emits Idle.
+pub fn rest_is_idle()
+    ensures { RestIsIdle }
+{}
+
+/// The stretches of a tap don't overlap, and each is as long as it can be.
+pub fn stretches_are_apart()
+    ensures { StretchesAreApart }
+{}
