@@ -4,4 +4,6 @@ pub mod PortsDecide
 pub mod TapsOfLayout
 pub mod KindsKnown
 pub mod StretchesApart
+pub mod StretchesDetermined
 pub mod ToldByNet
+pub mod StretchesExample

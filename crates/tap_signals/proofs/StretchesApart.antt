@@ -6,12 +6,12 @@ use Rattle.std.proofs.lemmas.Option.{none-some, same_Some}
 use Rattle.tap_signals.specs.declared.kind.SignalKind.{SignalKind}
 use Rattle.tap_signals.specs.declared.stretch.Stretch.{Stretch}
 use Rattle.tap_signals.specs.Laws.{StretchesAreApart}
-use Rattle.tap_signals.specs.Stretches.{IsStretch, IsBefore, AreInTurn}
+use Rattle.tap_signals.specs.Stretches.{IsStretch, IsBeforeNext, AreInTurn}
 
 abbrev AreApart : Stretch → Stretch → Type 0
 AreApart s x = (s.end ≤ x.start) × (s.end ≡ x.start → s.kind ≢ x.kind)
 
-after_first : (f : ℕ → Option SignalKind) (from to : ℕ) (s : Stretch) (ss : List Stretch) → AllByRecursion (IsStretch f from to) ss → IsBefore s ss → AreInTurn ss
+after_first : (f : ℕ → Option SignalKind) (from to : ℕ) (s : Stretch) (ss : List Stretch) → AllByRecursion (IsStretch f from to) ss → IsBeforeNext s ss → AreInTurn ss
     → (j : ℕ) (x : Stretch) → slice_get ss j ≡ Some x → AreApart s x
 after_first f from to s [] all before turn j x is = absurd (none-some x is)
 after_first f from to s (y ∷ ss) all before turn zero x is = subst (AreApart s) (same_Some y x is) before

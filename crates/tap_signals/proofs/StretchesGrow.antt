@@ -1,11 +1,11 @@
 -- Stretches of half bits, as one half bit more is added.
 use Rattle.std.proofs.Common.{◌≡◌, ◌≢◌, ℕ, zero, suc, ◌+◌, ◌<◌, ◌≤◌, max, min, List, [], ◌∷◌, ◌++◌, Option, None, Some, inl, inr, refl, sym, subst, ap, ◌∙◌, arith}
-use Rattle.std.specs.Prelude.{◌⊎◌, Result, Ok, Err, OnOk, IfOk}
+use Rattle.std.specs.Prelude.{◌⊎◌, Result, Ok, Err, OnOk}
 use Rattle.std.specs.List.{AllByRecursion}
 use Rattle.std.proofs.lemmas.Bool.{cases_lt}
 use Rattle.tap_signals.specs.declared.kind.SignalKind.{SignalKind}
 use Rattle.tap_signals.specs.declared.stretch.Stretch.{Stretch}
-use Rattle.tap_signals.specs.Stretches.{IsWithin, IsInOne, IsStretch, IsBefore, AreInTurn, AreStretches, AreStretchesTo}
+use Rattle.tap_signals.specs.Stretches.{IsInStretch, IsInOne, IsStretch, IsBeforeNext, AreInTurn, AreStretches, AreStretchesTo}
 
 all_more : (P : Stretch → Type 0) (ss : List Stretch) (x : Stretch) → AllByRecursion P ss → P x → AllByRecursion P (ss ++ x ∷ [])
 all_more P [] x h p = (p, tt)
@@ -15,7 +15,7 @@ all_parts : (P : Stretch → Type 0) (ss : List Stretch) (x : Stretch) → AllBy
 all_parts P [] x h = (tt, h.0)
 all_parts P (s ∷ ss) x h = let rest = all_parts P ss x h.1 in ((h.0, rest.0), rest.1)
 
-all_so : (P Q : Stretch → Type 0) → ((s : Stretch) → P s → Q s) → (ss : List Stretch) → AllByRecursion P ss → AllByRecursion Q ss
+pub all_so : (P Q : Stretch → Type 0) → ((s : Stretch) → P s → Q s) → (ss : List Stretch) → AllByRecursion P ss → AllByRecursion Q ss
 all_so P Q f [] h = tt
 all_so P Q f (s ∷ ss) h = (f s h.0, all_so P Q f ss h.1)
 
@@ -24,11 +24,11 @@ in_front t [] xs h = absurd h
 in_front t (s ∷ ss) xs (inl here) = inl here
 in_front t (s ∷ ss) xs (inr there) = inr (in_front t ss xs there)
 
-in_last : (t : ℕ) (ss : List Stretch) (x : Stretch) → IsWithin t x → IsInOne t (ss ++ x ∷ [])
+in_last : (t : ℕ) (ss : List Stretch) (x : Stretch) → IsInStretch t x → IsInOne t (ss ++ x ∷ [])
 in_last t [] x h = inl h
 in_last t (s ∷ ss) x h = inr (in_last t ss x h)
 
-in_either : (t : ℕ) (ss : List Stretch) (x : Stretch) → IsInOne t (ss ++ x ∷ []) → IsInOne t ss ⊎ IsWithin t x
+in_either : (t : ℕ) (ss : List Stretch) (x : Stretch) → IsInOne t (ss ++ x ∷ []) → IsInOne t ss ⊎ IsInStretch t x
 in_either t [] x (inl here) = inr here
 in_either t [] x (inr there) = absurd there
 in_either t (s ∷ ss) x (inl here) = inl (inl here)
@@ -37,7 +37,7 @@ in_either t (s ∷ ss) x (inr there) = elim (in_either t ss x there) [
   | inr last ↦ inr last
 ]
 
-before_more : (s : Stretch) (ss : List Stretch) (last x : Stretch) → IsBefore s (ss ++ last ∷ []) → IsBefore s ((ss ++ last ∷ []) ++ x ∷ [])
+before_more : (s : Stretch) (ss : List Stretch) (last x : Stretch) → IsBeforeNext s (ss ++ last ∷ []) → IsBeforeNext s ((ss ++ last ∷ []) ++ x ∷ [])
 before_more s [] last x h = h
 before_more s (y ∷ ss) last x h = h
 
@@ -45,7 +45,7 @@ pub in_turn_more : (ss : List Stretch) (last x : Stretch) → AreInTurn (ss ++ l
 in_turn_more [] last x h after other = ((after, other), (tt, tt))
 in_turn_more (s ∷ ss) last x h after other = (before_more s ss last x h.0, in_turn_more ss last x h.1 after other)
 
-before_longer : (s : Stretch) (ss : List Stretch) (last x : Stretch) → x.start ≡ last.start → x.kind ≡ last.kind → IsBefore s (ss ++ last ∷ []) → IsBefore s (ss ++ x ∷ [])
+before_longer : (s : Stretch) (ss : List Stretch) (last x : Stretch) → x.start ≡ last.start → x.kind ≡ last.kind → IsBeforeNext s (ss ++ last ∷ []) → IsBeforeNext s (ss ++ x ∷ [])
 before_longer s [] last x e k h = (omega (arith, h.0, e), λ touch same. h.1 (touch ∙ e) (same ∙ k))
 before_longer s (y ∷ ss) last x e k h = h
 
@@ -185,15 +185,7 @@ pub longer_added : (f : ℕ → Option SignalKind) (from t : ℕ) (kind : Signal
 longer_added f from t kind last old mid new was is touches same e h =
     subst (AreStretches f from (t + 1)) (sym is) (last_longer f from t kind mid last e (subst (AreStretches f from t) was h) touches same)
 
--- an answer that says more, where it is right
-pub on_ok : {A E P Q : Type 0} (r : Result A E) → (P → Q) → OnOk r P → OnOk r Q
-on_ok (Ok x) so h = so h
-on_ok (Err e) so h = tt
-
+-- what holds whatever the answer is
 pub on_either : {A E P : Type 0} (r : Result A E) → P → OnOk r P
 on_either (Ok x) h = h
 on_either (Err e) h = tt
-
-pub if_ok : {A E : Type 0} (r : Result A E) (P Q : A → Type 0) → ((x : A) → P x → Q x) → IfOk r P → IfOk r Q
-if_ok (Ok x) P Q so h = so x h
-if_ok (Err e) P Q so h = tt

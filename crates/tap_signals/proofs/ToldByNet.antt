@@ -31,7 +31,7 @@ use Rattle.tap_signals.specs.Kinds.{sent_kind, kind_emitted, decided_kind}
 use Rattle.tap_signals.specs.Signals.{AreSignals, first_seen}
 use Rattle.tap_signals.specs.Stretches.{AreStretches, AreStretchesTo}
 use Rattle.tap_signals.specs.Taps.{taps_in_order}
-use Rattle.tap_signals.specs.Told.{AreTold, HasDevice, TellsKinds, kept_repeater, kept_sender, kind_told, rest_told}
+use Rattle.tap_signals.specs.Told.{AreListsTold, HasDevice, TellsKinds, kept_repeater, kept_sender, kind_told, rest_told}
 use Rattle.tap_signals.proofs.KindsKnown.{early_none, port_kind, silent_none, station_below, station_kind}
 use Rattle.tap_signals.proofs.PortsDecide.{port_facts}
 use Rattle.tap_signals.proofs.StretchesGrow.{nothing_yet, silent_many}
@@ -103,7 +103,7 @@ one_silent : (plan : Plan) (tap : Tap) (t : ℕ) → IsTap plan.layout tap → I
 one_silent plan tap t is silent = silent_none plan tap t is silent.emits silent.decides
 
 pub told_silent : (plan : Plan) (taps : List Tap) (from to t later now : ℕ) (lists : List (List Stretch)) → now ≡ t → t ≤ later → All (IsTap plan.layout) taps
-    → ((i : ℕ) → i < later - now → IsSilentHalfBit (later_net (net plan t) i)) → AreTold plan taps from to t lists → AreTold plan taps from to later lists
+    → ((i : ℕ) → i < later - now → IsSilentHalfBit (later_net (net plan t) i)) → AreListsTold plan taps from to t lists → AreListsTold plan taps from to later lists
 told_silent plan taps from to t later now lists same l are silent told = record {
   many = told.many;
   each = λ k d lt.
@@ -119,7 +119,7 @@ told_silent plan taps from to t later now lists same l are silent told = record 
 }
 
 -- before the first half bit that can be of use
-delay_most : (plan : Plan) (tap : Tap) → IsTap plan.layout tap → delay_of plan.layout tap ≤ greatest_delay
+pub delay_most : (plan : Plan) (tap : Tap) → IsTap plan.layout tap → delay_of plan.layout tap ≤ greatest_delay
 delay_most plan (Station k) tap = omega arith
 delay_most plan (Port r p) tap =
     let none : RepeaterLine = record { name = []; delay = 0; ports = [] } in
@@ -130,7 +130,7 @@ delay_most plan (Port r p) tap =
     omega (arith, is, most)
 
 pub told_first : (plan : Plan) (taps : List Tap) (from to begin : ℕ) (lists : List (List Stretch)) → All (IsTap plan.layout) taps → begin ≡ from - greatest_delay
-    → length lists ≡ length taps → ((k : ℕ) → get_or lists k [] ≡ []) → AreTold plan taps from to begin lists
+    → length lists ≡ length taps → ((k : ℕ) → get_or lists k [] ≡ []) → AreListsTold plan taps from to begin lists
 told_first plan taps from to begin lists are first many none = record {
   many = many;
   each = λ k d lt.
@@ -143,7 +143,7 @@ told_first plan taps from to begin lists are first many none = record {
 
 -- at the end
 pub told_all : (plan : Plan) (from start to : ℕ) (taps : List Tap) (lists signals : List (List Stretch)) → taps ≡ taps_in_order plan.layout → start ≡ first_seen from → start < to
-    → signals ≡ lists → AreTold plan taps start to to lists → AreSignals plan from to signals
+    → signals ≡ lists → AreListsTold plan taps start to to lists → AreSignals plan from to signals
 told_all plan from start to taps lists signals in_order first l same told = record {
   many = ap length same ∙ told.many ∙ ap length in_order;
   each = λ k tap is.

@@ -24,3 +24,9 @@ StretchesAreApart =
     (f : ℕ → Option SignalKind) (from to : ℕ) (stretches : List Stretch) → AreStretches f from to stretches
     → (i j : ℕ) (s x : Stretch) → slice_get stretches i ≡ Some s → slice_get stretches j ≡ Some x → i < j
     → (s.end ≤ x.start) × (s.end ≡ x.start → s.kind ≢ x.kind)
+
+-- What a tap emits makes up one list of stretches alone.
+abbrev pub StretchesAreDetermined : Type 0
+StretchesAreDetermined =
+    (f : ℕ → Option SignalKind) (from to : ℕ) (xs ys : List Stretch)
+    → AreStretches f from to xs → AreStretches f from to ys → xs ≡ ys

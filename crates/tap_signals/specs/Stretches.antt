@@ -5,31 +5,31 @@ use Rattle.tap_signals.specs.declared.kind.SignalKind.{SignalKind}
 use Rattle.tap_signals.specs.declared.stretch.Stretch.{Stretch}
 
 -- The half bit is one of the stretch.
-abbrev pub IsWithin : ℕ → Stretch → Type 0
-IsWithin t s = (s.start ≤ t) × (t < s.end)
+abbrev pub IsInStretch : ℕ → Stretch → Type 0
+IsInStretch t s = (s.start ≤ t) × (t < s.end)
 
 -- The half bit is in one of these stretches.
 abbrev pub IsInOne : ℕ → List Stretch → Type 0
 IsInOne t [] = ⊥
-IsInOne t (s ∷ ss) = IsWithin t s ⊎ IsInOne t ss
+IsInOne t (s ∷ ss) = IsInStretch t s ⊎ IsInOne t ss
 
 -- A stretch of half bits from `from` on and before `to`: at least one, and in each a signal of its kind is emitted.
 pub record IsStretch (f : ℕ → Option SignalKind) (from to : ℕ) (s : Stretch) : Type 0 where
   pub begins : from ≤ s.start
   pub some : s.start < s.end
   pub ends : s.end ≤ to
-  pub alike : (t : ℕ) → IsWithin t s → f t ≡ Some s.kind
+  pub alike : (t : ℕ) → IsInStretch t s → f t ≡ Some s.kind
 
 -- The first of these stretches, if there is one, begins when this one is over, and is of another kind if it begins at
 -- once.
-abbrev pub IsBefore : Stretch → List Stretch → Type 0
-IsBefore s [] = ⊤
-IsBefore s (x ∷ xs) = (s.end ≤ x.start) × (s.end ≡ x.start → s.kind ≢ x.kind)
+abbrev pub IsBeforeNext : Stretch → List Stretch → Type 0
+IsBeforeNext s [] = ⊤
+IsBeforeNext s (x ∷ xs) = (s.end ≤ x.start) × (s.end ≡ x.start → s.kind ≢ x.kind)
 
 -- Each of these stretches is before the next one.
 abbrev pub AreInTurn : List Stretch → Type 0
 AreInTurn [] = ⊤
-AreInTurn (s ∷ ss) = IsBefore s ss × AreInTurn ss
+AreInTurn (s ∷ ss) = IsBeforeNext s ss × AreInTurn ss
 
 -- The stretches of one kind, in order of time, that the half bits from `from` on and before `to` make up, where a
 -- signal of kind f t is emitted in half bit t, if it is emitted: each of those half bits is in one of the stretches.

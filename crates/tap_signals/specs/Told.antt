@@ -47,7 +47,7 @@ TellsKinds plan n taps rested t =
 
 -- There is a list for each of these taps, of the stretches of what it emits that was decided before half bit t, in the
 -- half bits from `from` on and before `to`.
-pub record AreTold (plan : Plan) (taps : List Tap) (from to t : ℕ) (lists : List (List Stretch)) : Type 0 where
+pub record AreListsTold (plan : Plan) (taps : List Tap) (from to t : ℕ) (lists : List (List Stretch)) : Type 0 where
   pub many : length lists ≡ length taps
   pub each : (k : ℕ) (d : Tap) → k < length taps →
       AreStretchesTo (kind_emitted plan (slice_index_or taps k d)) from to

@@ -6,7 +6,7 @@ ghost use Rattle.network.specs.Net.{net};
 ghost use Rattle.network.specs.Outputs.{half_bits};
 ghost use Rattle.net_step.specs.KeptNet.{Stands};
 ghost use Rattle.tap_signals.specs.Signals.{AreSignals};
-ghost use Rattle.tap_signals.specs.Told.{AreTold, HasDevice, TellsKinds, rest_told, kind_told};
+ghost use Rattle.tap_signals.specs.Told.{AreListsTold, HasDevice, TellsKinds, rest_told, kind_told};
 
 use crate::kind::{SignalKind, decided_kind, sent_kind};
 use crate::stretch::{Stretches, StretchesList, Window, tell};
@@ -70,8 +70,8 @@ fn tell_all(
     requires rested { length rested.now ≡ length taps.now }
     requires time { t < 2 ^ 32 }
     requires kinds { TellsKinds plan.now whole.now taps.now rested.now t }
-    requires told { AreTold plan.now taps.now window.start window.end t lists.old }
-    ensures { OnOk result (AreTold plan.now taps.now window.start window.end (t + 1) lists.new) }
+    requires told { AreListsTold plan.now taps.now window.start window.end t lists.old }
+    ensures { OnOk result (AreListsTold plan.now taps.now window.start window.end (t + 1) lists.new) }
 {
     for k in 0..taps.len() {
         let kind = kind_of(whole, taps[k], rested[k], t);
@@ -120,10 +120,10 @@ fn tell_step(
     requires in_time { t < 2000000000 }
     requires time { whole.old.t ≡ t }
     requires stands { Stands (net plan.now t) whole.old }
-    requires told { AreTold plan.now taps.now window.start window.end t lists.old }
+    requires told { AreListsTold plan.now taps.now window.start window.end t lists.old }
     ensures time { OnOk result (whole.new.t ≡ t + 1) }
     ensures stands { OnOk result (Stands (net plan.now (t + 1)) whole.new) }
-    ensures told { OnOk result (AreTold plan.now taps.now window.start window.end (t + 1) lists.new) }
+    ensures told { OnOk result (AreListsTold plan.now taps.now window.start window.end (t + 1) lists.new) }
 {
     write_rests(whole, taps, rests);
     whole.step()?;
@@ -143,7 +143,7 @@ fn told_from(
     requires begin { begin ≡ window.start - greatest_delay }
     requires order { window.start < window.end }
     requires end { window.end ≤ half_bits plan.now }
-    ensures { IfOk result (λ lists. AreTold plan.now taps.now window.start window.end window.end lists.items) }
+    ensures { IfOk result (λ lists. AreListsTold plan.now taps.now window.start window.end window.end lists.items) }
 {
     let mut whole = PlainNet::new(alloc, plan)?;
     whole.go_to(begin)?;

@@ -9,6 +9,6 @@ mod taps;
 
 pub use emitting::signals;
 pub use kind::SignalKind;
-pub use laws::{rest_is_idle, stretches_are_apart};
+pub use laws::{rest_is_idle, stretches_are_apart, stretches_are_determined};
 pub use lists::OutOfMemory;
 pub use stretch::{Stretch, Stretches, StretchesList};

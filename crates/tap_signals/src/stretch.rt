@@ -37,8 +37,8 @@ fn goes_on(last: Stretch, t: u64, kind: SignalKind) -> bool
 /// Adds half bit `t`, in which the tap emits a signal of this kind, to the stretches of those before it.
 fn add(stretches: &mut Stretches, t: u64, kind: SignalKind) -> Result<(), OutOfMemory>
     requires { t < 2 ^ 63 }
-    ensures { (f : ℕ → Option SignalKind) (from : ℕ) → AreStretches f from t stretches.old → f t ≡ Some kind → from ≤ t →
-        OnOk result (AreStretches f from (t + 1) stretches.new) }
+    ensures { (f : ℕ → Option SignalKind) (from : ℕ) → AreStretches f from t stretches.old → f t ≡ Some kind →
+        from ≤ t → OnOk result (AreStretches f from (t + 1) stretches.new) }
 {
     let end = t + 1;
     let Some(last) = stretches.pop() else {

@@ -1,9 +1,9 @@
-use Rattle.std.proofs.Common.{◌≡◌, ◌≤◌, ◌+◌, ◌-◌, length, refl, subst, ◌∙◌, arith}
-use Rattle.std.proofs.lemmas.List.{length-replicate}
+use Rattle.std.proofs.Common.{◌≡◌, ◌≤◌, ◌+◌, ◌-◌, length, refl, sym, ap, subst, ◌∙◌, arith, rules}
+use Rattle.std.proofs.lemmas.List.{length-replicate, with_items_is}
 use Rattle.load_plan.proofs.PlansAreSound.{sound_of_plan}
 use Rattle.network.specs.Net.{net}
 use Rattle.net_step.proofs.GoingOn.{at_time}
-use Rattle.tap_signals.specs.Told.{AreTold}
+use Rattle.tap_signals.specs.Told.{AreListsTold}
 use Rattle.tap_signals.proofs.ToldByNet.{stands_later, stands_still, told_first, told_silent}
 use Rattle.tap_signals.proofs.emitting.told_from.Goals as goal
 
@@ -48,7 +48,23 @@ tell_step-requires-clause-stands c =
     stands_still plan c.pass_silence-later.new.self c.window.t c.pass_silence-later.result c.window.whole.t inv.time
     (omega (arith, silence.later, inv.time)) c.if-later-t.false (silence.stands (net plan c.window.t) inv.stands)
 
+pub tell_step-requires-clause-told : goal.tell_step-requires-clause-told
+tell_step-requires-clause-told c =
+    subst (AreListsTold c.args.plan.now c.args.taps.now c.args.window.start c.args.window.end c.window.t) (sym c.deref_mut-in-window.ensures.value) c.window.invariant.told
+
+pub window-preserved : goal.window-preserved
+window-preserved c =
+    let lists = with_items_is c.window.lists c.tell_step.new.lists (search rules) in
+    let rests = with_items_is c.window.rests c.tell_step.new.rests (search rules) in
+    record {
+      within = omega (arith, c.window-test.true);
+      time = c.in_ok-tell_step.ensures.time;
+      stands = c.in_ok-tell_step.ensures.stands;
+      rests = ap length rests ∙ c.tell_step.auto.rests ∙ ap length c.deref_mut.ensures.value ∙ c.window.invariant.rests;
+      told = subst (AreListsTold c.args.plan.now c.args.taps.now c.args.window.start c.args.window.end (c.window.t + 1)) (sym lists) c.in_ok-tell_step.ensures.told;
+    }
+
 pub returns : goal.returns
 returns c =
     let end : c.window.t ≡ c.args.window.end = omega (arith, c.window-test.false, c.window.invariant.within) in
-    subst (λ u. AreTold c.args.plan.now c.args.taps.now c.args.window.start c.args.window.end u c.window.lists.items) end c.window.invariant.told
+    subst (λ u. AreListsTold c.args.plan.now c.args.taps.now c.args.window.start c.args.window.end u c.window.lists.items) end c.window.invariant.told

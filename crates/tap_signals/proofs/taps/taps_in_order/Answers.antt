@@ -1,16 +1,42 @@
-use Rattle.std.proofs.Common.{◌≡◌, ◌++◌, ◌+◌, ◌<◌, List, [], length, drop, get_or, map, refl, sym, ap, ap₂, ◌∙◌, arith, append_assoc}
+use Rattle.std.proofs.Common.{◌≡◌, ◌++◌, ◌+◌, ◌<◌, List, [], ◌∷◌, length, drop, get_or, map, refl, sym, ap, ap₂, ◌∙◌, arith, append_assoc}
+use Rattle.std.specs.List.{range_with_len}
 use Rattle.std.proofs.lemmas.List.{at_drop_more}
+use Rattle.std.proofs.lemmas.List.FromFn.{map-range_with_len_more}
 use Rattle.network.proofs.RunnablePlans.{runnable_plan}
 use Rattle.layout.specs.declared.lines.RepeaterLine.{RepeaterLine}
 use Rattle.layout.specs.declared.ways.Tap.{Tap}
+use Rattle.layout.specs.declared.ways.Tap.TheVariants.{Station}
 use Rattle.tap_signals.specs.Taps.{ports_from, taps_in_order}
 use Rattle.tap_signals.proofs.TapsOfLayout.{all_stations, no_more_ports, ports_more}
 use Rattle.tap_signals.proofs.taps.taps_in_order.Goals as goal
+
+pub loop-station-preserved : goal.loop-station-preserved
+loop-station-preserved c =
+    let station = c.loop-station.station in
+    let one : c.push.new.self.items ≡ c.loop-station.taps.items ++ Station station ∷ [] = c.in_ok-push.ensures.items in
+    one ∙ ap (λ (ts : List Tap). ts ++ Station station ∷ []) c.loop-station.invariant
+    ∙ sym (map-range_with_len_more Station 0 station station (omega arith))
 
 pub loop-repeater-init : goal.loop-repeater-init
 loop-repeater-init c =
     all_stations c.args.plan.now.layout c.loop-station.station c.as_slice-repeaters.result.now c.loop-station.taps.items
     (let n = c.len-stations.ensures in omega (arith, n, c.loop-station-test.false, c.loop-station.auto.station-end)) c.as_slice-repeaters.ensures c.loop-station.invariant
+
+pub overflow_cast-repeater : goal.overflow_cast-repeater
+overflow_cast-repeater c =
+    let same = ap length c.as_slice-repeaters.ensures in
+    omega (arith, c.loop-repeater-test.true, same, (runnable_plan c.args.plan.now).few_repeaters)
+
+pub add_ports-requires : goal.add_ports-requires
+add_ports-requires c =
+    let rs = c.as_slice-repeaters.result.now in
+    let d = c.index-repeaters-repeater.result in
+    let r = c.loop-repeater.repeater in
+    let same = ap length c.as_slice-repeaters.ensures in
+    let within : r < length c.args.plan.now.layout.repeaters = omega (arith, c.loop-repeater-test.true, same) in
+    let few = (runnable_plan c.args.plan.now).few_ports r d within in
+    let ports = c.len.ensures ∙ ap (λ (xs : List RepeaterLine). length (get_or xs r d).ports) c.as_slice-repeaters.ensures in
+    omega (arith, few, ports)
 
 pub loop-repeater-preserved : goal.loop-repeater-preserved
 loop-repeater-preserved c =
