@@ -1,5 +1,5 @@
 -- What a tap emits is known from its device, where what it emits was decided.
-use Rattle.std.proofs.Common.{◌≡◌, ℕ, zero, suc, ◌+◌, ◌-◌, ◌<◌, ◌≤◌, Bool, true, false, cond, leb, eqb, ◌&&◌, inl, inr, List, map, length, get_or, Option, None, Some, refl, sym, ap, ap₂, subst, ◌∙◌, arith}
+use Rattle.std.proofs.Common.{◌≡◌, ℕ, suc, ◌+◌, ◌-◌, ◌<◌, Bool, true, false, cond, leb, eqb, ◌&&◌, inl, inr, map, length, get_or, None, Some, refl, sym, ap, ap₂, subst, ◌∙◌, arith}
 use Rattle.std.proofs.lemmas.Bool.Decides.{nat_tests}
 use Rattle.std.proofs.lemmas.Bool.{cases_lt}
 use Rattle.std.proofs.lemmas.List.{length-map}
@@ -17,13 +17,12 @@ use Rattle.layout.specs.Taps.{tap_of}
 use Rattle.load_plan.specs.declared.plan.Plan.{Plan}
 use Rattle.mac_transmit.specs.declared.phase.Phase.{Phase}
 use Rattle.mac_transmit.specs.declared.phase.Phase.TheVariants as phase
-use Rattle.mac_transmit.specs.Sender.{Sender, is_sending, jam_start}
+use Rattle.mac_transmit.specs.Sender.{is_sending, jam_start}
 use Rattle.repeater_core.specs.declared.modes.Mode.{Mode}
 use Rattle.repeater_core.specs.declared.modes.Mode.TheVariants as mode
 use Rattle.repeater_core.specs.Laws.{count_at}
 use Rattle.repeater_core.specs.SilentParts.{sends_to}
 use Rattle.network.specs.Attempts.{port_number, tap_number, sender_at}
-use Rattle.network.specs.Net.{net}
 use Rattle.network.specs.Times.{emitted, decided, earlier, port_delays}
 use Rattle.network.proofs.AbsoluteTimes.{earlier_at, port_emits}
 use Rattle.network.proofs.TapNumbers.{delay_at, port_below}
@@ -32,7 +31,7 @@ use Rattle.tap_signals.specs.declared.kind.SignalKind.{SignalKind}
 use Rattle.tap_signals.specs.declared.kind.SignalKind.TheVariants as kind
 use Rattle.tap_signals.specs.Kinds.{sent_kind, kind_of_mode, kind_if_signal, kind_emitted, decided_kind}
 use Rattle.tap_signals.specs.Laws.{RestIsIdle}
-use Rattle.tap_signals.proofs.PortsDecide.{port_decides, port_facts}
+use Rattle.tap_signals.proofs.PortsDecide.{port_decides}
 use Rattle.tap_signals.proofs.SendersEmit.{station_sends}
 
 -- where a tap emits Idle

@@ -1,17 +1,15 @@
 -- What is decided for a port is a signal exactly where the mode sends to it and it doesn't rest.
-use Rattle.std.proofs.Common.{◌≡◌, ℕ, zero, suc, ◌+◌, ◌<◌, eqb, ◌&&◌, List, [], ◌∷◌, map, length, get_or, Some, refl, sym, ap, ap₂, ◌∙◌, arith}
+use Rattle.std.proofs.Common.{◌≡◌, ℕ, zero, suc, ◌+◌, ◌<◌, eqb, ◌&&◌, List, [], ◌∷◌, map, length, get_or, Some, sym, ap, ap₂, ◌∙◌, arith}
 use Rattle.std.proofs.lemmas.Bool.Decides.{nat_tests}
 use Rattle.std.proofs.lemmas.List.{get_or-map}
 use Rattle.std.proofs.lemmas.Option.{none-some, slice_get_within}
-use Rattle.mac_parameters.specs.Parameters.{jabber_limit, jabber_rest}
 use Rattle.manchester_line.specs.declared.Sym.{Sym}
 use Rattle.manchester_line.specs.declared.Sym.TheVariants as sy
 use Rattle.manchester_line.specs.Line.{is_signal}
 use Rattle.layout.specs.declared.lines.PortLine.{PortLine}
 use Rattle.layout.specs.declared.lines.RepeaterLine.{RepeaterLine}
 use Rattle.load_plan.specs.declared.plan.Plan.{Plan}
-use Rattle.repeater_core.specs.declared.modes.Mode.{Mode}
-use Rattle.repeater_core.specs.Counts.{Count, Choice, choice, choices_from, resting_count}
+use Rattle.repeater_core.specs.Counts.{Count, Choice, choice, resting_count}
 use Rattle.repeater_core.specs.Laws.{count_at}
 use Rattle.repeater_core.specs.Modes.{activity_from, mode_after, wish_of}
 use Rattle.repeater_core.specs.SilentParts.{sends_to}

@@ -1,5 +1,5 @@
 -- Two lists of stretches of the same half bits are equal.
-use Rattle.std.proofs.Common.{◌≡◌, ◌≢◌, ℕ, ◌<◌, ◌≤◌, List, [], ◌∷◌, Option, None, Some, inl, inr, refl, sym, ap, ap₂, subst, ◌∙◌, arith}
+use Rattle.std.proofs.Common.{◌≡◌, ◌≢◌, ℕ, ◌≤◌, List, [], ◌∷◌, Option, None, Some, inl, inr, refl, sym, ap, ap₂, subst, ◌∙◌, arith}
 use Rattle.std.specs.List.{AllByRecursion}
 use Rattle.std.proofs.lemmas.Bool.{cases_lt}
 use Rattle.std.proofs.lemmas.Option.{none-some, same_Some}
@@ -25,11 +25,10 @@ begin_after : (f : ℕ → Option SignalKind) (from to : ℕ) (s : Stretch) (ss 
 begin_after f from to s [] all before turn = tt
 begin_after f from to s (x ∷ xs) all before turn =
     let some = all.0.some in
-    let after = before.0 in
-    (
+    let after = before.0 in (
       record { begins = after; some = some; ends = all.0.ends; alike = all.0.alike },
       all_so (IsStretch f x.end to) (IsStretch f s.end to) (λ z h. record { begins = (let begins = h.begins in omega (arith, begins, some, after)); some = h.some; ends = h.ends; alike = h.alike }) xs
-      (begin_after f from to x xs all.1 turn.0 turn.1)
+          (begin_after f from to x xs all.1 turn.0 turn.1),
     )
 
 rest_are : (f : ℕ → Option SignalKind) (from to : ℕ) (x : Stretch) (xs : List Stretch) → AreStretches f from to (x ∷ xs) → AreStretches f x.end to xs

@@ -29,14 +29,13 @@ in_seen (suc (suc (suc (suc (suc (suc t)))))) l m some = absurd (omega (arith, m
 -- from half bit 2 on and before half bit 6
 pub seen_are_stretches : AreStretches two_frames 2 6 seen
 seen_are_stretches = record {
-  each =
-      (
-        record { begins = omega arith; some = omega arith; ends = omega arith; alike = λ t w. let at : t ≡ 2 = omega (arith, w.0, w.1) in ap two_frames at },
-        (
-          record { begins = omega arith; some = omega arith; ends = omega arith; alike = λ t w. let at : t ≡ 3 = omega (arith, w.0, w.1) in ap two_frames at },
-          (record { begins = omega arith; some = omega arith; ends = omega arith; alike = λ t w. let at : t ≡ 5 = omega (arith, w.0, w.1) in ap two_frames at }, tt)
-        )
-      );
+  each = (
+    record { begins = omega arith; some = omega arith; ends = omega arith; alike = λ t w. let at : t ≡ 2 = omega (arith, w.0, w.1) in ap two_frames at },
+    (
+      record { begins = omega arith; some = omega arith; ends = omega arith; alike = λ t w. let at : t ≡ 3 = omega (arith, w.0, w.1) in ap two_frames at },
+      (record { begins = omega arith; some = omega arith; ends = omega arith; alike = λ t w. let at : t ≡ 5 = omega (arith, w.0, w.1) in ap two_frames at }, tt),
+    ),
+  );
   every = in_seen;
   in_turn = ((omega arith, λ touch same. (cc)), ((omega arith, λ touch. absurd (omega (arith, touch))), (tt, tt)));
 }

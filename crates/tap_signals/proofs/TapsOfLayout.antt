@@ -4,7 +4,6 @@ use Rattle.std.specs.List.{AllByRecursion, range_with_len}
 use Rattle.std.specs.Prelude.{slice_get, option_map, option_and_then}
 use Rattle.std.proofs.lemmas.List.{append-nil, at_drop_more, drop_all}
 use Rattle.layout.specs.declared.lines.Layout.{Layout}
-use Rattle.layout.specs.declared.lines.PortLine.{PortLine}
 use Rattle.layout.specs.declared.lines.RepeaterLine.{RepeaterLine}
 use Rattle.layout.specs.declared.ways.Tap.{Tap}
 use Rattle.layout.specs.declared.ways.Tap.TheVariants.{Station, Port}

@@ -1,5 +1,5 @@
 -- What kind of signal a tap emits (clauses 4 and 9; the names are profile). Half bits and ports count from 0.
-use Rattle.std.specs.Prelude.{ℕ, ◌+◌, ◌-◌, nat_le, ◌==◌, ◌&&◌, if◌then◌else◌, Bool, false, Option, None, Some}
+use Rattle.std.specs.Prelude.{ℕ, ◌+◌, ◌-◌, nat_le, ◌==◌, ◌&&◌, if◌then◌else◌, Option, None, Some}
 use Rattle.manchester_line.specs.Line.{is_signal}
 use Rattle.layout.specs.Paths.{delay_of}
 use Rattle.layout.specs.declared.ways.Tap.{Tap}

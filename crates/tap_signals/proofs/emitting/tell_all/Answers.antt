@@ -1,6 +1,5 @@
-use Rattle.std.proofs.Common.{◌≡◌, ◌≤◌, ◌<◌, ◌+◌, List, [], length, length-set, get_or, set, refl, sym, ap, subst, ◌∙◌, arith}
-use Rattle.std.proofs.lemmas.List.{get_or-set_other, get_or_default}
-use Rattle.layout.specs.declared.ways.Tap.{Tap}
+use Rattle.std.proofs.Common.{◌≡◌, ◌+◌, List, [], length-set, get_or, sym, ap, subst, ◌∙◌, arith}
+use Rattle.std.proofs.lemmas.List.{get_or-set_other}
 use Rattle.layout.specs.declared.ways.Tap.TheVariants.{Station}
 use Rattle.layout.specs.Paths.{delay_of}
 use Rattle.tap_signals.specs.Kinds.{kind_emitted}

@@ -1,4 +1,4 @@
-use Rattle.std.proofs.Common.{◌≡◌, ◌+◌, add-one, arith, refl, ◌∙◌}
+use Rattle.std.proofs.Common.{◌+◌, add-one, arith}
 use Rattle.network.specs.Net.{net}
 use Rattle.net_step.specs.KeptNet.{Stands}
 use Rattle.tap_signals.proofs.StretchesGrow.{on_either}

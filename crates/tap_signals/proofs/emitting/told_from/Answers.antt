@@ -1,5 +1,5 @@
-use Rattle.std.proofs.Common.{◌≡◌, ◌≤◌, ◌+◌, ◌-◌, length, refl, sym, ap, subst, ◌∙◌, arith, rules}
-use Rattle.std.proofs.lemmas.List.{length-replicate, with_items_is}
+use Rattle.std.proofs.Common.{◌≡◌, ◌≤◌, ◌+◌, length, refl, sym, ap, subst, ◌∙◌, arith, rules}
+use Rattle.std.proofs.lemmas.List.{with_items_is}
 use Rattle.load_plan.proofs.PlansAreSound.{sound_of_plan}
 use Rattle.network.specs.Net.{net}
 use Rattle.net_step.proofs.GoingOn.{at_time}

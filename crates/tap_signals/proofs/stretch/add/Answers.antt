@@ -1,4 +1,4 @@
-use Rattle.std.proofs.Common.{◌≡◌, ◌+◌, ◌≤◌, refl, arith}
+use Rattle.std.proofs.Common.{refl}
 use Rattle.std.proofs.lemmas.Result.{on_ok_weaker}
 use Rattle.tap_signals.proofs.StretchesGrow.{first_added, longer_added, next_added}
 use Rattle.tap_signals.proofs.stretch.add.Goals as goal

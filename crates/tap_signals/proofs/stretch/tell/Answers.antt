@@ -1,4 +1,4 @@
-use Rattle.std.proofs.Common.{◌≡◌, ◌<◌, ◌≤◌, inl, inr, sym, ◌∙◌, arith}
+use Rattle.std.proofs.Common.{inl, inr, ◌∙◌}
 use Rattle.std.proofs.lemmas.Result.{on_ok_weaker}
 use Rattle.tap_signals.proofs.StretchesGrow.{inside_after, inside_before, outside, silent_one}
 use Rattle.tap_signals.proofs.stretch.tell.Goals as goal
