@@ -90,7 +90,9 @@ fn a_page(rt: HostRuntime) -> Result<(), OutOfMemory> {
     let mut sink = MemorySink::new(rt.alloc());
     let status = netsim(&rt, rt.alloc(), &words, &mut store, &mut sink, &OpenGate);
     assert_eq!(rt; status, 0);
-    assert!(rt; sink.bytes().starts_with(b"<!DOCTYPE html>\n") && sink.bytes().ends_with(b"</html>\n"));
+    assert!(rt;
+        sink.bytes().starts_with(b"<!DOCTYPE html>\n") && sink.bytes().ends_with(b"</html>\n")
+    );
     Ok(())
 }
 
