@@ -1,7 +1,12 @@
 """Files of stored cases that are too long to be written out: `file l.toml = segments(257)` calls `segments('257')`."""
+import subprocess
+import sys
+from pathlib import Path
+
 from slack_trials import small_net
 
 MAKERS = {}
+PAGE_MAKER = Path(__file__).resolve().parent.parent / 'page' / 'make'
 
 
 def maker(function):
@@ -147,3 +152,10 @@ def demo_files(number: str) -> dict:
         text += f'[[repeater]]\nname = "r{k}"\ndelay = 28\n'
         text += port(f'g{(k - 1) // 2}', 40 if k % 2 else 60) + port(f'g{k}', 0)
     return {'l.toml': text.encode(), **{f's{s}.pcap': demo_load(s) for s in range(4 * (n + 1))}}
+
+
+@maker
+def page_part(name: str) -> bytes:
+    """What stands in every page before its data lines, the head, or after them, the tail."""
+    command = [sys.executable, str(PAGE_MAKER), 'none', '0', '1', '--part', name]
+    return subprocess.run(command, capture_output=True, check=True).stdout

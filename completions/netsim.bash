@@ -96,11 +96,11 @@ _netsim() {
   current=${words[at]}
   COMPREPLY=()
   if [ "$at" = 1 ]; then
-    _netsim_choices "check slack plain run stop resume demo probe waves picture meter frames --help --version"
+    _netsim_choices "check slack plain run stop resume demo probe waves page picture meter frames --help --version"
     return
   fi
   case ${words[1]}:$at in
-    check:2 | slack:2 | plain:2 | run:2 | stop:2 | resume:2 | probe:2 | waves:2 | frames:2 | picture:2)
+    check:2 | slack:2 | plain:2 | run:2 | stop:2 | resume:2 | probe:2 | waves:2 | page:2 | frames:2 | picture:2)
       _netsim_files toml "$current" ;;
     meter:2 | frames:3 | picture:3) _netsim_files log "$current" ;;
     plain:3 | run:3 | stop:3 | resume:3) _netsim_files '*' "$current" ;;

@@ -248,7 +248,7 @@ def judge_stop(runner, case, tree, loads, plain, begin):
 
 
 def judge_views(runner, case, tree, rows, plain):
-    """The log of a run by `meter` and `picture`, and its lines by `probe` and `waves`."""
+    """The log of a run by `meter` and `picture`, its lines by `probe` and `waves`, and both by `page`."""
     log, end = plain.files["out.log"], 2 * tree["until_bits"]
     runner.put({**case.files, "x.log": log})
     meter = runner.run(["meter", "x.log"])
@@ -260,9 +260,13 @@ def judge_views(runner, case, tree, rows, plain):
     check_end(picture)
     expect("status of picture", 0, picture.status)
     views.check_picture(log, rows, begin, stop, picture.said)
+    stop = min(stop, end)
+    page = runner.run(["page", "l.toml", str(begin), str(stop)])
+    check_end(page)
+    expect("status of page", 0, page.status)
+    views.check_page(tree, log, begin, stop, page.said)
     taps = views.taps_of(tree)[:16]
     if taps:
-        stop = min(stop, end)
         outcomes = [runner.run([form, "l.toml", str(begin), str(stop), *taps]) for form in ("probe", "waves")]
         for outcome in outcomes:
             check_end(outcome)

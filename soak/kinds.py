@@ -175,7 +175,7 @@ def fault_base(dice, runner):
         files = dict(dice.choice(bases())[1])
         tree = {"until_bits": 300, "station": []}
     form = dice.choice(["plain"] * 2 + ["run"] * 2 + ["check", "slack", "stop", "resume", "meter", "picture", "frames",
-                                                      "probe"])
+                                                      "probe", "page"])
     if form in ("meter", "picture", "frames", "resume"):
         runner.put(files)
         outcome = runner.run(["stop", "l.toml", "out", str(tree["until_bits"])] if form == "resume"
@@ -184,7 +184,8 @@ def fault_base(dice, runner):
         files["out.state" if form == "resume" else "x.log"] = outcome.files.get(wanted, b"")
     taps = views.taps_of(tree)[:2] or ["a"]
     rest = {"run": ["out", dice.choice("1237")], "plain": ["out"], "stop": ["out", "500"], "resume": ["out"],
-            "picture": ["x.log", "0", "1000"], "frames": ["x.log"], "probe": ["0", "600", *taps]}.get(form, [])
+            "picture": ["x.log", "0", "1000"], "frames": ["x.log"], "probe": ["0", "600", *taps],
+            "page": ["0", "600"]}.get(form, [])
     if dice.random() < 0.5:
         files.update({"out.log": faults.OLD, "out.counters": faults.OLD, "out.a.pcap": faults.OLD})
         files.setdefault("out.state", faults.OLD)

@@ -1,9 +1,12 @@
-"""What `slack`, `probe`, `waves` and `picture` print has the form of docs/formats.md and agrees with what it is of."""
+"""What `slack`, `probe`, `waves`, `picture` and `page` print has the form of docs/formats.md and is of its run."""
+import pathlib
 import re
+import runpy
 import xml.etree.ElementTree
 
 from runs import Wrong, expect
 
+TOP = pathlib.Path(__file__).resolve().parent.parent
 SLACK = re.compile(r"(?:segment (\S+) (\d+) (\d+)|repeater (\S+) (\d+)) (?:over|slack \d+ (?:bound|pair (\S+) (\S+)))")
 VALUES = {"idle": "z", "hi": "1", "lo": "0", "clash": "x"}
 
@@ -47,6 +50,14 @@ def check_picture(log, rows, begin, end, said):
         if (start < end and row.t >= begin) if start is not None else begin <= row.t < end:
             wanted.append(line)
     expect("the titles", wanted, [title.text for title in root.iter("{http://www.w3.org/2000/svg}title")])
+
+
+def check_page(tree, log, begin, end, said):
+    """The page that page/make makes, which steps the repeaters by itself."""
+    maker = runpy.run_path(str(TOP / "page" / "make"))
+    head, tail = maker["head_and_tail"]()
+    data = "".join(f"{line}\n" for line in maker["data_lines"](tree, log.decode().splitlines(), begin, end))
+    expect("the page", head + data + tail, said.decode())
 
 
 def taps_of(tree):

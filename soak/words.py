@@ -31,12 +31,14 @@ def is_form(words):
         return False
     form, rest = words[0], words[1:]
     many = {"check": 1, "slack": 1, "plain": 2, "run": 3, "stop": 3, "resume": 2, "demo": 2, "meter": 1, "picture": 4,
-            "frames": 2, "--help": 0, "--version": 0}
+            "frames": 2, "page": 3, "--help": 0, "--version": 0}
     if form in ("probe", "waves"):
         return (4 <= len(rest) <= 19 and is_name(rest[0]) and is_range(*rest[1:3])
                 and all(is_name(tap, 40) for tap in rest[3:]))
     if form not in many or len(rest) != many[form]:
         return False
+    if form == "page":
+        return is_name(rest[0]) and is_range(*rest[1:])
     if form == "demo":
         return number(rest[0], 1, 128) and number(rest[1], 1, 64)
     if form == "run":
@@ -69,16 +71,18 @@ def answer(words, files):
             return 7, f"probe fault tap {strangers[0]}"
         if int(texts[3]) > 2 * tree["until_bits"]:
             return 7, "probe fault range"
+    if texts[0] == "page" and int(texts[3]) > 2 * layouts.read(files[texts[1]])["until_bits"]:
+        return 7, "page fault range"
     return None
 
 
-WORDS = ["check", "slack", "plain", "run", "stop", "resume", "demo", "probe", "waves", "meter", "picture", "frames",
-         "--help", "--version", "-h", "Check", "", "l.toml", "no.toml", "out", "none/out", "none/", "/", "0", "1", "2",
-         "01", "+1", "-1", "1 ", "1e3", "64", "65", "128", "129", "2000000000", "2000000001", "1000000", "1000001",
-         "99999999999999999999", "a", "b", "a:1", "r1:1", "r1:2", "r1:3", "r1:01", "r1", "r1:0", "x" * 40, "x" * 41,
-         "y" * 200, "z" * 201, "\u00e9" * 20, "\u00e9" * 21, "\u0661", "\n", "..", "l.toml\n"]
+WORDS = ["check", "slack", "plain", "run", "stop", "resume", "demo", "probe", "waves", "page", "meter", "picture",
+         "frames", "--help", "--version", "-h", "Check", "", "l.toml", "no.toml", "out", "none/out", "none/", "/", "0",
+         "1", "2", "01", "+1", "-1", "1 ", "1e3", "64", "65", "128", "129", "2000000000", "2000000001", "1000000",
+         "1000001", "99999999999999999999", "a", "b", "a:1", "r1:1", "r1:2", "r1:3", "r1:01", "r1", "r1:0", "x" * 40,
+         "x" * 41, "y" * 200, "z" * 201, "\u00e9" * 20, "\u00e9" * 21, "\u0661", "\n", "..", "l.toml\n"]
 SHAPES = {"check": "l", "slack": "l", "plain": "lp", "run": "lpn", "stop": "lpn", "resume": "lp", "probe": "lnnttt",
-          "waves": "lnnt", "meter": "l", "picture": "llnn", "frames": "ll", "demo": "nn", "--help": "",
+          "waves": "lnnt", "page": "lnn", "meter": "l", "picture": "llnn", "frames": "ll", "demo": "nn", "--help": "",
           "--version": ""}
 
 

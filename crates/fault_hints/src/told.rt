@@ -54,6 +54,11 @@ fn tell_over(out: &mut String, ended: &Ended<'_>, over: &str) -> Result<(), OutO
     Ok(())
 }
 
+/// Whether a probe or a page ends after the run.
+fn is_past_run(said: &str) -> bool {
+    said.starts_with("probe fault range") || said.starts_with("page fault range")
+}
+
 /// The lines for standard error: each begins with `netsim: `, and what can't be found out is left unsaid.
 pub fn hints<R: Files, S: Store>(
     rt: &R,
@@ -73,9 +78,7 @@ pub fn hints<R: Files, S: Store>(
                 tell_failure(&mut out, ended.words, failure)?;
             }
         }
-        7 if ended.said.starts_with("probe fault range") => tell_range(
-            alloc, &mut out, ended, store,
-        )?,
+        7 if is_past_run(ended.said) => tell_range(alloc, &mut out, ended, store)?,
         7 => tell_tap(alloc, &mut out, ended, store)?,
         8 => tell_log(alloc, &mut out, ended, store)?,
         9 => tell_no_quiet(&mut out, ended)?,

@@ -3,7 +3,7 @@ use Rattle.std.proofs.Common.{◌≡◌, ℕ, List, Option, Some, option_map, sy
 use Rattle.program_words.specs.Requests.{asked, asked_of}
 use Rattle.program_words.specs.declared.words.Request.{Request}
 use Rattle.program_endings.specs.declared.endings.Ending.{Ending}
-use Rattle.program_endings.specs.Endings.{IsEnd, IsEndOf}
+use Rattle.program_endings.specs.Answers.{IsEnd, IsEndOf}
 use Rattle.program_endings.specs.Moments.{Moment}
 
 pub end-of : (words : List (List ℕ)) (read : Option Request) (request form : Request) (before after : Moment) (e : Ending) → option_map asked_of read ≡ asked words → read ≡ Some request → request ≡ form → IsEndOf (Some (asked_of form)) before after e

@@ -3,6 +3,7 @@ pub mod TextsByPieces
 pub mod FilesInTurn
 pub mod RunEnds
 pub mod ProbeEnds
+pub mod PageTexts
 pub mod PictureEnds
 pub mod FrameEnds
 pub mod StopEnds

@@ -2,7 +2,7 @@
 ghost use Rattle.std.specs.Prelude.{◌≡◌, ◌≤◌, All, IfOk, IfErr, OnOk, OnErr};
 ghost use Rattle.layout.specs.Sound.{IsSound};
 ghost use Rattle.line_probe.specs.Taps.{HasTap};
-ghost use Rattle.program_endings.specs.Endings.{IsAimEnd};
+ghost use Rattle.program_endings.specs.ProbeEnds.{IsAimEnd};
 ghost use Rattle.netsim.specs.TapStops.{IsTapStop};
 ghost use Rattle.program_endings.specs.Probes.{AreTapsOf, half_bits_of};
 ghost use Rattle.program_texts.specs.Texts.{line_of_tap_fault};
@@ -15,7 +15,8 @@ use lists::{List, OutOfMemory, Text};
 use mac_parameters::HALF_BITS_A_BIT;
 use outside::Sink;
 use program_endings::Ending;
-use program_texts::{RANGE_FAULT, line_of_tap_fault};
+use program_texts::{line_of_range_fault, line_of_tap_fault};
+use program_words::Report;
 use std::alloc::Global;
 
 /// Why there are no taps of these words.
@@ -58,10 +59,11 @@ fn say_tap_fault<K: Sink>(alloc: Global, word: &str, out: &mut K) -> Result<(), 
     Ok(())
 }
 
-/// The taps that these words name in a network whose run has the half bits before `to`, or says what isn't there: the
-/// first word that names no tap, or else those half bits.
+/// The taps that these words name in a network whose run has the half bits before `to`, or says for this report what
+/// isn't there: the first word that names no tap, or else those half bits.
 pub(crate) fn aim<K: Sink>(
     alloc: Global,
+    report: Report,
     network: &Layout,
     to: u32,
     words: &[Text],
@@ -74,7 +76,7 @@ pub(crate) fn aim<K: Sink>(
     ensures silent { OnOk result (K.written out.new ≡ K.written out.old) }
     ensures faults { OnOk result (K.faults out.new ≡ K.faults out.old) }
     ensures refused { OnOk result (K.refused out.new ≡ K.refused out.old) }
-    ensures missed { IfErr result (λ e. IsAimEnd network.now to words.now (K.written out.old) (K.written out.new) (K.refused out.old) (K.refused out.new) e) }
+    ensures missed { IfErr result (λ e. IsAimEnd report network.now to words.now (K.written out.old) (K.written out.new) (K.refused out.old) (K.refused out.new) e) }
 {
     let taps = match taps_of(alloc, network, words) {
         Ok(taps) => taps,
@@ -85,7 +87,7 @@ pub(crate) fn aim<K: Sink>(
         },
     };
     if u64::from(to) > u64::from(HALF_BITS_A_BIT) * network.until_bits {
-        say(out, RANGE_FAULT.as_bytes());
+        say(out, line_of_range_fault(report).as_bytes());
         return Err(Ending::Probe);
     }
     Ok(taps)

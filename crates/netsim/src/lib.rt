@@ -9,6 +9,7 @@ mod judge;
 mod loads;
 mod meter;
 mod outputs;
+mod page;
 mod picture;
 mod plans;
 mod probe;

@@ -1,4 +1,4 @@
-//! The form that says what taps of a layout file's network hear.
+//! The forms that report on half bits of the run of a layout file: what taps hear, or a page.
 ghost use Rattle.std.specs.Prelude.{◌≡◌, ◌≤◌, ◌<◌, ◌+◌, ◌^◌, ℕ, List, All, length};
 ghost use Rattle.layout.specs.Limits.{most_half_bits};
 ghost use Rattle.line_probe.specs.Heard.{rows_of_taps};
@@ -6,13 +6,14 @@ ghost use Rattle.line_probe.specs.Taps.{HasTap};
 ghost use Rattle.line_probe.specs.declared.tap.Tap.{Tap};
 ghost use Rattle.load_plan.specs.declared.plan.Plan.{Plan};
 ghost use Rattle.network.specs.Outputs.{half_bits};
-ghost use Rattle.program_endings.specs.Endings.{AreTapsTold, AreTextsTold, IsProbeEnd};
+ghost use Rattle.program_endings.specs.ProbeEnds.{AreTapsTold, AreTextsTold, IsProbeEnd};
 ghost use Rattle.program_words.specs.WordLimits.{most_probed, most_taps};
 ghost use Rattle.program_endings.specs.Moments.{moment};
 ghost use Rattle.program_texts.specs.HeardTexts.{AreHeard};
 
 use crate::aim::aim;
 use crate::judge::read_network;
+use crate::page::text_of_page;
 use crate::plans::plan_network;
 use crate::sink_texts::{write_line, write_text};
 use line_probe::{Tap, heard_at_taps};
@@ -22,7 +23,7 @@ use manchester_line::Sym;
 use outside::{Sink, SinkFail, Store};
 use program_endings::Ending;
 use program_texts::{text_of_tap, text_of_waves};
-use program_words::Hearing;
+use program_words::Report;
 use std::alloc::Global;
 
 /// Writes what the taps of these words hear, of what they all hear from half bit `from` on, tap by tap.
@@ -52,11 +53,11 @@ fn write_taps<K: Sink>(
     Ending::Done
 }
 
-/// Writes what these taps of a plan's network hear from half bit `from` on and before half bit `to`, told so: the runs
-/// and bursts tap by tap, or the waves of all.
+/// Writes this report of a plan's run from half bit `from` on and before half bit `to`: what these taps hear, as runs
+/// and bursts tap by tap, or as the waves of all; or the page.
 fn tell_taps<K: Sink>(
     alloc: Global,
-    hearing: Hearing,
+    report: Report,
     plan: &Plan,
     words: &[Text],
     taps: &[Tap],
@@ -71,27 +72,31 @@ fn tell_taps<K: Sink>(
     requires short { to ≤ from + most_probed }
     requires end { to ≤ half_bits plan.now }
     requires late { to ≤ most_half_bits }
-    ensures { AreTapsTold hearing plan.now from to words.now taps.now (K.written out.old) (K.written out.new) (K.faults out.old) (K.faults out.new) result }
+    ensures { AreTapsTold report plan.now from to words.now taps.now (K.written out.old) (K.written out.new) (K.faults out.old) (K.faults out.new) result }
 {
     let begin = u64::from(from);
     let end = u64::from(to);
-    match hearing {
-        Hearing::Runs => match heard_at_taps(alloc, plan, taps, begin, end) {
+    match report {
+        Report::Runs => match heard_at_taps(alloc, plan, taps, begin, end) {
             Ok(heard) => write_taps(alloc, &heard, words, begin, out),
             Err(OutOfMemory) => Ending::Memory,
         },
-        Hearing::Waves => match text_of_waves(alloc, plan, words, taps, begin, end) {
+        Report::Waves => match text_of_waves(alloc, plan, words, taps, begin, end) {
+            Ok(text) => write_line(out, text.as_slice()),
+            Err(OutOfMemory) => Ending::Memory,
+        },
+        Report::Page => match text_of_page(alloc, plan, begin, end) {
             Ok(text) => write_line(out, text.as_slice()),
             Err(OutOfMemory) => Ending::Memory,
         },
     }
 }
 
-/// Says what the taps of these words hear in the network of a layout file with its loads, from half bit `from` on and
-/// before half bit `to`, told so.
+/// Writes this report of the run of a layout file with its loads, from half bit `from` on and before half bit `to`, over
+/// the taps of these words.
 pub(crate) fn probe<S: Store, K: Sink>(
     alloc: Global,
-    hearing: Hearing,
+    report: Report,
     layout: &str,
     from: u32,
     to: u32,
@@ -103,7 +108,7 @@ pub(crate) fn probe<S: Store, K: Sink>(
     requires short { to ≤ from + most_probed }
     requires late { to ≤ most_half_bits }
     requires few { length words.now ≤ most_taps }
-    ensures { IsProbeEnd hearing layout.now from to words.now
+    ensures { IsProbeEnd report layout.now from to words.now
         (moment S.held S.read_faults S.write_faults K.written K.faults K.refused store.old out.old)
         (moment S.held S.read_faults S.write_faults K.written K.faults K.refused store.new out.new)
         result }
@@ -112,7 +117,7 @@ pub(crate) fn probe<S: Store, K: Sink>(
         Ok(network) => network,
         Err(ended) => return ended,
     };
-    let taps = match aim(alloc, &network, to, words, out) {
+    let taps = match aim(alloc, report, &network, to, words, out) {
         Ok(taps) => taps,
         Err(ended) => return ended,
     };
@@ -120,5 +125,5 @@ pub(crate) fn probe<S: Store, K: Sink>(
         Ok(plan) => plan,
         Err(ended) => return ended,
     };
-    tell_taps(alloc, hearing, &plan, words, taps.as_slice(), from, to, out)
+    tell_taps(alloc, report, &plan, words, taps.as_slice(), from, to, out)
 }

@@ -2,7 +2,7 @@
 ghost use Rattle.std.specs.Prelude.{◌≡◌, ◌⊎◌, ◌↔◌, None};
 ghost use Rattle.outside.specs.Files.{Rose};
 ghost use Rattle.program_endings.specs.LoggedCollisions.{AreCollisionsLogged};
-ghost use Rattle.program_endings.specs.Endings.{IsAnswer, IsEnd};
+ghost use Rattle.program_endings.specs.Answers.{IsAnswer, IsEnd};
 ghost use Rattle.program_endings.specs.Moments.{moment};
 ghost use Rattle.program_words.specs.Requests.{asked};
 ghost use Rattle.program_endings.specs.Statuses.{IfFiles, IsDone, IsDoneOrMemory, IsRefusal, IsRunBroken, IsRunRefused, IsUnhindered};
@@ -61,12 +61,12 @@ pub fn run_words<X: Threads + Wait + Sync, S: Store, K: Sink, G: Gate>(
         Request::Resume { layout, prefix } => resume(alloc, layout, prefix, store, out),
         Request::Demo { number, workers } => demo(rt, alloc, number, workers, gate, out),
         Request::Probe {
-            hearing,
+            report,
             layout,
             from,
             to,
             taps,
-        } => probe(alloc, hearing, layout, from, to, taps, store, out),
+        } => probe(alloc, report, layout, from, to, taps, store, out),
         Request::Meter { log } => meter(alloc, log, store, out),
         Request::Picture {
             layout,
@@ -90,7 +90,8 @@ pub fn run_words<X: Threads + Wait + Sync, S: Store, K: Sink, G: Gate>(
 /// and `resume LAYOUT PREFIX` goes on from that state and does as `plain`. `demo NUMBER WORKERS` runs the layout of
 /// demo of 1 to 128 on workers, and writes its size and the summary to the sink. `probe LAYOUT FROM TO TAP ..` runs
 /// the network by half bits and writes to the sink what 1 to 16 taps hear from half bit FROM on and before TO, as runs
-/// of one symbol and bursts, and `waves LAYOUT FROM TO TAP ..` the same as a value change dump. `meter LOG` writes the
+/// of one symbol and bursts, and `waves LAYOUT FROM TO TAP ..` the same as a value change dump. `page LAYOUT FROM TO`
+/// writes what all taps emit in those half bits, and the rows that meet them, as an HTML page. `meter LOG` writes the
 /// figures of a log to the sink, `picture LAYOUT LOG FROM TO` what the log tells of the half bits from FROM on and
 /// before TO as a picture, and `frames LAYOUT LOG` what became by the log of each frame that the stations of the layout
 /// have to send, with its loads, as a table. `--help` and `--version` write a fixed text to the sink. LAYOUT, PREFIX and

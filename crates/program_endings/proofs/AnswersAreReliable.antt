@@ -7,7 +7,7 @@ use Rattle.load_plan.specs.declared.plan.Plan.{Plan}
 use Rattle.log_meter.specs.declared.line.LogLine.{LogLine}
 use Rattle.outside.specs.Files.{Files, Rose}
 use Rattle.program_words.specs.Requests.{Asked, asked, Check, Slack, Plain, Run, Stop, Resume, Demo, Probe, Meter, Picture, Frames, Help, Version}
-use Rattle.program_words.specs.declared.words.Hearing.{Hearing}
+use Rattle.program_words.specs.declared.words.Report.{Report}
 use Rattle.program_texts.specs.SlackTexts.{IsSlackText}
 use Rattle.program_texts.specs.Verdicts.{IsVerdictLine}
 use Rattle.program_texts.specs.declared.texts.TheConstants.{HELP, VERSION}
@@ -15,7 +15,9 @@ use Rattle.run_picture.specs.Pictures.{picture_of}
 use Rattle.run_picture.specs.Strangers.{first_stranger}
 use Rattle.program_endings.specs.declared.endings.Ending.{Ending}
 use Rattle.program_endings.specs.declared.endings.Ending.TheVariants as ending
-use Rattle.program_endings.specs.Endings.{IsAimEnd, IsEarly, IsEndOf, IsJudged, IsPictureEnd, IsPlainEnd, IsProbeEnd, IsStopEnd, IsStrangeEnd, IsTaken, IsTellingEnd, IsUnloadedSaid, status_of, IsFramesEnd}
+use Rattle.program_endings.specs.Answers.{IsEndOf, status_of}
+use Rattle.program_endings.specs.Endings.{IsEarly, IsJudged, IsPictureEnd, IsPlainEnd, IsStopEnd, IsStrangeEnd, IsTaken, IsTellingEnd, IsUnloadedSaid, IsFramesEnd}
+use Rattle.program_endings.specs.ProbeEnds.{IsAimEnd, IsProbeEnd}
 use Rattle.program_endings.specs.FrameTables.{IsUnplannedEnd}
 use Rattle.program_endings.specs.Moments.{Moment}
 use Rattle.program_endings.specs.Probes.{HasNoAim}
@@ -40,21 +42,21 @@ abbrev PlanWith : (Layout → Type 0) → Files → Plan → Type 0
 PlanWith Q files plan = Q plan.layout
 
 -- an ending after which it was said that what a probe aims at isn't there, with its status
-missed_with : (network : Layout) (to : ℕ) (taps : List (List ℕ)) (written now : Option (List ℕ)) (refused risen : ℕ) (e : Ending) → IsAimEnd network to taps written now refused risen e
+missed_with : (told : Report) (network : Layout) (to : ℕ) (taps : List (List ℕ)) (written now : Option (List ℕ)) (refused risen : ℕ) (e : Ending) → IsAimEnd told network to taps written now refused risen e
     → IsDoneOrMemory (status_of e) ⊎ ((status_of e ≡ 7) × HasNoAim network to taps)
-missed_with network to taps written now refused risen ending.Done h = absurd h
-missed_with network to taps written now refused risen ending.Words h = absurd h
-missed_with network to taps written now refused risen ending.Layout h = absurd h
-missed_with network to taps written now refused risen ending.Load h = absurd h
-missed_with network to taps written now refused risen ending.Read h = absurd h
-missed_with network to taps written now refused risen ending.Write h = absurd h
-missed_with network to taps written now refused risen ending.Memory h = inl (inr refl)
-missed_with network to taps written now refused risen ending.Probe h = inr (refl, elim h.1 [ inl unknown ↦ inl (unknown.0, unknown.1) | inr past ↦ inr past.2 ])
-missed_with network to taps written now refused risen ending.Log h = absurd h
-missed_with network to taps written now refused risen ending.Stranger h = absurd h
-missed_with network to taps written now refused risen ending.Unquiet h = absurd h
-missed_with network to taps written now refused risen ending.State h = absurd h
-missed_with network to taps written now refused risen ending.Output h = absurd h
+missed_with told network to taps written now refused risen ending.Done h = absurd h
+missed_with told network to taps written now refused risen ending.Words h = absurd h
+missed_with told network to taps written now refused risen ending.Layout h = absurd h
+missed_with told network to taps written now refused risen ending.Load h = absurd h
+missed_with told network to taps written now refused risen ending.Read h = absurd h
+missed_with told network to taps written now refused risen ending.Write h = absurd h
+missed_with told network to taps written now refused risen ending.Memory h = inl (inr refl)
+missed_with told network to taps written now refused risen ending.Probe h = inr (refl, elim h.1 [ inl unknown ↦ inl (unknown.0, unknown.1) | inr past ↦ inr past.2 ])
+missed_with told network to taps written now refused risen ending.Log h = absurd h
+missed_with told network to taps written now refused risen ending.Stranger h = absurd h
+missed_with told network to taps written now refused risen ending.Unquiet h = absurd h
+missed_with told network to taps written now refused risen ending.State h = absurd h
+missed_with told network to taps written now refused risen ending.Output h = absurd h
 
 -- an ending after which it was said which line of a log names what a network lacks, with its status
 strange_with : (network : Layout) (lines : List LogLine) (written now : Option (List ℕ)) (refused risen : ℕ) (e : Ending) → IsStrangeEnd network lines written now refused risen e
@@ -131,14 +133,14 @@ module _ (entry exit : Moment) (r : ¬ Rose entry.reads exit.reads) (w : ¬ Rose
       (λ un. always_planned layout entry.held (PlanWith Q) (X ⊎ Y) (inr (unquiet_status entry exit e un.said, (un.plan, un.planned, un.never))))
       (λ ran. always_planned layout entry.held (PlanWith Q) (X ⊎ Y) (inl (filed_whole (state_files prefix ran.plan ran.t) (IsStopLine ran.t) entry exit e ran.filed w f))) h
 
-  probe_done : (told : Hearing) (layout : List ℕ) (from to : ℕ) (taps : List (List ℕ)) (e : Ending) → IsProbeEnd told layout from to taps entry exit e
+  probe_done : (told : Report) (layout : List ℕ) (from to : ℕ) (taps : List (List ℕ)) (e : Ending) → IsProbeEnd told layout from to taps entry exit e
       → IfPlanned layout entry.held (PlanWith AnyNetwork) (IsDoneOrMemory (status_of e) ⊎ IsNotThere (Some (Probe told layout from to taps)) entry.held (status_of e))
   probe_done told layout from to taps e h =
       let Y : Type 0 = IsNotThere (Some (Probe told layout from to taps)) entry.held (status_of e) in
       let X : Type 0 = IsDoneOrMemory (status_of e) in
       by_probe (IfPlanned layout entry.held (PlanWith AnyNetwork) (X ⊎ Y)) told layout from to taps entry exit e (λ early. or_else AnyNetwork layout Y X (early_done AnyNetwork layout e early))
       (λ missed. always_planned layout entry.held (PlanWith AnyNetwork) (X ⊎ Y)
-      (elim (missed_with missed.network to taps entry.written exit.written entry.refused exit.refused e missed.missed) [ inl done ↦ inl done | inr miss ↦ inr (miss.0, (missed.network, missed.judged, miss.1)) ]))
+      (elim (missed_with told missed.network to taps entry.written exit.written entry.refused exit.refused e missed.missed) [ inl done ↦ inl done | inr miss ↦ inr (miss.0, (missed.network, missed.judged, miss.1)) ]))
       (λ unprobed. or_else AnyNetwork layout Y X (unloaded_done AnyNetwork layout unprobed.network e unprobed.judged tt unprobed.said))
       (λ probed. always_planned layout entry.held (PlanWith AnyNetwork) (X ⊎ Y) (inl (text_whole probed.text entry exit e probed.written f))) h
 

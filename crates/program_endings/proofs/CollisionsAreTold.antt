@@ -15,7 +15,8 @@ use Rattle.path_checker.specs.declared.verdict.PathVerdict.TheVariants.{Within, 
 use Rattle.run_texts.specs.Texts.{totals_of_rows}
 use Rattle.network.specs.Outputs.{rows}
 use Rattle.program_endings.specs.declared.endings.Ending.TheVariants as ending
-use Rattle.program_endings.specs.Endings.{IsAnswer, IsJudged}
+use Rattle.program_endings.specs.Answers.{IsAnswer}
+use Rattle.program_endings.specs.Endings.{IsJudged}
 use Rattle.program_endings.specs.LoggedCollisions.{AreCollisionsLogged, AreLogged, HasLine, IsLogged, IsLogHeld, IsWithin, IsWithinSaid, ShowsHit, log_line}
 use Rattle.program_endings.specs.LogLaws.{HasCollision, IsEmptyLogRefused, IsInfixRefused, IsLateHitRefused}
 use Rattle.program_endings.specs.Moments.{Moment}

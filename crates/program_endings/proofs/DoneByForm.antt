@@ -1,7 +1,7 @@
 -- What status 0 says: what the words ask for is done.
 use Rattle.std.proofs.Common.{◌≡◌, ℕ, Option, None, Some, List, refl, subst}
 use Rattle.program_endings.specs.declared.endings.Ending.TheVariants as ending
-use Rattle.program_endings.specs.Endings.{IsAnswer, IsEndOf}
+use Rattle.program_endings.specs.Answers.{IsAnswer, IsEndOf}
 use Rattle.program_endings.specs.Moments.{Moment}
 use Rattle.program_endings.specs.Statuses.{IsDone}
 use Rattle.program_texts.specs.SlackTexts.{IsSlackText}

@@ -4,12 +4,14 @@ use Rattle.layout.specs.declared.lines.Layout.{Layout}
 use Rattle.program_endings.specs.declared.endings.Ending.{Ending}
 use Rattle.program_endings.specs.declared.endings.Ending.TheVariants as ending
 use Rattle.program_texts.specs.declared.texts.TheConstants.{HELP, VERSION}
-use Rattle.program_endings.specs.Endings.{ArePictured, IsAnswer, IsCheckEnd, IsDemoEnd, IsDrawn, IsEarly, IsEndOf, IsLoadEnd, IsMeterEnd, IsMetered, IsMissed, IsPictureEnd, IsPlainEnd, IsProbed, IsProbeEnd, HasResumed, IsResumeEnd, IsRun, IsSlackEnd, IsStopEnd, HasStopped, IsStrangeEnd, IsTaken, IsText, IsTellingEnd, IsTextEnd, IsUnlogged, IsUnmetered, IsUnprobed, IsUnresumed, IsUnrun, IsUnstopped, status_of, AreTabled, IsFramesEnd, IsTabled, IsUnqueued, IsUntabled}
+use Rattle.program_endings.specs.Answers.{IsAnswer, IsEndOf, status_of}
+use Rattle.program_endings.specs.Endings.{ArePictured, IsCheckEnd, IsDemoEnd, IsDrawn, IsEarly, IsLoadEnd, IsMeterEnd, IsMetered, IsPictureEnd, IsPlainEnd, HasResumed, IsResumeEnd, IsRun, IsSlackEnd, IsStopEnd, HasStopped, IsStrangeEnd, IsTaken, IsText, IsTellingEnd, IsTextEnd, IsUnlogged, IsUnmetered, IsUnresumed, IsUnrun, IsUnstopped, AreTabled, IsFramesEnd, IsTabled, IsUnqueued, IsUntabled}
+use Rattle.program_endings.specs.ProbeEnds.{IsMissed, IsProbed, IsProbeEnd, IsUnprobed}
 use Rattle.program_endings.specs.Demos.{IsDemoText}
 use Rattle.program_endings.specs.FrameTables.{IsUnplannedEnd}
 use Rattle.program_endings.specs.Moments.{Moment}
 use Rattle.program_words.specs.Requests.{Asked, asked, Check, Demo, Meter, Picture, Frames, Probe, Resume, Slack, Stop}
-use Rattle.program_words.specs.declared.words.Hearing.{Hearing}
+use Rattle.program_words.specs.declared.words.Report.{Report}
 use Rattle.program_texts.specs.SlackTexts.{IsSlackText}
 use Rattle.program_endings.specs.WrittenNames.{RunOf, StateOf}
 use Rattle.program_endings.specs.Statuses.{AskForFiles, IfTelling, IfText}
@@ -71,7 +73,7 @@ resume_end o layout prefix entry exit e is end = subst (λ a. IsEndOf a entry ex
 pub demo_end : (o : Option Asked) (number workers : ℕ) (entry exit : Moment) (e : Ending) → o ≡ Some (Demo number workers) → IsEndOf o entry exit e → IsDemoEnd number entry exit e
 demo_end o number workers entry exit e is end = subst (λ a. IsEndOf a entry exit e) is end
 
-pub probe_end : (o : Option Asked) (told : Hearing) (layout : List ℕ) (from to : ℕ) (taps : List (List ℕ)) (entry exit : Moment) (e : Ending) → o ≡ Some (Probe told layout from to taps) → IsEndOf o entry exit e → IsProbeEnd told layout from to taps entry exit e
+pub probe_end : (o : Option Asked) (told : Report) (layout : List ℕ) (from to : ℕ) (taps : List (List ℕ)) (entry exit : Moment) (e : Ending) → o ≡ Some (Probe told layout from to taps) → IsEndOf o entry exit e → IsProbeEnd told layout from to taps entry exit e
 probe_end o told layout from to taps entry exit e is end = subst (λ a. IsEndOf a entry exit e) is end
 
 pub meter_end : (o : Option Asked) (log : List ℕ) (entry exit : Moment) (e : Ending) → o ≡ Some (Meter log) → IsEndOf o entry exit e → IsMeterEnd log entry exit e
@@ -107,7 +109,7 @@ by_picture X layout log from to before after e early unlogged strange pictured h
     ]
 
 -- what comes of each of the four ways in which probe ends comes of its end
-pub by_probe : (X : Type 0) (told : Hearing) (layout : List ℕ) (from to : ℕ) (taps : List (List ℕ)) (before after : Moment) (e : Ending) → (IsEarly layout before after e → X) → (IsMissed layout to taps before after e → X)
+pub by_probe : (X : Type 0) (told : Report) (layout : List ℕ) (from to : ℕ) (taps : List (List ℕ)) (before after : Moment) (e : Ending) → (IsEarly layout before after e → X) → (IsMissed told layout to taps before after e → X)
     → (IsUnprobed layout to taps before after e → X) → (IsProbed told layout from to taps before after e → X) → IsProbeEnd told layout from to taps before after e → X
 by_probe X told layout from to taps before after e early missed unprobed probed h =
     elim h.1 [

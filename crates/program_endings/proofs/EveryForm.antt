@@ -4,11 +4,13 @@ use Rattle.outside.specs.Files.{Rose}
 use Rattle.outside.specs.declared.memory.File.{File}
 use Rattle.program_endings.specs.declared.endings.Ending.{Ending}
 use Rattle.program_endings.specs.declared.endings.Ending.TheVariants as ending
-use Rattle.program_endings.specs.Endings.{IsAnswer, IsDemoEnd, IsEndOf, IsFiledEnd, IsMeterEnd, IsPictureEnd, IsPlainEnd, IsProbeEnd, IsResumeEnd, IsStopEnd, status_of, IsFramesEnd}
+use Rattle.program_endings.specs.Answers.{IsAnswer, IsEndOf, status_of}
+use Rattle.program_endings.specs.Endings.{IsDemoEnd, IsFiledEnd, IsMeterEnd, IsPictureEnd, IsPlainEnd, IsResumeEnd, IsStopEnd, IsFramesEnd}
+use Rattle.program_endings.specs.ProbeEnds.{IsProbeEnd}
 use Rattle.program_endings.specs.Moments.{Moment}
 use Rattle.program_endings.specs.Runs.{IsResumedSummary, IsStopLine, IsSummary, resumed_files, run_files, state_files}
 use Rattle.program_words.specs.Requests.{Asked, asked, Check, Slack, Plain, Run, Stop, Resume, Demo, Probe, Meter, Picture, Frames, Help, Version}
-use Rattle.program_words.specs.declared.words.Hearing.{Hearing}
+use Rattle.program_words.specs.declared.words.Report.{Report}
 use Rattle.program_endings.specs.Statuses.{IsRefusal}
 use Rattle.program_endings.proofs.EndingsByStatus.{by_demo, by_meter, by_picture, by_probe, by_resume, by_stop, by_way, end_at, by_frames}
 
@@ -29,7 +31,7 @@ never_words layout prefix entry exit h =
 pub never_demo : (number : ℕ) (entry exit : Moment) → IsDemoEnd number entry exit ending.Words → ⊥
 never_demo number entry exit h = by_demo ⊥ number entry exit ending.Words (λ is written. words_unrun is) (λ text right written. written) h
 
-pub never_probe : (told : Hearing) (layout : List ℕ) (from to : ℕ) (taps : List (List ℕ)) (entry exit : Moment) → IsProbeEnd told layout from to taps entry exit ending.Words → ⊥
+pub never_probe : (told : Report) (layout : List ℕ) (from to : ℕ) (taps : List (List ℕ)) (entry exit : Moment) → IsProbeEnd told layout from to taps entry exit ending.Words → ⊥
 never_probe told layout from to taps entry exit h =
     by_probe ⊥ told layout from to taps entry exit ending.Words (λ early. early) (λ missed. missed.missed) (λ unprobed. unprobed.said) (λ probed. probed.written) h
 
@@ -186,7 +188,7 @@ demo_failed : (number : ℕ) (entry exit : Moment) → IsDemoEnd number entry ex
 demo_failed number entry exit h =
     by_demo (Rose entry.writes exit.writes ⊎ Rose entry.faults exit.faults) number entry exit ending.Write (λ is written. absurd (write_unrun is)) (λ text right written. inr written.1) h
 
-probe_failed : (told : Hearing) (layout : List ℕ) (from to : ℕ) (taps : List (List ℕ)) (entry exit : Moment) → IsProbeEnd told layout from to taps entry exit ending.Write → Rose entry.writes exit.writes ⊎ Rose entry.faults exit.faults
+probe_failed : (told : Report) (layout : List ℕ) (from to : ℕ) (taps : List (List ℕ)) (entry exit : Moment) → IsProbeEnd told layout from to taps entry exit ending.Write → Rose entry.writes exit.writes ⊎ Rose entry.faults exit.faults
 probe_failed told layout from to taps entry exit h =
     by_probe (Rose entry.writes exit.writes ⊎ Rose entry.faults exit.faults) told layout from to taps entry exit ending.Write (λ early. absurd early) (λ missed. absurd missed.missed) (λ unprobed. absurd unprobed.said)
     (λ probed. inr probed.written.1) h

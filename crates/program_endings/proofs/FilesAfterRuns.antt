@@ -4,7 +4,8 @@ use Rattle.outside.specs.Files.{Rose}
 use Rattle.layout.specs.declared.lines.Layout.{Layout}
 use Rattle.program_endings.specs.declared.endings.Ending.{Ending}
 use Rattle.program_endings.specs.declared.endings.Ending.TheVariants as ending
-use Rattle.program_endings.specs.Endings.{IsAnswer, IsDemoEnd, IsEarly, IsEndOf, IsPlainEnd, IsRun, IsTakenEnd, IsTellingEnd, IsText, IsTold, IsUnloadedSaid, Says, status_of}
+use Rattle.program_endings.specs.Answers.{IsAnswer, IsEndOf, status_of}
+use Rattle.program_endings.specs.Endings.{IsDemoEnd, IsEarly, IsPlainEnd, IsRun, IsTakenEnd, IsTellingEnd, IsText, IsTold, IsUnloadedSaid, Says}
 use Rattle.program_endings.specs.Moments.{Moment}
 use Rattle.program_words.specs.Requests.{Asked, asked, Check, Slack, Plain, Run, Stop, Resume, Demo, Probe, Meter, Picture, Frames, Help, Version}
 use Rattle.program_endings.specs.Statuses.{AskForFiles, IfFiles, IsDemoCut, IsDemoDone, IsDemoStatus, IsRunBroken, IsRunDone, IsRunRefused, IsSummaryCut, IsTellingCut, IsTellingDone}

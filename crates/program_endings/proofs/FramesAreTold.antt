@@ -11,7 +11,8 @@ use Rattle.outside.specs.Files.{Files, IsAbsent, Rose}
 use Rattle.program_words.specs.Requests.{asked}
 use Rattle.program_endings.specs.declared.endings.Ending.{Ending}
 use Rattle.program_endings.specs.declared.endings.Ending.TheVariants as ending
-use Rattle.program_endings.specs.Endings.{AreTabled, IsFramesEnd, IsPlanned, IsTabled, IsUnmetered, status_of}
+use Rattle.program_endings.specs.Answers.{status_of}
+use Rattle.program_endings.specs.Endings.{AreTabled, IsFramesEnd, IsPlanned, IsTabled, IsUnmetered}
 use Rattle.program_endings.specs.FrameLaws.{AreTablesComplete, AreTablesCutShort, AreTablesRefused, DoTabledAbsentLogsDecide, DoTabledLogFaultsDecide, DoTablesKeepFiles, DoUnplannedDecide}
 use Rattle.program_endings.specs.FrameTables.{HasUnplanned, IsPlannedLog, IsUnplannedEnd}
 use Rattle.program_endings.specs.Meters.{HasLog, HasLogFault, IsFaultyLog}

@@ -7,10 +7,12 @@ use Rattle.layout_file.specs.declared.fault.LayoutFault.{LayoutFault}
 use Rattle.program_endings.specs.declared.endings.Ending.{Ending}
 use Rattle.program_endings.specs.declared.endings.Ending.TheVariants as ending
 use Rattle.program_endings.specs.Moments.{Moment}
-use Rattle.program_endings.specs.Endings.{IsDemoEnd, IsEndOf, IsMeterEnd, IsPictureEnd, IsPlainEnd, IsProbeEnd, IsResumeEnd, IsStopEnd, IsTellingEnd, IsJudged, HasFault, IsEarly, IsFaultSaid, IsUnrun, status_of, IsFramesEnd}
+use Rattle.program_endings.specs.Answers.{IsEndOf, status_of}
+use Rattle.program_endings.specs.Endings.{IsDemoEnd, IsMeterEnd, IsPictureEnd, IsPlainEnd, IsResumeEnd, IsStopEnd, IsTellingEnd, IsJudged, HasFault, IsEarly, IsFaultSaid, IsUnrun, IsFramesEnd}
+use Rattle.program_endings.specs.ProbeEnds.{IsProbeEnd}
 use Rattle.program_endings.specs.Reading.{front_of}
 use Rattle.program_words.specs.Requests.{Asked, asked, Check, Slack, Plain, Run, Stop, Resume, Demo, Probe, Meter, Picture, Frames, Help, Version}
-use Rattle.program_words.specs.declared.words.Hearing.{Hearing}
+use Rattle.program_words.specs.declared.words.Report.{Report}
 use Rattle.program_endings.specs.Statuses.{IsFaultStatus, IsLayoutWith, IsUnreadOrMemory}
 use Rattle.program_endings.specs.StatusLaws.{AreLayoutFaultsSaid, DoAbsentLayoutsDecide, DoLayoutFaultsDecide}
 use Rattle.program_endings.proofs.EndingsByStatus.{by_demo, by_meter, by_picture, by_probe, by_resume, by_stop, by_way, end_at, files_end, of_tellings, picture_end, probe_end, resume_end, stop_end, by_frames, frames_end}
@@ -109,7 +111,7 @@ resume_faulty layout prefix before after e h =
     by_resume (IfSome before.held (λ files. HasFault layout (Some files) → IsFaultStatus 2 (status_of e) before.reads after.reads)) layout prefix before after e (λ early. early_faulty layout before after e early) (λ taken. no_fault_of (IsFaultStatus 2 (status_of e) before.reads after.reads) layout before.held taken.network taken.judged) (λ unloaded. no_fault_of (IsFaultStatus 2 (status_of e) before.reads after.reads) layout before.held unloaded.network unloaded.judged)
     (λ unrun. unrun_faulty 2 (λ files. HasFault layout (Some files)) before after e unrun) (λ un. no_fault_of (IsFaultStatus 2 (status_of e) before.reads after.reads) layout before.held un.planned.network un.planned.judged) (λ ran. no_fault_of (IsFaultStatus 2 (status_of e) before.reads after.reads) layout before.held ran.planned.network ran.planned.judged) h
 
-probe_faulty : (told : Hearing) (layout : List ℕ) (from to : ℕ) (taps : List (List ℕ)) (before after : Moment) (e : Ending) → IsProbeEnd told layout from to taps before after e
+probe_faulty : (told : Report) (layout : List ℕ) (from to : ℕ) (taps : List (List ℕ)) (before after : Moment) (e : Ending) → IsProbeEnd told layout from to taps before after e
     → IfSome before.held (λ files. HasFault layout (Some files) → IsFaultStatus 2 (status_of e) before.reads after.reads)
 probe_faulty told layout from to taps before after e h =
     by_probe (IfSome before.held (λ files. HasFault layout (Some files) → IsFaultStatus 2 (status_of e) before.reads after.reads)) told layout from to taps before after e (λ early. early_faulty layout before after e early)
@@ -168,7 +170,7 @@ resume_absent layout prefix before after e h absent =
     by_resume (IsUnreadOrMemory (status_of e)) layout prefix before after e (λ early. early_absent layout before after e absent early)
     (λ taken. absurd (absent_unjudged layout before.held (Ok taken.network) absent taken.judged)) (λ unloaded. absurd (absent_unjudged layout before.held (Ok unloaded.network) absent unloaded.judged)) (λ unrun. inr (ap status_of unrun.0)) (λ un. absurd (absent_unjudged layout before.held (Ok un.planned.network) absent un.planned.judged)) (λ ran. absurd (absent_unjudged layout before.held (Ok ran.planned.network) absent ran.planned.judged)) h
 
-probe_absent : (told : Hearing) (layout : List ℕ) (from to : ℕ) (taps : List (List ℕ)) (before after : Moment) (e : Ending) → IsProbeEnd told layout from to taps before after e → IsAbsent layout before.held → IsUnreadOrMemory (status_of e)
+probe_absent : (told : Report) (layout : List ℕ) (from to : ℕ) (taps : List (List ℕ)) (before after : Moment) (e : Ending) → IsProbeEnd told layout from to taps before after e → IsAbsent layout before.held → IsUnreadOrMemory (status_of e)
 probe_absent told layout from to taps before after e h absent =
     by_probe (IsUnreadOrMemory (status_of e)) told layout from to taps before after e (λ early. early_absent layout before after e absent early)
     (λ missed. absurd (absent_unjudged layout before.held (Ok missed.network) absent missed.judged)) (λ unprobed. absurd (absent_unjudged layout before.held (Ok unprobed.network) absent unprobed.judged))
@@ -214,7 +216,7 @@ plain_said layout prefix entry exit h =
 demo_said : (number : ℕ) (entry exit : Moment) → IsDemoEnd number entry exit ending.Layout → ⊥
 demo_said number entry exit h = by_demo ⊥ number entry exit ending.Layout (λ is written. layout_unrun is) (λ text right written. written) h
 
-probe_said : (told : Hearing) (layout : List ℕ) (from to : ℕ) (taps : List (List ℕ)) (entry exit : Moment) → IsProbeEnd told layout from to taps entry exit ending.Layout → IsFaultSaid layout entry exit
+probe_said : (told : Report) (layout : List ℕ) (from to : ℕ) (taps : List (List ℕ)) (entry exit : Moment) → IsProbeEnd told layout from to taps entry exit ending.Layout → IsFaultSaid layout entry exit
 probe_said told layout from to taps entry exit h =
     by_probe (IsFaultSaid layout entry exit) told layout from to taps entry exit ending.Layout (λ early. early) (λ missed. absurd missed.missed) (λ unprobed. absurd unprobed.said) (λ probed. absurd probed.written) h
 

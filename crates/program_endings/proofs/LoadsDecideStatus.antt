@@ -13,10 +13,12 @@ use Rattle.load_plan.specs.declared.plan.Plan.{Plan}
 use Rattle.program_endings.specs.declared.endings.Ending.{Ending}
 use Rattle.program_endings.specs.declared.endings.Ending.TheVariants as ending
 use Rattle.program_endings.specs.Moments.{Moment}
-use Rattle.program_endings.specs.Endings.{IsAnswer, IsDemoEnd, IsEndOf, IsMeterEnd, IsPictureEnd, IsPlainEnd, IsProbeEnd, IsResumeEnd, IsStopEnd, IsTellingEnd, IsJudged, IsEarly, IsLoadFaultSaid, IsPlanned, IsTakenEnd, IsUnloadedSaid, IsUnreadSaid, IsUnrun, IsFiledEnd, IsText, status_of, IsFramesEnd}
+use Rattle.program_endings.specs.Answers.{IsAnswer, IsEndOf, status_of}
+use Rattle.program_endings.specs.Endings.{IsDemoEnd, IsMeterEnd, IsPictureEnd, IsPlainEnd, IsResumeEnd, IsStopEnd, IsTellingEnd, IsJudged, IsEarly, IsLoadFaultSaid, IsPlanned, IsTakenEnd, IsUnloadedSaid, IsUnreadSaid, IsUnrun, IsFiledEnd, IsText, IsFramesEnd}
+use Rattle.program_endings.specs.ProbeEnds.{IsProbeEnd}
 use Rattle.program_endings.specs.WrittenNames.{AreNamesFree, RunOf, StateOf, ToWrite, first_taken_name, NoFile}
 use Rattle.program_words.specs.Requests.{Asked, asked, Check, Slack, Plain, Run, Stop, Resume, Demo, Probe, Meter, Picture, Frames, Help, Version}
-use Rattle.program_words.specs.declared.words.Hearing.{Hearing}
+use Rattle.program_words.specs.declared.words.Report.{Report}
 use Rattle.program_endings.specs.Statuses.{HasAbsentLoad, HasLoadFault, IsDoneOrMemory, IsFaultStatus, IsInputFaultSaid, IsLoadedWith, IsNetworkWith, IsPictureUnreadSaid, IsReadFaultSaid, IsResumeFaultSaid, IsUnhindered, IsUnreadOrMemory, IsTableFaultSaid}
 use Rattle.program_endings.specs.StatusLaws.{AreDemosComplete, AreLoadFaultsSaid, AreReadFaultsSaid, AreTellingsComplete, AreTextsComplete, DoAbsentLoadsDecide, DoLoadFaultsDecide}
 use Rattle.program_endings.proofs.EndingsByStatus.{by_demo, by_meter, by_picture, by_probe, by_resume, by_stop, by_way, demo_end, end_at, files_end, of_tellings, of_texts, resume_end, stop_end, by_frames, frames_end}
@@ -389,7 +391,7 @@ load_said layout prefix entry exit h =
 load_demo : (number : ℕ) (entry exit : Moment) → IsDemoEnd number entry exit ending.Load → ⊥
 load_demo number entry exit h = by_demo ⊥ number entry exit ending.Load (λ is written. load_unrun is) (λ text right written. written) h
 
-load_probe : (told : Hearing) (layout : List ℕ) (from to : ℕ) (taps : List (List ℕ)) (entry exit : Moment) → IsProbeEnd told layout from to taps entry exit ending.Load → IsNetworkWith layout entry.held (λ network. IsLoadFaultSaid network entry exit)
+load_probe : (told : Report) (layout : List ℕ) (from to : ℕ) (taps : List (List ℕ)) (entry exit : Moment) → IsProbeEnd told layout from to taps entry exit ending.Load → IsNetworkWith layout entry.held (λ network. IsLoadFaultSaid network entry exit)
 load_probe told layout from to taps entry exit h =
     by_probe (IsNetworkWith layout entry.held (λ network. IsLoadFaultSaid network entry exit)) told layout from to taps entry exit ending.Load (λ early. absurd early) (λ missed. absurd missed.missed)
     (λ unprobed. (unprobed.network, unprobed.judged, unprobed.said)) (λ probed. absurd probed.written) h
@@ -436,7 +438,7 @@ unread_said layout prefix entry exit h =
 unread_demo : (number : ℕ) (entry exit : Moment) → IsDemoEnd number entry exit ending.Read → ⊥
 unread_demo number entry exit h = by_demo ⊥ number entry exit ending.Read (λ is written. read_unrun is) (λ text right written. written) h
 
-unread_probe : (told : Hearing) (layout : List ℕ) (from to : ℕ) (taps : List (List ℕ)) (entry exit : Moment) → IsProbeEnd told layout from to taps entry exit ending.Read → IsInputFaultSaid layout entry exit
+unread_probe : (told : Report) (layout : List ℕ) (from to : ℕ) (taps : List (List ℕ)) (entry exit : Moment) → IsProbeEnd told layout from to taps entry exit ending.Read → IsInputFaultSaid layout entry exit
 unread_probe told layout from to taps entry exit h =
     by_probe (IsInputFaultSaid layout entry exit) told layout from to taps entry exit ending.Read (λ early. inl early) (λ missed. absurd missed.missed) (λ unprobed. inr (unprobed.network, unprobed.judged, unprobed.said))
     (λ probed. absurd probed.written) h

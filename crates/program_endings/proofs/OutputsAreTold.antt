@@ -6,11 +6,12 @@ use Rattle.layout_file.specs.declared.fault.LayoutFault.{LayoutFault}
 use Rattle.load_plan.specs.declared.plan.Plan.{Plan}
 use Rattle.outside.specs.Files.{Files, IsAbsent, Rose}
 use Rattle.program_words.specs.Requests.{Asked, asked, Check, Slack, Plain, Run, Stop, Resume, Demo, Probe, Meter, Picture, Frames, Help, Version}
-use Rattle.program_words.specs.declared.words.Hearing.{Hearing}
+use Rattle.program_words.specs.declared.words.Report.{Report}
 use Rattle.program_endings.specs.declared.endings.Ending.{Ending}
 use Rattle.program_endings.specs.declared.endings.Ending.TheVariants as ending
 use Rattle.program_endings.specs.Moments.{Moment}
-use Rattle.program_endings.specs.Endings.{IsEarly, IsEndOf, IsJudged, IsPlainEnd, IsPlanned, IsResumeEnd, IsStopEnd, IsTakenEnd, status_of}
+use Rattle.program_endings.specs.Answers.{IsEndOf, status_of}
+use Rattle.program_endings.specs.Endings.{IsEarly, IsJudged, IsPlainEnd, IsPlanned, IsResumeEnd, IsStopEnd, IsTakenEnd}
 use Rattle.program_endings.specs.Statuses.{HasTakenName, IsFaultStatus, IsNetworkWith, IsTakenNameSaid, IsWritingWith}
 use Rattle.program_endings.specs.OutputLaws.{AreOutputFaultsSaid, DoOutputFaultsDecide}
 use Rattle.program_endings.specs.WrittenNames.{AreNamesFree, RunOf, StateOf, ToWrite, NoFile}

@@ -13,7 +13,8 @@ use Rattle.run_picture.specs.Pictures.{picture_of}
 use Rattle.run_picture.specs.Strangers.{first_stranger}
 use Rattle.program_endings.specs.declared.endings.Ending.{Ending}
 use Rattle.program_endings.specs.declared.endings.Ending.TheVariants as ending
-use Rattle.program_endings.specs.Endings.{ArePictured, IsDrawn, IsEarly, IsEndOf, IsJudged, IsPictureEnd, IsStrangeEnd, IsUnmetered, status_of}
+use Rattle.program_endings.specs.Answers.{IsEndOf, status_of}
+use Rattle.program_endings.specs.Endings.{ArePictured, IsDrawn, IsEarly, IsJudged, IsPictureEnd, IsStrangeEnd, IsUnmetered}
 use Rattle.program_endings.specs.Meters.{HasLog, HasLogFault, IsFaultyLog}
 use Rattle.program_endings.specs.Moments.{Moment}
 use Rattle.program_endings.specs.PictureLaws.{ArePicturesComplete, ArePicturesCutShort, ArePicturesRefused, AreStrangersSaid, DoPicturedAbsentLogsDecide, DoPicturedLogFaultsDecide, DoPicturesKeepFiles, DoStrangersDecide}

@@ -11,12 +11,14 @@ use Rattle.load_files.specs.Loaded.{Loaded, IsLoaded, IsFirstAbsent, Whole, Faul
 use Rattle.outside.specs.Files.{Files, IsAbsent, Rose}
 use Rattle.program_endings.specs.declared.endings.Ending.{Ending}
 use Rattle.program_endings.specs.declared.endings.Ending.TheVariants as ending
-use Rattle.program_endings.specs.Endings.{IsAimEnd, IsEarly, IsEndOf, IsJudged, IsMissed, IsProbed, IsProbeEnd, status_of}
+use Rattle.program_endings.specs.Answers.{IsEndOf, status_of}
+use Rattle.program_endings.specs.Endings.{IsEarly, IsJudged}
+use Rattle.program_endings.specs.ProbeEnds.{IsAimEnd, IsMissed, IsProbed, IsProbeEnd}
 use Rattle.program_endings.specs.Moments.{Moment}
 use Rattle.program_endings.specs.ProbeLaws.{AreMissesSaid, AreProbesComplete, AreProbesCutShort, AreProbesRefused, DoMissesDecide, DoProbedAbsentLoadsDecide, DoProbedLoadFaultsDecide, DoProbesKeepFiles}
 use Rattle.program_endings.specs.Probes.{AreTapsOf, HasAim, HasNoAim}
 use Rattle.program_words.specs.Requests.{Asked, asked, Check, Slack, Plain, Run, Stop, Resume, Demo, Probe, Meter, Picture, Frames, Help, Version}
-use Rattle.program_words.specs.declared.words.Hearing.{Hearing}
+use Rattle.program_words.specs.declared.words.Report.{Report}
 use Rattle.program_endings.specs.Statuses.{IsDoneOrMemory, IsFaultStatus, IsMissSaid, IsNetworkWith, IsProbeCut, IsProbeDone, IsProbeWith, IsUnreadOrMemory}
 use Rattle.program_endings.proofs.EndingsByStatus.{by_demo, by_meter, by_picture, by_probe, by_resume, by_stop, by_way, end_at, probe_end, by_frames}
 use Rattle.program_endings.proofs.LayoutDecidesStatus.{absent_unjudged, good_or_faulty, same_network, some_of, unread_status}
@@ -40,35 +42,35 @@ aim_or_miss network to taps aim miss =
     ]
 
 -- an ending after which it was said that what a probe aims at isn't there
-missed_of : (network : Layout) (to : ℕ) (taps : List (List ℕ)) (written now : Option (List ℕ)) (refused risen : ℕ) (e : Ending) → IsAimEnd network to taps written now refused risen e → HasNoAim network to taps ⊎ (e ≡ ending.Memory)
-missed_of network to taps written now refused risen ending.Done h = absurd h
-missed_of network to taps written now refused risen ending.Words h = absurd h
-missed_of network to taps written now refused risen ending.Layout h = absurd h
-missed_of network to taps written now refused risen ending.Load h = absurd h
-missed_of network to taps written now refused risen ending.Read h = absurd h
-missed_of network to taps written now refused risen ending.Write h = absurd h
-missed_of network to taps written now refused risen ending.Memory h = inr refl
-missed_of network to taps written now refused risen ending.Probe h = inl (elim h.1 [ inl unknown ↦ inl (unknown.0, unknown.1) | inr past ↦ inr past.2 ])
-missed_of network to taps written now refused risen ending.Log h = absurd h
-missed_of network to taps written now refused risen ending.Stranger h = absurd h
-missed_of network to taps written now refused risen ending.Unquiet h = absurd h
-missed_of network to taps written now refused risen ending.State h = absurd h
-missed_of network to taps written now refused risen ending.Output h = absurd h
+missed_of : (told : Report) (network : Layout) (to : ℕ) (taps : List (List ℕ)) (written now : Option (List ℕ)) (refused risen : ℕ) (e : Ending) → IsAimEnd told network to taps written now refused risen e → HasNoAim network to taps ⊎ (e ≡ ending.Memory)
+missed_of told network to taps written now refused risen ending.Done h = absurd h
+missed_of told network to taps written now refused risen ending.Words h = absurd h
+missed_of told network to taps written now refused risen ending.Layout h = absurd h
+missed_of told network to taps written now refused risen ending.Load h = absurd h
+missed_of told network to taps written now refused risen ending.Read h = absurd h
+missed_of told network to taps written now refused risen ending.Write h = absurd h
+missed_of told network to taps written now refused risen ending.Memory h = inr refl
+missed_of told network to taps written now refused risen ending.Probe h = inl (elim h.1 [ inl unknown ↦ inl (unknown.0, unknown.1) | inr past ↦ inr past.2 ])
+missed_of told network to taps written now refused risen ending.Log h = absurd h
+missed_of told network to taps written now refused risen ending.Stranger h = absurd h
+missed_of told network to taps written now refused risen ending.Unquiet h = absurd h
+missed_of told network to taps written now refused risen ending.State h = absurd h
+missed_of told network to taps written now refused risen ending.Output h = absurd h
 
-missed_status : (network : Layout) (to : ℕ) (taps : List (List ℕ)) (written now : Option (List ℕ)) (refused risen : ℕ) (e : Ending) → IsAimEnd network to taps written now refused risen e → (status_of e ≡ 7) ⊎ (status_of e ≡ 6)
-missed_status network to taps written now refused risen ending.Done h = absurd h
-missed_status network to taps written now refused risen ending.Words h = absurd h
-missed_status network to taps written now refused risen ending.Layout h = absurd h
-missed_status network to taps written now refused risen ending.Load h = absurd h
-missed_status network to taps written now refused risen ending.Read h = absurd h
-missed_status network to taps written now refused risen ending.Write h = absurd h
-missed_status network to taps written now refused risen ending.Memory h = inr refl
-missed_status network to taps written now refused risen ending.Probe h = inl refl
-missed_status network to taps written now refused risen ending.Log h = absurd h
-missed_status network to taps written now refused risen ending.Stranger h = absurd h
-missed_status network to taps written now refused risen ending.Unquiet h = absurd h
-missed_status network to taps written now refused risen ending.State h = absurd h
-missed_status network to taps written now refused risen ending.Output h = absurd h
+missed_status : (told : Report) (network : Layout) (to : ℕ) (taps : List (List ℕ)) (written now : Option (List ℕ)) (refused risen : ℕ) (e : Ending) → IsAimEnd told network to taps written now refused risen e → (status_of e ≡ 7) ⊎ (status_of e ≡ 6)
+missed_status told network to taps written now refused risen ending.Done h = absurd h
+missed_status told network to taps written now refused risen ending.Words h = absurd h
+missed_status told network to taps written now refused risen ending.Layout h = absurd h
+missed_status told network to taps written now refused risen ending.Load h = absurd h
+missed_status told network to taps written now refused risen ending.Read h = absurd h
+missed_status told network to taps written now refused risen ending.Write h = absurd h
+missed_status told network to taps written now refused risen ending.Memory h = inr refl
+missed_status told network to taps written now refused risen ending.Probe h = inl refl
+missed_status told network to taps written now refused risen ending.Log h = absurd h
+missed_status told network to taps written now refused risen ending.Stranger h = absurd h
+missed_status told network to taps written now refused risen ending.Unquiet h = absurd h
+missed_status told network to taps written now refused risen ending.State h = absurd h
+missed_status told network to taps written now refused risen ending.Output h = absurd h
 
 -- this network was judged good and misses something
 abbrev IsMissing : List ℕ → ℕ → List (List ℕ) → Files → Type 0
@@ -104,11 +106,11 @@ module _ (layout : List ℕ) (to : ℕ) (taps : List (List ℕ)) (before after :
   early_missing ending.State early = absurd early
   early_missing ending.Output early = absurd early
 
-  missed_missing : (e : Ending) → IsMissed layout to taps before after e → IfSome before.held (λ files. IsMissing layout to taps files → IsFaultStatus 7 (status_of e) before.reads after.reads)
-  missed_missing e missed =
-      some_of before.held _ (λ files miss. elim (missed_status missed.network to taps before.written after.written before.refused after.refused e missed.missed) [ inl seven ↦ inl seven | inr six ↦ inr (inl six) ])
+  missed_missing : (told : Report) (e : Ending) → IsMissed told layout to taps before after e → IfSome before.held (λ files. IsMissing layout to taps files → IsFaultStatus 7 (status_of e) before.reads after.reads)
+  missed_missing told e missed =
+      some_of before.held _ (λ files miss. elim (missed_status told missed.network to taps before.written after.written before.refused after.refused e missed.missed) [ inl seven ↦ inl seven | inr six ↦ inr (inl six) ])
 
-aim_of : (told : Hearing) (layout : List ℕ) (from to : ℕ) (taps : List (List ℕ)) (before after : Moment) (e : Ending) (probed : IsProbed told layout from to taps before after e) → HasAim probed.right.planned.network to taps
+aim_of : (told : Report) (layout : List ℕ) (from to : ℕ) (taps : List (List ℕ)) (before after : Moment) (e : Ending) (probed : IsProbed told layout from to taps before after e) → HasAim probed.right.planned.network to taps
 aim_of told layout from to taps before after e probed =
     subst (λ (n : Layout). HasAim n to taps) probed.right.planned.is.layout (record { taps = probed.right.taps; named = probed.right.named; within = probed.right.within })
 
@@ -116,7 +118,7 @@ aim_of told layout from to taps before after e probed =
 pub misses_decide : DoMissesDecide
 misses_decide words entry exit status answer told layout from to taps is =
     rw answer.is (by_probe (IfSome entry.held (λ files. IsMissing layout to taps files → IsFaultStatus 7 (status_of answer.by) entry.reads exit.reads)) told layout from to taps entry exit answer.by
-    (early_missing layout to taps entry exit answer.by) (missed_missing layout to taps entry exit answer.by)
+    (early_missing layout to taps entry exit answer.by) (missed_missing layout to taps entry exit told answer.by)
     (λ unprobed. found_in (IsFaultStatus 7 (status_of answer.by) entry.reads exit.reads) layout to taps entry.held unprobed.network unprobed.judged unprobed.aim)
     (λ probed. found_in (IsFaultStatus 7 (status_of answer.by) entry.reads exit.reads) layout to taps entry.held probed.right.planned.network probed.right.planned.judged (aim_of told layout from to taps entry exit answer.by probed))
     (probe_end (asked words) told layout from to taps entry exit answer.by is answer.allowed))
@@ -129,7 +131,7 @@ probe_unrun e = cc
 
 -- status 7 comes of a probe that misses something
 missed_said_of : (o : Option Asked) (entry exit : Moment) → IsEndOf o entry exit ending.Probe
-    → IsProbeWith o (λ layout to taps. IsNetworkWith layout entry.held (λ network. IsMissSaid network to taps entry exit))
+    → IsProbeWith o (λ told layout to taps. IsNetworkWith layout entry.held (λ network. IsMissSaid told network to taps entry exit))
 missed_said_of None entry exit h = absurd (words_probe h.0)
 missed_said_of (Some Help) entry exit h = absurd h.0
 missed_said_of (Some Version) entry exit h = absurd h.0
@@ -145,7 +147,7 @@ missed_said_of (Some (Resume layout prefix)) entry exit h =
     by_resume ⊥ layout prefix entry exit ending.Probe (λ early. early) (λ taken. taken.said) (λ unloaded. unloaded.said) (λ unrun. probe_unrun unrun.0) (λ un. un.said) (λ ran. elim ran.filed [ inl all ↦ all.1.2 | inr some ↦ some ]) h
 missed_said_of (Some (Demo number workers)) entry exit h = by_demo ⊥ number entry exit ending.Probe (λ is written. probe_unrun is) (λ text right written. written) h
 missed_said_of (Some (Probe told layout from to taps)) entry exit h =
-    by_probe (IsNetworkWith layout entry.held (λ network. IsMissSaid network to taps entry exit)) told layout from to taps entry exit ending.Probe (λ early. absurd early) (λ missed. (missed.network, missed.judged, missed.missed))
+    by_probe (IsNetworkWith layout entry.held (λ network. IsMissSaid told network to taps entry exit)) told layout from to taps entry exit ending.Probe (λ early. absurd early) (λ missed. (missed.network, missed.judged, missed.missed))
     (λ unprobed. absurd unprobed.said) (λ probed. absurd probed.written) h
 missed_said_of (Some (Meter log)) entry exit h = by_meter ⊥ log entry exit ending.Probe (λ unmetered. unmetered) (λ metered. metered.written) h
 missed_said_of (Some (Picture layout log from to)) entry exit h =
@@ -176,12 +178,12 @@ aimed_missed layout to taps (Some files) X network e judged miss memory =
     ]
 
 -- what an end of a probe says of its loads, where it is known what it says of one that is done
-probe_known : (X : ℕ → Loaded → Type 0) (told : Hearing) (layout : List ℕ) (from to : ℕ) (taps : List (List ℕ)) (before after : Moment) (e : Ending) → Says X before.reads after.reads
+probe_known : (X : ℕ → Loaded → Type 0) (told : Report) (layout : List ℕ) (from to : ℕ) (taps : List (List ℕ)) (before after : Moment) (e : Ending) → Says X before.reads after.reads
     → ((loads : List (List Record)) → IsProbed told layout from to taps before after e → X (status_of e) (Whole loads)) → IsProbeEnd told layout from to taps before after e → IfAimed layout to taps before.held (X (status_of e))
 probe_known X told layout from to taps before after e says done h =
     by_probe (IfAimed layout to taps before.held (X (status_of e))) told layout from to taps before after e
     (λ early. aimed_known layout to taps before.held (X (status_of e)) (early_known AnyNetwork X layout before after says e early))
-    (λ missed. aimed_missed layout to taps before.held (X (status_of e)) missed.network e missed.judged (missed_of missed.network to taps before.written after.written before.refused after.refused e missed.missed)
+    (λ missed. aimed_missed layout to taps before.held (X (status_of e)) missed.network e missed.judged (missed_of told missed.network to taps before.written after.written before.refused after.refused e missed.missed)
     (λ six l. subst (λ (a : Ending). X (status_of a) l) (symmetric six) (says.memory l)))
     (λ unprobed. aimed_known layout to taps before.held (X (status_of e)) (unloaded_known AnyNetwork X layout before after says unprobed.network e unprobed.judged tt unprobed.said))
     (λ probed. aimed_known layout to taps before.held (X (status_of e))
@@ -228,7 +230,7 @@ probed_absent_loads_decide words entry exit status answer told layout from to ta
     (probe_end (asked words) told layout from to taps entry exit answer.by is answer.allowed)))
 
 -- probe or waves was done
-pub probe_done : (told : Hearing) (layout : List ℕ) (from to : ℕ) (taps : List (List ℕ)) (before after : Moment) → IsProbeEnd told layout from to taps before after ending.Done → IsProbeDone told layout from to taps before after
+pub probe_done : (told : Report) (layout : List ℕ) (from to : ℕ) (taps : List (List ℕ)) (before after : Moment) → IsProbeEnd told layout from to taps before after ending.Done → IsProbeDone told layout from to taps before after
 probe_done told layout from to taps before after h =
     by_probe (IsProbeDone told layout from to taps before after) told layout from to taps before after ending.Done (λ early. absurd early) (λ missed. absurd missed.missed) (λ unprobed. absurd unprobed.said)
     (λ p. record { text = p.text; right = p.right; written = p.written; held = h.0 }) h

@@ -13,7 +13,8 @@ use Rattle.net_step.specs.Stops.{IsFirstQuiet}
 use Rattle.program_endings.specs.declared.endings.Ending.{Ending}
 use Rattle.program_endings.specs.declared.endings.Ending.TheVariants as ending
 use Rattle.program_endings.specs.CheckpointFiles.{HasState}
-use Rattle.program_endings.specs.Endings.{HasResumed, HasStopped, IsFiledEnd, IsPlanned, IsResumeEnd, IsStopEnd, IsUnstated, status_of}
+use Rattle.program_endings.specs.Answers.{status_of}
+use Rattle.program_endings.specs.Endings.{HasResumed, HasStopped, IsFiledEnd, IsPlanned, IsResumeEnd, IsStopEnd, IsUnstated}
 use Rattle.program_endings.specs.Moments.{Moment}
 use Rattle.program_endings.specs.Runs.{IsResumedSummary, IsStopLine, resumed_files, state_files}
 use Rattle.program_endings.specs.Statuses.{IsDoneOrMemory, IsPlannedWith, IsUnbegun}

@@ -15,7 +15,8 @@ use Rattle.net_step.specs.Stops.{HasNoQuiet}
 use Rattle.program_endings.specs.declared.endings.Ending.{Ending}
 use Rattle.program_endings.specs.declared.endings.Ending.TheVariants as ending
 use Rattle.program_endings.specs.CheckpointFiles.{HasState, IsStateFaulty}
-use Rattle.program_endings.specs.Endings.{IsEndOf, IsPlanned, HasResumed, IsResumeEnd, IsStateFaultSaid, HasStopped, IsStopEnd, IsUnquietEnd, IsUnrun, IsUnstated, Says, status_of}
+use Rattle.program_endings.specs.Answers.{IsEndOf, status_of}
+use Rattle.program_endings.specs.Endings.{IsPlanned, HasResumed, IsResumeEnd, IsStateFaultSaid, HasStopped, IsStopEnd, IsUnquietEnd, IsUnrun, IsUnstated, Says}
 use Rattle.program_endings.specs.Moments.{Moment}
 use Rattle.program_endings.specs.Reading.{IsFront, front_of}
 use Rattle.program_endings.specs.Runs.{IsPlanOf}

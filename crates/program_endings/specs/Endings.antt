@@ -1,5 +1,5 @@
--- How a call ends (profile).
-use Rattle.std.specs.Prelude.{◌≡◌, ◌≤◌, ◌⊎◌, ℕ, ◌-◌, List, Option, None, Some, option_map, slice_get, Result, Ok, Err}
+-- How a call ends, form by form (profile). The ends of probes stand in ProbeEnds.
+use Rattle.std.specs.Prelude.{◌≡◌, ◌≤◌, ◌⊎◌, ℕ, List, Option, None, Some, option_map, slice_get, Result, Ok, Err}
 use Rattle.capture_file.specs.declared.fault.CaptureFault.{CaptureFault}
 use Rattle.net_step.specs.Stops.{HasNoQuiet, IsFirstQuiet}
 use Rattle.outside.specs.Files.{Files, IsAbsent, Rose}
@@ -13,13 +13,11 @@ use Rattle.layout_file.specs.Faults.{judged}
 use Rattle.layout.specs.declared.lines.Layout.{Layout}
 use Rattle.layout.specs.declared.lines.StationLine.{StationLine}
 use Rattle.layout_file.specs.declared.fault.LayoutFault.{LayoutFault}
-use Rattle.line_probe.specs.declared.tap.Tap.{Tap}
 use Rattle.load_files.specs.Loaded.{IsLoaded, IsFirstAbsent, Faulty, load_of}
 use Rattle.load_plan.specs.declared.plan.Plan.{Plan}
 use Rattle.log_meter.specs.FigureTexts.{line_of_log_with}
 use Rattle.log_meter.specs.declared.fault.LogFault.{LogFault}
 use Rattle.log_meter.specs.declared.line.LogLine.{LogLine}
-use Rattle.network.specs.Outputs.{half_bits}
 use Rattle.program_endings.specs.FileLimits.{most_layout}
 use Rattle.program_endings.specs.Reading.{front_of}
 use Rattle.program_endings.specs.WrittenNames.{AreNamesFree, RunOf, StateOf, ToWrite, first_taken_name}
@@ -29,21 +27,14 @@ use Rattle.program_endings.specs.CheckpointFiles.{HasState, IsStateFaulty}
 use Rattle.program_endings.specs.Demos.{IsDemoText}
 use Rattle.program_endings.specs.FrameTables.{IsUnplannedEnd}
 use Rattle.program_endings.specs.Meters.{HasLog, HasLogFault, IsMeterText}
-use Rattle.program_endings.specs.Probes.{AreTapsOf, HasAim, IsMissLine}
-use Rattle.program_texts.specs.HeardTexts.{IsTextOfTaps}
-use Rattle.program_words.specs.Requests.{Asked, asked, Check, Slack, Plain, Run, Stop, Resume, Demo, Probe, Meter, Picture, Frames, Help, Version}
-use Rattle.program_words.specs.declared.words.Hearing.{Hearing}
-use Rattle.program_words.specs.declared.words.Hearing.TheVariants as hearing
 use Rattle.program_endings.specs.Runs.{IsPlanOf, IsResumedSummary, IsStopLine, IsSummary, resumed_files, run_files, state_files}
 use Rattle.run_picture.specs.Pictures.{picture_of}
 use Rattle.run_picture.specs.Strangers.{first_stranger}
-use Rattle.wave_dump.specs.Heard.{waves_of_plan}
 use Rattle.program_texts.specs.SlackTexts.{IsSlackText}
-use Rattle.program_texts.specs.Texts.{line_of_words_fault, line_of_fault, line_of_load_fault, line_of_no_quiet, line_of_output_fault, line_of_read_fault, line_of_stranger, name_of_state}
+use Rattle.program_texts.specs.Texts.{line_of_fault, line_of_load_fault, line_of_no_quiet, line_of_output_fault, line_of_read_fault, line_of_stranger, name_of_state}
 use Rattle.program_texts.specs.Verdicts.{IsVerdictLine}
 use Rattle.program_endings.specs.declared.endings.Ending.{Ending}
 use Rattle.program_endings.specs.declared.endings.Ending.TheVariants as ending
-use Rattle.program_texts.specs.declared.texts.TheConstants.{HELP, VERSION}
 
 -- where the store tells its files, the layout was there and was judged so, whole or at one octet past the most that
 -- it may have
@@ -363,75 +354,6 @@ abbrev pub IsDemoEnd : ℕ → Moment → Moment → Ending → Type 0
 IsDemoEnd number before after e =
     IsDemoTold number before.written after.written before.faults after.faults e × (after.held ≡ before.held)
 
--- what a probe aims at isn't there: that was said, and nothing without memory; the last two numbers count what the sink
--- refused
-abbrev pub IsAimEnd : Layout → ℕ → List (List ℕ) → Option (List ℕ) → Option (List ℕ) → ℕ → ℕ → Ending → Type 0
-IsAimEnd network to words written now refused risen ending.Probe =
-    (line : List ℕ) × IsMissLine network to words line × IsSaid line written now refused risen
-IsAimEnd network to words written now refused risen ending.Memory = now ≡ written
-IsAimEnd network to words written now refused risen _ = ⊥
-
--- the layout has no fault, what a probe aims at isn't in its network, and that was said
-pub record IsMissed (layout : List ℕ) (to : ℕ) (words : List (List ℕ)) (before after : Moment) (e : Ending)
-    : Type 0 where
-  pub network : Layout
-  pub judged : IsJudged layout before.held (Ok network)
-  pub missed : IsAimEnd network to words before.written after.written before.refused after.refused e
-
--- the layout has no fault, what a probe aims at is in its network, and the call ended before the loads were read
-pub record IsUnprobed (layout : List ℕ) (to : ℕ) (words : List (List ℕ)) (before after : Moment) (e : Ending)
-    : Type 0 where
-  pub network : Layout
-  pub judged : IsJudged layout before.held (Ok network)
-  pub aim : HasAim network to words
-  pub said : IsUnloadedSaid network before after e
-
--- this text tells so what the taps of these words hear from one half bit on and before another: runs and bursts, tap by
--- tap, or the waves of all taps
-abbrev pub IsTextHeard : Hearing → Plan → ℕ → ℕ → List (List ℕ) → List Tap → List ℕ → Type 0
-IsTextHeard hearing.Runs plan from to words taps text = IsTextOfTaps plan from (to - from) words taps text
-IsTextHeard hearing.Waves plan from to words taps text = text ≡ waves_of_plan plan words taps from to
-
--- the layout and its loads have no fault, its network has a tap for each of these words, its run has the half bits of
--- the probe, and this text tells so what they hear
-pub record IsProbeText (told : Hearing) (layout : List ℕ) (held : Option Files) (from to : ℕ) (words : List (List ℕ))
-    (text : List ℕ) : Type 0 where
-  pub plan : Plan
-  pub planned : IsPlanned layout held plan
-  pub taps : List Tap
-  pub named : AreTapsOf plan.layout words taps
-  pub within : to ≤ half_bits plan
-  pub lines : IsTextHeard told plan from to words taps text
-
--- the text of a probe was written, or a front of it
-pub record IsProbed (told : Hearing) (layout : List ℕ) (from to : ℕ) (words : List (List ℕ)) (before after : Moment)
-    (e : Ending) : Type 0 where
-  pub text : List ℕ
-  pub right : IsProbeText told layout before.held from to words text
-  pub written : IsText text before.written after.written before.faults after.faults e
-
--- the text of what the taps of these words hear in so many half bits from this one on was written, or a front of it;
--- the last two numbers count the failed writes
-abbrev pub AreTextsTold :
-    Plan → ℕ → ℕ → List (List ℕ) → List Tap → Option (List ℕ) → Option (List ℕ) → ℕ → ℕ → Ending → Type 0
-AreTextsTold plan from n words taps written now faults risen e =
-    (text : List ℕ) × IsTextOfTaps plan from n words taps text × IsText text written now faults risen e
-
--- what taps of a plan hear was written, told so, or a front of it, or there was no memory for it; the last two numbers
--- count the failed writes
-abbrev pub AreTapsTold :
-    Hearing → Plan → ℕ → ℕ → List (List ℕ) → List Tap → Option (List ℕ) → Option (List ℕ) → ℕ → ℕ → Ending → Type 0
-AreTapsTold told plan from to words taps written now faults risen e =
-    ((e ≡ ending.Memory) × (now ≡ written))
-    ⊎ ((text : List ℕ) × IsTextHeard told plan from to words taps text × IsText text written now faults risen e)
-
--- the end of the forms probe LAYOUT FROM TO TAP .. and waves LAYOUT FROM TO TAP ..: they write no file
-abbrev pub IsProbeEnd : Hearing → List ℕ → ℕ → ℕ → List (List ℕ) → Moment → Moment → Ending → Type 0
-IsProbeEnd told layout from to words before after e =
-    (after.held ≡ before.held)
-    × (IsEarly layout before after e ⊎ IsMissed layout to words before after e
-    ⊎ IsUnprobed layout to words before after e ⊎ IsProbed told layout from to words before after e)
-
 -- the log has a fault, and its line was said
 abbrev pub IsLogFaultSaid : List ℕ → Moment → Moment → Type 0
 IsLogFaultSaid log before after =
@@ -545,46 +467,3 @@ IsFramesEnd layout log before after e =
     (after.held ≡ before.held)
     × (IsEarly layout before after e ⊎ IsUnqueued layout before after e ⊎ IsUntabled layout log before after e
     ⊎ IsTabled layout log before after e)
-
--- the end of words that ask for this; the words are none of the forms where they ask for nothing
-abbrev pub IsEndOf : Option Asked → Moment → Moment → Ending → Type 0
-IsEndOf None before after e = (e ≡ ending.Words) × (after.held ≡ before.held) × Says line_of_words_fault before after
-IsEndOf (Some (Check layout)) before after e = IsCheckEnd layout before after e
-IsEndOf (Some (Slack layout)) before after e = IsSlackEnd layout before after e
-IsEndOf (Some (Plain layout prefix)) before after e = IsPlainEnd layout prefix before after e
-IsEndOf (Some (Run layout prefix workers)) before after e = IsPlainEnd layout prefix before after e
-IsEndOf (Some (Stop layout prefix from)) before after e = IsStopEnd layout prefix from before after e
-IsEndOf (Some (Resume layout prefix)) before after e = IsResumeEnd layout prefix before after e
-IsEndOf (Some (Demo number workers)) before after e = IsDemoEnd number before after e
-IsEndOf (Some (Probe told layout from to words)) before after e = IsProbeEnd told layout from to words before after e
-IsEndOf (Some (Meter log)) before after e = IsMeterEnd log before after e
-IsEndOf (Some (Picture layout log from to)) before after e = IsPictureEnd layout log from to before after e
-IsEndOf (Some (Frames layout log)) before after e = IsFramesEnd layout log before after e
-IsEndOf (Some Help) before after e = IsTextEnd HELP.now before after e
-IsEndOf (Some Version) before after e = IsTextEnd VERSION.now before after e
-
--- the end of a call with these words
-abbrev pub IsEnd : List (List ℕ) → Moment → Moment → Ending → Type 0
-IsEnd words before after e = IsEndOf (asked words) before after e
-
--- the program's status
-abbrev pub status_of : Ending → ℕ
-status_of ending.Done = 0
-status_of ending.Words = 1
-status_of ending.Layout = 2
-status_of ending.Load = 3
-status_of ending.Read = 4
-status_of ending.Write = 5
-status_of ending.Memory = 6
-status_of ending.Probe = 7
-status_of ending.Log = 8
-status_of ending.Stranger = 11
-status_of ending.Unquiet = 9
-status_of ending.State = 10
-status_of ending.Output = 12
-
--- the status is that of an ending which these words allow between entry and exit
-pub record IsAnswer (words : List (List ℕ)) (entry exit : Moment) (status : ℕ) : Type 0 where
-  pub by : Ending
-  pub is : status ≡ status_of by
-  pub allowed : IsEnd words entry exit by

@@ -10,6 +10,8 @@ pub mod Probes
 pub mod CheckpointFiles
 pub mod WrittenNames
 pub mod Endings
+pub mod ProbeEnds
+pub mod Answers
 pub mod Statuses
 pub mod StatusLaws
 pub mod OutputLaws

@@ -1,5 +1,5 @@
--- What each status says of the forms probe LAYOUT FROM TO TAP .. and waves LAYOUT FROM TO TAP .., which are both called
--- probes: laws of every answer (profile). Stations count from 0.
+-- What each status says of the forms probe LAYOUT FROM TO TAP .., waves LAYOUT FROM TO TAP .. and page LAYOUT FROM TO,
+-- which are all called probes: laws of every answer (profile). Stations count from 0.
 use Rattle.std.specs.Prelude.{◌≡◌, ◌⊎◌, ℕ, List, Some, IfSome}
 use Rattle.capture_file.specs.declared.entries.Record.{Record}
 use Rattle.capture_file.specs.declared.fault.CaptureFault.{CaptureFault}
@@ -8,22 +8,22 @@ use Rattle.outside.specs.Files.{Rose}
 use Rattle.program_endings.specs.Probes.{HasAim, HasNoAim}
 use Rattle.program_words.specs.Requests.{asked}
 use Rattle.program_endings.specs.StatusLaws.{OfAnswers}
-use Rattle.program_endings.specs.Statuses.{IfHeard, IsDoneOrMemory, IsFaultStatus, IsMissSaid, IsNetworkWith, IsProbeCut, IsProbeWith, IsUnreadOrMemory}
+use Rattle.program_endings.specs.Statuses.{IfProbe, IsDoneOrMemory, IsFaultStatus, IsMissSaid, IsNetworkWith, IsProbeCut, IsProbeWith, IsUnreadOrMemory}
 
 -- with status 7 the layout held at entry has no fault, what the probe aims at isn't in its network, and that was said
 abbrev pub AreMissesSaid : Type 0
 AreMissesSaid =
     OfAnswers (λ words entry exit status.
     status ≡ 7
-    → IsProbeWith (asked words) (λ layout to taps.
-    IsNetworkWith layout entry.held (λ network. IsMissSaid network to taps entry exit)))
+    → IsProbeWith (asked words) (λ told layout to taps.
+    IsNetworkWith layout entry.held (λ network. IsMissSaid told network to taps entry exit)))
 
 -- where the layout held at entry has no fault and what the probe aims at isn't in its network the status is 7, but for
 -- a failed read and want of memory
 abbrev pub DoMissesDecide : Type 0
 DoMissesDecide =
     OfAnswers (λ words entry exit status.
-    IfHeard (asked words) (λ told layout from to taps.
+    IfProbe (asked words) (λ told layout from to taps.
     IfSome entry.held (λ files.
     IsNetworkWith layout (Some files) (λ network. HasNoAim network to taps)
     → IsFaultStatus 7 status entry.reads exit.reads)))
@@ -33,7 +33,7 @@ DoMissesDecide =
 abbrev pub DoProbedLoadFaultsDecide : Type 0
 DoProbedLoadFaultsDecide =
     OfAnswers (λ words entry exit status.
-    IfHeard (asked words) (λ told layout from to taps.
+    IfProbe (asked words) (λ told layout from to taps.
     IfSome entry.held (λ files.
     (station : ℕ) (f : CaptureFault)
     → IsNetworkWith layout (Some files) (λ network.
@@ -45,7 +45,7 @@ DoProbedLoadFaultsDecide =
 abbrev pub DoProbedAbsentLoadsDecide : Type 0
 DoProbedAbsentLoadsDecide =
     OfAnswers (λ words entry exit status.
-    IfHeard (asked words) (λ told layout from to taps.
+    IfProbe (asked words) (λ told layout from to taps.
     IfSome entry.held (λ files.
     (name : List ℕ)
     → IsNetworkWith layout (Some files) (λ network.
@@ -57,7 +57,7 @@ abbrev pub AreProbesCutShort : Type 0
 AreProbesCutShort =
     OfAnswers (λ words entry exit status.
     status ≡ 5
-    → IfHeard (asked words) (λ told layout from to taps.
+    → IfProbe (asked words) (λ told layout from to taps.
     Rose entry.faults exit.faults × IsProbeCut told layout from to taps entry exit))
 
 -- with status 6 of probe the sink is as at entry, or got a front of the text
@@ -65,20 +65,20 @@ abbrev pub AreProbesRefused : Type 0
 AreProbesRefused =
     OfAnswers (λ words entry exit status.
     status ≡ 6
-    → IfHeard (asked words) (λ told layout from to taps.
+    → IfProbe (asked words) (λ told layout from to taps.
     (exit.written ≡ entry.written) ⊎ IsProbeCut told layout from to taps entry exit))
 
 -- probe leaves every file as at entry
 abbrev pub DoProbesKeepFiles : Type 0
 DoProbesKeepFiles =
-    OfAnswers (λ words entry exit status. IfHeard (asked words) (λ told layout from to taps. exit.held ≡ entry.held))
+    OfAnswers (λ words entry exit status. IfProbe (asked words) (λ told layout from to taps. exit.held ≡ entry.held))
 
 -- a probe whose layout and loads are held without fault, and which aims at what is there, has the status 0 or 6 where
 -- no read and no write to the sink failed
 abbrev pub AreProbesComplete : Type 0
 AreProbesComplete =
     OfAnswers (λ words entry exit status.
-    IfHeard (asked words) (λ told layout from to taps.
+    IfProbe (asked words) (λ told layout from to taps.
     IfSome entry.held (λ files.
     (loads : List (List Record))
     → IsNetworkWith layout (Some files) (λ network.

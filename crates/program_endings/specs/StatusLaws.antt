@@ -3,7 +3,8 @@ use Rattle.std.specs.Prelude.{◌≡◌, ◌⊎◌, ℕ, List, Some, Ok, IfSome}
 use Rattle.capture_file.specs.declared.fault.CaptureFault.{CaptureFault}
 use Rattle.outside.specs.Files.{IsAbsent, Rose}
 use Rattle.layout.specs.declared.lines.Layout.{Layout}
-use Rattle.program_endings.specs.Endings.{HasFault, IsAnswer, IsFaultSaid, IsJudged, IsLoadFaultSaid, Says}
+use Rattle.program_endings.specs.Answers.{IsAnswer}
+use Rattle.program_endings.specs.Endings.{HasFault, IsFaultSaid, IsJudged, IsLoadFaultSaid, Says}
 use Rattle.program_endings.specs.Moments.{Moment}
 use Rattle.program_words.specs.Requests.{asked}
 use Rattle.program_endings.specs.Statuses.{AreRunFilesHeld, HasAbsentLoad, HasLoadFault, IfDemo, IfFiles, IfLayout, IfLoaded, IfTelling, IfText, IsDemoCut, IsDemoStatus, IsDoneOrMemory, IsFaultStatus, IsLayoutWith, IsLoadedWith, IsNetworkWith, IsReadFaultSaid, IsTellingCut, IsUnreadOrMemory}

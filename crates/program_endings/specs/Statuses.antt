@@ -11,13 +11,14 @@ use Rattle.load_plan.specs.declared.plan.Plan.{Plan}
 use Rattle.log_meter.specs.declared.line.LogLine.{LogLine}
 use Rattle.program_endings.specs.CheckpointFiles.{HasState}
 use Rattle.program_endings.specs.Demos.{IsDemoText}
-use Rattle.program_endings.specs.Endings.{IsJudged, IsLoadUnreadSaid, IsPlanned, IsProbeText, IsUnreadSaid, Says}
+use Rattle.program_endings.specs.Endings.{IsJudged, IsLoadUnreadSaid, IsPlanned, IsUnreadSaid, Says}
+use Rattle.program_endings.specs.ProbeEnds.{IsProbeText}
 use Rattle.program_endings.specs.FrameTables.{HasUnplanned}
 use Rattle.program_endings.specs.Meters.{HasLog, IsMeterText}
 use Rattle.program_endings.specs.Moments.{Moment}
 use Rattle.program_endings.specs.Probes.{IsMissLine}
 use Rattle.program_words.specs.Requests.{Asked, asked, Check, Slack, Plain, Run, Stop, Resume, Demo, Probe, Meter, Picture, Frames, Help, Version}
-use Rattle.program_words.specs.declared.words.Hearing.{Hearing}
+use Rattle.program_words.specs.declared.words.Report.{Report}
 use Rattle.quiet_state.specs.Resumed.{state_at}
 use Rattle.quiet_state.specs.declared.state.NetState.{NetState}
 use Rattle.run_checkpoint.specs.States.{text_of_state}
@@ -76,11 +77,11 @@ IsResumeWith o P =
 abbrev pub IfDemo : Option Asked → (ℕ → Type 0) → Type 0
 IfDemo o P = (number workers : ℕ) → o ≡ Some (Demo number workers) → P number
 
--- if the words are of a form that tells what taps hear, this holds of how it tells it, of the layout's name, of the two
--- half bits and of the words for taps
-abbrev pub IfHeard : Option Asked → (Hearing → List ℕ → ℕ → ℕ → List (List ℕ) → Type 0) → Type 0
-IfHeard o P =
-    (told : Hearing) (layout : List ℕ) (from to : ℕ) (taps : List (List ℕ)) → o ≡ Some (Probe told layout from to taps)
+-- if the words are of a form that reports on half bits of a run, this holds of the report, of the layout's name, of the
+-- two half bits and of the words for taps
+abbrev pub IfProbe : Option Asked → (Report → List ℕ → ℕ → ℕ → List (List ℕ) → Type 0) → Type 0
+IfProbe o P =
+    (told : Report) (layout : List ℕ) (from to : ℕ) (taps : List (List ℕ)) → o ≡ Some (Probe told layout from to taps)
     → P told layout from to taps
 
 -- if the words are meter LOG, this holds of the name
@@ -101,7 +102,7 @@ abbrev pub IfLayout : Option Asked → (List ℕ → Type 0) → Type 0
 IfLayout o P =
     IfTelling o (λ Tells layout. P layout) × IfFiles o (λ layout prefix. P layout)
     × IfStop o (λ layout prefix from. P layout) × IfResume o (λ layout prefix. P layout)
-    × IfHeard o (λ told layout from to taps. P layout) × IfPicture o (λ layout log from to. P layout)
+    × IfProbe o (λ told layout from to taps. P layout) × IfPicture o (λ layout log from to. P layout)
     × IfFrames o (λ layout log. P layout)
 
 -- if the words are of a form that reads the loads of a layout as soon as it has no fault and no file to be written has
@@ -166,9 +167,9 @@ IsWritingWith (Some Help) P = ⊥
 IsWritingWith (Some Version) P = ⊥
 IsWritingWith None P = ⊥
 
--- the words are probe or waves with LAYOUT FROM TO TAP .., and this holds of the name, of the end and of the words for
--- taps
-abbrev pub IsProbeWith : Option Asked → (List ℕ → ℕ → List (List ℕ) → Type 0) → Type 0
+-- the words are probe or waves with LAYOUT FROM TO TAP .., or page LAYOUT FROM TO, and this holds of the report, of the
+-- name, of the end and of the words for taps
+abbrev pub IsProbeWith : Option Asked → (Report → List ℕ → ℕ → List (List ℕ) → Type 0) → Type 0
 IsProbeWith (Some (Check layout)) P = ⊥
 IsProbeWith (Some (Slack layout)) P = ⊥
 IsProbeWith (Some (Plain layout prefix)) P = ⊥
@@ -176,7 +177,7 @@ IsProbeWith (Some (Run layout prefix workers)) P = ⊥
 IsProbeWith (Some (Stop layout prefix from)) P = ⊥
 IsProbeWith (Some (Resume layout prefix)) P = ⊥
 IsProbeWith (Some (Demo number workers)) P = ⊥
-IsProbeWith (Some (Probe told layout from to taps)) P = P layout to taps
+IsProbeWith (Some (Probe told layout from to taps)) P = P told layout to taps
 IsProbeWith (Some (Meter log)) P = ⊥
 IsProbeWith (Some (Picture layout log from to)) P = ⊥
 IsProbeWith (Some (Frames layout log)) P = ⊥
@@ -422,9 +423,9 @@ pub record IsDemoCut (number : ℕ) (entry exit : Moment) : Type 0 where
 abbrev pub IsDemoStatus : ℕ → Type 0
 IsDemoStatus status = (status ≡ 0) ⊎ (status ≡ 5) ⊎ (status ≡ 6)
 
--- a probe is done: the sink got the text that tells so what the taps of these words hear from one half bit on and
--- before another, in the network of the layout with the loads held at entry, and every file is as at entry
-pub record IsProbeDone (told : Hearing) (layout : List ℕ) (from to : ℕ) (taps : List (List ℕ)) (entry exit : Moment)
+-- a probe is done: the sink got this report of the half bits from one on and before another, over the taps of these
+-- words, in the network of the layout with the loads held at entry, and every file is as at entry
+pub record IsProbeDone (told : Report) (layout : List ℕ) (from to : ℕ) (taps : List (List ℕ)) (entry exit : Moment)
     : Type 0 where
   pub text : List ℕ
   pub right : IsProbeText told layout entry.held from to taps text
@@ -432,15 +433,16 @@ pub record IsProbeDone (told : Hearing) (layout : List ℕ) (from to : ℕ) (tap
   pub held : exit.held ≡ entry.held
 
 -- the sink got a front of that text
-pub record IsProbeCut (told : Hearing) (layout : List ℕ) (from to : ℕ) (taps : List (List ℕ)) (entry exit : Moment)
+pub record IsProbeCut (told : Report) (layout : List ℕ) (from to : ℕ) (taps : List (List ℕ)) (entry exit : Moment)
     : Type 0 where
   pub text : List ℕ
   pub right : IsProbeText told layout entry.held from to taps text
   pub cut : IsCutShort text entry.written exit.written
 
 -- what a probe aims at isn't in this network, and that was said
-abbrev pub IsMissSaid : Layout → ℕ → List (List ℕ) → Moment → Moment → Type 0
-IsMissSaid network to taps entry exit = (line : List ℕ) × IsMissLine network to taps line × Says line entry exit
+abbrev pub IsMissSaid : Report → Layout → ℕ → List (List ℕ) → Moment → Moment → Type 0
+IsMissSaid told network to taps entry exit =
+    (line : List ℕ) × IsMissLine told network to taps line × Says line entry exit
 
 -- a log is metered: the sink got the text of the figures of the log held at entry, and every file is as at entry
 pub record IsMeterDone (log : List ℕ) (entry exit : Moment) : Type 0 where

@@ -9,7 +9,8 @@ use Rattle.quiet_state.specs.declared.state.NetState.{NetState}
 use Rattle.run_checkpoint.specs.declared.fault.StateFault.{StateFault}
 use Rattle.net_step.specs.Stops.{HasNoQuiet, IsFirstQuiet}
 use Rattle.program_endings.specs.CheckpointFiles.{HasState, IsStateFaulty}
-use Rattle.program_endings.specs.Endings.{IsAnswer, IsPlanned, IsStateFaultSaid, Says}
+use Rattle.program_endings.specs.Answers.{IsAnswer}
+use Rattle.program_endings.specs.Endings.{IsPlanned, IsStateFaultSaid, Says}
 use Rattle.program_endings.specs.Moments.{Moment}
 use Rattle.program_endings.specs.Runs.{IsResumedSummary, IsStopLine, resumed_files, state_files}
 use Rattle.program_endings.specs.StatusLaws.{OfAnswers}

@@ -35,7 +35,7 @@ pub enum Ending {
 }
 
 impl Ending {
-    ghost use Rattle.program_endings.specs.Endings.{status_of};
+    ghost use Rattle.program_endings.specs.Answers.{status_of};
 
     /// The program's status.
     pub fn status(self) -> u8

@@ -87,8 +87,8 @@ pub fn probed_loads_decide()
     ensures absent { DoProbedAbsentLoadsDecide }
 {}
 
-/// `probe` and `waves` leave a front of their text on the sink with status 5 or 6, and every file as at entry; with 5 a
-/// write to the sink failed. One that nothing hinders has the status 0 or 6.
+/// `probe`, `waves` and `page` leave a front of their text on the sink with status 5 or 6, and every file as at entry;
+/// with 5 a write to the sink failed. One that nothing hinders has the status 0 or 6.
 pub fn probes_are_told()
     ensures failed { AreProbesCutShort }
     ensures refused { AreProbesRefused }

@@ -84,6 +84,19 @@ fn runs(rt: HostRuntime) -> Result<(), OutOfMemory> {
 }
 
 #[test]
+fn a_page(rt: HostRuntime) -> Result<(), OutOfMemory> {
+    let words = words_of(&rt, &["page", "l.toml", "0", "1400"])?;
+    let mut store = store_of(&rt, &RUN)?;
+    let mut sink = MemorySink::new(rt.alloc());
+    let status = netsim(&rt, rt.alloc(), &words, &mut store, &mut sink, &OpenGate);
+    assert_eq!(rt; status, 0);
+    assert!(rt;
+        sink.bytes().starts_with(b"<!DOCTYPE html>\n") && sink.bytes().ends_with(b"</html>\n")
+    );
+    Ok(())
+}
+
+#[test]
 fn a_picture(rt: HostRuntime) -> Result<(), OutOfMemory> {
     let words = words_of(&rt, &["picture", "l.toml", "m.log", "0", "1400"])?;
     let mut store = store_of(&rt, &RUN)?;

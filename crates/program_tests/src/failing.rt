@@ -7,7 +7,7 @@ use std::sync::Wait;
 use std::thread::Threads;
 
 /// Forms with the names of the files that they read, a piece and then the end of each.
-const READS: [(&[&str], &[&str]); 15] = [
+const READS: [(&[&str], &[&str]); 16] = [
     (&["check", "l.toml"], &["l.toml", "l.toml"]),
     (&["slack", "l.toml"], &["l.toml", "l.toml"]),
     (
@@ -59,6 +59,10 @@ const READS: [(&[&str], &[&str]); 15] = [
         &["waves", "l.toml", "8", "16", "b"],
         &["l.toml", "l.toml", "b.pcap", "b.pcap"],
     ),
+    (
+        &["page", "l.toml", "0", "20"],
+        &["l.toml", "l.toml", "b.pcap", "b.pcap"],
+    ),
     (&["meter", "m.log"], &["m.log", "m.log"]),
     (
         &["picture", "l.toml", "m.log", "0", "1400"],
@@ -103,7 +107,7 @@ fn reads_that_fail(rt: HostRuntime) -> Result<(), OutOfMemory> {
 }
 
 /// Forms that say nothing where the first write fails, which begin no file; a refusal keeps its status.
-const WRITES: [(&[&str], u8); 21] = [
+const WRITES: [(&[&str], u8); 23] = [
     (&["--help"], 5),
     (&["--version"], 5),
     (&["check", "l.toml"], 5),
@@ -111,6 +115,7 @@ const WRITES: [(&[&str], u8); 21] = [
     (&["demo", "1", "1"], 5),
     (&["probe", "l.toml", "0", "20", "b"], 5),
     (&["waves", "l.toml", "8", "16", "b"], 5),
+    (&["page", "l.toml", "0", "20"], 5),
     (&["meter", "m.log"], 5),
     (&["picture", "l.toml", "m.log", "0", "1400"], 5),
     (&["frames", "l.toml", "m.log"], 5),
@@ -119,6 +124,7 @@ const WRITES: [(&[&str], u8); 21] = [
     (&["plain", "load.toml", "out"], 3),
     (&["plain", "m.toml", "out"], 4),
     (&["probe", "l.toml", "0", "1401", "b"], 7),
+    (&["page", "l.toml", "0", "1401"], 7),
     (&["meter", "l.toml"], 8),
     (&["stop", "l.toml", "out", "1400"], 9),
     (&["resume", "l.toml", "none"], 10),

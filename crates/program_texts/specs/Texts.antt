@@ -6,6 +6,8 @@ use Rattle.capture_file.specs.Names.{code_of, name_of, number_of}
 use Rattle.capture_file.specs.declared.fault.CaptureFault.{CaptureFault}
 use Rattle.layout_file.specs.FaultNames.{name_of_table, name_of_key, number_of_code, name_of_code}
 use Rattle.line_probe.specs.declared.burst.Burst.{Burst}
+use Rattle.program_words.specs.declared.words.Report.{Report}
+use Rattle.program_words.specs.declared.words.Report.TheVariants as report
 
 -- the line of words that are none of the forms
 abbrev pub line_of_words_fault : List ℕ
@@ -41,9 +43,11 @@ line_of_load_fault name fault =
 unfoldable pub line_of_tap_fault : List ℕ → List ℕ
 line_of_tap_fault word = codes "probe fault tap " ++ word ++ codes "\n"
 
--- the line of a probe that ends after the run
-abbrev pub line_of_range_fault : List ℕ
-line_of_range_fault = codes "probe fault range\n"
+-- the line of a probe with this report that ends after the run
+abbrev pub line_of_range_fault : Report → List ℕ
+line_of_range_fault report.Runs = codes "probe fault range\n"
+line_of_range_fault report.Waves = codes "probe fault range\n"
+line_of_range_fault report.Page = codes "page fault range\n"
 
 -- the line of a log whose line with this number, from 1, is the first that names what the layout lacks
 unfoldable pub line_of_stranger : ℕ → List ℕ

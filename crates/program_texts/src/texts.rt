@@ -1,24 +1,22 @@
 //! The fixed texts, the lines of faults, and the names of the files that are written.
 ghost use Rattle.std.specs.Prelude.{◌≡◌, ◌++◌, IfOk, OnOk, decimal, string_bytes};
-ghost use Rattle.program_texts.specs.Texts.{line_of_fault, line_of_load_fault, line_of_output_fault, line_of_read_fault, line_of_stranger, line_of_tap_fault, line_of_unplanned, name_of_capture, name_of_counters, name_of_log, name_of_state, line_of_stopped, text_of_place};
+ghost use Rattle.program_texts.specs.Texts.{line_of_fault, line_of_load_fault, line_of_output_fault, line_of_range_fault, line_of_read_fault, line_of_stranger, line_of_tap_fault, line_of_unplanned, name_of_capture, name_of_counters, name_of_log, name_of_state, line_of_stopped, text_of_place};
 
 use capture_file::CaptureFault;
 use layout_file::{LayoutFault, Place};
 use lists::{List, OutOfMemory, Text};
+use program_words::Report;
 use std::alloc::Global;
 
 /// What is said of words that are none of the forms.
 pub const WORDS_FAULT: &str = "words fault\n";
-
-/// What is said of a probe that ends after the run.
-pub const RANGE_FAULT: &str = "probe fault range\n";
 
 /// What is said of a run that has no quiet half bit at or after the one that was asked for.
 pub const NO_QUIET: &str = "no quiet\n";
 
 /// What the program is called with, and its statuses; no line has more than 80 columns.
 pub const HELP: &str =
-    "netsim simulates shared 10 Mb/s Ethernet, exact to the half bit of 50 ns.\n\nnetsim check LAYOUT                 whether its round trips fit the slot time\nnetsim slack LAYOUT                 that, and how far cables and delays can grow\nnetsim plain LAYOUT PREFIX          run on one thread: log, counters, captures\nnetsim run LAYOUT PREFIX WORKERS    the same on 1 to 64 threads\nnetsim stop LAYOUT PREFIX FROM      run it to a quiet half bit: PREFIX.state\nnetsim resume LAYOUT PREFIX         go on from PREFIX.state to the end\nnetsim demo NUMBER WORKERS          run a made network of 1 to 128 repeaters\nnetsim probe LAYOUT FROM TO TAP ..  what 1 to 16 taps hear, as runs and bursts\nnetsim waves LAYOUT FROM TO TAP ..  the same, as a value change dump\nnetsim meter LOG                    figures of a log, by station and repeater\nnetsim picture LAYOUT LOG FROM TO   what a log tells, as a picture (SVG)\nnetsim frames LAYOUT LOG            what became of each frame, as a table (CSV)\nnetsim --help                       this text\nnetsim --version                    the name and the version\n\nFROM and TO are half bits, from 0; a TAP is STATION or REPEATER:PORT.\nThe `share` of meter: how many of 1000 sendings that ended met a collision.\n\nStatuses:\n  0   done\n  1   the words are none of these forms\n  2   the layout has a fault\n  3   a load has a fault\n  4   a file can't be read\n  5   a write failed\n  6   there was no memory\n  7   a TAP isn't in the layout, or the run ends before TO\n  8   the log has a fault\n  9   no half bit of the run from FROM on is quiet\n  10  PREFIX.state has a fault\n  11  a line of the log names what the layout lacks\n  12  a file to be written has the name of LAYOUT or of a load\n\nMore: `man netsim`, and README.md and docs/ where the program comes from.\n";
+    "netsim simulates shared 10 Mb/s Ethernet, exact to the half bit of 50 ns.\n\nnetsim check LAYOUT                 whether its round trips fit the slot time\nnetsim slack LAYOUT                 that, and how far cables and delays can grow\nnetsim plain LAYOUT PREFIX          run on one thread: log, counters, captures\nnetsim run LAYOUT PREFIX WORKERS    the same on 1 to 64 threads\nnetsim stop LAYOUT PREFIX FROM      run it to a quiet half bit: PREFIX.state\nnetsim resume LAYOUT PREFIX         go on from PREFIX.state to the end\nnetsim demo NUMBER WORKERS          run a made network of 1 to 128 repeaters\nnetsim probe LAYOUT FROM TO TAP ..  what 1 to 16 taps hear, as runs and bursts\nnetsim waves LAYOUT FROM TO TAP ..  the same, as a value change dump\nnetsim page LAYOUT FROM TO          the run as a page for a browser (HTML)\nnetsim meter LOG                    figures of a log, by station and repeater\nnetsim picture LAYOUT LOG FROM TO   what a log tells, as a picture (SVG)\nnetsim frames LAYOUT LOG            what became of each frame, as a table (CSV)\nnetsim --help                       this text\nnetsim --version                    the name and the version\n\nFROM and TO are half bits, from 0; a TAP is STATION or REPEATER:PORT.\nThe `share` of meter: how many of 1000 sendings that ended met a collision.\n\nStatuses:\n  0   done\n  1   the words are none of these forms\n  2   the layout has a fault\n  3   a load has a fault\n  4   a file can't be read\n  5   a write failed\n  6   there was no memory\n  7   a TAP isn't in the layout, or the run ends before TO\n  8   the log has a fault\n  9   no half bit of the run from FROM on is quiet\n  10  PREFIX.state has a fault\n  11  a line of the log names what the layout lacks\n  12  a file to be written has the name of LAYOUT or of a load\n\nMore: `man netsim`, and README.md and docs/ where the program comes from.\n";
 
 /// The program's name and version.
 pub const VERSION: &str = "netsim 0.1.0\n";
@@ -131,6 +129,16 @@ pub fn line_of_tap_fault(alloc: Global, word: &str) -> Result<List<u8>, OutOfMem
     line.extend(word.as_bytes())?;
     line.extend(b"\n")?;
     Ok(line)
+}
+
+/// What is said of a probe with this report that ends after the run.
+pub fn line_of_range_fault(report: Report) -> &'static str
+    ensures { result.now ≡ line_of_range_fault report }
+{
+    match report {
+        Report::Runs | Report::Waves => "probe fault range\n",
+        Report::Page => "page fault range\n",
+    }
 }
 
 /// What is said of a log whose line with this number, from 1, names what the layout lacks.

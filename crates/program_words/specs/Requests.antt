@@ -3,16 +3,16 @@ use Rattle.std.specs.Prelude.{◌≤◌, ◌<◌, ℕ, ◌+◌, ◌-◌, List, [
 use Rattle.std.specs.List.{ends_with, range_with_len}
 use Rattle.layout.specs.Limits.{most_half_bits, most_repeaters}
 use Rattle.program_words.specs.WordLimits.{most_name, most_probed, most_tap_word, most_taps, most_workers}
-use Rattle.program_words.specs.declared.words.Hearing.{Hearing}
-use Rattle.program_words.specs.declared.words.Hearing.TheVariants as hearing
+use Rattle.program_words.specs.declared.words.Report.{Report}
+use Rattle.program_words.specs.declared.words.Report.TheVariants as report
 use Rattle.program_words.specs.declared.words.Request.{Request}
 use Rattle.program_words.specs.declared.words.Request.TheVariants as request
 
 -- the path verdict of a layout, its slacks, a run with the names of the layout and of what is written, the same on so
 -- many workers, a run that stops at or after a half bit with the same names, one that goes on from where such a run
--- stopped, a run of the layout of demo of a number on so many workers, what the taps of these words hear from one half
--- bit on and before another, told so, the figures of a log, the picture of what a log tells of the half bits from one
--- on and before another, what became by a log of each frame of a layout, or a fixed text
+-- stopped, a run of the layout of demo of a number on so many workers, this report of the half bits from one on and
+-- before another, over the taps of these words, the figures of a log, the picture of what a log tells of the half bits
+-- from one on and before another, what became by a log of each frame of a layout, or a fixed text
 pub data Asked : Type 0 where
   Check : (layout : List ℕ) → Asked
   Slack : (layout : List ℕ) → Asked
@@ -21,7 +21,7 @@ pub data Asked : Type 0 where
   Stop : (layout prefix : List ℕ) (from : ℕ) → Asked
   Resume : (layout prefix : List ℕ) → Asked
   Demo : (number workers : ℕ) → Asked
-  Probe : (told : Hearing) (layout : List ℕ) (from to : ℕ) (taps : List (List ℕ)) → Asked
+  Probe : (told : Report) (layout : List ℕ) (from to : ℕ) (taps : List (List ℕ)) → Asked
   Meter : (log : List ℕ) → Asked
   Picture : (layout log : List ℕ) (from to : ℕ) → Asked
   Frames : (layout log : List ℕ) → Asked
@@ -110,13 +110,6 @@ asked_stop layout prefix from =
     then option_map (Stop layout prefix) (number_between 0 most_half_bits from)
     else None
 
--- what four words ask for: run LAYOUT PREFIX WORKERS or stop LAYOUT PREFIX FROM
-abbrev pub asked_four : List ℕ → List ℕ → List ℕ → List ℕ → Option Asked
-asked_four word layout prefix number =
-    if bytes_eq word (codes "run") then asked_run layout prefix number
-    else if bytes_eq word (codes "stop") then asked_stop layout prefix number
-    else None
-
 -- one half bit comes before another, and at most a million lie between them
 abbrev pub is_stretch : ℕ → ℕ → Bool
 is_stretch from to = nat_lt from to && nat_le to (from + most_probed)
@@ -131,8 +124,23 @@ stretch_between None to = None
 abbrev pub stretch_of : List ℕ → List ℕ → Option (ℕ × ℕ)
 stretch_of from to = stretch_between (number_between 0 most_half_bits from) (number_between 0 most_half_bits to)
 
+-- what the words after page ask for: LAYOUT FROM TO
+abbrev pub asked_page : List ℕ → List ℕ → List ℕ → Option Asked
+asked_page layout from to =
+    if is_file_name layout
+    then option_map (λ s. Probe report.Page layout s.0 s.1 []) (stretch_of from to)
+    else None
+
+-- what four words ask for: run LAYOUT PREFIX WORKERS, stop LAYOUT PREFIX FROM or page LAYOUT FROM TO
+abbrev pub asked_four : List ℕ → List ℕ → List ℕ → List ℕ → Option Asked
+asked_four word layout second third =
+    if bytes_eq word (codes "run") then asked_run layout second third
+    else if bytes_eq word (codes "stop") then asked_stop layout second third
+    else if bytes_eq word (codes "page") then asked_page layout second third
+    else None
+
 -- what the words after probe or waves ask for: LAYOUT FROM TO TAP .. with at most 16 taps
-abbrev pub asked_probe : Hearing → List ℕ → List ℕ → List ℕ → List (List ℕ) → Option Asked
+abbrev pub asked_probe : Report → List ℕ → List ℕ → List ℕ → List (List ℕ) → Option Asked
 asked_probe told layout from to taps =
     if is_file_name layout && nat_le (length taps) most_taps && are_tap_words taps
     then option_map (λ s. Probe told layout s.0 s.1 taps) (stretch_of from to)
@@ -150,15 +158,15 @@ asked_picture layout log from _ = None
 -- FROM TO
 abbrev pub asked_long : List ℕ → List ℕ → List ℕ → List ℕ → List (List ℕ) → Option Asked
 asked_long word layout second third rest =
-    if bytes_eq word (codes "probe") then asked_probe hearing.Runs layout second third rest
-    else if bytes_eq word (codes "waves") then asked_probe hearing.Waves layout second third rest
+    if bytes_eq word (codes "probe") then asked_probe report.Runs layout second third rest
+    else if bytes_eq word (codes "waves") then asked_probe report.Waves layout second third rest
     else if bytes_eq word (codes "picture") then asked_picture layout second third rest
     else None
 
 -- what the words of the command line ask for, without the program's own name
 abbrev pub asked : List (List ℕ) → Option Asked
 asked (word ∷ layout ∷ second ∷ third ∷ fourth ∷ rest) = asked_long word layout second third (fourth ∷ rest)
-asked (word ∷ layout ∷ prefix ∷ number ∷ []) = asked_four word layout prefix number
+asked (word ∷ layout ∷ second ∷ third ∷ []) = asked_four word layout second third
 asked (word ∷ first ∷ second ∷ []) = asked_three word first second
 asked (word ∷ file ∷ []) = asked_file word file
 asked (word ∷ []) = asked_text word

@@ -3,4 +3,4 @@
 
 mod words;
 
-pub use words::{Hearing, Request, Words, read_words};
+pub use words::{Report, Request, Words, read_words};

@@ -2,7 +2,7 @@
 ghost use Rattle.std.specs.Prelude.{◌≡◌, ◌≤◌, ◌<◌, ◌+◌, ◌^◌, IfSome, length, option_map};
 ghost use Rattle.layout.specs.Limits.{most_half_bits};
 ghost use Rattle.program_words.specs.WordLimits.{most_probed, most_taps};
-ghost use Rattle.program_words.specs.Requests.{HasNumbersInRange, are_tap_words, asked, asked_demo, asked_file, asked_frames, asked_long, asked_of, asked_four, asked_picture, asked_plain, asked_probe, asked_resume, asked_run, asked_stop, asked_text, asked_three, is_file_name, is_prefix, is_tap_word, number_between, stretch_between};
+ghost use Rattle.program_words.specs.Requests.{HasNumbersInRange, are_tap_words, asked, asked_demo, asked_file, asked_frames, asked_long, asked_of, asked_four, asked_page, asked_picture, asked_plain, asked_probe, asked_resume, asked_run, asked_stop, asked_text, asked_three, is_file_name, is_prefix, is_tap_word, number_between, stretch_between};
 
 use layout::{MOST_HALF_BITS, MOST_REPEATERS};
 use lists::{List, Text};
@@ -25,16 +25,18 @@ const MOST_TAPS: usize = 16;
 /// The most octets of a word for a tap (profile).
 const MOST_TAP_WORD: usize = 40;
 
-/// The most half bits of a probe or a picture (profile).
+/// The most half bits of a probe, a page or a picture (profile).
 const MOST_PROBED: u32 = 1_000_000;
 
-/// How it is told what taps hear.
+/// What is reported of a stretch of a run.
 #[derive(Clone, Copy, Debug)]
-pub enum Hearing {
-    /// Tap by tap, as runs of one symbol and bursts.
+pub enum Report {
+    /// What taps hear, tap by tap, as runs of one symbol and bursts.
     Runs,
-    /// As the waves of all taps, in a value change dump.
+    /// What taps hear, as the waves of all, in a value change dump.
     Waves,
+    /// What all taps emit, and the log's rows, as a page.
+    Page,
 }
 
 /// What the words ask for.
@@ -76,9 +78,9 @@ pub enum Request<'a> {
         number: u32,
         workers: u32,
     },
-    /// Says what taps hear from one half bit on and before another.
+    /// Reports on the half bits of a run from one on and before another; a page has no taps of its own.
     Probe {
-        hearing: Hearing,
+        report: Report,
         layout: &'a str,
         from: u32,
         to: u32,
@@ -156,11 +158,11 @@ pub fn read_words(words: &Words) -> Option<Request<'_>>
         [word] => read_text(word.as_str()),
         [word, file] => read_file_form(word.as_str(), file.as_str()),
         [word, first, second] => read_three(word.as_str(), first.as_str(), second.as_str()),
-        [word, layout, prefix, number] => read_four(
+        [word, layout, second, third] => read_four(
             word.as_str(),
             layout.as_str(),
-            prefix.as_str(),
-            number.as_str(),
+            second.as_str(),
+            third.as_str(),
         ),
         _ => None,
     }
@@ -191,8 +193,8 @@ fn read_many<'a>(
     ensures range { IfSome result HasNumbersInRange }
 {
     match word {
-        "probe" => read_probe(Hearing::Runs, layout, second, third, rest),
-        "waves" => read_probe(Hearing::Waves, layout, second, third, rest),
+        "probe" => read_probe(Report::Runs, layout, second, third, rest),
+        "waves" => read_probe(Report::Waves, layout, second, third, rest),
         "picture" => read_picture(layout, second, third, rest),
         _ => None,
     }
@@ -279,13 +281,14 @@ fn read_frames<'a>(layout: &'a str, log: &'a str) -> Option<Request<'a>>
     }
 }
 
-fn read_four<'a>(word: &str, layout: &'a str, prefix: &'a str, number: &str) -> Option<Request<'a>>
-    ensures asked { option_map asked_of result ≡ asked_four word.now layout.now prefix.now number.now }
+fn read_four<'a>(word: &str, layout: &'a str, second: &'a str, third: &str) -> Option<Request<'a>>
+    ensures asked { option_map asked_of result ≡ asked_four word.now layout.now second.now third.now }
     ensures range { IfSome result HasNumbersInRange }
 {
     match word {
-        "run" => read_run(layout, prefix, number),
-        "stop" => read_stop(layout, prefix, number),
+        "run" => read_run(layout, second, third),
+        "stop" => read_stop(layout, second, third),
+        "page" => read_page(layout, second, third),
         _ => None,
     }
 }
@@ -316,6 +319,24 @@ fn read_stop<'a>(layout: &'a str, prefix: &'a str, from: &str) -> Option<Request
             layout,
             prefix,
             from,
+        })
+    } else {
+        None
+    }
+}
+
+fn read_page<'a>(layout: &'a str, from: &str, to: &str) -> Option<Request<'a>>
+    ensures asked { option_map asked_of result ≡ asked_page layout.now from.now to.now }
+    ensures range { IfSome result HasNumbersInRange }
+{
+    if is_file_name(layout) {
+        let (from, to) = read_stretch(from, to)?;
+        Some(Request::Probe {
+            report: Report::Page,
+            layout,
+            from,
+            to,
+            taps: &[],
         })
     } else {
         None
@@ -357,19 +378,19 @@ fn read_stretch(from: &str, to: &str) -> Option<(u32, u32)>
 }
 
 fn read_probe<'a>(
-    hearing: Hearing,
+    report: Report,
     layout: &'a str,
     from: &str,
     to: &str,
     taps: &'a [Text],
 ) -> Option<Request<'a>>
-    ensures asked { option_map asked_of result ≡ asked_probe hearing layout.now from.now to.now taps.now }
+    ensures asked { option_map asked_of result ≡ asked_probe report layout.now from.now to.now taps.now }
     ensures range { IfSome result HasNumbersInRange }
 {
     if is_file_name(layout) && taps.len() <= MOST_TAPS && are_tap_words(taps) {
         let (from, to) = read_stretch(from, to)?;
         Some(Request::Probe {
-            hearing,
+            report,
             layout,
             from,
             to,
