@@ -35,7 +35,7 @@ kind_of_mode (OnePort n i) = Some kind.Jam
 
 -- The kind of the signal that a tap emits in half bit t, if it emits one. That of a station is known from its sender
 -- after the half bit. That of a port is known from its repeater's mode after the half bit in which the symbol was
--- decided, which was as many half bits before as the repeater's delay.
+-- decided. That was as many half bits before as the repeater's delay.
 abbrev pub kind_if_signal : Plan → Tap → ℕ → Option SignalKind
 kind_if_signal plan (Station k) t = sent_kind t (sender_at plan k (t + 1)).phase
 kind_if_signal plan (Port r p) t =
@@ -46,8 +46,8 @@ abbrev pub kind_emitted : Plan → Tap → ℕ → Option SignalKind
 kind_emitted plan tap t =
     if is_signal (emitted plan (tap_number plan.layout tap) t) then kind_if_signal plan tap t else None
 
--- What is decided for a port in a half bit, by its repeater's mode after it, and by how many half bits of rest the port
--- has left before it and after it.
+-- What is decided for a port in a half bit. It is known from its repeater's mode after the half bit, and from how many
+-- half bits of rest the port has left before and after it.
 abbrev pub decided_kind : Mode → ℕ → ℕ → ℕ → Option SignalKind
 decided_kind mode rested rests port =
     if sends_to mode port && ((rested == 0) && (rests == 0)) then kind_of_mode mode else None

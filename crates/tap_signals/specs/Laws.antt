@@ -17,7 +17,7 @@ RestIsIdle =
     (plan : Plan) (tap : Tap) (t : ℕ) → IsTap plan.layout tap → kind_emitted plan tap t ≡ None
     → emitted plan (tap_number plan.layout tap) t ≡ Idle
 
--- Two stretches of a tap don't overlap, the earlier one in the list is the earlier one in time, and where the later one
+-- Two stretches of a tap don't overlap, and the earlier one in the list is the earlier one in time. Where the later one
 -- begins at once they are of different kinds.
 abbrev pub StretchesAreApart : Type 0
 StretchesAreApart =
@@ -25,7 +25,7 @@ StretchesAreApart =
     → (i j : ℕ) (s x : Stretch) → slice_get stretches i ≡ Some s → slice_get stretches j ≡ Some x → i < j
     → (s.end ≤ x.start) × (s.end ≡ x.start → s.kind ≢ x.kind)
 
--- What a tap emits makes up one list of stretches alone.
+-- There is only one list of the stretches of a tap in some half bits.
 abbrev pub StretchesAreDetermined : Type 0
 StretchesAreDetermined =
     (f : ℕ → Option SignalKind) (from to : ℕ) (xs ys : List Stretch)

@@ -12,8 +12,8 @@ use Rattle.tap_signals.specs.declared.stretch.Stretch.{Stretch}
 abbrev pub first_seen : ℕ → ℕ
 first_seen from = from - greatest_place
 
--- There is a list for each tap, in the layout's order, of the stretches of what it emits before half bit `to` and from
--- so many half bits before half bit `from` on as a signal may be on its cable.
+-- There is a list for each tap, in the layout's order, of the stretches of what it emits before half bit `to`. They
+-- begin so many half bits before half bit `from` as a signal may be on its cable.
 pub record AreSignals (plan : Plan) (from to : ℕ) (lists : List (List Stretch)) : Type 0 where
   pub many : length lists ≡ length (taps_in_order plan.layout)
   pub each : (k : ℕ) (tap : Tap) → slice_get (taps_in_order plan.layout) k ≡ Some tap →

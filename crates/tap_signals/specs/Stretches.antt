@@ -31,8 +31,8 @@ abbrev pub AreInTurn : List Stretch → Type 0
 AreInTurn [] = ⊤
 AreInTurn (s ∷ ss) = IsBeforeNext s ss × AreInTurn ss
 
--- The stretches of one kind, in order of time, that the half bits from `from` on and before `to` make up, where a
--- signal of kind f t is emitted in half bit t, if it is emitted: each of those half bits is in one of the stretches.
+-- The stretches of one kind, in order of time, that the half bits from `from` on and before `to` make up. In half bit t
+-- a signal of kind f t is emitted, or none. Each half bit in which one is emitted is in one of the stretches.
 pub record AreStretches (f : ℕ → Option SignalKind) (from to : ℕ) (stretches : List Stretch) : Type 0 where
   pub each : AllByRecursion (IsStretch f from to) stretches
   pub every : (t : ℕ) → from ≤ t → t < to → f t ≢ None → IsInOne t stretches

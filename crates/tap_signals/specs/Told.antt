@@ -37,7 +37,7 @@ abbrev pub kind_told : KeptNet → Tap → ℕ → ℕ → Option SignalKind
 kind_told n (Station k) rested t = sent_kind t (kept_sender n k).phase
 kind_told n (Port r p) rested t = decided_kind (kept_repeater n r).mode rested (rest_told n (Port r p)) p
 
--- The network tells of each of these taps what it emits that was decided in half bit t, the last one, before which the
+-- The network tells of each of these taps what it emits that was decided in half bit t, the last one. Before that the
 -- taps had so many half bits of rest left.
 abbrev pub TellsKinds : Plan → KeptNet → List Tap → List ℕ → ℕ → Type 0
 TellsKinds plan n taps rested t =
@@ -45,8 +45,8 @@ TellsKinds plan n taps rested t =
     kind_told n (slice_index_or taps k d) (slice_index rested k) t
     ≡ kind_emitted plan (slice_index_or taps k d) (t + delay_of plan.layout (slice_index_or taps k d))
 
--- There is a list for each of these taps, of the stretches of what it emits that was decided before half bit t, in the
--- half bits from `from` on and before `to`.
+-- There is a list for each of these taps: the stretches of what it emits that was decided before half bit t. They are
+-- in the half bits from `from` on and before `to`.
 pub record AreListsTold (plan : Plan) (taps : List Tap) (from to t : ℕ) (lists : List (List Stretch)) : Type 0 where
   pub many : length lists ≡ length taps
   pub each : (k : ℕ) (d : Tap) → k < length taps →

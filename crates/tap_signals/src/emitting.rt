@@ -163,7 +163,7 @@ fn told_from(
 }
 
 /// For each tap of a plan's layout, stations first and then ports, the stretches of one kind of what it emits before
-/// half bit `to`, and from so many half bits before half bit `from` on as a signal may be on its way along a cable.
+/// half bit `to`. They begin so many half bits before half bit `from` as a signal may be on its way along a cable.
 pub fn signals(alloc: Global, plan: &Plan, from: u64, to: u64) -> Result<StretchesList, OutOfMemory>
     requires order { from < to }
     requires end { to ≤ half_bits plan.now }

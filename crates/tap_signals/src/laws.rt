@@ -11,7 +11,7 @@ pub fn stretches_are_apart()
     ensures { StretchesAreApart }
 {}
 
-/// What a tap emits makes up one list of stretches alone.
+/// There is only one list of the stretches of a tap in some half bits.
 pub fn stretches_are_determined()
     ensures { StretchesAreDetermined }
 {}
