@@ -1,0 +1,5 @@
+pub mod TapLines
+pub mod OneList
+pub mod OnePages
+pub mod PlainWords
+pub mod PlainLines
