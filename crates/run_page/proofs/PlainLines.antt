@@ -1,7 +1,6 @@
 -- No octet of the data lines of a page means something in HTML.
-use Rattle.std.proofs.Common.{◌≡◌, ℕ, ◌+◌, ◌*◌, List, [], ◌∷◌, ◌++◌, codes, filter, nat_le, length, refl}
-use Rattle.std.specs.Prelude.{decimal, true}
-use Rattle.std.specs.List.{AllByRecursion, flat_map}
+use Rattle.std.proofs.Common.{ℕ, ◌+◌, ◌*◌, List, [], ◌∷◌, codes, filter, nat_le, length, refl}
+use Rattle.std.specs.List.{flat_map}
 use Rattle.std.proofs.lemmas.List.Elements.{recursion_from_All, All-weaker}
 use Rattle.collision_log.specs.declared.row.Row.{Row}
 use Rattle.layout.specs.Sound.{IsName, IsSound, IsSoundRepeater, IsSoundStation}
@@ -18,11 +17,11 @@ use Rattle.tap_signals.specs.Taps.{taps_in_order}
 use Rattle.tap_signals.specs.declared.kind.SignalKind.{SignalKind}
 use Rattle.tap_signals.specs.declared.kind.SignalKind.TheVariants as kind
 use Rattle.tap_signals.specs.declared.stretch.Stretch.{Stretch}
-use Rattle.run_page.specs.LayoutLines.{layout_lines, place_words, port_line, port_lines, repeater_line, repeater_with_ports, run_line, segment_line, segment_name, station_line, window_line}
+use Rattle.run_page.specs.LayoutLines.{layout_lines, place_words, port_line, port_lines, repeater_line, repeater_with_ports, run_line, segment_line, station_line, window_line}
 use Rattle.run_page.specs.PageLaws.{NothingIsEscaped}
 use Rattle.run_page.specs.Pages.{data_lines}
-use Rattle.run_page.specs.RowLines.{is_shown, shown_row, shown_rows}
-use Rattle.run_page.specs.SignalLines.{kind_words, lines_of_taps, signal_line, signal_lines, word_of_tap}
+use Rattle.run_page.specs.RowLines.{is_shown, shown_row}
+use Rattle.run_page.specs.SignalLines.{kind_words, lines_of_taps, signal_line, word_of_tap}
 use Rattle.run_page.proofs.PlainWords.{IsPlain, all_plain, between, field, joined, name, name_at, nothing, number, row_plain, words}
 
 window_plain : (from to : ℕ) → IsPlain (window_line from to)

@@ -1,7 +1,7 @@
 -- Words, numbers, names and rows of the log in which no octet means something in HTML.
 use Rattle.std.proofs.Common.{◌≡◌, ℕ, zero, suc, Bool, true, false, List, [], ◌∷◌, ◌++◌, codes, map, refl}
 use Rattle.std.specs.Prelude.{decimal, Option, None, Some, option_map, slice_get, unwrap_or}
-use Rattle.std.specs.List.{All, AllByRecursion, flat_map}
+use Rattle.std.specs.List.{AllByRecursion, flat_map}
 use Rattle.std.proofs.lemmas.List.Elements.{All-append, All-map, recursion_from_All}
 use Rattle.collision_log.specs.Rows.{body_text, device_word, hit_text, row_line, why_text}
 use Rattle.collision_log.specs.declared.row.Body.{Body}

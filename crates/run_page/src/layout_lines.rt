@@ -122,13 +122,9 @@ fn add_repeater_with_ports(
 ) -> Result<(), OutOfMemory>
     ensures { OnOk result (text.new ≡ text.old ++ repeater_with_ports layout.now repeater.now) }
 {
+    let name = repeater.name.as_str();
     add_repeater(text, repeater)?;
-    add_ports(
-        text,
-        layout,
-        repeater.name.as_str(),
-        repeater.ports.as_slice(),
-    )
+    add_ports(text, layout, name, repeater.ports.as_slice())
 }
 
 /// Puts the lines of the segments at the end of a text.

@@ -1,4 +1,4 @@
-//! Names and numbers at the end of a text.
+//! Names of segments and devices, and numbers at the end of a text.
 ghost use Rattle.std.specs.Prelude.{◌≡◌, ◌++◌, [], OnOk, decimal, slice_get, unwrap_or};
 ghost use Rattle.layout.specs.Sound.{device_names};
 ghost use Rattle.run_page.specs.LayoutLines.{segment_name};
