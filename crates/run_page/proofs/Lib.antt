@@ -1,0 +1,4 @@
+pub mod TapLines
+pub mod OnePages
+pub mod PlainWords
+pub mod PlainLines
