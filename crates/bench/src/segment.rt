@@ -1,12 +1,12 @@
 //! A segment of stations that are busy with frames.
 ghost use Rattle.std.specs.Prelude.{◌≡◌, ◌<◌, ◌≤◌, ◌+◌, ◌^◌, All, length, IfOk};
-ghost use Rattle.mac_parameters.specs.Parameters.{greatest_place};
+ghost use Rattle.mac_parameters.specs.Parameters.{greatest_place, most_half_bits};
 
 use backoff_draw::Draws;
 use cable_segment::Cable;
 use frame_layout::{Queue, build};
 use lists::OutOfMemory;
-use mac_parameters::MOST_OCTETS_UNTAGGED;
+use mac_parameters::{MOST_HALF_BITS, MOST_OCTETS_UNTAGGED};
 use mac_transmit::Transmitter;
 use manchester_line::Sym;
 use std::alloc::Global;
@@ -60,7 +60,7 @@ fn places(alloc: Global, count: u32) -> Result<Vec<u32>, OutOfMemory>
 
 /// Half bit `t` of each station. Answers the number of events.
 fn send_all(t: u64, cable: &mut Cable, senders: &mut [Transmitter]) -> u64
-    requires time { t < 2000000000 }
+    requires time { t < most_half_bits }
     requires places { length cable.old.positions ≡ length senders.old }
     requires few { length senders.old < 2 ^ 32 }
     requires times { All (λ s. s.t ≡ t) senders.old }
@@ -109,7 +109,7 @@ pub fn segments(alloc: Global, taps: u32, times: u32) -> Result<u64, OutOfMemory
 /// Leaps over quiet half bits up to a frame at the end of the simulated time, and answers their number.
 fn leap_all(sender: &mut Transmitter, at: u64) -> u64
     requires now { sender.old.t ≡ 0 }
-    requires at { at ≤ 2000000000 }
+    requires at { at ≤ most_half_bits }
 {
     let mut t = 0u64;
     for _leap in 0..at {
@@ -127,8 +127,8 @@ fn leap_all(sender: &mut Transmitter, at: u64) -> u64
 pub fn leaps(alloc: Global, times: u32) -> Result<u64, OutOfMemory> {
     let mut all = 0u64;
     for _time in 0..times {
-        let mut sender = station(alloc, 1, 0, 2_000_000_000)?;
-        all = all.saturating_add(leap_all(&mut sender, 2_000_000_000));
+        let mut sender = station(alloc, 1, 0, MOST_HALF_BITS)?;
+        all = all.saturating_add(leap_all(&mut sender, MOST_HALF_BITS));
     }
     Ok(all / 4096)
 }

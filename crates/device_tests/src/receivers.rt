@@ -1,4 +1,5 @@
 ghost use Rattle.std.specs.Prelude.{◌+◌, ◌≤◌, ◌<◌, length};
+ghost use Rattle.mac_parameters.specs.Parameters.{most_half_bits};
 
 use collision_log::{Body, Why};
 use frame_layout::{FrameFault, build};
@@ -11,7 +12,7 @@ const SHORT: [u8; 14] = [0xff, 0xff, 0xff, 0xff, 0xff, 0xff, 2, 0, 0, 0, 0, 1, 8
 /// What the receiver makes of the first `count` half bits and then silence.
 fn hear(receiver: &mut Receiver, text: &[Sym], count: usize) -> Option<Body>
     requires count { count ≤ length text.now }
-    requires steps { receiver.old.steps + count < 2000000000 }
+    requires steps { receiver.old.steps + count < most_half_bits }
 {
     for i in 0..count {
         let _row = receiver.step(text[i], false);

@@ -1,4 +1,5 @@
 ghost use Rattle.std.specs.Prelude.{◌≡◌, ◌≤◌, IfOk};
+ghost use Rattle.mac_parameters.specs.Parameters.{most_half_bits};
 
 use backoff_draw::Draws;
 use collision_log::Body;
@@ -40,7 +41,7 @@ fn with_two(alloc: Global) -> Result<Transmitter, OutOfMemory>
 /// The first event of a sender that hears Hi at these half bits and else Idle, with its half bit.
 fn first_event(mut sender: Transmitter, carrier: &[u64], end: u64) -> Option<(u64, Body)>
     requires new { sender.t ≡ 0 }
-    requires end { end ≤ 2000000000 }
+    requires end { end ≤ most_half_bits }
 {
     for t in 0..end {
         let heard = if carrier.contains(&t) {

@@ -2,10 +2,9 @@
 
 use crate::words::are_digits;
 use input_hints::after;
+use mac_parameters::MOST_HALF_BITS;
 
-/// The last half bit, and the greatest of all other numbers of a row.
-const LAST_HALF_BIT: u64 = 2_000_000_000;
-
+/// The greatest of a row's numbers that are no half bits.
 const GREATEST_NUMBER: u64 = 4_294_967_295;
 
 /// What stands after the first words of a line, each with one blank.
@@ -57,7 +56,7 @@ pub fn row_fault(row: &str) -> Option<&'static str> {
     let body = after_words(row, 3);
     let start = after_start(body);
     let mut words = body.split_whitespace();
-    if is_outside(half_bit, 0, LAST_HALF_BIT) || is_outside(start, 0, LAST_HALF_BIT) {
+    if is_outside(half_bit, 0, MOST_HALF_BITS) || is_outside(start, 0, MOST_HALF_BITS) {
         Some("half bits go to 2000000000")
     } else if words.any(|word| is_outside(word, 0, GREATEST_NUMBER)) {
         Some("numbers go to 4294967295")

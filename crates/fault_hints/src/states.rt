@@ -4,7 +4,8 @@ use crate::lines::{after_words, first_word, is_outside, is_padded, row_fault, sh
 use input_hints::{after, comes_before};
 use lists::OutOfMemory;
 use mac_parameters::{
-    ATTEMPT_LIMIT, INTERFRAME_GAP, PARTITION_COLLISION, PARTITION_IN_A_ROW, RECONNECTION,
+    ATTEMPT_LIMIT, INTERFRAME_GAP, LAST_BACKOFF, MOST_DRAWS, MOST_HALF_BITS, PARTITION_COLLISION,
+    PARTITION_IN_A_ROW, RECONNECTION,
 };
 use outside::Store;
 use std::alloc::Global;
@@ -12,18 +13,18 @@ use std::alloc::Global;
 /// The word before a number of a line's body that is out of its range, and that range.
 fn broken_range(kind: &str, body: &str) -> Option<(&'static str, u64, u64)> {
     for (line, word, least, most) in [
-        ("station", "backoff", 0, 2_100_000_000),
+        ("station", "backoff", 0, LAST_BACKOFF),
         ("station", "gap", 1, u64::from(INTERFRAME_GAP)),
         ("station", "attempt", 1, u64::from(ATTEMPT_LIMIT)),
-        ("station", "drawn", 0, 2_000_000_000),
+        ("station", "drawn", 0, MOST_DRAWS),
         ("guard", "in_row", 0, u64::from(PARTITION_IN_A_ROW)),
         ("guard", "clash_run", 0, u64::from(PARTITION_COLLISION)),
         ("guard", "clean_run", 0, u64::from(RECONNECTION)),
         ("guard", "rest", 0, 191),
         ("row", "attempt", 1, u64::from(ATTEMPT_LIMIT)),
-        ("row", "hit", 0, 2_000_000_000),
+        ("row", "hit", 0, MOST_HALF_BITS),
         ("row", "draw", 0, 1_023),
-        ("row", "halves", 0, 2_000_000_000),
+        ("row", "halves", 0, MOST_HALF_BITS),
     ] {
         let number = after(body, word).unwrap_or("");
         if line == kind && is_outside(number, least, most) {

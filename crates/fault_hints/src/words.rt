@@ -4,6 +4,7 @@
 use input_hints::{Nearest, show_word};
 use layout::MOST_REPEATERS;
 use lists::{OutOfMemory, Text};
+use mac_parameters::MOST_HALF_BITS;
 use std::alloc::Global;
 
 /// The most octets of a file's name or of a prefix, and of a tap; the most taps.
@@ -13,9 +14,7 @@ const MOST_TAP_WORD: usize = 40;
 
 const MOST_TAPS: usize = 16;
 
-/// The last half bit that can be named, and the most from FROM to TO.
-const MOST_HALF_BITS: u32 = 2_000_000_000;
-
+/// The most half bits from FROM to TO.
 const MOST_PROBED: u32 = 1_000_000;
 
 fn form_in(line: &str) -> Option<&str> {
@@ -75,7 +74,7 @@ fn range_of(name: &str) -> Option<(u32, u32)> {
     match name {
         "WORKERS" => Some((1, 64)),
         "NUMBER" => Some((1, MOST_REPEATERS as u32)),
-        "FROM" | "TO" => Some((0, MOST_HALF_BITS)),
+        "FROM" | "TO" => Some((0, MOST_HALF_BITS as u32)),
         _ => None,
     }
 }

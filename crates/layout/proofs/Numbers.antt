@@ -1,16 +1,13 @@
 -- The limits of the code are those of the definitions.
 use Rattle.std.specs.Prelude.{◌≡◌, refl}
-use Rattle.layout.specs.declared.limits.TheConstants.{GREATEST_SEED, MOST_BITS, MOST_HALF_BITS, MOST_DEVICE_BITS, MOST_SEGMENTS, MOST_STATIONS, MOST_REPEATERS, MOST_SENDS, MOST_LOST_BITS, LONGEST_NAME, LONGEST_LOAD}
-use Rattle.layout.specs.Limits.{greatest_seed, most_bits, most_half_bits, most_device_bits, most_segments, most_stations, most_repeaters, most_sends, most_lost_bits, longest_name, longest_load}
+use Rattle.layout.specs.declared.limits.TheConstants.{GREATEST_SEED, MOST_BITS, MOST_DEVICE_BITS, MOST_SEGMENTS, MOST_STATIONS, MOST_REPEATERS, MOST_SENDS, MOST_LOST_BITS, LONGEST_NAME, LONGEST_LOAD}
+use Rattle.layout.specs.Limits.{greatest_seed, most_bits, most_device_bits, most_segments, most_stations, most_repeaters, most_sends, most_lost_bits, longest_name, longest_load}
 
 greatest_seed_is : GREATEST_SEED ≡ greatest_seed
 greatest_seed_is = refl
 
 most_bits_is : MOST_BITS ≡ most_bits
 most_bits_is = refl
-
-most_half_bits_is : MOST_HALF_BITS ≡ most_half_bits
-most_half_bits_is = refl
 
 most_device_bits_is : MOST_DEVICE_BITS ≡ most_device_bits
 most_device_bits_is = refl

@@ -9,10 +9,6 @@ greatest_seed = 9223372036854775807
 abbrev pub most_bits : ℕ
 most_bits = 1000000000
 
--- the half bits of the longest run, which is the last half bit, from 0, in which a frame may become ready
-abbrev pub most_half_bits : ℕ
-most_half_bits = 2000000000
-
 -- the most bits of a run, over all its devices
 abbrev pub most_device_bits : ℕ
 most_device_bits = 4000000000

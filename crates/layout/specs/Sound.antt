@@ -8,8 +8,8 @@ use Rattle.layout.specs.declared.lines.PortLine.{PortLine}
 use Rattle.layout.specs.declared.lines.RepeaterLine.{RepeaterLine}
 use Rattle.layout.specs.declared.lines.SendLine.{SendLine}
 use Rattle.layout.specs.Networks.{IsTree}
-use Rattle.mac_parameters.specs.Parameters.{greatest_place, addresses_and_type, most_octets}
-use Rattle.layout.specs.Limits.{greatest_seed, most_bits, most_half_bits, most_device_bits, most_segments, most_stations, most_repeaters, most_sends, most_lost_bits, longest_name, longest_load}
+use Rattle.mac_parameters.specs.Parameters.{greatest_place, addresses_and_type, most_octets, most_half_bits}
+use Rattle.layout.specs.Limits.{greatest_seed, most_bits, most_device_bits, most_segments, most_stations, most_repeaters, most_sends, most_lost_bits, longest_name, longest_load}
 use Rattle.mac_parameters.specs.Parameters.{greatest_delay}
 use Rattle.mac_parameters.specs.Parameters.{least_delay}
 use Rattle.mac_parameters.specs.Parameters.{most_ports}

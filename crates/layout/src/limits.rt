@@ -6,9 +6,6 @@ pub const GREATEST_SEED: u64 = 9_223_372_036_854_775_807;
 /// The most bits of a run.
 pub const MOST_BITS: u64 = 1_000_000_000;
 
-/// The half bits of the longest run, which is the last half bit in which a frame may become ready.
-pub const MOST_HALF_BITS: u64 = 2_000_000_000;
-
 /// The most bits of a run, over all its devices.
 pub const MOST_DEVICE_BITS: u64 = 4_000_000_000;
 

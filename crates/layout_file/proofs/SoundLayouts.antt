@@ -15,8 +15,8 @@ use Rattle.layout_file.specs.Lines.{segment_of, station_of, port_of, repeater_of
 use Rattle.layout_file.specs.FaultNames.{name_of_key}
 use Rattle.layout_file.specs.RowFaults.{Around}
 use Rattle.layout_file.specs.Rules.{lose_rules, rules_of}
-use Rattle.mac_parameters.specs.Parameters.{greatest_place, addresses_and_type, most_octets}
-use Rattle.layout.specs.Limits.{greatest_seed, most_bits, most_half_bits, most_lost_bits}
+use Rattle.mac_parameters.specs.Parameters.{greatest_place, addresses_and_type, most_octets, most_half_bits}
+use Rattle.layout.specs.Limits.{greatest_seed, most_bits, most_lost_bits}
 use Rattle.mac_parameters.specs.Parameters.{greatest_delay}
 use Rattle.mac_parameters.specs.Parameters.{least_delay}
 use Rattle.mac_parameters.specs.Parameters.{least_ports}

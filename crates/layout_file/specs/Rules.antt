@@ -9,8 +9,8 @@ use Rattle.layout_file.specs.declared.rules.Kind.TheVariants as kind
 use Rattle.layout_file.specs.declared.rules.Rule.{Rule}
 use Rattle.layout_file.specs.declared.rules.Shape.{Shape}
 use Rattle.layout_file.specs.declared.rules.Shape.TheVariants as shape
-use Rattle.mac_parameters.specs.Parameters.{greatest_place, most_octets}
-use Rattle.layout.specs.Limits.{greatest_seed, most_bits, most_half_bits, most_lost_bits}
+use Rattle.mac_parameters.specs.Parameters.{greatest_place, most_octets, most_half_bits}
+use Rattle.layout.specs.Limits.{greatest_seed, most_bits, most_lost_bits}
 use Rattle.mac_parameters.specs.Parameters.{greatest_delay}
 use Rattle.mac_parameters.specs.Parameters.{least_delay}
 use Rattle.mac_parameters.specs.Parameters.{least_ports}

@@ -3,9 +3,9 @@ ghost use Rattle.std.specs.Prelude.{◌≡◌};
 ghost use Rattle.layout_file.specs.Rules.{table_of, rules_of};
 
 use crate::fault::{Key, Table};
-use layout::{GREATEST_SEED, MOST_BITS, MOST_HALF_BITS, MOST_LOST_BITS};
+use layout::{GREATEST_SEED, MOST_BITS, MOST_LOST_BITS};
 use mac_parameters::{
-    GREATEST_DELAY, GREATEST_PLACE, LEAST_DELAY, LEAST_PORTS, MOST_OCTETS_TAGGED,
+    GREATEST_DELAY, GREATEST_PLACE, LEAST_DELAY, LEAST_PORTS, MOST_HALF_BITS, MOST_OCTETS_TAGGED,
     MOST_OCTETS_UNTAGGED,
 };
 

@@ -4,9 +4,9 @@ use Rattle.std.specs.Fmt.{decimal}
 use Rattle.std.specs.Prelude.{Option, IfNone, IfSome, codes, nat_le}
 use Rattle.std.proofs.lemmas.Bool.{le-leb, leb-true}
 use Rattle.std.proofs.lemmas.Option.{same_Some, cond_some, none-some}
+use Rattle.mac_parameters.specs.Parameters.{most_half_bits}
 use Rattle.manchester_line.specs.declared.Sym.{Sym}
 use Rattle.manchester_line.specs.declared.Sym.TheVariants.{Idle, Hi, Lo, Clash}
-use Rattle.layout.specs.Limits.{most_half_bits}
 use Rattle.line_probe.specs.ReadBack.{HasNoRunLine, IsToldRun}
 use Rattle.text_fields.specs.Reading.{IsReading, Read, after_word, else_read, half_bit_at}
 use Rattle.line_probe.specs.Reading.{run_at, symbol_at, symbol_found}

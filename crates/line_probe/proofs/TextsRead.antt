@@ -2,7 +2,7 @@
 use Rattle.std.proofs.Common.{◌≡◌, ℕ, zero, suc, ◌+◌, ◌≤◌, List, [], ◌∷◌, length, refl, sym, ap, subst, ◌∙◌, arith, None, Some, Ok, Err, inl, inr, length-append, replicate}
 use Rattle.std.specs.Prelude.{IfOk, Result, ◌⊎◌}
 use Rattle.std.specs.List.{AllByRecursion}
-use Rattle.layout.specs.Limits.{most_half_bits}
+use Rattle.mac_parameters.specs.Parameters.{most_half_bits}
 use Rattle.manchester_line.specs.declared.Sym.{Sym}
 use Rattle.line_probe.specs.ReadBack.{AreTold, FollowOn, AreJudgedRuns, IsTextOf, IsToldRun}
 use Rattle.line_probe.specs.RunTexts.{text_of_runs}

@@ -1,7 +1,7 @@
 -- Texts of runs, and the first fault of octets that are none (profile). Half bits count from 0, lines from 1.
 use Rattle.std.specs.Prelude.{◌≡◌, ◌≢◌, ℕ, ◌+◌, ◌≤◌, List, [], ◌∷◌, ◌++◌, length, Option, None, Some, Result, Ok, Err, ⊤, ◌⊎◌}
 use Rattle.std.specs.List.{AllByRecursion}
-use Rattle.layout.specs.Limits.{most_half_bits}
+use Rattle.mac_parameters.specs.Parameters.{most_half_bits}
 use Rattle.line_probe.specs.RunTexts.{line_of_run, text_of_runs}
 use Rattle.line_probe.specs.declared.fault.RunsFault.{RunsFault}
 use Rattle.line_probe.specs.declared.fault.RunsFault.TheVariants as fault

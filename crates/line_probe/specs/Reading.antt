@@ -1,7 +1,7 @@
 -- How the line of a run is read from left to right: each reader answers what it found and the octets after it
 -- (profile).
 use Rattle.std.specs.Prelude.{ℕ, nat_le, List, [], codes, Option, None, Some, if◌then◌else◌}
-use Rattle.layout.specs.Limits.{most_half_bits}
+use Rattle.mac_parameters.specs.Parameters.{most_half_bits}
 use Rattle.text_fields.specs.Reading.{Read, ◌>>=◌, else_read, after_word, half_bit_at}
 use Rattle.manchester_line.specs.declared.Sym.{Sym}
 use Rattle.manchester_line.specs.declared.Sym.TheVariants.{Idle, Hi, Lo, Clash}

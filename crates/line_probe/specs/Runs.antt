@@ -1,6 +1,6 @@
 -- Runs of symbols: maximal stretches of one symbol (profile). Half bits count from 0.
 use Rattle.std.specs.Prelude.{◌≡◌, ◌≢◌, ℕ, ◌+◌, ◌≤◌, List, [], ◌∷◌, length, flat_map, replicate, ⊤}
-use Rattle.layout.specs.Limits.{most_half_bits}
+use Rattle.mac_parameters.specs.Parameters.{most_half_bits}
 use Rattle.manchester_line.specs.declared.Sym.{Sym}
 use Rattle.line_probe.specs.declared.run.Run.{Run}
 

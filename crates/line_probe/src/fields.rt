@@ -6,7 +6,7 @@ ghost use Rattle.line_probe.specs.Reading.{run_at, symbol_at};
 ghost use Rattle.line_probe.specs.RunTexts.{line_of_run};
 
 use crate::Run;
-use layout::MOST_HALF_BITS;
+use mac_parameters::MOST_HALF_BITS;
 use manchester_line::Sym;
 use text_fields::{after_word, half_bit};
 

@@ -1,6 +1,6 @@
 //! Reads a text of runs back.
 ghost use Rattle.std.specs.Prelude.{◌≡◌, ◌<◌, ◌≤◌, ◌+◌, ◌-◌, ℕ, List, Option, Some, length, slice_get, true, false, IfOk, IfSome, Result, Ok, Err, ◌⊎◌};
-ghost use Rattle.layout.specs.Limits.{most_half_bits};
+ghost use Rattle.mac_parameters.specs.Parameters.{most_half_bits};
 ghost use Rattle.load_plan.specs.declared.plan.Plan.{Plan};
 ghost use Rattle.line_probe.specs.Heard.{AreProbed};
 ghost use Rattle.line_probe.specs.ReadBack.{IsBadRunAt, IsFaultAfter, IsGapAt, AreJudgedRuns, IsSameAt, IsTextOf, IsToldRun, AreUnlessMemory};

@@ -5,13 +5,12 @@ use Rattle.std.specs.List.{AllByRecursion}
 use Rattle.std.proofs.lemmas.Bool.Decides.{nat_tests}
 use Rattle.std.proofs.lemmas.List.{length-map, length-replicate}
 use Rattle.std.proofs.lemmas.List.Elements.{recursion_from_All}
-use Rattle.mac_parameters.specs.Parameters.{most_octets, most_ports}
+use Rattle.mac_parameters.specs.Parameters.{most_octets, most_ports, most_half_bits}
 use Rattle.manchester_line.specs.declared.Sym.{Sym}
 use Rattle.manchester_line.specs.Line.{is_signal}
 use Rattle.frame_layout.specs.declared.queue.Ready.{Ready}
 use Rattle.collision_log.specs.declared.row.Body.{Body}
 use Rattle.collision_log.specs.declared.row.Row.{Row}
-use Rattle.layout.specs.Limits.{most_half_bits}
 use Rattle.layout.specs.Sound.{IsSound, device_names}
 use Rattle.layout.specs.declared.lines.Layout.{Layout}
 use Rattle.layout.specs.declared.lines.RepeaterLine.{RepeaterLine}

@@ -2,7 +2,7 @@
 use Rattle.std.proofs.Common.{◌≡◌, ℕ, suc, ◌+◌, ◌-◌, ◌*◌, ◌^◌, ◌<◌, ◌≤◌, Bool, true, false, eqb, Option, Some, None, List, [], ◌∷◌, ◌++◌, length, length-append, length-drop, refl, arith}
 use Rattle.std.specs.Prelude.{IfSome, ⊤, if◌then◌else◌, nat_lt}
 use Rattle.std.specs.Option.{option_map}
-use Rattle.mac_parameters.specs.Parameters.{attempt_limit, shortest_line_text}
+use Rattle.mac_parameters.specs.Parameters.{attempt_limit, shortest_line_text, most_half_bits}
 use Rattle.manchester_line.specs.declared.Sym.{Sym}
 use Rattle.manchester_line.specs.declared.Sym.TheVariants.{Idle, Hi, Lo, Clash}
 use Rattle.manchester_line.specs.Line.{is_signal}
@@ -13,7 +13,6 @@ use Rattle.frame_layout.specs.declared.verdict.Verdict.TheVariants.{Good, Fragme
 use Rattle.collision_log.specs.declared.row.Body.{Body}
 use Rattle.collision_log.specs.declared.row.Body.TheVariants.{Dropped}
 use Rattle.collision_log.specs.declared.row.Why.TheVariants as why
-use Rattle.layout.specs.Limits.{most_half_bits}
 use Rattle.mac_transmit.specs.declared.phase.Phase.{Phase}
 use Rattle.mac_transmit.specs.declared.phase.Phase.TheVariants.{Rest, Waiting, Sending, Backoff}
 use Rattle.mac_transmit.specs.Sender.{Sender, before_emission, cut_from, cut_of, deferring, emitting, end_event, event_from, finished, finished_from, has_ended, hit_at, is_free, phase_after, phase_started, promoted, promoted_from, sender_step, sending_ended, sending_started}

@@ -3,8 +3,8 @@ use Rattle.std.proofs.Common.{◌≡◌, ℕ, ◌^◌, ◌<◌, Bool, true, fals
 use Rattle.std.specs.Fmt.{decimal}
 use Rattle.std.specs.Prelude.{Option, codes}
 use Rattle.std.proofs.lemmas.Option.{same_Some}
+use Rattle.mac_parameters.specs.Parameters.{most_half_bits}
 use Rattle.collision_log.specs.Rows.{body_text, device_word}
-use Rattle.layout.specs.Limits.{most_half_bits}
 use Rattle.log_meter.specs.Lines.{IsLogLine}
 use Rattle.text_fields.specs.Reading.{after_word, half_bit_at, name_at, else_read}
 use Rattle.log_meter.specs.Reading.{body_at, device_at, device_found, log_line_at}

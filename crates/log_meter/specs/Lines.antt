@@ -1,9 +1,9 @@
 -- The lines of a log, by how they are written (profile). Half bits count from 0.
 use Rattle.std.specs.Prelude.{◌≡◌, ℕ, ◌^◌, ◌<◌, ◌≤◌, Bool, true, false, List, IfSome, ⊤}
+use Rattle.mac_parameters.specs.Parameters.{most_half_bits}
 use Rattle.collision_log.specs.Rows.{row_line}
 use Rattle.collision_log.specs.declared.row.Body.{Body}
 use Rattle.collision_log.specs.declared.row.Body.TheVariants.{Sent, Collided, GivenUp, Cut, Received, Dropped, Clash, Closed, Opened, Halted}
-use Rattle.layout.specs.Limits.{most_half_bits}
 use Rattle.layout.specs.Sound.{IsName}
 use Rattle.log_meter.specs.declared.line.LogLine.{LogLine}
 

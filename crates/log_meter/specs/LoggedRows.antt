@@ -2,8 +2,8 @@
 -- repeaters.
 use Rattle.std.specs.Prelude.{◌≡◌, ◌<◌, ◌≤◌, nat_le, List, [], map, length, slice_get, unwrap_or}
 use Rattle.std.specs.List.{AllByRecursion}
+use Rattle.mac_parameters.specs.Parameters.{most_half_bits}
 use Rattle.collision_log.specs.declared.row.Row.{Row}
-use Rattle.layout.specs.Limits.{most_half_bits}
 use Rattle.layout.specs.Sound.{device_names}
 use Rattle.layout.specs.declared.lines.Layout.{Layout}
 use Rattle.log_meter.specs.Lines.{IsInRange, is_of_repeater}

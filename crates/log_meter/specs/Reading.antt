@@ -1,10 +1,10 @@
 -- How a line is read from left to right: each reader answers what it found and the octets after it (profile).
 use Rattle.std.specs.Prelude.{ℕ, Bool, true, false, List, [], codes, Option, None, Some, if◌then◌else◌}
+use Rattle.mac_parameters.specs.Parameters.{most_half_bits}
 use Rattle.collision_log.specs.declared.row.Body.{Body}
 use Rattle.collision_log.specs.declared.row.Body.TheVariants.{Sent, Collided, GivenUp, Cut, Received, Dropped, Clash, Closed, Opened, Halted}
 use Rattle.collision_log.specs.declared.row.Why.{Why}
 use Rattle.collision_log.specs.declared.row.Why.TheVariants.{Fragment, TooLong, FcsError, AlignError, Damaged}
-use Rattle.layout.specs.Limits.{most_half_bits}
 use Rattle.text_fields.specs.Reading.{Read, ◌>>=◌, after_word, decimal_at, else_read, field_at, half_bit_at, name_at}
 use Rattle.log_meter.specs.declared.line.LogLine.{LogLine}
 

@@ -5,7 +5,7 @@ ghost use Rattle.log_meter.specs.Entries.{line_of};
 
 use crate::bodies::body;
 use collision_log::Body;
-use layout::MOST_HALF_BITS;
+use mac_parameters::MOST_HALF_BITS;
 use text_fields::{after_word, half_bit, name};
 
 /// A line whose name stands in the octets that were read.

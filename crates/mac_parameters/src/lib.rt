@@ -106,6 +106,17 @@ pub const JABBER_LIMIT: u32 = 100_000;
 /// The half bits for which a halted port rests (profile).
 pub const JABBER_REST: u32 = 192;
 
+// The run.
+
+/// The half bits of the longest run, which is the last half bit, from 0, in which a frame may become ready (profile).
+pub const MOST_HALF_BITS: u64 = 2_000_000_000;
+
+/// The last half bit, from 0, in which a backoff ends (profile).
+pub const LAST_BACKOFF: u64 = 2_100_000_000;
+
+/// The most draws that a station made (profile).
+pub const MOST_DRAWS: u64 = 2_000_000_000;
+
 /// The most octets of a frame before its check sequence, of tagged frames or of untagged ones alone (3.2.7).
 pub fn most_octets(tagged: bool) -> u32
     ensures value { result ≡ most_octets tagged }

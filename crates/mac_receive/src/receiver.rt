@@ -4,7 +4,7 @@ ghost use Rattle.manchester_line.specs.declared.Sym.{Sym};
 ghost use Rattle.manchester_line.specs.declared.Sym.TheVariants.{Idle};
 ghost use Rattle.manchester_line.specs.Decoding.{Decodes};
 ghost use Rattle.manchester_line.specs.Reading.{reading};
-ghost use Rattle.mac_parameters.specs.Parameters.{IsMost, most_octets_tagged, most_octets_untagged};
+ghost use Rattle.mac_parameters.specs.Parameters.{IsMost, most_octets_tagged, most_octets_untagged, most_half_bits};
 ghost use Rattle.collision_log.specs.declared.row.Body.TheVariants.{Received};
 ghost use Rattle.mac_receive.specs.KeptReceiver.{Hears, fresh, decoder_fed_all, decoder_fed, kept_octets, stepped, still};
 ghost use Rattle.mac_receive.specs.Receiver.{Receiving, receiver_bodies, judged_row, new_receiving, reading_row, receiver_step, receiver_after};
@@ -28,7 +28,7 @@ pub struct Receiver {
 
 impl Model for Receiver {
     ghost use Rattle.std.specs.Prelude.{◌≤◌};
-    ghost use Rattle.mac_parameters.specs.Parameters.{IsMost};
+    ghost use Rattle.mac_parameters.specs.Parameters.{IsMost, most_half_bits};
     ghost use Rattle.mac_receive.specs.KeptReceiver.{Kept, IsReceiver};
 
     ghost Value = { Kept };
@@ -44,7 +44,7 @@ impl Model for Receiver {
 
     ghost invariant = { λ s.
         IsMost s.most × (s.lose ≤ 48) × (s.halves ≤ s.steps) × (s.decoder.halves ≤ s.steps)
-        × (s.steps ≤ 2000000000)
+        × (s.steps ≤ most_half_bits)
         × IsReceiver (record {
           lose = s.lose;
           most = s.most;
@@ -106,7 +106,7 @@ fn begin(decoder: &mut Decoder, halves: u32)
 fn hear(decoder: &mut Decoder, lose: u32, halves: u32, s: Sym)
     requires lose { lose ≤ 48 }
     requires signal { s ≢ Idle }
-    requires count { decoder.old.halves < 2000000000 }
+    requires count { decoder.old.halves < most_half_bits }
     ensures heard { decoder.new ≡ decoder_fed lose halves decoder.old s }
     ensures few { decoder.new.halves ≤ decoder.old.halves + 1 }
 {
@@ -121,8 +121,8 @@ fn hear(decoder: &mut Decoder, lose: u32, halves: u32, s: Sym)
 fn hear_all(decoder: &mut Decoder, lose: u32, halves: u32, piece: &[Sym])
     requires lose { lose ≤ 48 }
     requires signal { All (λ s. s ≢ Idle) piece.now }
-    requires count { decoder.old.halves + length piece.now ≤ 2000000000 }
-    requires halves { halves + length piece.now ≤ 2000000000 }
+    requires count { decoder.old.halves + length piece.now ≤ most_half_bits }
+    requires halves { halves + length piece.now ≤ most_half_bits }
     ensures heard { decoder.new ≡ decoder_fed_all lose halves decoder.old piece.now }
     ensures few { decoder.new.halves ≤ decoder.old.halves + length piece.now }
 {
@@ -137,6 +137,7 @@ fn hear_all(decoder: &mut Decoder, lose: u32, halves: u32, piece: &[Sym])
 }
 
 impl Receiver {
+    ghost use Rattle.mac_parameters.specs.Parameters.{most_half_bits};
     /// A receiver that loses no bits, for untagged frames alone (3.2.7).
     pub fn new() -> Receiver
         ensures hears { Hears (new_receiving 0 most_octets_untagged) result }
@@ -183,7 +184,7 @@ impl Receiver {
 
     /// Has no reception under way after `n` more half bits.
     fn fall_still(&mut self, deaf: bool, n: u32)
-        requires { self.old.steps + n ≤ 2000000000 }
+        requires { self.old.steps + n ≤ most_half_bits }
         ensures { self.new ≡ still self.old deaf n }
     {
         self.deaf = deaf;
@@ -193,7 +194,7 @@ impl Receiver {
 
     /// Moves on by one half bit.
     fn move_on(&mut self, heard: Sym, sending: bool)
-        requires { self.old.steps < 2000000000 }
+        requires { self.old.steps < most_half_bits }
         ensures { self.new ≡ stepped self.old heard sending }
     {
         match (heard, sending) {
@@ -212,7 +213,7 @@ impl Receiver {
     /// One half bit: the symbol that is heard, and whether the own station is sending. Received or
     /// Dropped comes exactly at the end of a reception (4.2.4).
     pub fn step(&mut self, heard: Sym, sending: bool) -> Option<Body>
-        requires { self.old.steps < 2000000000 }
+        requires { self.old.steps < most_half_bits }
         ensures state { (r : Receiving) → Hears r self.old →
             Hears (receiver_step r heard sending).state self.new }
         ensures event { (r : Receiving) → Hears r self.old →
@@ -251,7 +252,7 @@ impl Receiver {
     /// The receiver after `n` steps that hear Idle without sending.
     pub fn leap_quiet(&mut self, n: u64)
         requires none { self.old.halves ≡ 0 }
-        requires steps { self.old.steps + n ≤ 2000000000 }
+        requires steps { self.old.steps + n ≤ most_half_bits }
         ensures state { (r : Receiving) → Hears r self.old →
             Hears (receiver_after r (replicate n Idle) false) self.new }
         ensures bodies { (r : Receiving) → Hears r self.old →
@@ -265,7 +266,7 @@ impl Receiver {
 
     /// The receiver after `n` steps with sending, whatever is heard in them.
     pub fn leap_sending(&mut self, n: u64)
-        requires { self.old.steps + n ≤ 2000000000 }
+        requires { self.old.steps + n ≤ most_half_bits }
         ensures state { (r : Receiving) (heard : List Sym) → length heard ≡ n → Hears r self.old →
             Hears (receiver_after r heard true) self.new }
         ensures bodies { (r : Receiving) (heard : List Sym) → receiver_bodies r heard true ≡ [] }
@@ -279,7 +280,7 @@ impl Receiver {
     /// The deaf receiver after `n` steps that hear carrier without sending, whatever symbols they hear.
     pub fn leap_deaf(&mut self, n: u64)
         requires deaf { self.old.deaf ≡ true }
-        requires steps { self.old.steps + n ≤ 2000000000 }
+        requires steps { self.old.steps + n ≤ most_half_bits }
         ensures state { (r : Receiving) (hs : List Sym) →
             All (λ s. s ≢ Idle) hs → length hs ≡ n → Hears r self.old →
             Hears (receiver_after r hs false) self.new }
@@ -294,7 +295,7 @@ impl Receiver {
     pub fn take(&mut self, piece: &[Sym])
         requires awake { self.old.deaf ≡ false }
         requires signal { All (λ s. s ≢ Idle) piece.now }
-        requires steps { self.old.steps + length piece.now ≤ 2000000000 }
+        requires steps { self.old.steps + length piece.now ≤ most_half_bits }
         ensures state { (r : Receiving) → Hears r self.old →
             Hears (receiver_after r piece.now false) self.new }
         ensures bodies { (r : Receiving) → Hears r self.old → receiver_bodies r piece.now false ≡ [] }

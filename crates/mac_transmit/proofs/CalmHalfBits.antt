@@ -3,7 +3,7 @@ use Rattle.std.proofs.Common.{◌≡◌, ℕ, zero, suc, ◌+◌, ◌-◌, ◌<�
 use Rattle.std.specs.Prelude.{if◌then◌else◌, ◌↔◌, ◌⊎◌}
 use Rattle.std.proofs.lemmas.Bool.{cond-true, cond-false, and_parts, eqb-true, cases_lt}
 use Rattle.std.proofs.lemmas.Bool.Decides.{nat_tests}
-use Rattle.mac_parameters.specs.Parameters.{interframe_gap, interframe_gap_part_1}
+use Rattle.mac_parameters.specs.Parameters.{interframe_gap, interframe_gap_part_1, most_half_bits}
 use Rattle.manchester_line.specs.declared.Sym.{Sym}
 use Rattle.frame_layout.specs.declared.queue.Ready.{Ready}
 use Rattle.backoff_draw.specs.Draws.{Drawing}
@@ -547,7 +547,7 @@ leap_is s t c n h l e hs a m =
     e ∙ ap (leapt s c) (sym m) ∙ sym (leaps hs s c (steady s h) a (subst (λ i. Fits i (change_in s c)) (sym m) (uncapped n (change_in s c) l)))
 
 -- what a leap keeps
-one_kept : (s : Sender) (c : Bool) → IsSender s → s.t < 2000000000 → IsStill s c → IsSender (leapt s c 1)
+one_kept : (s : Sender) (c : Bool) → IsSender s → s.t < most_half_bits → IsStill s c → IsSender (leapt s c 1)
 unfolding emitting sending_started deferring is_free
 one_kept s c h l k = subst IsSender k.moved (goes_on s c _ _ _ h l refl refl refl)
 
@@ -555,7 +555,7 @@ leapt_time : (s : Sender) (c : Bool) (n : ℕ) → (leapt s c n).t ≡ s.t + n
 unfolding leapt
 leapt_time s c n = refl
 
-pub leap_kept : (n : ℕ) (s : Sender) (c : Bool) → IsSender s → Fits n (change_in s c) → s.t + n ≤ 2000000000 → IsSender (leapt s c n)
+pub leap_kept : (n : ℕ) (s : Sender) (c : Bool) → IsSender s → Fits n (change_in s c) → s.t + n ≤ most_half_bits → IsSender (leapt s c n)
 leap_kept zero s c h f l = subst IsSender (sym (leapt_none s c)) h
 leap_kept (suc n) s c h f l =
     let k = still s c (steady s h) (not_now n (change_in s c) f) in
@@ -567,7 +567,7 @@ pub few_leapt : (n : ℕ) (o : Option ℕ) → n ≤ up_to_most o → n ≤ 4096
 few_leapt n None l = l
 few_leapt n (Some m) l = omega arith
 
-pub leap_keeps : (s : Sender) (c : Bool) (n t from : ℕ) (d : Defer) → IsSender s → n ≤ up_to_most (change_in s c) → t ≡ s.t + n → t ≤ 2000000000
+pub leap_keeps : (s : Sender) (c : Bool) (n t from : ℕ) (d : Defer) → IsSender s → n ≤ up_to_most (change_in s c) → t ≡ s.t + n → t ≤ most_half_bits
     → d ≡ (if is_sending s.phase || eqb n 0 then s.defer else waited c s.defer n) → from ≡ (if c || eqb n 0 then s.carrier_from else s.t + n)
     → IsSender (record s { t = t; defer = d; carrier_from = from })
 unfolding leapt

@@ -3,7 +3,7 @@ use Rattle.std.proofs.Common.{◌≡◌, ℕ, ◌≤◌, false, ltb, Option, len
 use Rattle.std.proofs.lemmas.Bool.{ltb-true}
 use Rattle.frame_layout.specs.declared.queue.Ready.{Ready}
 use Rattle.std.specs.Prelude.{List}
-use Rattle.mac_parameters.specs.Parameters.{interframe_gap}
+use Rattle.mac_parameters.specs.Parameters.{interframe_gap, most_draws}
 use Rattle.mac_transmit.specs.declared.deference.Defer.{Defer}
 use Rattle.mac_transmit.specs.declared.deference.Defer.TheVariants.{Watch, Busy, Gap}
 use Rattle.mac_transmit.specs.declared.phase.Phase.{Phase}
@@ -23,7 +23,7 @@ defer_in t last from Watch g h = tt
 defer_in t last from (Busy was) g h = tt
 defer_in t last from (Gap k was) g h = (h.2, g)
 
-in_ranges : (s : Sender) → IsSender s → is_sending s.phase ≡ false → s.draws.made ≤ 2000000000 → IsStateOf s.queue (state_of s)
+in_ranges : (s : Sender) → IsSender s → is_sending s.phase ≡ false → s.draws.made ≤ most_draws → IsStateOf s.queue (state_of s)
 in_ranges s h n d = record {
   place = h.place;
   phase = phase_in s.queue s.place s.t s.draws.made s.defer s.phase n h.phase_sound;
@@ -33,10 +33,10 @@ in_ranges s h n d = record {
   drawn = d;
 }
 
-pub kept_in_ranges : (now s : Sender) (drawn : ℕ) → s ≡ now → IsSender s → drawn ≡ s.draws.made → is_sending now.phase ≡ false → now.draws.made ≤ 2000000000
+pub kept_in_ranges : (now s : Sender) (drawn : ℕ) → s ≡ now → IsSender s → drawn ≡ s.draws.made → is_sending now.phase ≡ false → now.draws.made ≤ most_draws
     → IsStateOf now.queue (record { phase = s.phase; defer = s.defer; attempt = s.attempt; place = s.place; drawn = drawn })
 kept_in_ranges now s drawn e h m n d =
     let resting : is_sending s.phase ≡ false = subst (λ (x : Sender). is_sending x.phase ≡ false) (sym e) n in
-    let few : s.draws.made ≤ 2000000000 = subst (λ (x : Sender). x.draws.made ≤ 2000000000) (sym e) d in
+    let few : s.draws.made ≤ most_draws = subst (λ (x : Sender). x.draws.made ≤ most_draws) (sym e) d in
     subst (λ (x : Sender). IsStateOf x.queue (record { phase = s.phase; defer = s.defer; attempt = s.attempt; place = s.place; drawn = drawn })) e
     (subst (λ i. IsStateOf s.queue (record { phase = s.phase; defer = s.defer; attempt = s.attempt; place = s.place; drawn = i })) (sym m) (in_ranges s h resting few))

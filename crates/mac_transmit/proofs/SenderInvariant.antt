@@ -3,7 +3,7 @@ use Rattle.std.proofs.Common.{◌≡◌, ℕ, ◌+◌, ◌%◌, ◌^◌, ◌<◌
 use Rattle.std.specs.Prelude.{if◌then◌else◌}
 use Rattle.std.proofs.lemmas.Bool.{cond_both, and_parts, eqb-true}
 use Rattle.std.proofs.Math.Nat.{mod-lt, pow-le-pow_right, one-le-pow}
-use Rattle.mac_parameters.specs.Parameters.{backoff_limit, interframe_gap, interframe_gap_part_1, slot_time}
+use Rattle.mac_parameters.specs.Parameters.{backoff_limit, interframe_gap, interframe_gap_part_1, slot_time, most_half_bits, most_draws}
 use Rattle.backoff_draw.specs.Draws.{draw_of, word}
 use Rattle.mac_transmit.specs.declared.deference.Defer.{Defer}
 use Rattle.mac_transmit.specs.declared.deference.Defer.TheVariants.{Watch, Busy, Gap}
@@ -81,7 +81,7 @@ free_waited t last from (Gap k was) c w h f =
     let heard : t < from + k = h.1 in
     (away last k t interframe_gap t h.0 (omega arith), λ _. omega arith)
 
-waiting_keeps : (t made : ℕ) (last : Option ℕ) (from : ℕ) (c free : Bool) (d : Defer) → (more : Bool) → more ≡ true → made ≤ t + 2000000000 → gap_of d ≤ interframe_gap → DeferIsSound (t + 1) last (carrier_after from t c) d
+waiting_keeps : (t made : ℕ) (last : Option ℕ) (from : ℕ) (c free : Bool) (d : Defer) → (more : Bool) → more ≡ true → made ≤ t + most_draws → gap_of d ≤ interframe_gap → DeferIsSound (t + 1) last (carrier_after from t c) d
     → (free ≡ true → IsAway last interframe_gap t × (c ≡ true → t < from + interframe_gap)) → Keeps t made more last from c (phase_started t Waiting free) (defer_started Waiting free d)
 waiting_keeps t made last from c true d more m few g h f =
     record {
@@ -103,7 +103,7 @@ busy_stays d c w e = ap (λ x. deferred x c true w) e ∙ stays c
     stays false = refl
 
 pub turn_keeps : (t made : ℕ) (more : Bool) (last : Option ℕ) (from : ℕ) (p : Phase) (d : Defer) (c : Bool)
-    → made ≤ t + 2000000000 → gap_of d ≤ interframe_gap → PhaseIsSound t made more d p → DeferIsSound t last from d
+    → made ≤ t + most_draws → gap_of d ≤ interframe_gap → PhaseIsSound t made more d p → DeferIsSound t last from d
     → Keeps t made more last from c (phase_started t p (free_of d c (is_waiting p))) (defer_started p (free_of d c (is_waiting p)) (deferred d c (is_sending p) (is_waiting p)))
 turn_keeps t made more last from Rest d c few g s h =
     record { gap = gap_next d c false false g; phase_sound = tt; defer_sound = defer_next t last from d c false false h; within = tt; gap_kept = λ e. absurd e; deaf_kept = λ e. absurd e }
@@ -136,12 +136,12 @@ carrier_next : (from t : ℕ) (c : Bool) → from ≤ t → carrier_after from t
 carrier_next from t true h = omega arith
 carrier_next from t false h = omega arith
 
-pub goes_on : (s : Sender) (c : Bool) (p : Phase) (d : Defer) (from : ℕ) → IsSender s → s.t < 2000000000
+pub goes_on : (s : Sender) (c : Bool) (p : Phase) (d : Defer) (from : ℕ) → IsSender s → s.t < most_half_bits
     → p ≡ phase_after s.t (turn_phase s c) c → d ≡ turn_defer s c → from ≡ carrier_after s.carrier_from s.t c
     → IsSender (record { queue = s.queue; draws = s.draws; t = s.t + 1; place = s.place; phase = p; defer = d; attempt = s.attempt; last_end = s.last_end; carrier_from = from })
 goes_on s c p d from h l ep ed el =
     let k = turn s c h in
-    let drawn : s.draws.made ≤ s.t + 2000000000 = h.drawn in
+    let drawn : s.draws.made ≤ s.t + most_draws = h.drawn in
     record {
       few = h.few;
       time = omega arith;

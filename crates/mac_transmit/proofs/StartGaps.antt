@@ -4,7 +4,7 @@ use Rattle.std.specs.Prelude.{if◌then◌else◌}
 use Rattle.std.proofs.Math.Nat.{mod-le}
 use Rattle.std.proofs.lemmas.Bool.{cond_both, ltb-true, and_parts}
 use Rattle.std.proofs.lemmas.Bool.Decides.{nat_tests}
-use Rattle.mac_parameters.specs.Parameters.{attempt_limit, interframe_gap, slot_time}
+use Rattle.mac_parameters.specs.Parameters.{attempt_limit, interframe_gap, slot_time, most_half_bits, most_draws}
 use Rattle.manchester_line.specs.declared.Sym.{Sym}
 use Rattle.frame_layout.specs.declared.queue.Ready.{Ready}
 use Rattle.backoff_draw.specs.Draws.{Drawing, draw_of, drawn}
@@ -70,8 +70,8 @@ backs_off : (q : List Ready) (dr : Drawing) (t pl start : ℕ) (hit : Option ℕ
 backs_off q dr t pl start hit d at le lf e h l =
     let draw : draw_of dr.seed dr.station dr.made at < slot_time = draw_below dr.seed dr.station dr.made at in
     let began : start < t = h.phase_sound.1 in
-    let made : dr.made ≤ start + 2000000000 = h.phase_sound.2 in
-    let now : t ≤ 2000000000 = h.time in
+    let made : dr.made ≤ start + most_draws = h.phase_sound.2 in
+    let now : t ≤ most_half_bits = h.time in
     let one : (dr.made + 1) % 2 ^ 68 ≤ dr.made + 1 = mod-le (dr.made + 1) (2 ^ 68) in
     record {
       valid = record {
@@ -151,7 +151,7 @@ pub record Steps (s : Sender) (h : Sym) : Type 0 where
   pub gap_kept : IsStart s h → IsAway (sender_step s h).state.last_end interframe_gap s.t
   pub deaf_kept : IsStart s h → is_signal h ≡ true → s.t < s.carrier_from + interframe_gap
 
-pub steps : (s : Sender) (h : Sym) → IsSender s → s.t < 2000000000 → Steps s h
+pub steps : (s : Sender) (h : Sym) → IsSender s → s.t < most_half_bits → Steps s h
 unfolding sender_step emitting sending_started deferring is_free
 steps s h v l =
     let f = finishes s v in
@@ -162,7 +162,7 @@ steps s h v l =
     let from : m.carrier_from ≡ s.carrier_from = p.carrier ∙ f.carrier in
     let k = turn m c p.valid in
     record {
-      valid = goes_on m c _ _ _ p.valid (subst (λ x. x < 2000000000) (sym time) l) refl refl refl;
+      valid = goes_on m c _ _ _ p.valid (subst (λ x. x < most_half_bits) (sym time) l) refl refl refl;
       time = ap (λ x. x + 1) time;
       end = p.end ∙ f.end;
       carrier = ap (λ x. carrier_after x m.t c) from ∙ ap (λ x. carrier_after s.carrier_from x c) time;
@@ -175,7 +175,7 @@ pub record Ran (s : Sender) (hs : List Sym) : Type 0 where
   pub valid : IsSender (after_all s hs)
   pub time : (after_all s hs).t ≡ s.t + length hs
 
-run : (hs : List Sym) (s : Sender) → IsSender s → s.t + length hs ≤ 2000000000 → Ran s hs
+run : (hs : List Sym) (s : Sender) → IsSender s → s.t + length hs ≤ most_half_bits → Ran s hs
 run [] s v l = record { valid = v; time = omega arith }
 run (h ∷ hs) s v l =
     let k = steps s h v (omega arith) in
@@ -192,7 +192,7 @@ since_event : (x : ℕ) (last : Option ℕ) (t : ℕ) (e : Option Body) → Sinc
 since_event x last t None h l = h
 since_event x last t (Some b) h l = l
 
-since_run : (hs : List Sym) (s : Sender) (x : ℕ) → IsSender s → s.t + length hs ≤ 2000000000 → x ≤ s.t → Since x s.last_end → Since x (after_all s hs).last_end
+since_run : (hs : List Sym) (s : Sender) (x : ℕ) → IsSender s → s.t + length hs ≤ most_half_bits → x ≤ s.t → Since x s.last_end → Since x (after_all s hs).last_end
 since_run [] s x v l m h = h
 since_run (h ∷ hs) s x v l m o =
     let k = steps s h v (omega arith) in
@@ -220,7 +220,7 @@ gaps s v h e hs g l b =
     (subst (Since s.t) (sym m.end) (since_event s.t (after_all (sender_step s h).state hs).last_end (after_all (sender_step s h).state hs).t (sender_step (after_all (sender_step s h).state hs) g).event last (omega (arith, now, t))))
     (m.gap_kept b)
 
-carrier_run : (hs : List Sym) (s : Sender) → IsSender s → s.t + length hs ≤ 2000000000 → AllHeardAs true hs → (after_all s hs).carrier_from ≡ s.carrier_from
+carrier_run : (hs : List Sym) (s : Sender) → IsSender s → s.t + length hs ≤ most_half_bits → AllHeardAs true hs → (after_all s hs).carrier_from ≡ s.carrier_from
 carrier_run [] s v l a = refl
 carrier_run (h ∷ hs) s v l a =
     let k = steps s h v (omega arith) in

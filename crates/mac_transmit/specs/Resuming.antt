@@ -1,6 +1,6 @@
 -- Senders that are stopped and go on later (profile).
 use Rattle.std.specs.Prelude.{ℕ, ◌<◌, ◌≤◌, None, List, length}
-use Rattle.mac_parameters.specs.Parameters.{attempt_limit, interframe_gap}
+use Rattle.mac_parameters.specs.Parameters.{attempt_limit, interframe_gap, last_backoff, most_draws}
 use Rattle.frame_layout.specs.declared.queue.Ready.{Ready}
 use Rattle.backoff_draw.specs.Draws.{Drawing}
 use Rattle.mac_transmit.specs.declared.deference.Defer.{Defer}
@@ -34,7 +34,7 @@ abbrev pub IsPhaseIn : List Ready → ℕ → Phase → Type 0
 IsPhaseIn queue place Rest = Unit {0}
 IsPhaseIn queue place Waiting = place < length queue
 IsPhaseIn queue place (Sending start hit) = ⊥
-IsPhaseIn queue place (Backoff until) = (place < length queue) × (until ≤ 2100000000)
+IsPhaseIn queue place (Backoff until) = (place < length queue) × (until ≤ last_backoff)
 
 -- of a gap, 1 to 192 half bits have gone
 abbrev pub IsDeferIn : Defer → Type 0
@@ -49,4 +49,4 @@ pub record IsStateOf (queue : List Ready) (state : SenderState) : Type 0 where
   pub defer : IsDeferIn state.defer
   pub first : 1 ≤ state.attempt
   pub last : state.attempt ≤ attempt_limit
-  pub drawn : state.drawn ≤ 2000000000
+  pub drawn : state.drawn ≤ most_draws

@@ -1,7 +1,7 @@
 -- A station's sender (IEEE 802.3, 4.2.3 and 4.2.8): its state and one half bit of it, which does five things
 -- in order: finish, promote, defer, start, emit.
 use Rattle.std.specs.Prelude.{ℕ, ◌≡◌, ◌+◌, ◌-◌, ◌*◌, ◌/◌, ◌^◌, ◌<◌, ◌≤◌, Bool, true, false, ◌==◌, ◌&&◌, nat_lt, nat_le, if◌then◌else◌, Option, Some, None, List, [], length, slice_index_or}
-use Rattle.mac_parameters.specs.Parameters.{attempt_limit, half_bits_a_bit, interframe_gap, jam_size, preamble_length, slot_time}
+use Rattle.mac_parameters.specs.Parameters.{attempt_limit, half_bits_a_bit, interframe_gap, jam_size, preamble_length, slot_time, most_half_bits, last_backoff, most_draws}
 use Rattle.manchester_line.specs.declared.Sym.{Sym}
 use Rattle.manchester_line.specs.declared.Sym.TheVariants.{Idle}
 use Rattle.manchester_line.specs.Line.{jam_at, line, is_signal}
@@ -233,8 +233,8 @@ abbrev pub PhaseIsSound : ℕ → ℕ → Bool → Defer → Phase → Type 0
 PhaseIsSound t made more defer Rest = Unit {0}
 PhaseIsSound t made more defer Waiting = more ≡ true
 PhaseIsSound t made more defer (Sending start hit) =
-    (more ≡ true) × (start < t) × (made ≤ start + 2000000000) × (defer ≡ Busy true)
-PhaseIsSound t made more defer (Backoff until) = (more ≡ true) × (until ≤ 2100000000)
+    (more ≡ true) × (start < t) × (made ≤ start + most_draws) × (defer ≡ Busy true)
+PhaseIsSound t made more defer (Backoff until) = (more ≡ true) × (until ≤ last_backoff)
 
 -- The gap did not begin before the last sending had ended, nor before the station had heard Idle.
 abbrev pub DeferIsSound : ℕ → Option ℕ → ℕ → Defer → Type 0
@@ -246,8 +246,8 @@ DeferIsSound t last_end carrier_from (Gap k was) =
 -- what each state of a sender keeps, up to half bit 2,000,000,000
 pub record IsSender (s : Sender) : Type 0 where
   pub few : length s.queue < 2 ^ 32
-  pub time : s.t ≤ 2000000000
-  pub drawn : s.draws.made ≤ s.t + 2000000000
+  pub time : s.t ≤ most_half_bits
+  pub drawn : s.draws.made ≤ s.t + most_draws
   pub first : 1 ≤ s.attempt
   pub last : s.attempt ≤ attempt_limit
   pub gap : gap_of s.defer ≤ interframe_gap

@@ -1,7 +1,7 @@
 -- The laws of a station's starts (IEEE 802.3, 4.2.3.2.1: deference and the interframe gap), over half bits one after
 -- another: each state that a sender can have is followed for as long as its time goes.
 use Rattle.std.specs.Prelude.{◌≡◌, ◌+◌, ◌<◌, ◌≤◌, true, None, List, length}
-use Rattle.mac_parameters.specs.Parameters.{interframe_gap}
+use Rattle.mac_parameters.specs.Parameters.{interframe_gap, most_half_bits}
 use Rattle.manchester_line.specs.declared.Sym.{Sym}
 use Rattle.mac_transmit.specs.Laws.{StartsAt}
 use Rattle.mac_transmit.specs.Sender.{Sender, IsSender, sender_step}
@@ -28,5 +28,5 @@ GapsAreKept =
 -- than 192 half bits after the first.
 abbrev pub DeafGapsAreKept : Type 0
 DeafGapsAreKept =
-    (s : Sender) → IsSender s → (hs : List Sym) (g : Sym) → s.t + length hs < 2000000000
+    (s : Sender) → IsSender s → (hs : List Sym) (g : Sym) → s.t + length hs < most_half_bits
     → AllHeardAs true hs → is_signal g ≡ true → IsStart (after_all s hs) g → length hs < interframe_gap

@@ -98,7 +98,7 @@ fn emission(queue: &Queue, place: u32, t: u64, phase: Phase, carrier: bool) -> S
 
 impl Transmitter {
     ghost use Rattle.std.specs.Prelude.{◌≡◌, ◌≢◌, ◌<◌, ◌≤◌, ◌+◌, ◌&&◌, nat_lt, nat_le, true, false, length, IfSome, IsNone, ◌↔◌};
-    ghost use Rattle.mac_parameters.specs.Parameters.{interframe_gap};
+    ghost use Rattle.mac_parameters.specs.Parameters.{interframe_gap, most_draws, most_half_bits};
     ghost use Rattle.manchester_line.specs.declared.Sym.TheVariants.{Clash};
     ghost use Rattle.mac_transmit.specs.Laws.{end_after, carrier_after, StartsAt, IsAway, IsLongEnough};
     ghost use Rattle.mac_transmit.specs.Calm.{change_in, calm_of, AllHeardAs, AreCalm, after_all, leapt};
@@ -131,7 +131,7 @@ impl Transmitter {
     /// sending, and that made at most 2,000,000,000 draws, can.
     pub fn state(&self) -> SenderState
         ensures state { result ≡ state_of self.now }
-        ensures ranges { is_sending self.now.phase ≡ false → self.now.draws.made ≤ 2000000000 → IsStateOf self.now.queue result }
+        ensures ranges { is_sending self.now.phase ≡ false → self.now.draws.made ≤ most_draws → IsStateOf self.now.queue result }
     {
         SenderState {
             phase: self.phase,
@@ -145,7 +145,7 @@ impl Transmitter {
     /// The sender of a queue before half bit `t` that goes on from this state, with draws whose next is the one that
     /// the state numbers. What its laws say of earlier sendings and of what was heard begins anew.
     pub fn resume(queue: Queue, draws: Draws, t: u64, state: SenderState) -> Transmitter
-        requires in_time { t ≤ 2000000000 }
+        requires in_time { t ≤ most_half_bits }
         requires next_draw { draws.made ≡ state.drawn }
         requires ranges { IsStateOf queue state }
         ensures { result ≡ resumed_sender queue draws t state }
@@ -240,7 +240,7 @@ impl Transmitter {
     /// Deference, the start of a waiting station that is free, and what is emitted.
     #[tactic(auto, unfolding(crate::specs::Sender::deferring, crate::specs::Sender::is_free, crate::specs::Sender::sending_started, crate::specs::Sender::emitting, crate::specs::Sender::emitted_from))]
     fn go_on(&mut self, carrier: bool) -> Sym
-        requires { self.old.t < 2000000000 }
+        requires { self.old.t < most_half_bits }
         ensures state { self.new ≡ emitting (after_turn self.old carrier) carrier }
         ensures time { self.new.t ≡ self.old.t + 1 }
         ensures emitted { result ≡ emitted_from (after_turn self.old carrier) (after_turn self.old carrier).phase carrier }
@@ -265,7 +265,7 @@ impl Transmitter {
     #[tactic(auto, unfolding(crate::specs::Sender::sender_step))]
     pub fn step(&mut self, t: u64, heard: Sym) -> SendStep
         requires time { t ≡ self.old.t }
-        requires in_time { t < 2000000000 }
+        requires in_time { t < most_half_bits }
         ensures state { self.new ≡ (sender_step self.old heard).state }
         ensures time { self.new.t ≡ self.old.t + 1 }
         ensures emitted { result.emitted ≡ (sender_step self.old heard).emitted }
@@ -320,7 +320,7 @@ impl Transmitter {
     /// or Idle in each. A sending that goes on is calm, though it emits.
     pub fn calm(&self, t: u64, carrier: bool) -> u64
         requires time { t ≡ self.now.t }
-        requires in_time { t < 2000000000 }
+        requires in_time { t < most_half_bits }
         ensures number { result ≡ calm_of self.now carrier }
         ensures within { result ≤ 4096 }
         ensures exact { (hs : List Sym) → AllHeardAs carrier hs → length hs ≤ 4096 → (AreCalm self.now hs ↔ (length hs ≤ result)) }
@@ -333,7 +333,7 @@ impl Transmitter {
     fn leap_over(&mut self, t: u64, n: u64, carrier: bool)
         requires calm { n ≤ calm_of self.old carrier }
         requires time { t ≡ self.old.t }
-        requires in_time { t + n ≤ 2000000000 }
+        requires in_time { t + n ≤ most_half_bits }
         ensures state { self.new ≡ leapt self.old carrier n }
         ensures phase { self.new.phase ≡ self.old.phase }
         ensures time { self.new.t ≡ self.old.t + n }
@@ -349,7 +349,7 @@ impl Transmitter {
     pub fn leap(&mut self, t: u64, n: u64, carrier: bool)
         requires calm { n ≤ calm_of self.old carrier }
         requires time { t ≡ self.old.t }
-        requires in_time { t + n ≤ 2000000000 }
+        requires in_time { t + n ≤ most_half_bits }
         ensures state { (hs : List Sym) → AllHeardAs carrier hs → length hs ≡ n → self.new ≡ after_all self.old hs }
         ensures phase { self.new.phase ≡ self.old.phase }
         ensures time { self.new.t ≡ self.old.t + n }

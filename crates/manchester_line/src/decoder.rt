@@ -149,6 +149,7 @@ fn keep(buffer: &mut [u8], count: u32, octet: u8)
 }
 
 impl Decoder {
+    ghost use Rattle.mac_parameters.specs.Parameters.{most_half_bits};
     /// A decoder that was given nothing yet.
     pub fn new() -> Decoder
         ensures cleared { result ≡ new_decoding }
@@ -290,7 +291,7 @@ impl Decoder {
 
     /// Takes one more half bit, whatever it is.
     fn push_half(&mut self, s: Sym)
-        requires { self.old.halves < 2000000000 }
+        requires { self.old.halves < most_half_bits }
         ensures { self.new ≡ pushed self.old s }
     {
         self.halves += 1;
@@ -307,7 +308,7 @@ impl Decoder {
     fn push_pairs(&mut self, halves: &[Sym])
         requires half { self.old.half ≡ None }
         requires even { length halves.now % 2 ≡ 0 }
-        requires count { self.old.halves + length halves.now ≤ 2000000000 }
+        requires count { self.old.halves + length halves.now ≤ most_half_bits }
         ensures { self.new ≡ all_pushed self.old halves.now }
     {
         for j in 0..halves.len() / 2 {
@@ -320,7 +321,7 @@ impl Decoder {
     fn push_octet(&mut self, halves: &[Sym])
         requires half { self.old.half ≡ None }
         requires eight { length halves.now ≡ half_bits_an_octet }
-        requires count { self.old.halves + length halves.now ≤ 2000000000 }
+        requires count { self.old.halves + length halves.now ≤ most_half_bits }
         ensures { self.new ≡ all_pushed self.old halves.now }
     {
         if self.found {
@@ -337,7 +338,7 @@ impl Decoder {
     /// a last half.
     fn push_whole(&mut self, halves: &[Sym])
         requires half { self.old.half ≡ None }
-        requires count { self.old.halves + length halves.now ≤ 2000000000 }
+        requires count { self.old.halves + length halves.now ≤ most_half_bits }
         ensures { self.new ≡ all_pushed self.old halves.now }
     {
         let mut at = 0;
@@ -356,7 +357,7 @@ impl Decoder {
     #[tactic(auto, using(crate::proofs::PushedMore::decodes_next))]
     pub fn push(&mut self, s: Sym)
         requires signal { s ≢ Idle }
-        requires count { self.old.halves < 2000000000 }
+        requires count { self.old.halves < most_half_bits }
         ensures moved { self.new ≡ pushed self.old s }
         ensures decodes { (halves : List Sym) → Decodes halves self.old →
             Decodes (halves ++ s ∷ []) self.new }
@@ -368,7 +369,7 @@ impl Decoder {
     /// bits are taken at once.
     pub fn push_all(&mut self, piece: &[Sym])
         requires signal { All (λ s. s ≢ Idle) piece.now }
-        requires count { self.old.halves + length piece.now ≤ 2000000000 }
+        requires count { self.old.halves + length piece.now ≤ most_half_bits }
         ensures moved { self.new ≡ all_pushed self.old piece.now }
         ensures halves { self.new.halves ≡ self.old.halves + length piece.now }
         ensures decodes { (halves : List Sym) → Decodes halves self.old →

@@ -1,6 +1,6 @@
 //! The devices of a plan before half bit 0, and those that go on from a state.
 ghost use Rattle.std.specs.Prelude.{◌≡◌, ◌<◌, ◌≤◌, ◌^◌, [], All, length, map, sum_by, IfOk};
-ghost use Rattle.mac_parameters.specs.Parameters.{IsMost, greatest_place, jabber_rest};
+ghost use Rattle.mac_parameters.specs.Parameters.{IsMost, greatest_place, jabber_rest, most_half_bits};
 ghost use Rattle.network.specs.Net.{new_receiver, new_repeater, new_senders};
 ghost use Rattle.kept_devices.specs.KeptReceivers.{AllHear};
 ghost use Rattle.std.specs.List.{range_with_len};
@@ -47,7 +47,7 @@ pub fn resumed_transmitters(
     states: &[SenderState],
 ) -> Result<Vec<Transmitter>, OutOfMemory>
     requires few { length queues.now < 2 ^ 32 }
-    requires in_time { t ≤ 2000000000 }
+    requires in_time { t ≤ most_half_bits }
     requires ranges { AreStatesOf queues.now states.now }
     ensures senders { IfOk result (λ senders. senders.items ≡ resumed_senders seed t 0 queues.now states.now) }
     ensures times { IfOk result (λ senders. All (λ s. s.t ≡ t) senders.items) }
@@ -72,7 +72,7 @@ pub fn resumed_receivers(
 ) -> Result<Vec<Receiver>, OutOfMemory>
     requires lose { All (λ s. s.lose ≤ 48) stations.now }
     requires most { IsMost most }
-    requires in_time { t ≤ 2000000000 }
+    requires in_time { t ≤ most_half_bits }
     ensures receivers { IfOk result (λ receivers. AllHear (map (new_receiver most) stations.now) receivers.items) }
     ensures steps { IfOk result (λ receivers. All (λ r. r.steps ≡ t) receivers.items) }
     ensures count { IfOk result (λ receivers. length receivers.items ≡ length stations.now) }

@@ -1,6 +1,7 @@
 //! Half bits in which nothing happens at the devices of a network, many at once.
 ghost use Rattle.std.specs.Prelude.{◌≡◌, ◌<◌, ◌≤◌, ◌+◌, ℕ, false, All, IsTrue, ◌↔◌, length, map, replicate, slice_index_or};
 ghost use Rattle.std.specs.Fn.{iterate};
+ghost use Rattle.mac_parameters.specs.Parameters.{most_half_bits};
 ghost use Rattle.manchester_line.specs.declared.Sym.TheVariants.{Idle};
 ghost use Rattle.mac_receive.specs.KeptReceiver.{Kept, Hears};
 ghost use Rattle.mac_receive.specs.Receiver.{Receiving, receiver_after};
@@ -34,7 +35,7 @@ fn is_sending(sender: &Transmitter) -> bool
 /// 0 says nothing.
 pub fn calm_senders(t: u64, senders: &[Transmitter], most: u64) -> u64
     requires times { All (λ s. s.t ≡ t) senders.now }
-    requires in_time { t < 2000000000 }
+    requires in_time { t < most_half_bits }
     ensures within { result ≤ most }
     ensures calm { 0 < result → All (WaitsFor result) senders.now }
 {
@@ -64,7 +65,7 @@ pub fn calm_relays(relays: &[Relay], most: u64) -> u64
 /// So many half bits from `t` on of senders to which nothing happens in them.
 pub fn leap_senders(t: u64, count: u64, senders: &mut [Transmitter])
     requires times { All (λ s. s.t ≡ t) senders.old }
-    requires in_time { t + count ≤ 2000000000 }
+    requires in_time { t + count ≤ most_half_bits }
     requires calm { All (WaitsFor count) senders.old }
     ensures states { senders.new ≡ map (λ s. after_all s (replicate count Idle)) senders.old }
     ensures times { All (λ s. s.t ≡ t + count) senders.new }
@@ -78,7 +79,7 @@ pub fn leap_senders(t: u64, count: u64, senders: &mut [Transmitter])
 /// So many half bits from `t` on of receivers that have no reception under way and hear Idle.
 pub fn leap_receivers(t: u64, count: u64, receivers: &mut [Receiver])
     requires steps { All (λ r. r.steps ≡ t) receivers.old }
-    requires in_time { t + count ≤ 2000000000 }
+    requires in_time { t + count ≤ most_half_bits }
     requires rest { All (λ k. k.halves ≡ 0) receivers.old }
     ensures states { (i : ℕ) (d : Kept) (r : Receiving) → i < length receivers.new → Hears r (slice_index_or receivers.old i d) →
         Hears (receiver_after r (replicate count Idle) false) (slice_index_or receivers.new i d) }

@@ -1,5 +1,6 @@
 //! One pass over the devices or the segments for each thing that a half bit does.
 ghost use Rattle.std.specs.Prelude.{◌≡◌, ◌<◌, ◌+◌, ◌++◌, List, All, length, map, flat_map, OnOk};
+ghost use Rattle.mac_parameters.specs.Parameters.{most_half_bits};
 ghost use Rattle.network.specs.Net.{sendings, receptions, each_repeater, ports_of};
 ghost use Rattle.network.specs.Captures.{captured, taken_by};
 ghost use Rattle.network.specs.Rows.{repeater_bodies};
@@ -48,7 +49,7 @@ fn send_all(
     requires emitted_len { length emitted.old ≡ length senders.old }
     requires sent_len { length sent.old ≡ length senders.old }
     requires times { All (λ s. s.t ≡ t) senders.old }
-    requires in_time { t < 2000000000 }
+    requires in_time { t < most_half_bits }
     ensures times { All (λ s. s.t ≡ t + 1) senders.new }
     ensures states { senders.new ≡ map (λ s. s.state) (sendings heard.now senders.old) }
     ensures emitted { emitted.new ≡ map (λ s. s.emitted) (sendings heard.now senders.old) }
@@ -127,7 +128,7 @@ fn receive_all(
     requires emitted_len { length emitted.now ≡ length receivers.old }
     requires received_len { length received.old ≡ length receivers.old }
     requires steps { All (λ r. r.steps ≡ t) receivers.old }
-    requires in_time { t < 2000000000 }
+    requires in_time { t < most_half_bits }
     ensures steps { All (λ r. r.steps ≡ t + 1) receivers.new }
     ensures given { (rs : List Receiving) → AllHear rs receivers.old → AllGive (receptions heard.now emitted.now rs) receivers.new received.new }
 {
@@ -155,7 +156,7 @@ pub fn step_stations(
     requires received_len { length received.old ≡ length senders.old }
     requires times { All (λ s. s.t ≡ t) senders.old }
     requires steps { All (λ r. r.steps ≡ t) receivers.old }
-    requires in_time { t < 2000000000 }
+    requires in_time { t < most_half_bits }
     ensures times { All (λ s. s.t ≡ t + 1) senders.new }
     ensures steps { All (λ r. r.steps ≡ t + 1) receivers.new }
     ensures states { senders.new ≡ map (λ s. s.state) (sendings heard.now senders.old) }

@@ -1,5 +1,6 @@
 //! The network on one thread.
 ghost use Rattle.std.specs.Prelude.{◌≡◌, ◌<◌, ◌≤◌, ◌+◌, ◌-◌, ◌*◌, ◌^◌, ◌++◌, All, length, map, take, IfOk, OnOk};
+ghost use Rattle.mac_parameters.specs.Parameters.{most_half_bits};
 ghost use Rattle.network.specs.Outputs.{cut_rows, half_bits, rows, captures};
 ghost use Rattle.net_step.specs.KeptNet.{kept_tap_number, Stands};
 ghost use Rattle.network.specs.Net.{ports_of, Net};
@@ -118,6 +119,7 @@ fn tap_number(stations: usize, relays: &[Relay], device: usize, port: usize) -> 
 
 impl PlainNet {
     ghost use Rattle.std.specs.Prelude.{◌≡◌, ◌<◌, ◌≤◌, ◌+◌, ◌-◌, ◌^◌, ◌++◌, ◌↔◌, ℕ, length, map, All, OnOk, IfOk, IsTrue, slice_index_or};
+    ghost use Rattle.mac_parameters.specs.Parameters.{most_half_bits};
     ghost use Rattle.load_plan.specs.declared.plan.Plan.{Plan};
     ghost use Rattle.mac_transmit.specs.Sender.{Sender};
     ghost use Rattle.repeater_core.specs.Counts.{resting_count};
@@ -263,7 +265,7 @@ impl PlainNet {
 
     /// The next half bit. After an `Err` the net is only dropped.
     fn go_on(&mut self) -> Result<(), OutOfMemory>
-        requires { self.old.t < 2000000000 }
+        requires { self.old.t < most_half_bits }
         ensures { OnOk result (IsNextKept self.old self.new) }
     {
         let t = self.t;
@@ -309,7 +311,7 @@ impl PlainNet {
     /// One half bit: a net that stands for a state of the network stands for the next one, and so one that
     /// stands for `net plan t` stands for `net plan (t + 1)`. After an `Err` the net is only dropped.
     pub fn step(&mut self) -> Result<(), OutOfMemory>
-        requires { self.old.t < 2000000000 }
+        requires { self.old.t < most_half_bits }
         ensures stands { (n : Net) → Stands n self.old → OnOk result (Stands (next n) self.new) }
         ensures time { OnOk result (self.new.t ≡ self.old.t + 1) }
     {
@@ -318,7 +320,7 @@ impl PlainNet {
 
     /// For how many half bits, at most `most`, nothing happens in the whole network; 0 says nothing.
     fn calm(&self, most: u64) -> u64
-        requires { self.now.t < 2000000000 }
+        requires { self.now.t < most_half_bits }
         ensures within { result ≤ most }
         ensures calm { 0 < result → IsCalmNet result self.now }
     {
@@ -336,7 +338,7 @@ impl PlainNet {
     /// Goes over so many half bits in which nothing happens.
     fn leap(&mut self, count: u64)
         requires calm { IsCalmNet count self.old }
-        requires in_time { self.old.t + count ≤ 2000000000 }
+        requires in_time { self.old.t + count ≤ most_half_bits }
         ensures stands { (n : Net) → Stands n self.old → Stands (later_net n count) self.new }
         ensures time { self.new.t ≡ self.old.t + count }
         ensures silent { (n : Net) → Stands n self.old → (i : ℕ) → i < count → IsSilentHalfBit (later_net n i) }
@@ -352,7 +354,7 @@ impl PlainNet {
     /// the half bit before which the net is then. After an `Err` the net is only dropped.
     fn advance(&mut self, until: u64) -> Result<u64, OutOfMemory>
         requires before { self.old.t < until }
-        requires short { until ≤ 2000000000 }
+        requires short { until ≤ most_half_bits }
         ensures stands { IfOk result (λ t. (n : Net) → Stands n self.old → Stands (later_net n (t - self.old.t)) self.new) }
         ensures time { IfOk result (λ t. self.new.t ≡ t) }
         ensures later { IfOk result (λ t. self.old.t < t) }
@@ -372,7 +374,7 @@ impl PlainNet {
     /// half bit before which the net is then. In those that it went over no tap emits.
     pub fn pass_silence(&mut self, until: u64) -> u64
         requires before { self.old.t < until }
-        requires short { until ≤ 2000000000 }
+        requires short { until ≤ most_half_bits }
         ensures stands { (n : Net) → Stands n self.old → Stands (later_net n (result - self.old.t)) self.new }
         ensures time { self.new.t ≡ result }
         ensures later { self.old.t ≤ result }
@@ -393,7 +395,7 @@ impl PlainNet {
     /// dropped.
     pub fn go_to(&mut self, until: u64) -> Result<(), OutOfMemory>
         requires begun { self.old.t ≤ until }
-        requires short { until ≤ 2000000000 }
+        requires short { until ≤ most_half_bits }
         ensures stands { (n : Net) → Stands n self.old → OnOk result (Stands (later_net n (until - self.old.t)) self.new) }
         ensures time { OnOk result (self.new.t ≡ until) }
     {
@@ -445,7 +447,7 @@ impl PlainNet {
     /// Goes on to the end of a run of so many half bits: its rows and captures.
     pub fn finish(self, half_bits: u64) -> Result<Outputs, OutOfMemory>
         requires begun { self.t ≤ half_bits }
-        requires short { half_bits ≤ 2000000000 }
+        requires short { half_bits ≤ most_half_bits }
         ensures rows { (n : Net) → Stands n self → IfOk result (λ outputs. outputs.rows ≡ rows_to half_bits n) }
         ensures captures { (n : Net) → Stands n self → IfOk result (λ outputs. outputs.captures ≡ captures_to half_bits n) }
     {
@@ -459,7 +461,7 @@ impl PlainNet {
 fn run_to(whole: &mut PlainNet, t: u64, until: u64) -> Result<(), OutOfMemory>
     requires now { whole.old.t ≡ t }
     requires begun { t ≤ until }
-    requires short { until ≤ 2000000000 }
+    requires short { until ≤ most_half_bits }
     ensures stands { (n : Net) → Stands n whole.old → OnOk result (Stands (later_net n (until - t)) whole.new) }
     ensures time { OnOk result (whole.new.t ≡ until) }
 {

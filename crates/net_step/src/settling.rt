@@ -1,5 +1,6 @@
 //! When the signals so far are over: all taps have heard them, and all ports have emitted them.
 ghost use Rattle.std.specs.Prelude.{◌≡◌, ◌<◌, ◌+◌, if◌then◌else◌, max, map, IfOk};
+ghost use Rattle.mac_parameters.specs.Parameters.{most_half_bits};
 ghost use Rattle.manchester_line.specs.Line.{is_signal};
 ghost use Rattle.net_step.specs.KeptNet.{over_from};
 ghost use Rattle.quiet_state.specs.LastSignals.{reach_over, line_delays};
@@ -49,7 +50,7 @@ fn delays_of(alloc: Global, relays: &[Relay]) -> Result<Vec<u32>, OutOfMemory>
 /// The half bit from which on a symbol is over that is sent in half bit `t` and needs so many half bits; 0 where it is
 /// Idle.
 fn symbol_over(t: u64, need: u32, symbol: Sym) -> u64
-    requires { t < 2000000000 }
+    requires { t < most_half_bits }
     ensures { result ≡ if is_signal symbol then t + need + 1 else 0 }
 {
     if is_signal(symbol) {
@@ -62,7 +63,7 @@ fn symbol_over(t: u64, need: u32, symbol: Sym) -> u64
 /// The half bit from which on the signals of a row that is sent in half bit `t` are over, where each symbol needs so
 /// many half bits; 0 where there is none.
 fn over_from(t: u64, needs: &[u32], row: &[Sym]) -> u64
-    requires { t < 2000000000 }
+    requires { t < most_half_bits }
     ensures { result ≡ over_from t needs.now row.now }
 {
     let mut from = 0;
@@ -83,6 +84,7 @@ pub struct Settling {
 
 impl Settling {
     ghost use Rattle.std.specs.Prelude.{◌≡◌, ◌<◌, max, map, IfOk};
+    ghost use Rattle.mac_parameters.specs.Parameters.{most_half_bits};
     ghost use Rattle.net_step.specs.KeptNet.{over_from};
     ghost use Rattle.quiet_state.specs.LastSignals.{reach_over, line_delays};
 
@@ -101,7 +103,7 @@ impl Settling {
 
     /// Takes in the signals of half bit `t`, in which the taps emit one row and the other is decided for the ports.
     pub fn pass(&mut self, t: u64, emitted: &[Sym], decided: &[Sym])
-        requires { t < 2000000000 }
+        requires { t < most_half_bits }
         ensures reaches { self.new.reaches ≡ self.old.reaches }
         ensures delays { self.new.delays ≡ self.old.delays }
         ensures settled { self.new.settled ≡ max (max self.old.settled (over_from t self.old.reaches.items emitted.now)) (over_from t self.old.delays.items decided.now) }

@@ -1,7 +1,7 @@
 //! The form that draws what a log tells of some half bits.
 ghost use Rattle.std.specs.Prelude.{◌≡◌, ◌≤◌, ◌<◌, ◌+◌, ◌^◌, IfOk, IfErr, OnOk, OnErr, length};
 ghost use Rattle.std.specs.List.{AllByRecursion};
-ghost use Rattle.layout.specs.Limits.{most_half_bits};
+ghost use Rattle.mac_parameters.specs.Parameters.{most_half_bits};
 ghost use Rattle.layout.specs.Sound.{IsSound};
 ghost use Rattle.log_meter.specs.Lines.{IsLogLine};
 ghost use Rattle.program_texts.specs.Texts.{line_of_stranger};

@@ -1,6 +1,6 @@
 //! The forms that report on half bits of the run of a layout file: what taps hear, or a page.
 ghost use Rattle.std.specs.Prelude.{◌≡◌, ◌≤◌, ◌<◌, ◌+◌, ◌^◌, ℕ, List, All, length};
-ghost use Rattle.layout.specs.Limits.{most_half_bits};
+ghost use Rattle.mac_parameters.specs.Parameters.{most_half_bits};
 ghost use Rattle.line_probe.specs.Heard.{rows_of_taps};
 ghost use Rattle.line_probe.specs.Taps.{HasTap};
 ghost use Rattle.line_probe.specs.declared.tap.Tap.{Tap};

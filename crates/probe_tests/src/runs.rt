@@ -1,6 +1,6 @@
 //! Texts of runs that are read, and the bursts in them.
 ghost use Rattle.std.specs.Prelude.{◌≡◌, ◌≤◌, true};
-ghost use Rattle.layout.specs.Limits.{most_half_bits};
+ghost use Rattle.mac_parameters.specs.Parameters.{most_half_bits};
 ghost use Rattle.line_probe.specs.Runs.{end_after_runs};
 
 use line_probe::{Burst, OutOfMemory, Run, Runs, RunsFault, bursts, read_runs, run_text};

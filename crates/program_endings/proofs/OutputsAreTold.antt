@@ -1,12 +1,11 @@
 -- Status 12 is that of a file to be written that has the name of an input.
-use Rattle.std.proofs.Common.{◌≡◌, ◌⊎◌, ℕ, Option, None, Some, Ok, Err, List, refl, ap, subst, ◌∙◌, inl, inr, sym}
+use Rattle.std.proofs.Common.{◌≡◌, ℕ, Option, None, Some, Ok, Err, List, refl, ◌∙◌, inl, inr, sym}
 use Rattle.std.specs.Prelude.{IfSome}
 use Rattle.layout.specs.declared.lines.Layout.{Layout}
 use Rattle.layout_file.specs.declared.fault.LayoutFault.{LayoutFault}
 use Rattle.load_plan.specs.declared.plan.Plan.{Plan}
-use Rattle.outside.specs.Files.{Files, IsAbsent, Rose}
+use Rattle.outside.specs.Files.{Files}
 use Rattle.program_words.specs.Requests.{Asked, asked, Check, Slack, Plain, Run, Stop, Resume, Demo, Probe, Meter, Picture, Frames, Help, Version}
-use Rattle.program_words.specs.declared.words.Report.{Report}
 use Rattle.program_endings.specs.declared.endings.Ending.{Ending}
 use Rattle.program_endings.specs.declared.endings.Ending.TheVariants as ending
 use Rattle.program_endings.specs.Moments.{Moment}

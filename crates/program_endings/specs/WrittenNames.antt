@@ -1,6 +1,6 @@
 -- The names of the files that a form writes, and whether one of them is that of a file that it reads (profile). Names
 -- are compared octet by octet.
-use Rattle.std.specs.Prelude.{◌≡◌, ℕ, List, [], ◌∷◌, Bool, true, false, ◌||◌, Option, None, Some, bytes_eq, if◌then◌else◌}
+use Rattle.std.specs.Prelude.{◌≡◌, ℕ, List, [], ◌∷◌, Bool, false, ◌||◌, Option, None, Some, bytes_eq, if◌then◌else◌}
 use Rattle.layout.specs.declared.lines.Layout.{Layout}
 use Rattle.layout.specs.declared.lines.StationLine.{StationLine}
 use Rattle.program_texts.specs.Texts.{name_of_capture, name_of_counters, name_of_log, name_of_state}

@@ -1,7 +1,7 @@
 -- The texts of what taps hear, told tap by tap (profile). Half bits count from 0; a probe goes from one half bit on to
 -- before another.
 use Rattle.std.specs.Prelude.{◌≡◌, ◌≤◌, ℕ, ◌+◌, List, [], ◌∷◌, ◌++◌, flat_map, length}
-use Rattle.layout.specs.Limits.{most_half_bits}
+use Rattle.mac_parameters.specs.Parameters.{most_half_bits}
 use Rattle.line_probe.specs.Bursts.{bursts_of}
 use Rattle.line_probe.specs.Heard.{heard_from, rows_of_taps}
 use Rattle.line_probe.specs.RunTexts.{text_of_runs}

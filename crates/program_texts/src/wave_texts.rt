@@ -1,6 +1,6 @@
 //! The text of the waves that taps hear.
 ghost use Rattle.std.specs.Prelude.{◌≡◌, ◌≤◌, ◌<◌, All, IfOk, length};
-ghost use Rattle.layout.specs.Limits.{most_half_bits};
+ghost use Rattle.mac_parameters.specs.Parameters.{most_half_bits};
 ghost use Rattle.line_probe.specs.Taps.{HasTap};
 ghost use Rattle.network.specs.Outputs.{half_bits};
 ghost use Rattle.program_words.specs.WordLimits.{most_taps};

@@ -1,7 +1,8 @@
 -- What the words of the command line ask for (profile).
 use Rattle.std.specs.Prelude.{◌≤◌, ◌<◌, ℕ, ◌+◌, ◌-◌, List, [], ◌∷◌, length, Bool, true, not, ◌&&◌, nat_eq, nat_le, nat_lt, Option, None, Some, option_map, find, decimal, if◌then◌else◌, bytes_eq, codes}
 use Rattle.std.specs.List.{ends_with, range_with_len}
-use Rattle.layout.specs.Limits.{most_half_bits, most_repeaters}
+use Rattle.mac_parameters.specs.Parameters.{most_half_bits}
+use Rattle.layout.specs.Limits.{most_repeaters}
 use Rattle.program_words.specs.WordLimits.{most_name, most_probed, most_tap_word, most_taps, most_workers}
 use Rattle.program_words.specs.declared.words.Report.{Report}
 use Rattle.program_words.specs.declared.words.Report.TheVariants as report

@@ -1,11 +1,12 @@
 //! The words of the command line.
 ghost use Rattle.std.specs.Prelude.{◌≡◌, ◌≤◌, ◌<◌, ◌+◌, ◌^◌, IfSome, length, option_map};
-ghost use Rattle.layout.specs.Limits.{most_half_bits};
+ghost use Rattle.mac_parameters.specs.Parameters.{most_half_bits};
 ghost use Rattle.program_words.specs.WordLimits.{most_probed, most_taps};
 ghost use Rattle.program_words.specs.Requests.{HasNumbersInRange, are_tap_words, asked, asked_demo, asked_file, asked_frames, asked_long, asked_of, asked_four, asked_page, asked_picture, asked_plain, asked_probe, asked_resume, asked_run, asked_stop, asked_text, asked_three, is_file_name, is_prefix, is_tap_word, number_between, stretch_between};
 
-use layout::{MOST_HALF_BITS, MOST_REPEATERS};
+use layout::MOST_REPEATERS;
 use lists::{List, Text};
+use mac_parameters::MOST_HALF_BITS;
 
 /// The words that the program was called with, without its own name.
 pub type Words = List<Text>;

@@ -4,7 +4,7 @@ use Rattle.std.specs.Prelude.{IfSome, nat_lt}
 use Rattle.std.specs.List.{AllByRecursion}
 use Rattle.std.proofs.lemmas.Bool.{cond_both, ltb-false}
 use Rattle.std.proofs.lemmas.List.Elements.{All-from_recursion, All-take, All-nil, All-cons}
-use Rattle.mac_parameters.specs.Parameters.{check_sequence, least_frame, shortest_line_text}
+use Rattle.mac_parameters.specs.Parameters.{check_sequence, least_frame, shortest_line_text, most_half_bits}
 use Rattle.manchester_line.specs.declared.Sym.{Sym}
 use Rattle.manchester_line.specs.declared.Sym.TheVariants.{Idle, Hi, Lo, Clash}
 use Rattle.manchester_line.specs.Reading.{bit_value, octet_of, octets_of_bits, reading, spare_of_bits}
@@ -14,7 +14,6 @@ use Rattle.frame_layout.specs.declared.verdict.Verdict.TheVariants.{Good, Fragme
 use Rattle.collision_log.specs.declared.row.Body.{Body}
 use Rattle.collision_log.specs.declared.row.Body.TheVariants.{Received, Dropped}
 use Rattle.collision_log.specs.declared.row.Why.TheVariants as why
-use Rattle.layout.specs.Limits.{most_half_bits}
 use Rattle.mac_receive.specs.Receiver.{Receiving, Reception, extended, judged_octets, judged_row, left_halves, quiet, reading_octets, reading_row, receiver_step, reception_ended}
 use Rattle.network.specs.Captures.{taken_by}
 use Rattle.network.specs.declared.outputs.Taken.{Taken}

@@ -2,13 +2,12 @@
 use Rattle.std.proofs.Common.{◌≡◌, ℕ, zero, suc, ◌+◌, ◌-◌, ◌*◌, ◌%◌, ◌^◌, ◌<◌, ◌≤◌, ◌&&◌, Bool, true, false, not, eqb, ltb, leb, Option, Some, None, List, [], length, get_or, refl, sym, subst, arith}
 use Rattle.std.specs.Prelude.{IfSome, if◌then◌else◌}
 use Rattle.std.proofs.lemmas.Bool.{and_parts, ltb-true}
-use Rattle.mac_parameters.specs.Parameters.{attempt_limit, interframe_gap, interframe_gap_part_1, slot_time}
+use Rattle.mac_parameters.specs.Parameters.{attempt_limit, interframe_gap, interframe_gap_part_1, slot_time, most_half_bits, last_backoff, most_draws}
 use Rattle.manchester_line.specs.declared.Sym.{Sym}
 use Rattle.manchester_line.specs.Line.{is_signal}
 use Rattle.backoff_draw.specs.Draws.{draw_of}
 use Rattle.frame_layout.specs.declared.queue.Ready.{Ready}
 use Rattle.collision_log.specs.declared.row.Body.{Body}
-use Rattle.layout.specs.Limits.{most_half_bits}
 use Rattle.load_plan.specs.declared.plan.Plan.{Plan}
 use Rattle.mac_transmit.specs.declared.deference.Defer.{Defer}
 use Rattle.mac_transmit.specs.declared.deference.Defer.TheVariants.{Watch, Busy, Gap}
@@ -29,7 +28,7 @@ abbrev pub HoldsFrame : ℕ → ℕ → ℕ → Phase → Type 0
 HoldsFrame t place size Rest = Unit {0}
 HoldsFrame t place size Waiting = place < size
 HoldsFrame t place size (Sending start hit) = (place < size) × (start ≤ t) × IfSome hit (λ h. h ≤ t)
-HoldsFrame t place size (Backoff until) = (place < size) × (until ≤ 2100000000)
+HoldsFrame t place size (Backoff until) = (place < size) × (until ≤ last_backoff)
 
 -- a sender at half bit t that made at most m draws and holds no place after n
 pub record IsInRange (t m : ℕ) (s : Sender) : Type 0 where
@@ -50,7 +49,7 @@ one_more n h e = grind arith
 at_most_one : (n : ℕ) → (n + 1) % 2 ^ 68 ≤ n + 1
 at_most_one n = omega arith
 
-backs_off : (t u seed station made attempt : ℕ) → u ≡ t → t ≤ most_half_bits → u + slot_time * draw_of seed station made attempt ≤ 2100000000
+backs_off : (t u seed station made attempt : ℕ) → u ≡ t → t ≤ most_half_bits → u + slot_time * draw_of seed station made attempt ≤ last_backoff
 backs_off t u seed station made attempt e late = let few = draw_below seed station made attempt in omega (arith, few, late, e)
 
 ended : (t m : ℕ) (s : Sender) (hit : Option ℕ) → t ≤ most_half_bits → s.place < length s.queue → IsInRange t m s → IsInRange t (m + 1) (sending_ended s hit)
@@ -195,7 +194,7 @@ phase_is_in t q place Waiting e h = h
 phase_is_in t q place (Sending start hit) e h = absurd (cc)
 phase_is_in t q place (Backoff until) e h = h
 
-pub resumable_sender : (t m : ℕ) (s : Sender) → m ≤ 2000000000 → is_sending s.phase ≡ false → IsInRange t m s → IsStateOf s.queue (state_of s)
+pub resumable_sender : (t m : ℕ) (s : Sender) → m ≤ most_draws → is_sending s.phase ≡ false → IsInRange t m s → IsStateOf s.queue (state_of s)
 resumable_sender t m s few e h = record {
   place = h.place;
   phase = phase_is_in t s.queue s.place s.phase e h.phase;

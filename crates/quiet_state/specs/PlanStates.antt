@@ -2,13 +2,12 @@
 -- clause is named). Half bits, stations, devices and places count from 0, frames, attempts and ports from 1.
 use Rattle.std.specs.Prelude.{ℕ, ◌≡◌, ◌+◌, ◌<◌, ◌≤◌, ◌^◌, ◌⊎◌, ◌==◌, All, List, [], ◌∷◌, map, filter, flat_map, length, slice_get, slice_index_or, Some}
 use Rattle.std.specs.List.{range_with_len}
-use Rattle.mac_parameters.specs.Parameters.{attempt_limit, backoff_limit, check_sequence, jabber_rest, least_frame, most_octets}
+use Rattle.mac_parameters.specs.Parameters.{attempt_limit, backoff_limit, check_sequence, jabber_rest, least_frame, most_octets, most_half_bits}
 use Rattle.frame_layout.specs.declared.queue.Ready.{Ready}
 use Rattle.collision_log.specs.declared.row.Body.{Body}
 use Rattle.collision_log.specs.declared.row.Body.TheVariants.{Sent, Collided, GivenUp, Received, Dropped, Clash, Closed, Opened, Halted}
 use Rattle.collision_log.specs.declared.row.Row.{Row}
 use Rattle.collision_log.specs.Merged.{IsLogOrder}
-use Rattle.layout.specs.Limits.{most_half_bits}
 use Rattle.layout.specs.declared.lines.RepeaterLine.{RepeaterLine}
 use Rattle.load_plan.specs.declared.plan.Plan.{Plan}
 use Rattle.mac_transmit.specs.Resuming.{IsStateOf}

@@ -1,7 +1,7 @@
 //! The verdict of a text, for all receivers that hear it whole.
 ghost use Rattle.std.specs.Prelude.{◌≡◌, ◌<◌, ◌≤◌, ℕ, false, List, Some, length};
 ghost use Rattle.manchester_line.specs.declared.Sym.{Sym};
-ghost use Rattle.mac_parameters.specs.Parameters.{IsMost};
+ghost use Rattle.mac_parameters.specs.Parameters.{IsMost, most_half_bits};
 ghost use Rattle.collision_log.specs.declared.row.Body.TheVariants.{Received};
 ghost use Rattle.mac_receive.specs.KeptReceiver.{Hears};
 ghost use Rattle.mac_receive.specs.Receiver.{Receiving, receiver_after};
@@ -58,7 +58,7 @@ pub fn hear(lose: u32, most: u32, text: &[Sym]) -> Receiver
     requires lose { lose ≤ 48 }
     requires most { IsMost most }
     requires signal { IsAllSignal text.now }
-    requires few { length text.now ≤ 2000000000 }
+    requires few { length text.now ≤ most_half_bits }
     ensures hears { (r : Receiving) → AwaitsReception r → r.lose ≡ lose → r.most ≡ most →
         Hears (receiver_after r text.now false) result }
     ensures steps { result.steps ≡ length text.now }
@@ -75,7 +75,7 @@ pub fn tell(lose: u32, most: u32, text: &[Sym]) -> ReceptionVerdict
     requires lose { lose ≤ 48 }
     requires most { IsMost most }
     requires signal { IsAllSignal text.now }
-    requires few { length text.now < 2000000000 }
+    requires few { length text.now < most_half_bits }
     ensures told { result ≡ verdict_of_text lose most text.now }
     ensures count { (n : ℕ) → result.event ≡ Some (Received n) → length result.octets ≡ n }
 {

@@ -14,5 +14,5 @@ mod steady;
 mod texts;
 
 pub use laws::{signals_are_repeated, steadiness_lasts};
-pub use modes::Mode;
+pub use modes::{Mode, sends_to};
 pub use repeater::{Repeater, RepeaterEvents, behind_first, has_first};

@@ -9,10 +9,9 @@ use Rattle.collision_log.specs.declared.row.Body.{Body}
 use Rattle.collision_log.specs.declared.row.Body.TheVariants.{Sent, Collided, GivenUp, Cut, Received, Dropped, Clash, Closed, Opened, Halted}
 use Rattle.collision_log.specs.declared.row.Row.{Row}
 use Rattle.frame_layout.specs.declared.queue.Ready.{Ready}
-use Rattle.layout.specs.Limits.{most_half_bits}
 use Rattle.load_plan.specs.declared.plan.Plan.{Plan}
 use Rattle.log_meter.specs.LoggedRows.{IsLoggable}
-use Rattle.mac_parameters.specs.Parameters.{attempt_limit, check_sequence, least_frame, most_octets}
+use Rattle.mac_parameters.specs.Parameters.{attempt_limit, check_sequence, least_frame, most_octets, most_half_bits}
 use Rattle.mac_transmit.specs.declared.state.SenderState.{SenderState}
 use Rattle.network.specs.declared.outputs.Taken.{Taken}
 use Rattle.quiet_state.specs.PlanStates.{HappensToRepeater, HappensToStation, IsRowOf, ended_frames, own_rows, received_sizes, taken_size}

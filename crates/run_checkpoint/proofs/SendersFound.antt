@@ -8,7 +8,7 @@ use Rattle.frame_layout.specs.declared.queue.Ready.{Ready}
 use Rattle.layout.specs.NameOctets.{is_between}
 use Rattle.text_fields.specs.Reading.{Read, after_word, else_read}
 use Rattle.text_fields.proofs.FoundFields.{bind_some, word_text}
-use Rattle.mac_parameters.specs.Parameters.{attempt_limit, interframe_gap}
+use Rattle.mac_parameters.specs.Parameters.{attempt_limit, interframe_gap, last_backoff, most_draws}
 use Rattle.mac_transmit.specs.Resuming.{IsDeferIn, IsPhaseIn, IsStateOf}
 use Rattle.mac_transmit.specs.declared.deference.Defer.{Defer}
 use Rattle.mac_transmit.specs.declared.deference.Defer.TheVariants.{Watch, Busy, Gap}
@@ -18,7 +18,7 @@ use Rattle.mac_transmit.specs.declared.state.SenderState.{SenderState}
 use Rattle.run_checkpoint.specs.Fields.{beyond_ranges, figure_at, truth_at}
 use Rattle.run_checkpoint.specs.LineForms.{backoff_found, busy_found, defer_at, gap_defer_at, phase_at, phase_found, sender_form, watch_found}
 use Rattle.run_checkpoint.specs.LineTexts.{defer_words, line_of_sender, phase_words, yes_or_no}
-use Rattle.run_checkpoint.specs.Ranges.{is_defer_in, is_phase_in, is_sender_in, last_backoff, most_draws}
+use Rattle.run_checkpoint.specs.Ranges.{is_defer_in, is_phase_in, is_sender_in}
 use Rattle.run_checkpoint.proofs.Pieces.{five, sender_line_is, sender_pieces}
 use Rattle.run_checkpoint.proofs.Figures.{figure_text, truth_text, whole_text}
 use Rattle.run_checkpoint.proofs.SenderLines.{IsToldDefer, IsToldPhase, IsToldSender}

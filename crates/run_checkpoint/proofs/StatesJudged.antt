@@ -2,10 +2,10 @@
 use Rattle.std.proofs.Common.{◌≡◌, ℕ, ◌<◌, ◌≤◌, Bool, true, false, List, [], ◌∷◌, ◌++◌, flat_map, length, None, Ok, refl, sym, ap, subst, ◌∙◌, arith, inl, inr}
 use Rattle.std.specs.Prelude.{nat_lt}
 use Rattle.std.proofs.lemmas.Bool.{cases_Bool, leb-false, ltb-true, lt-ltb, le-ltb}
+use Rattle.mac_parameters.specs.Parameters.{most_half_bits}
 use Rattle.collision_log.specs.declared.row.Body.{Body}
 use Rattle.collision_log.specs.declared.row.Body.TheVariants.{Sent, Collided, GivenUp, Cut, Received, Dropped, Clash, Closed, Opened, Halted}
 use Rattle.collision_log.specs.declared.row.Row.{Row}
-use Rattle.layout.specs.Limits.{most_half_bits}
 use Rattle.load_plan.specs.declared.plan.Plan.{Plan}
 use Rattle.load_plan.proofs.PlansAreSound.{sound_of_plan}
 use Rattle.log_meter.specs.Lines.{is_of_repeater}

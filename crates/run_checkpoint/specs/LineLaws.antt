@@ -3,8 +3,7 @@
 use Rattle.std.specs.Prelude.{◌≡◌, ℕ, ◌<◌, ◌≤◌, ◌^◌, true, List, length, Some}
 use Rattle.std.specs.List.{AllByRecursion}
 use Rattle.frame_layout.specs.declared.queue.Ready.{Ready}
-use Rattle.layout.specs.Limits.{most_half_bits}
-use Rattle.mac_parameters.specs.Parameters.{jabber_rest}
+use Rattle.mac_parameters.specs.Parameters.{jabber_rest, most_half_bits}
 use Rattle.mac_transmit.specs.Resuming.{IsStateOf}
 use Rattle.mac_transmit.specs.declared.state.SenderState.{SenderState}
 use Rattle.port_partition.specs.Guard.{Guard, IsGuard}

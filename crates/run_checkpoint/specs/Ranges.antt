@@ -5,11 +5,10 @@ use Rattle.collision_log.specs.declared.row.Body.{Body}
 use Rattle.collision_log.specs.declared.row.Body.TheVariants.{Sent, Collided, GivenUp, Cut, Received, Dropped, Clash, Closed, Opened, Halted}
 use Rattle.collision_log.specs.declared.row.Row.{Row}
 use Rattle.frame_layout.specs.declared.queue.Ready.{Ready}
-use Rattle.layout.specs.Limits.{most_half_bits}
 use Rattle.layout.specs.NameOctets.{is_between}
 use Rattle.layout.specs.declared.lines.RepeaterLine.{RepeaterLine}
 use Rattle.load_plan.specs.declared.plan.Plan.{Plan}
-use Rattle.mac_parameters.specs.Parameters.{attempt_limit, check_sequence, interframe_gap, jabber_rest, least_frame, most_octets, partition_collision, partition_in_a_row, reconnection}
+use Rattle.mac_parameters.specs.Parameters.{attempt_limit, check_sequence, interframe_gap, jabber_rest, least_frame, most_octets, partition_collision, partition_in_a_row, reconnection, most_half_bits, last_backoff, most_draws}
 use Rattle.mac_transmit.specs.declared.deference.Defer.{Defer}
 use Rattle.mac_transmit.specs.declared.deference.Defer.TheVariants.{Gap}
 use Rattle.mac_transmit.specs.declared.phase.Phase.{Phase}
@@ -17,14 +16,6 @@ use Rattle.mac_transmit.specs.declared.phase.Phase.TheVariants.{Rest, Waiting, S
 use Rattle.mac_transmit.specs.declared.state.SenderState.{SenderState}
 use Rattle.port_partition.specs.Guard.{Guard}
 use Rattle.run_checkpoint.specs.Fields.{beyond_ranges}
-
--- the last half bit in which a backoff ends
-abbrev pub last_backoff : ℕ
-last_backoff = 2100000000
-
--- the most draws that a station made
-abbrev pub most_draws : ℕ
-most_draws = 2000000000
 
 -- the greatest number that is drawn
 abbrev pub greatest_draw : ℕ

@@ -9,16 +9,10 @@ use crate::fields::BEYOND_RANGES;
 use crate::guard_line::GuardLine;
 use crate::sender_line::{DeferLine, SenderLine};
 use mac_parameters::{
-    ATTEMPT_LIMIT, INTERFRAME_GAP, JABBER_REST, PARTITION_COLLISION, PARTITION_IN_A_ROW,
-    RECONNECTION,
+    ATTEMPT_LIMIT, INTERFRAME_GAP, JABBER_REST, LAST_BACKOFF, MOST_DRAWS, PARTITION_COLLISION,
+    PARTITION_IN_A_ROW, RECONNECTION,
 };
 use mac_transmit::Phase;
-
-/// The last half bit in which a backoff ends.
-pub const LAST_BACKOFF: u64 = 2_100_000_000;
-
-/// The most draws that a station made.
-pub const MOST_DRAWS: u64 = 2_000_000_000;
 
 /// The greatest number that is drawn.
 pub const GREATEST_DRAW: u32 = 1_023;

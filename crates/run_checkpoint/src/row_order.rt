@@ -7,9 +7,8 @@ ghost use Rattle.run_checkpoint.specs.Ranges.{do_all_end, ended_frame, frames_in
 
 use crate::ranges::{GREATEST_DRAW, is_between};
 use collision_log::{Body, Row};
-use layout::MOST_HALF_BITS;
 use load_plan::Plan;
-use mac_parameters::{ATTEMPT_LIMIT, CHECK_SEQUENCE, LEAST_FRAME, most_octets};
+use mac_parameters::{ATTEMPT_LIMIT, CHECK_SEQUENCE, LEAST_FRAME, MOST_HALF_BITS, most_octets};
 use mac_transmit::SenderState;
 
 /// Whether this may happen at a device with so many frames and ports, where frames have at most so many octets.

@@ -2,3 +2,4 @@ pub mod TapLines
 pub mod OnePages
 pub mod PlainWords
 pub mod PlainLines
+pub mod PictureRows

@@ -1,5 +1,5 @@
 //! Laws of pages: calls without a body, whose contracts are the laws.
-ghost use Rattle.run_page.specs.PageLaws.{NothingIsEscaped, OnePage};
+ghost use Rattle.run_page.specs.PageLaws.{NothingIsEscaped, OnePage, RowsAreAsInPictures};
 
 /// A plan has at most one page of a window: two texts that are it are equal.
 pub fn one_page()
@@ -10,4 +10,9 @@ pub fn one_page()
 /// of them has to be escaped.
 pub fn nothing_is_escaped()
     ensures { NothingIsEscaped }
+{}
+
+/// The rows that a page shows are those whose lines have a mark in a picture of the same half bits.
+pub fn rows_are_as_in_pictures()
+    ensures { RowsAreAsInPictures }
 {}

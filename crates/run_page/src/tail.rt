@@ -339,6 +339,7 @@ function previous(kind, t) {
 // ---- Words
 
 const group = number => number.toLocaleString("en-US");
+const counted = (number, noun) => `${group(number)} ${noun}${number === 1 ? "" : "s"}`;
 const microseconds = halfBits => `${group(halfBits / HALF_BITS_A_MICROSECOND)}\u00a0\u00b5s`;
 const UNITS = [
   { name: "half bits", short: "half bits", halfBits: 1 },
@@ -347,6 +348,7 @@ const UNITS = [
 ];
 
 function toldTime(halfBits) {
+  if (look.unit === 0) return counted(Math.round(halfBits), "half bit");
   const unit = UNITS[look.unit], digits = look.unit === 1 ? 2 : 0;
   return `${(halfBits / unit.halfBits).toLocaleString("en-US", { maximumFractionDigits: digits })} ${unit.short}`;
 }
@@ -363,8 +365,8 @@ const SENTENCES = {
   collided: row => `${row.device.name} heard ${heardAtHit(row)}, jammed, ${drawWords(row)}`,
   given_up: row => `${row.device.name} heard ${heardAtHit(row)} at attempt 16, jammed, and gave frame ${row.frame} up`,
   cut: row => `the run ended while ${row.device.name} was sending frame ${row.frame}, attempt ${row.attempt}`,
-  received: row => `${row.device.name} received ${group(row.octets)} octets from ${namesOf(bandsOfRow(row))}`,
-  dropped: row => `${row.device.name} dropped ${group(row.halves)} half bits ${WHYS[row.why]}: ` +
+  received: row => `${row.device.name} received ${counted(row.octets, "octet")} from ${namesOf(bandsOfRow(row))}`,
+  dropped: row => `${row.device.name} dropped ${counted(row.halves, "half bit")} ${WHYS[row.why]}: ` +
     `it heard ${namesOf(bandsOfRow(row))}`,
   clash: row => `${row.device.name} hears a collision and jams all its ports`,
   closed: row => `${row.device.name} closed port ${row.port}: nothing comes in by it until it opens again`,
@@ -378,7 +380,7 @@ const WHYS = {
 
 function heardAtHit(row) {
   const late = isLate(row) ? ", past the slot time" : "";
-  return `${namesOf(heardBy(row.device.tap, row.at))} after ${group(row.hit)} half bits${late}`;
+  return `${namesOf(heardBy(row.device.tap, row.at))} after ${counted(row.hit, "half bit")}${late}`;
 }
 
 const sentence = row => SENTENCES[row.what](row);

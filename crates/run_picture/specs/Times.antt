@@ -1,7 +1,7 @@
 -- Where half bits lie on the picture, in hundredths of a pixel from the plot's left edge (profile). Half bits count
 -- from 0.
 use Rattle.std.specs.Prelude.{ℕ, ◌+◌, ◌-◌, ◌*◌, ◌/◌, ◌<◌, ◌≤◌, nat_lt, if◌then◌else◌, List, ◌++◌, codes, decimal}
-use Rattle.layout.specs.Limits.{most_half_bits}
+use Rattle.mac_parameters.specs.Parameters.{most_half_bits}
 use Rattle.run_picture.specs.Sizes.{longest_window, plot_width}
 use Rattle.run_picture.specs.declared.window.Window.{Window}
 

@@ -1,7 +1,7 @@
 //! The picture of what a log tells of a window.
 ghost use Rattle.std.specs.Prelude.{◌≡◌, ◌≤◌, ◌<◌, ◌+◌, IfOk, None};
 ghost use Rattle.std.specs.List.{AllByRecursion};
-ghost use Rattle.layout.specs.Limits.{most_half_bits};
+ghost use Rattle.mac_parameters.specs.Parameters.{most_half_bits};
 ghost use Rattle.layout.specs.Sound.{IsSound};
 ghost use Rattle.log_meter.specs.Lines.{IsLogLine};
 ghost use Rattle.run_picture.specs.Pictures.{picture_of};

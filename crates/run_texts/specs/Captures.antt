@@ -1,9 +1,8 @@
 -- The captures of a run as they are written (profile, where no clause is named). Half bits count from 0.
 use Rattle.std.specs.Prelude.{ℕ, ◌*◌, ◌≤◌, List, All, map, length}
-use Rattle.mac_parameters.specs.Parameters.{nanoseconds_a_half_bit, most_octets_tagged}
+use Rattle.mac_parameters.specs.Parameters.{nanoseconds_a_half_bit, most_octets_tagged, most_half_bits}
 use Rattle.capture_file.specs.Writing.{capture_text, whole_record}
 use Rattle.capture_file.specs.declared.entries.Record.{Record}
-use Rattle.layout.specs.Limits.{most_half_bits}
 use Rattle.network.specs.declared.outputs.Taken.{Taken}
 
 -- The record of a frame that a station received, with the nanoseconds from the start of the run to the half bit in

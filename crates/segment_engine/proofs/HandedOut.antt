@@ -1,5 +1,6 @@
 -- What a segment hands out, and how few windows there are.
 use Rattle.std.proofs.Common.{◌≡◌, ℕ, ◌*◌, ◌<◌, ◌≤◌, List, ◌++◌, ap, ap₂, ◌∙◌, arith, mul-le-mul_right}
+use Rattle.mac_parameters.specs.Parameters.{most_half_bits}
 use Rattle.collision_log.specs.declared.row.Row.{Row}
 use Rattle.load_plan.specs.declared.plan.Plan.{Plan}
 use Rattle.mac_transmit.specs.Sender.{Sender}
@@ -60,7 +61,7 @@ kept_room plan u wd a r rows captures is = record {
 }
 
 -- a run has few windows
-pub few_windows : (plan : Plan) (wd : ℕ) → wd < windows plan → wd < 2000000000
+pub few_windows : (plan : Plan) (wd : ℕ) → wd < windows plan → wd < most_half_bits
 few_windows plan wd some =
     let L = lookahead plan.layout in
     let lead = lead_some plan wd some in

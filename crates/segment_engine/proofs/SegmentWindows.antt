@@ -1,5 +1,6 @@
 -- When the windows of a segment begin, and how many half bits they have.
 use Rattle.std.proofs.Common.{◌≡◌, ◌<◌, ◌≤◌, ◌+◌, ◌-◌, ◌*◌, ℕ, min, sym, ap, ap₂, ◌∙◌, arith}
+use Rattle.mac_parameters.specs.Parameters.{most_half_bits}
 use Rattle.load_plan.specs.declared.plan.Plan.{Plan}
 use Rattle.network.specs.Outputs.{half_bits}
 use Rattle.network.proofs.RunnablePlans.{runnable_plan}
@@ -35,13 +36,13 @@ module _ (g : Segment) (wd t : ℕ) (below : wd < g.windows) (at : t ≡ time g.
     pub within_window : count ≤ g.lookahead
     within_window = omega (arith, least, all)
 
-    pub within_run : (u k : ℕ) → u ≡ wd * g.lookahead + k → k ≤ count → u + (count - k) ≤ 2000000000
+    pub within_run : (u k : ℕ) → u ≡ wd * g.lookahead + k → k ≤ count → u + (count - k) ≤ most_half_bits
     within_run u k is h =
         let b = window_begins plan wd is_window in
         let n = half_bits_are in
         let p = product in
         let short = (runnable_plan plan).short in
-        let few : half_bits plan ≤ 2000000000 = omega (arith, short) in
+        let few : half_bits plan ≤ most_half_bits = omega (arith, short) in
         omega (arith, is, h, b, n, p, few)
 
     pub ends : (u k : ℕ) → u ≡ wd * g.lookahead + k → k ≡ count → u ≡ time plan (wd + 1)

@@ -2,6 +2,7 @@
 use Rattle.std.proofs.Common.{◌≡◌, ℕ, true, ◌+◌, ◌*◌, ◌/◌, ◌<◌, ◌≤◌, min, List, length, sym, subst, ap, ◌∙◌, arith, mul-le-mul_right}
 use Rattle.std.proofs.lemmas.Bool.Decides.{nat_tests}
 use Rattle.std.proofs.lemmas.Nat.{div-add-mod'}
+use Rattle.mac_parameters.specs.Parameters.{most_half_bits}
 use Rattle.load_plan.specs.declared.plan.Plan.{Plan}
 use Rattle.network.specs.Outputs.{half_bits}
 use Rattle.network.proofs.RunnablePlans.{runnable_plan}
@@ -33,7 +34,7 @@ module _ (plan : Plan) (s wd l : ℕ) (a : Running) (length_is : l ≡ lookahead
   pub starts : a.t ≡ wd * L
   starts = at ∙ window_starts plan wd below
 
-  pub begins_early : a.t < 2000000000
+  pub begins_early : a.t < most_half_bits
   begins_early = let b = window_begins plan wd below in let is = starts in let short = (runnable_plan plan).short in omega (arith, b, is, short)
 
   -- what comes in is known up to now
@@ -60,7 +61,7 @@ module _ (plan : Plan) (s wd l : ℕ) (a : Running) (length_is : l ≡ lookahead
         let all : (wd + count) * L ≡ wd * L + count * L = omega arith in
         omega (arith, is, b, all)
 
-    pub ends_early : a.t + count * L ≤ 2000000000
+    pub ends_early : a.t + count * L ≤ most_half_bits
     ends_early =
         let b = window_begins plan (wd + count) last in
         let is = starts in

@@ -1,5 +1,6 @@
 -- How a segment goes on within a window, so many half bits at a time (profile). Half bits and windows count from 0.
 use Rattle.std.specs.Prelude.{ℕ, ◌≡◌, ◌≤◌, ◌+◌, ◌*◌, List, map}
+use Rattle.mac_parameters.specs.Parameters.{most_half_bits}
 use Rattle.net_parts.specs.declared.parcel.Parcel.{Parcel}
 use Rattle.net_parts.specs.SegmentParts.{wiring}
 use Rattle.segment_engine.specs.declared.running.Running.{Running}
@@ -19,7 +20,7 @@ pub record MayGoOnFor (of : Segment) (window k n : ℕ) (a : Running) (ps : List
   pub at : IsRunningAt of.plan.value of.number ((window + 1) * of.lookahead) a
   pub time : a.t ≡ window * of.lookahead + k
   pub within : k + n ≤ of.lookahead
-  pub in_time : a.t + n ≤ 2000000000
+  pub in_time : a.t + n ≤ most_half_bits
   pub parcels : ps ≡ parcels_at of window k
   pub lines : HaveLinesRoom of.plan.value of.number n a.lines.items
 

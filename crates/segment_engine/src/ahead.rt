@@ -1,5 +1,6 @@
 //! What stations emit in the half bits ahead, if nothing happens to them.
 ghost use Rattle.std.specs.Prelude.{◌≡◌, ◌≤◌, ◌<◌, ◌+◌, ◌^◌, ℕ, true, All, length, take, slice_index_or};
+ghost use Rattle.mac_parameters.specs.Parameters.{most_half_bits};
 ghost use Rattle.manchester_line.specs.Line.{is_signal as is_signal_of};
 ghost use Rattle.mac_transmit.specs.Emissions.{emission_by};
 ghost use Rattle.mac_transmit.specs.Sender.{Sender, symbol_of, is_sending as is_sending_in};
@@ -59,7 +60,7 @@ fn send_ahead(
 /// so many. It answers how many.
 fn send_on(t: u64, count: u32, sender: &Transmitter, line: &mut Line, piece: &mut [Sym]) -> u32
     requires time { t ≡ sender.now.t }
-    requires in_time { t + count ≤ 2000000000 }
+    requires in_time { t + count ≤ most_half_bits }
     requires room { count ≤ line.old.room }
     requires piece { count ≤ length piece.old }
     ensures within { result ≤ count }
@@ -82,7 +83,7 @@ fn send_on(t: u64, count: u32, sender: &Transmitter, line: &mut Line, piece: &mu
 /// sender. It answers for how many.
 fn go_ahead(t: u64, count: u32, sender: &Transmitter, line: &mut Line, piece: &mut [Sym]) -> u32
     requires time { t ≡ sender.now.t }
-    requires in_time { t + count ≤ 2000000000 }
+    requires in_time { t + count ≤ most_half_bits }
     requires room { count ≤ line.old.room }
     requires piece { count ≤ length piece.old }
     ensures within { result ≤ count }
@@ -107,7 +108,7 @@ pub fn emit_ahead(
 ) -> u32
     requires few { length senders.now ≤ length lines.old }
     requires times { All (λ s. s.t ≡ t) senders.now }
-    requires in_time { t + count ≤ 2000000000 }
+    requires in_time { t + count ≤ most_half_bits }
     requires piece { count ≤ length piece.old }
     requires room { (r : ℕ) (d : TapLine) → r < length senders.now → count ≤ (slice_index_or lines.old r d).room }
     ensures within { result ≤ count }

@@ -1,5 +1,6 @@
 //! Half bits in which nothing happens on a segment, many at once.
 ghost use Rattle.std.specs.Prelude.{◌≡◌, ◌≤◌, ◌<◌, ◌+◌, ◌*◌, ℕ, true, false, All, map, length, replicate, slice_index_or};
+ghost use Rattle.mac_parameters.specs.Parameters.{most_half_bits};
 ghost use Rattle.manchester_line.specs.declared.Sym.TheVariants.{Idle};
 ghost use Rattle.mac_receive.specs.KeptReceiver.{Kept, Hears};
 ghost use Rattle.mac_receive.specs.Receiver.{Receiving, receiver_after};
@@ -42,7 +43,7 @@ pub fn is_sending(sender: &Transmitter) -> bool
 /// For how many half bits from `t` on, at most `most`, no station sends or begins to, where all of them hear Idle.
 fn calm_half_bits(t: u64, senders: &[Transmitter], most: u32) -> u32
     requires times { All (λ s. s.t ≡ t) senders.now }
-    requires in_time { t < 2000000000 }
+    requires in_time { t < most_half_bits }
     ensures within { result ≤ most }
     ensures calm { 0 < result → All (IsCalmFor result) senders.now }
 {
@@ -60,7 +61,7 @@ fn calm_half_bits(t: u64, senders: &[Transmitter], most: u32) -> u32
 /// For how many half bits, at most `most`, nothing happens; none at once says nothing.
 pub fn quiet_half_bits(state: &Running, most: u32) -> u32
     requires times { All (λ s. s.t ≡ state.now.t) state.now.senders.items }
-    requires in_time { state.now.t < 2000000000 }
+    requires in_time { state.now.t < most_half_bits }
     ensures within { result ≤ most }
     ensures quiet { 0 < result → IsQuietFor result state.now }
 {
@@ -74,7 +75,7 @@ pub fn quiet_half_bits(state: &Running, most: u32) -> u32
 /// So many half bits from `t` on of senders to which nothing happens in them.
 fn leap_senders(t: u64, count: u32, senders: &mut [Transmitter])
     requires times { All (λ s. s.t ≡ t) senders.old }
-    requires in_time { t + count ≤ 2000000000 }
+    requires in_time { t + count ≤ most_half_bits }
     requires calm { All (IsCalmFor count) senders.old }
     ensures states { (i : ℕ) (d : Sender) → i < length senders.new →
         slice_index_or senders.new i d ≡ after_all (slice_index_or senders.old i d) (replicate count Idle) }
@@ -89,7 +90,7 @@ fn leap_senders(t: u64, count: u32, senders: &mut [Transmitter])
 /// So many half bits from `t` on of receivers that are at rest and hear Idle.
 fn leap_receivers(t: u64, count: u32, receivers: &mut [Receiver])
     requires steps { All (λ r. r.steps ≡ t) receivers.old }
-    requires in_time { t + count ≤ 2000000000 }
+    requires in_time { t + count ≤ most_half_bits }
     requires rest { AreAtRest receivers.old }
     ensures states { (i : ℕ) (d : Kept) (r : Receiving) → i < length receivers.new → Hears r (slice_index_or receivers.old i d) →
         Hears (receiver_after r (replicate count Idle) false) (slice_index_or receivers.new i d) }
@@ -105,7 +106,7 @@ fn leap_receivers(t: u64, count: u32, receivers: &mut [Receiver])
 pub fn leap_quiet(of: &Segment, window: u64, count: u32, state: &mut Running)
     requires at { IsRunningAt of.now.plan.value of.now.number ((window + 1) * of.now.lookahead) state.old }
     requires within { state.old.t + count ≤ (window + 1) * of.now.lookahead }
-    requires in_time { state.old.t + count ≤ 2000000000 }
+    requires in_time { state.old.t + count ≤ most_half_bits }
     requires quiet { IsQuietFor count state.old }
     requires lines { HaveLinesRoom of.now.plan.value of.now.number count state.old.lines.items }
     ensures at { IsRunningAt of.now.plan.value of.now.number ((window + 1) * of.now.lookahead) state.new }
@@ -129,7 +130,7 @@ pub fn leap_quiet(of: &Segment, window: u64, count: u32, state: &mut Running)
 /// So many half bits in which nothing happens and nothing but Idle comes in for the ports.
 pub fn pass(of: &Segment, count: u32, state: &mut Running)
     requires at { IsRunningAt of.now.plan.value of.now.number state.old.t state.old }
-    requires in_time { state.old.t + count ≤ 2000000000 }
+    requires in_time { state.old.t + count ≤ most_half_bits }
     requires quiet { IsQuietFor count state.old }
     requires silent { ComeInIdle of.now.plan.value (wiring of.now.plan.value.layout of.now.number).edges state.old.t count }
     ensures at { IsRunningAt of.now.plan.value of.now.number (state.old.t + count) state.new }

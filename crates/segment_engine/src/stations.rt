@@ -1,5 +1,6 @@
 //! The stations of a segment, one half bit on.
 ghost use Rattle.std.specs.Prelude.{◌≡◌, ◌<◌, ◌+◌, ◌++◌, ℕ, suc, List, All, length, map};
+ghost use Rattle.mac_parameters.specs.Parameters.{most_half_bits};
 ghost use Rattle.manchester_line.specs.Line.{is_signal};
 ghost use Rattle.mac_receive.specs.KeptReceiver.{Hears, IsReceiver};
 ghost use Rattle.mac_receive.specs.Receiver.{Receiving, receiver_step};
@@ -31,7 +32,7 @@ fn step_station(
 ) -> Sym
     requires time { sender.old.t ≡ t }
     requires steps { receiver.old.steps ≡ t }
-    requires in_time { t < 2000000000 }
+    requires in_time { t < most_half_bits }
     requires hears { IsReceiver receiver.old }
     requires station { station < length room.old.captures }
     requires room { Covers (both_demands (sender_demand 1 sender.old) (receiver_demand 1 receiver.old)) room.old }
@@ -74,7 +75,7 @@ pub fn step_stations(
     requires captures_len { length room.old.captures ≡ length senders.old }
     requires times { All (λ s. s.t ≡ t) senders.old }
     requires steps { All (λ r. r.steps ≡ t) receivers.old }
-    requires in_time { t < 2000000000 }
+    requires in_time { t < most_half_bits }
     requires hear { All IsReceiver receivers.old }
     requires room { Covers (stations_demand 1 senders.old receivers.old) room.old }
     ensures times { All (λ s. s.t ≡ t + 1) senders.new }

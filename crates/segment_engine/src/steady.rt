@@ -1,6 +1,7 @@
 //! Several half bits at once in which each station hears a signal all the time, or Idle all the time, and goes on with
 //! what it does. A reception may end in the first of them.
 ghost use Rattle.std.specs.Prelude.{◌≡◌, ◌≤◌, ◌<◌, ◌+◌, ◌-◌, ◌^◌, ◌++◌, ℕ, List, [], false, All, length, replicate, slice_index_or};
+ghost use Rattle.mac_parameters.specs.Parameters.{most_half_bits};
 ghost use Rattle.manchester_line.specs.declared.Sym.{Sym};
 ghost use Rattle.manchester_line.specs.declared.Sym.TheVariants.{Idle};
 ghost use Rattle.manchester_line.specs.Line.{is_signal as is_signal_of};
@@ -33,7 +34,7 @@ use window_room::{RowRoom, receive_one};
 pub fn calm_ahead(t: u64, heard: &[Sym], senders: &[Transmitter], most: u32) -> u32
     requires many { length senders.now ≤ length heard.now }
     requires times { All (λ s. s.t ≡ t) senders.now }
-    requires in_time { t < 2000000000 }
+    requires in_time { t < most_half_bits }
     ensures within { result ≤ most }
     ensures calm { (r : ℕ) (d : Sender) → r < length senders.now →
         IsCalmAs result (is_signal_of (slice_index_or heard.now r Idle)) (slice_index_or senders.now r d) }
@@ -58,7 +59,7 @@ fn take_idle(
     room: &mut RowRoom,
 )
     requires steps { receiver.old.steps ≡ t }
-    requires in_time { t + count ≤ 2000000000 }
+    requires in_time { t + count ≤ most_half_bits }
     requires hears { IsReceiver receiver.old }
     requires station { station < length room.old.captures }
     requires room { Covers (receiver_demand count receiver.old) room.old }
@@ -98,7 +99,7 @@ fn take_one(
     requires reach { IsReachOf far lookahead lines.now }
     requires loud { AreIdleButFor (t - far) lines.now loud.now.taps }
     requires steps { receiver.old.steps ≡ t }
-    requires in_time { t + length piece.old ≤ 2000000000 }
+    requires in_time { t + length piece.old ≤ most_half_bits }
     requires hears { IsReceiver receiver.old }
     requires station { p < length room.old.captures }
     requires room { Covers (receiver_demand (length piece.old) receiver.old) room.old }
@@ -145,7 +146,7 @@ fn take_all(
     requires reach { IsReachOf far lookahead lines.now }
     requires loud { AreIdleButFor (t - far) lines.now loud.now.taps }
     requires steps { All (λ r. r.steps ≡ t) receivers.old }
-    requires in_time { t + length piece.old ≤ 2000000000 }
+    requires in_time { t + length piece.old ≤ most_half_bits }
     requires hear { All IsReceiver receivers.old }
     requires room { Covers (receivers_demand (length piece.old) receivers.old) room.old }
     requires steady { (r j : ℕ) → r < length senders.now → j < length piece.old →
@@ -218,7 +219,7 @@ fn put_all(
 fn leap_all(t: u64, count: u32, heard: &[Sym], senders: &mut [Transmitter])
     requires many { length senders.old ≤ length heard.now }
     requires times { All (λ s. s.t ≡ t) senders.old }
-    requires in_time { t + count ≤ 2000000000 }
+    requires in_time { t + count ≤ most_half_bits }
     requires calm { (r : ℕ) (d : Sender) → r < length senders.old →
         count ≤ calm_of (slice_index_or senders.old r d) (is_signal_of (slice_index_or heard.now r Idle)) }
     ensures states { (i : ℕ) (d : Sender) (hs : List Sym) → i < length senders.new →

@@ -1,5 +1,6 @@
 //! A window of a segment.
 ghost use Rattle.std.specs.Prelude.{◌≡◌, ◌<◌, ◌≤◌, ◌+◌, ◌*◌, map};
+ghost use Rattle.mac_parameters.specs.Parameters.{most_half_bits};
 ghost use Rattle.net_parts.specs.Windows.{time};
 ghost use Rattle.net_parts.specs.SegmentParts.{wiring};
 ghost use Rattle.net_parts.specs.Parcels.{arrived, refilled};
@@ -23,7 +24,7 @@ const FEW_AHEAD: u32 = 64;
 fn begin(of: &Segment, window: u64, state: &mut Running, parcels: &[Parcel])
     requires at { IsRunningAt of.now.plan.value of.now.number (window * of.now.lookahead) state.old }
     requires time { state.old.t ≡ window * of.now.lookahead }
-    requires in_time { state.old.t < 2000000000 }
+    requires in_time { state.old.t < most_half_bits }
     requires parcels { parcels.now
         ≡ map (half_filled of.now.plan.value of.now.lookahead window 0) (wiring of.now.plan.value.layout of.now.number).edges }
     ensures at { IsRunningAt of.now.plan.value of.now.number ((window + 1) * of.now.lookahead) state.new }

@@ -1,6 +1,6 @@
 //! What taps emit while the network of a plan runs.
 ghost use Rattle.std.specs.Prelude.{◌≡◌, ◌+◌, ◌-◌, ◌<◌, ◌≤◌, ◌^◌, ℕ, [], length, map, slice_index_or, All, IfOk, OnOk};
-ghost use Rattle.mac_parameters.specs.Parameters.{greatest_delay};
+ghost use Rattle.mac_parameters.specs.Parameters.{greatest_delay, most_half_bits};
 ghost use Rattle.layout.specs.Paths.{IsTap};
 ghost use Rattle.network.specs.Net.{net};
 ghost use Rattle.network.specs.Outputs.{half_bits};
@@ -117,7 +117,7 @@ fn tell_step(
 ) -> Result<(), OutOfMemory>
     requires taps { All (IsTap plan.now.layout) taps.now }
     requires rests { length rests.old ≡ length taps.now }
-    requires in_time { t < 2000000000 }
+    requires in_time { t < most_half_bits }
     requires time { whole.old.t ≡ t }
     requires stands { Stands (net plan.now t) whole.old }
     requires told { AreListsTold plan.now taps.now window.start window.end t lists.old }

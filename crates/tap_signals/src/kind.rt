@@ -1,12 +1,11 @@
 //! The kinds of signals.
 ghost use Rattle.std.specs.Prelude.{◌≡◌, ◌↔◌, ◌^◌, ◌<◌, IsTrue};
 ghost use Rattle.mac_transmit.specs.Sender.{jam_start};
-ghost use Rattle.repeater_core.specs.SilentParts.{sends_to};
 ghost use Rattle.tap_signals.specs.Kinds.{decided_kind, kind_of_mode, sent_kind};
 
 use mac_parameters::{HALF_BITS_A_BIT, PREAMBLE};
 use mac_transmit::Phase;
-use repeater_core::Mode;
+use repeater_core::{Mode, sends_to};
 
 /// What a tap emits. A station sends a frame, and after a hit the jam. A port repeats what another port of its
 /// repeater hears, which is counted from 0, or makes a fragment longer, or jams.
@@ -69,20 +68,6 @@ fn kind_of_mode(mode: Mode) -> Option<SignalKind>
         Mode::RxClash { .. } => Some(SignalKind::Jam),
         Mode::TxClash { .. } => Some(SignalKind::Jam),
         Mode::OnePort { .. } => Some(SignalKind::Jam),
-    }
-}
-
-/// Whether a repeater in this mode sends to this port, counted from 0.
-fn sends_to(mode: Mode, port: u32) -> bool
-    ensures { result ≡ sends_to mode port }
-{
-    match mode {
-        Mode::Idle => false,
-        Mode::TxClash { .. } => true,
-        Mode::Repeat { n, .. } => n != port,
-        Mode::Extend { n, .. } => n != port,
-        Mode::RxClash { n, .. } => n != port,
-        Mode::OnePort { n, .. } => n != port,
     }
 }
 

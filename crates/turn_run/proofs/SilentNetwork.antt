@@ -4,6 +4,7 @@ use Rattle.std.specs.List.{flat_map}
 use Rattle.std.proofs.lemmas.List.{length-map, get_or-map}
 use Rattle.std.proofs.lemmas.Bool.{cases_eq, cases_lt}
 use Rattle.std.proofs.lemmas.Bool.Decides.{nat_tests}
+use Rattle.mac_parameters.specs.Parameters.{most_half_bits}
 use Rattle.manchester_line.specs.declared.Sym.{Sym}
 use Rattle.manchester_line.specs.declared.Sym.TheVariants.{Idle}
 use Rattle.layout.specs.declared.lines.PortLine.{PortLine}
@@ -141,7 +142,7 @@ module _ (plan : Plan) (w n : ℕ)
       ap (λ x. port_hears plan x (t + j)) (ap (λ xs. get_or xs p 0) es_are ∙ span_at b c p 0 p_in) ∙ all_heard (b + p) j (omega (arith, most, p_in)) l
 
 -- a run has few windows
-pub few_windows : (plan : Plan) (v : ℕ) → v < windows plan → v < 2000000000
+pub few_windows : (plan : Plan) (v : ℕ) → v < windows plan → v < most_half_bits
 few_windows plan v below =
     let L = lookahead plan.layout in
     let lead = some_lead plan in

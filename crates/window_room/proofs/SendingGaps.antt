@@ -1,7 +1,7 @@
 -- The rows of a sender whose gaps are kept.
 use Rattle.std.proofs.Common.{◌≡◌, ℕ, suc, ◌+◌, ◌*◌, ◌/◌, ◌≤◌, ◌⊎◌, inl, inr, Bool, true, false, ◌&&◌, ltb, leb, Option, Some, None, List, [], ◌∷◌, length, refl, sym, ap, subst, ◌∙◌, arith}
 use Rattle.std.specs.Prelude.{if◌then◌else◌}
-use Rattle.mac_parameters.specs.Parameters.{interframe_gap}
+use Rattle.mac_parameters.specs.Parameters.{interframe_gap, most_half_bits}
 use Rattle.std.proofs.lemmas.Bool.{cond_both, leb-true}
 use Rattle.std.proofs.lemmas.Option.{none-some}
 use Rattle.manchester_line.specs.Line.{is_signal}
@@ -138,7 +138,7 @@ after_event hs s h y (Some b) is k e m g few =
     let rest : Few hs (sender_step s h).state s.t = few s.t (k.end ∙ ap (end_after s.last_end s.t) is) (omega (arith, time)) (gap_next s h k (λ _. g)) in
     omega (arith, rest, time, far s h y b e g is)
 
-after_end : (hs : List Sym) (s : Sender) (y : ℕ) → IsSender s → s.t + length hs ≤ 2000000000 → s.last_end ≡ Some y → y ≤ s.t → IsGapKept s → Few hs s y
+after_end : (hs : List Sym) (s : Sender) (y : ℕ) → IsSender s → s.t + length hs ≤ most_half_bits → s.last_end ≡ Some y → y ≤ s.t → IsGapKept s → Few hs s y
 after_end [] s y v l e m g = omega (arith, m)
 after_end (h ∷ hs) s y v l e m g =
     let k = going.steps s h v (omega (arith, l)) in
@@ -154,12 +154,12 @@ any_event hs s h (Some b) is k few any =
     let rest : Few hs (sender_step s h).state s.t = few s.t (k.end ∙ ap (end_after s.last_end s.t) is) (omega (arith, time)) (gap_next s h k (λ e. absurd (none-some b (sym e ∙ is)))) in
     omega (arith, rest, time)
 
-any_state : (hs : List Sym) (s : Sender) → IsSender s → s.t + length hs ≤ 2000000000 → least_turn * length (sending_bodies s hs) ≤ length hs + least_turn
+any_state : (hs : List Sym) (s : Sender) → IsSender s → s.t + length hs ≤ most_half_bits → least_turn * length (sending_bodies s hs) ≤ length hs + least_turn
 any_state [] s v l = omega arith
 any_state (h ∷ hs) s v l =
     let k = going.steps s h v (omega (arith, l)) in
     let time : (sender_step s h).state.t ≡ s.t + 1 = k.time in
     any_event hs s h (sender_step s h).event refl k (λ z e m g. after_end hs (sender_step s h).state z k.valid (omega (arith, l, time)) e m g) (any_state hs (sender_step s h).state k.valid (omega (arith, l, time)))
 
-pub gaps : (s : Sender) (hs : List Sym) → IsSender s → s.t + length hs ≤ 2000000000 → length (sending_bodies s hs) ≤ 1 + length hs / least_turn
+pub gaps : (s : Sender) (hs : List Sym) → IsSender s → s.t + length hs ≤ most_half_bits → length (sending_bodies s hs) ≤ 1 + length hs / least_turn
 gaps s hs v l = omega (arith, any_state hs s v l)

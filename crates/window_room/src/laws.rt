@@ -1,7 +1,7 @@
 //! How much a station can log and capture in so many half bits, whatever comes: calls without a body, whose contracts
 //! are the laws.
 ghost use Rattle.std.specs.Prelude.{◌≡◌, ◌<◌, ◌≤◌, ◌+◌, ◌*◌, ◌/◌, ℕ, suc, Bool, List, All, Some, length, map, min};
-ghost use Rattle.mac_parameters.specs.Parameters.{check_sequence, half_bits_an_octet, preamble_length};
+ghost use Rattle.mac_parameters.specs.Parameters.{check_sequence, half_bits_an_octet, preamble_length, most_half_bits};
 ghost use Rattle.collision_log.specs.declared.row.Body.TheVariants.{Received};
 ghost use Rattle.manchester_line.specs.declared.Sym.{Sym};
 ghost use Rattle.mac_receive.specs.Receiver.{Receiving, receiver_bodies, receiver_step};
@@ -57,7 +57,7 @@ pub fn long_signals_give_few_rows()
 /// Whatever a sender hears, it has at most one row, and one more for each preamble and start frame delimiter; and since
 /// its gaps are kept, one more for each interframe gap beside that.
 pub fn sendings_are_few()
-    ensures gaps { (s : Sender) (heard : List Sym) → IsSender s → s.t + length heard ≤ 2000000000 →
+    ensures gaps { (s : Sender) (heard : List Sym) → IsSender s → s.t + length heard ≤ most_half_bits →
         length (sending_bodies s heard) ≤ 1 + length heard / least_turn }
     ensures any { (s : Sender) (heard : List Sym) →
         length (sending_bodies s heard) ≤ 1 + length heard / preamble_length }

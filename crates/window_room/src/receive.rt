@@ -1,5 +1,6 @@
 //! Stations over half bits: what they log and capture goes into room that was taken before, so that it takes no memory.
 ghost use Rattle.std.specs.Prelude.{◌≡◌, ◌+◌, ◌<◌, ◌≤◌, ℕ, suc, List, ◌++◌, length, Option, Some, OnOk};
+ghost use Rattle.mac_parameters.specs.Parameters.{most_half_bits};
 ghost use Rattle.collision_log.specs.declared.row.Body.TheVariants.{Received};
 ghost use Rattle.mac_receive.specs.KeptReceiver.{Hears, IsReceiver, kept_octets};
 ghost use Rattle.mac_receive.specs.Receiver.{Receiving, receiver_step};
@@ -134,7 +135,7 @@ pub fn receive_one(
     heard: Sym,
     sending: bool,
 )
-    requires steps { receiver.old.steps < 2000000000 }
+    requires steps { receiver.old.steps < most_half_bits }
     requires hears { IsReceiver receiver.old }
     requires station { station < length room.old.captures }
     requires room { Covers (receiver_demand 1 receiver.old) room.old }

@@ -1,6 +1,6 @@
 use Rattle.std.proofs.Common.{◌≡◌, ◌≤◌, ◌-◌, ℕ, List, ap, arith, drop, get_or, length, length-drop, subst, sym, take, ◌∙◌}
 use Rattle.std.proofs.lemmas.List.{take_all}
-use Rattle.layout.specs.Limits.{most_half_bits}
+use Rattle.mac_parameters.specs.Parameters.{most_half_bits}
 use Rattle.manchester_line.specs.declared.Sym.TheVariants.{Idle}
 use Rattle.line_probe.specs.Runs.{AreJoined, AreRunsOf, symbols_of_runs}
 use Rattle.line_probe.specs.declared.run.Run.{Run}

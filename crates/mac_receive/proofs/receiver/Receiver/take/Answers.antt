@@ -1,4 +1,5 @@
 use Rattle.std.proofs.Common.{◌≡◌, ◌+◌, ◌≤◌, ◌∙◌, length, sym, ap, refl, arith}
+use Rattle.mac_parameters.specs.Parameters.{most_half_bits}
 use Rattle.mac_receive.specs.Receiver.{receiver_after}
 use Rattle.mac_receive.proofs.LeapsAreSteps.{to_hears, same_kept, took, bodies_take}
 use Rattle.mac_receive.proofs.receiver.Receiver.take.Goals as goal
@@ -8,7 +9,7 @@ invariant_of-self c =
     let before = c.self.invariant in
     let awake : c.self.inside.deaf ≡ _ = ap (λ k. k.deaf) c.self.view_is ∙ c.requires.awake in
     let same : c.self.inside.steps ≡ c.args.self.now.steps = ap (λ k. k.steps) c.self.view_is in
-    let steps : c.self.inside.steps + length c.args.piece.now ≤ 2000000000 = omega (arith, same, c.requires.steps) in
+    let steps : c.self.inside.steps + length c.args.piece.now ≤ most_half_bits = omega (arith, same, c.requires.steps) in
     let one = before.5 in (
       before.0,
       before.1,

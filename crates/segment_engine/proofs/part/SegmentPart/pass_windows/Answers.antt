@@ -1,5 +1,6 @@
 use Rattle.std.proofs.Common.{◌≡◌, ◌+◌, ◌*◌, ◌<◌, ◌≤◌, sym, subst, ap, ap₂, ◌∙◌, arith}
 use Rattle.std.proofs.lemmas.Bool.{false≢true}
+use Rattle.mac_parameters.specs.Parameters.{most_half_bits}
 use Rattle.net_parts.specs.Windows.{lookahead, time, windows}
 use Rattle.net_parts.specs.SegmentParts.{wiring}
 use Rattle.segment_engine.specs.QuietHalfBits.{ComeInIdle}
@@ -20,7 +21,7 @@ pass-requires-clause-in_time c =
     let x = c.args.self.now in
     let last = c.requires.within in
     let long : c.from.result ≡ lookahead x.segment.plan.value.layout = c.from.ensures ∙ x.segment.window_length in
-    subst (λ l. x.state.t + c.args.count * l ≤ 2000000000) (sym long)
+    subst (λ l. x.state.t + c.args.count * l ≤ most_half_bits) (sym long)
     (ends_early x.segment.plan.value x.segment.number x.window x.segment.lookahead x.state x.segment.window_length x.stands x.at_time (omega (arith, last)) c.args.count last)
 
 pub pass-requires-clause-silent : goal.pass-requires-clause-silent
