@@ -74,8 +74,8 @@ def picture_head() -> bytes:
     """The front of a picture of the greatest network, up to its height: 1,800 units a lane and 3,200 more a segment."""
     lanes = STATIONS + REPEATERS + SEGMENTS - 1
     height = 9600 + 1800 * lanes + 3200 * SEGMENTS
-    return (f"<svg xmlns='http://www.w3.org/2000/svg' version='1.1' width='1280' height='{height // 100}' "
-            f"viewBox='-26000 0 128000 {height}'>\n").encode()
+    return ("<svg xmlns='http://www.w3.org/2000/svg' version='1.1' width='100%' "
+            f"viewBox='-26000 0 133000 {height}'>\n").encode()
 
 
 @maker

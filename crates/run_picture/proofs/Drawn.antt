@@ -15,12 +15,14 @@ use Rattle.run_picture.specs.Bands.{bands_text}
 use Rattle.run_picture.specs.Elements.{HasInMark, HitsHaveSigns, IsLaneOfStation, PortsHaveSigns, ReceptionsHaveSigns, SendingsHaveBars, TellsOfHit, TellsOfPort, TellsOfReception, TellsOfSending, bar_element, sign_element}
 use Rattle.run_picture.specs.Head.{head}
 use Rattle.run_picture.specs.Lanes.{page_of}
-use Rattle.run_picture.specs.Marks.{lane_of, lane_shapes, lanes_of_segment, mark, mark_of_line, marks, port_shapes, reception, repeater_shapes, shapes_at_station, shapes_of_line, shapes_on_lane, shown, sign_of_port, signs_of_ports, station_shapes, title_of, word_of_drop}
+use Rattle.run_picture.specs.Legend.{legend}
+use Rattle.run_picture.specs.Marks.{lane_of, lane_shapes, lanes_of_segment, mark, mark_of_line, marks, marks_from, port_shapes, reception, repeater_shapes, shapes_at_station, shapes_of_line, shapes_on_lane, shown, sign_of_port, signs_of_ports, station_shapes, title_of, word_if}
 use Rattle.run_picture.specs.Pictures.{picture_on}
 use Rattle.run_picture.specs.Sendings.{does_meet, does_sending_meet, hit_sign, hit_sign_at, is_in_window, last_wave, sending_of, sending_shapes}
 use Rattle.run_picture.specs.Signs.{bar, sending_word, sign, sign_word}
 use Rattle.run_picture.specs.Times.{x_of}
 use Rattle.run_picture.specs.Waves.{wave}
+use Rattle.run_picture.specs.WordRooms.{first_rooms, has_word, rooms_after}
 use Rattle.run_picture.specs.declared.lanes.Band.{Band}
 use Rattle.run_picture.specs.declared.lanes.Lane.{Lane}
 use Rattle.run_picture.specs.declared.lanes.Page.{Page}
@@ -30,20 +32,20 @@ use Rattle.run_picture.specs.declared.signs.Sign.TheVariants as the_sign
 use Rattle.run_picture.specs.declared.window.Window.{Window}
 
 -- this stands in a text
-record Has (text element : List ℕ) : Type 0 where
-  before : List ℕ
-  after : List ℕ
-  stands : text ≡ before ++ element ++ after
+pub record Has (text element : List ℕ) : Type 0 where
+  pub before : List ℕ
+  pub after : List ℕ
+  pub stands : text ≡ before ++ element ++ after
 
 -- a text stands in itself, and where it stands in a part of another it stands in that, too
-whole : (element : List ℕ) → Has element element
+pub whole : (element : List ℕ) → Has element element
 whole element = record { before = []; after = []; stands = sym (append-nil element) }
 
-in_first : (a b element : List ℕ) → Has a element → Has (a ++ b) element
+pub in_first : (a b element : List ℕ) → Has a element → Has (a ++ b) element
 in_first a b element h =
     record { before = h.before; after = h.after ++ b; stands = ap (λ xs. xs ++ b) h.stands ∙ append_assoc (h.before ++ element) h.after b }
 
-in_second : (a b element : List ℕ) → Has b element → Has (a ++ b) element
+pub in_second : (a b element : List ℕ) → Has b element → Has (a ++ b) element
 in_second a b element h =
     record {
       before = a ++ h.before;
@@ -54,31 +56,49 @@ in_second a b element h =
 in_same : (a b element : List ℕ) → a ≡ b → Has a element → Has b element
 in_same a b element same h = record { before = h.before; after = h.after; stands = sym same ∙ h.stands }
 
--- what is drawn of one of a list stands in what is drawn of all
-in_all : {A : Type 0} (f : A → List ℕ) (xs : List A) (x : A) (k : ℕ) → k < length xs → slice_index_or xs k x ≡ x → Has (flat_map f xs) (f x)
-in_all f [] x k within at = absurd (omega arith)
-in_all f (y ∷ ys) x zero within at = in_first (f y) (flat_map f ys) (f x) (subst (λ z. Has (f z) (f x)) (sym at) (whole (f x)))
-in_all f (y ∷ ys) x (suc k) within at = in_second (f y) (flat_map f ys) (f x) (in_all f ys x k (omega arith) at)
+mark_shown : (worded : Bool) (window : Window) (l : Layout) (bands : List Band) (line : LogLine) → does_meet window line ≡ true
+    → mark_of_line worded window l bands line ≡ mark worded window l bands line
+mark_shown worded window l bands line meets = ap (λ (b : Bool). cond b (mark worded window l bands line) []) meets
 
-mark_shown : (window : Window) (l : Layout) (bands : List Band) (line : LogLine) → does_meet window line ≡ true → mark_of_line window l bands line ≡ mark window l bands line
-mark_shown window l bands line meets = ap (λ (b : Bool). cond b (mark window l bands line) []) meets
+-- the mark of a line stands in a text, with a word or without one
+abbrev HasMark : Window → Layout → List Band → LogLine → List ℕ → Type 0
+HasMark window l bands line text = (worded : Bool) × Has text (mark worded window l bands line)
+
+-- a line's mark stands among those of all
+in_marks : (rooms : List ℕ) (window : Window) (l : Layout) (bands : List Band) (lines : List LogLine) (line : LogLine) (k : ℕ) → k < length lines → slice_index_or lines k line ≡ line
+    → does_meet window line ≡ true → HasMark window l bands line (marks_from rooms window l bands lines)
+in_marks rooms window l bands [] line k within at meets = absurd (omega arith)
+in_marks rooms window l bands (first ∷ lines) line zero within at meets =
+    let worded : Bool = has_word window l rooms line in
+    let one : Has (mark_of_line worded window l bands line) (mark worded window l bands line) =
+    in_same _ _ (mark worded window l bands line) (sym (mark_shown worded window l bands line meets)) (whole (mark worded window l bands line)) in (
+      worded,
+      subst (λ z. Has (marks_from rooms window l bands (z ∷ lines)) (mark worded window l bands line)) (sym at)
+          (in_first (mark_of_line worded window l bands line) (marks_from (rooms_after window l rooms line) window l bands lines) (mark worded window l bands line) one),
+    )
+in_marks rooms window l bands (first ∷ lines) line (suc k) within at meets =
+    let rest = in_marks (rooms_after window l rooms first) window l bands lines line k (omega arith) at meets in
+    (rest.0, in_second (mark_of_line (has_word window l rooms first) window l bands first) (marks_from (rooms_after window l rooms first) window l bands lines) (mark rest.0 window l bands line) rest.1)
 
 -- a line's mark stands in the picture
 mark_stands : (page : Page) (window : Window) (l : Layout) (lines : List LogLine) (line : LogLine) → Contains lines line → does_meet window line ≡ true
-    → Has (picture_on page window l lines) (mark window l page.bands line)
+    → HasMark window l page.bands line (picture_on page window l lines)
 mark_stands page window l lines line among meets =
-    let front : List ℕ = head page.height ++ axis window page.height ++ bands_text l l.segments page.bands in
-    in_first (front ++ marks window l page.bands lines) (codes "</svg>\n") (mark window l page.bands line)
-    (in_second front (marks window l page.bands lines) (mark window l page.bands line)
-    (subst (λ m. Has (marks window l page.bands lines) m) (mark_shown window l page.bands line meets)
-    (in_all (mark_of_line window l page.bands) lines line among.0 among.1 among.2)))
+    let front : List ℕ = head page.height ++ legend window lines ++ axis window page.height ++ bands_text l l.segments page.bands in
+    let m = in_marks (first_rooms l) window l page.bands lines line among.0 among.1 among.2 meets in (
+      m.0,
+      in_first (front ++ marks window l page.bands lines) (codes "</svg>\n") (mark m.0 window l page.bands line)
+          (in_second front (marks window l page.bands lines) (mark m.0 window l page.bands line) m.1),
+    )
 
 -- what stands in the shapes of a line stands in its mark in the picture
 in_mark : (page : Page) (window : Window) (l : Layout) (lines : List LogLine) (line : LogLine) (element : List ℕ) → Contains lines line → does_meet window line ≡ true
-    → Has (shapes_of_line window l page.bands line) element → HasInMark (picture_on page window l lines) line element
+    → ((worded : Bool) → Has (shapes_of_line worded window l page.bands line) element) → HasInMark (picture_on page window l lines) line element
 unfolding mark
-in_mark page window l lines line element among meets h =
-    let m = mark_stands page window l lines line among meets in
+in_mark page window l lines line element among meets all =
+    let found = mark_stands page window l lines line among meets in
+    let m = found.1 in
+    let h = all found.0 in
     record {
       front = m.before;
       before = h.before;
@@ -106,15 +126,15 @@ sign_begins window the_sign.Opened t y = one_sign (codes "opened") (x_of window 
 sign_begins window the_sign.Halted t y = one_sign (codes "halted") (x_of window t) y (codes "0 -500l500 500l-500 500l-500 -500z")
 
 -- a station's line draws on its lane
-on_lane : (window : Window) (l : Layout) (line : LogLine) (lane : Lane) → line.repeater ≡ false → (h : IsLaneOfStation l line.name lane)
-    → lane_shapes window line lane (lanes_of_segment (page_of l).bands h.station.segment) ≡ shapes_of_line window l (page_of l).bands line
-on_lane window l line lane at h =
+on_lane : (worded : Bool) (window : Window) (l : Layout) (line : LogLine) (lane : Lane) → line.repeater ≡ false → (h : IsLaneOfStation l line.name lane)
+    → lane_shapes worded window line lane (lanes_of_segment (page_of l).bands h.station.segment) ≡ shapes_of_line worded window l (page_of l).bands line
+on_lane worded window l line lane at h =
     let bands : List Band = (page_of l).bands in
     let lanes : List Lane = lanes_of_segment bands h.station.segment in
-    sym (ap (λ (b : Bool). cond b (repeater_shapes window l bands line) (station_shapes window l bands line)) at
-    ∙ ap (λ (o : Option ℕ). shown o (λ k. shown (slice_get l.stations k) (λ station. shapes_at_station window line k (lanes_of_segment bands station.segment)))) h.named
-    ∙ ap (λ (o : Option StationLine). shown o (λ station. shapes_at_station window line h.number (lanes_of_segment bands station.segment))) h.row
-    ∙ ap (λ (o : Option Lane). shown o (λ found. lane_shapes window line found lanes)) h.on_segment)
+    sym (ap (λ (b : Bool). cond b (repeater_shapes window l bands line) (station_shapes worded window l bands line)) at
+    ∙ ap (λ (o : Option ℕ). shown o (λ k. shown (slice_get l.stations k) (λ station. shapes_at_station worded window line k (lanes_of_segment bands station.segment)))) h.named
+    ∙ ap (λ (o : Option StationLine). shown o (λ station. shapes_at_station worded window line h.number (lanes_of_segment bands station.segment))) h.row
+    ∙ ap (λ (o : Option Lane). shown o (λ found. lane_shapes worded window line found lanes)) h.on_segment)
 
 -- a half bit in the window
 in_window : (from to t : ℕ) → from ≤ t → t < to → is_in_window (record { from = from; to = to }) t ≡ true
@@ -172,8 +192,8 @@ sendings_have_bars l lines from to line lane word start among at tells is_lane b
     (subst (λ w. Has (sending_shapes window d.sending lane lanes) (bar_element w (x_of window (max d.sending.start from)) (x_of window (min d.sending.end to)) lane.y)) d.word_is drawn)) in
     let meets : does_meet window line ≡ true = sending_meets from to line d.sending d.is d.end_is (omega (arith, d.start_is)) ended in
     in_mark (page_of l) window l lines line (bar_element word (x_of window (max start from)) (x_of window (min line.t to)) lane.y) among meets
-    (in_same _ _ (bar_element word (x_of window (max start from)) (x_of window (min line.t to)) lane.y)
-    (sym (ap (shapes_on_lane window line lane lanes) d.is) ∙ on_lane window l line lane at is_lane) named)
+    (λ worded. in_same _ _ (bar_element word (x_of window (max start from)) (x_of window (min line.t to)) lane.y)
+    (sym (ap (shapes_on_lane worded window line lane lanes) d.is) ∙ on_lane worded window l line lane at is_lane) named)
 
 -- when a sending began and ended, and its hit
 record IsHitSending (line : LogLine) (t : ℕ) : Type 0 where
@@ -221,8 +241,8 @@ hits_have_signs l lines from to line lane t among at tells is_lane before begun 
     hit_stands window d.sending d.hit lane lanes d.hit_is (omega (arith, d.t_is, d.end_is)) (in_window from to (d.sending.start + d.hit) (omega (arith, d.t_is)) (omega (arith, d.t_is))) in
     let meets : does_meet window line ≡ true = sending_meets from to line d.sending d.is d.end_is (omega (arith, d.t_is)) (omega arith) in
     in_mark (page_of l) window l lines line (sign_element (codes "hit") (x_of window t) lane.y) among meets
-    (in_same _ _ (sign_element (codes "hit") (x_of window t) lane.y)
-    (sym (ap (shapes_on_lane window line lane lanes) d.is) ∙ on_lane window l line lane at is_lane)
+    (λ worded. in_same _ _ (sign_element (codes "hit") (x_of window t) lane.y)
+    (sym (ap (shapes_on_lane worded window line lane lanes) d.is) ∙ on_lane worded window l line lane at is_lane)
     (subst (λ u. Has (sending_shapes window d.sending lane lanes) (sign_element (codes "hit") (x_of window u) lane.y)) (sym d.t_is) drawn))
 
 -- a line that tells of no sending meets the window where its half bit is in it
@@ -232,7 +252,7 @@ line_meets from to line is begun before = ap (does_sending_meet (record { from =
 -- a reception's sign stands in its shapes
 record IsDrawnReception (window : Window) (line : LogLine) (word : List ℕ) (y : ℕ) : Type 0 where
   none : sending_of line.t line.body ≡ None
-  drawn : Has (reception window line.t y line.body) (sign_element word (x_of window line.t) y)
+  drawn : (worded : Bool) → Has (reception worded window line.t y line.body) (sign_element word (x_of window line.t) y)
 
 drawn_reception : (window : Window) (line : LogLine) (b : Body) (word : List ℕ) (y : ℕ) → b ≡ line.body → TellsOfReception b word → IsDrawnReception window line word y
 drawn_reception window line (body.Sent frame first attempt) word y is h = absurd h
@@ -242,15 +262,15 @@ drawn_reception window line (body.Cut frame first attempt hit) word y is h = abs
 drawn_reception window line (body.Received octets) word y is h =
     record {
       none = ap (sending_of line.t) (sym is);
-      drawn = subst (λ b. Has (reception window line.t y b) (sign_element word (x_of window line.t) y)) is
+      drawn = λ worded. subst (λ b. Has (reception worded window line.t y b) (sign_element word (x_of window line.t) y)) is
           (subst (λ w. Has (sign window the_sign.Received line.t y) (sign_element w (x_of window line.t) y)) (sym h) (sign_begins window the_sign.Received line.t y));
     }
 drawn_reception window line (body.Dropped why halves) word y is h =
     record {
       none = ap (sending_of line.t) (sym is);
-      drawn = subst (λ b. Has (reception window line.t y b) (sign_element word (x_of window line.t) y)) is
-          (subst (λ w. Has (reception window line.t y (body.Dropped why halves)) (sign_element w (x_of window line.t) y)) (sym h)
-          (in_first (sign window the_sign.Dropped line.t y) (word_of_drop window line.t y why) (sign_element (codes "dropped") (x_of window line.t) y) (sign_begins window the_sign.Dropped line.t y)));
+      drawn = λ worded. subst (λ b. Has (reception worded window line.t y b) (sign_element word (x_of window line.t) y)) is
+          (subst (λ w. Has (reception worded window line.t y (body.Dropped why halves)) (sign_element w (x_of window line.t) y)) (sym h)
+          (in_first (sign window the_sign.Dropped line.t y) (word_if worded window line.t y why) (sign_element (codes "dropped") (x_of window line.t) y) (sign_begins window the_sign.Dropped line.t y)));
     }
 drawn_reception window line body.Clash word y is h = absurd h
 drawn_reception window line (body.Closed port) word y is h = absurd h
@@ -263,8 +283,8 @@ receptions_have_signs l lines from to line lane word among at tells is_lane begu
     let lanes : List Lane = lanes_of_segment (page_of l).bands is_lane.station.segment in
     let d = drawn_reception window line line.body word lane.y refl tells in
     in_mark (page_of l) window l lines line (sign_element word (x_of window line.t) lane.y) among (line_meets from to line d.none begun before)
-    (in_same _ _ (sign_element word (x_of window line.t) lane.y)
-    (sym (ap (shapes_on_lane window line lane lanes) d.none) ∙ on_lane window l line lane at is_lane) d.drawn)
+    (λ worded. in_same _ _ (sign_element word (x_of window line.t) lane.y)
+    (sym (ap (shapes_on_lane worded window line lane lanes) d.none) ∙ on_lane worded window l line lane at is_lane) (d.drawn worded))
 
 -- the sign of a port
 record IsDrawnPort (line : LogLine) (number : ℕ) (word : List ℕ) : Type 0 where
@@ -334,11 +354,11 @@ ports_have_signs l lines from to line p lane word among at tells is_lane begun b
     ∙ ap (λ (o : Option Lane). shown o (λ found. sign window d.sign_is line.t found.y)) is_lane.on_segment in
     let drawn : Has (port_shapes window line lanes r p) element =
     in_same _ _ element (sym shape) (subst (λ w. Has (sign window d.sign_is line.t lane.y) (sign_element w (x_of window line.t) lane.y)) d.word_is (sign_begins window d.sign_is line.t lane.y)) in
-    let all : signs_of_ports window line bands r 0 is_lane.repeater.ports ≡ shapes_of_line window l bands line =
-    sym (ap (λ (b : Bool). cond b (repeater_shapes window l bands line) (station_shapes window l bands line)) at
+    let all : (worded : Bool) → signs_of_ports window line bands r 0 is_lane.repeater.ports ≡ shapes_of_line worded window l bands line =
+    λ worded. sym (ap (λ (b : Bool). cond b (repeater_shapes window l bands line) (station_shapes worded window l bands line)) at
     ∙ ap (λ (o : Option ℕ). shown o (λ k. shown (slice_get l.repeaters k) (λ repeater. signs_of_ports window line bands k 0 repeater.ports))) is_lane.named
     ∙ ap (λ (o : Option RepeaterLine). shown o (λ repeater. signs_of_ports window line bands r 0 repeater.ports)) is_lane.row) in
     let first : p ≡ 0 + p = omega arith in
     in_mark (page_of l) window l lines line element among (line_meets from to line d.none begun before)
-    (in_same _ _ element all (one_port window line bands r 0 p is_lane.repeater.ports is_lane.port element is_lane.port_row
+    (λ worded. in_same _ _ element (all worded) (one_port window line bands r 0 p is_lane.repeater.ports is_lane.port element is_lane.port_row
     (subst (λ (j : ℕ). Has (port_shapes window line lanes r j) element) first drawn)))

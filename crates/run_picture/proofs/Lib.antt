@@ -9,6 +9,8 @@ pub mod Readings
 pub mod PieceReadings
 pub mod MarkReadings
 pub mod WholePictures
+pub mod WholeTexts
 pub mod Numbers
 pub mod Drawn
+pub mod Legends
 pub mod LanesFound

@@ -11,11 +11,12 @@ use Rattle.layout.specs.declared.ways.Tap.TheVariants.{Station, Port}
 use Rattle.log_meter.specs.Lines.{IsLogLine}
 use Rattle.log_meter.specs.declared.line.LogLine.{LogLine}
 use Rattle.run_picture.specs.Markup.{TagReader}
-use Rattle.run_picture.specs.Marks.{shown, lane_of, lane_shapes, lanes_of_segment, mark, marks, port_shapes, reception, repeater_shapes, shapes_at_station, shapes_on_lane, sign_of_port, signs_of_ports, station_shapes, title_of}
+use Rattle.run_picture.specs.Marks.{shown, lane_of, lane_shapes, lanes_of_segment, mark, marks_from, port_shapes, reception, repeater_shapes, shapes_at_station, shapes_on_lane, sign_of_port, signs_of_ports, station_shapes, title_of, word_of_drop}
 use Rattle.run_picture.specs.Sendings.{does_end, does_meet, hit_sign_at, is_in_window, sending_of, sending_shapes}
 use Rattle.run_picture.specs.Signs.{sign}
 use Rattle.run_picture.specs.Strangers.{number_of_repeater, number_of_station}
 use Rattle.run_picture.specs.Waves.{wave}
+use Rattle.run_picture.specs.WordRooms.{has_word, rooms_after}
 use Rattle.run_picture.specs.declared.lanes.Band.{Band}
 use Rattle.run_picture.specs.declared.lanes.Lane.{Lane}
 use Rattle.run_picture.specs.declared.sending.Sending.{Sending}
@@ -58,30 +59,31 @@ sending_stays ts window sending lane lanes =
     (bar_leads ts window sending.outcome sending.start sending.end lane.y))
     (hit_stays ts window sending sending.hit lane.y)
 
-reception_stays : (ts : List (List ℕ)) (window : Window) (t y : ℕ) (b : Body) → Stays ts (reception window t y b)
-reception_stays ts window t y (body.Sent frame start attempt) = nothing (in_mark ts)
-reception_stays ts window t y (body.Collided frame start attempt hit drawn) = nothing (in_mark ts)
-reception_stays ts window t y (body.GivenUp frame start hit) = nothing (in_mark ts)
-reception_stays ts window t y (body.Cut frame start attempt hit) = nothing (in_mark ts)
-reception_stays ts window t y (body.Received octets) = sign_leads ts window the_sign.Received t y
-reception_stays ts window t y (body.Dropped why halves) = go_on (sign_leads ts window the_sign.Dropped t y) (word_of_drop_leads ts window t y why)
-reception_stays ts window t y body.Clash = nothing (in_mark ts)
-reception_stays ts window t y (body.Closed port) = nothing (in_mark ts)
-reception_stays ts window t y (body.Opened port) = nothing (in_mark ts)
-reception_stays ts window t y (body.Halted port) = nothing (in_mark ts)
+reception_stays : (ts : List (List ℕ)) (worded : Bool) (window : Window) (t y : ℕ) (b : Body) → Stays ts (reception worded window t y b)
+reception_stays ts worded window t y (body.Sent frame start attempt) = nothing (in_mark ts)
+reception_stays ts worded window t y (body.Collided frame start attempt hit drawn) = nothing (in_mark ts)
+reception_stays ts worded window t y (body.GivenUp frame start hit) = nothing (in_mark ts)
+reception_stays ts worded window t y (body.Cut frame start attempt hit) = nothing (in_mark ts)
+reception_stays ts worded window t y (body.Received octets) = sign_leads ts window the_sign.Received t y
+reception_stays ts worded window t y (body.Dropped why halves) = go_on (sign_leads ts window the_sign.Dropped t y) (one_of_two ts worded (word_of_drop window t y why) (word_of_drop_leads ts window t y why))
+reception_stays ts worded window t y body.Clash = nothing (in_mark ts)
+reception_stays ts worded window t y (body.Closed port) = nothing (in_mark ts)
+reception_stays ts worded window t y (body.Opened port) = nothing (in_mark ts)
+reception_stays ts worded window t y (body.Halted port) = nothing (in_mark ts)
 
-on_lane_stays : (ts : List (List ℕ)) (window : Window) (line : LogLine) (lane : Lane) (lanes : List Lane) (o : Option Sending) → Stays ts (shapes_on_lane window line lane lanes o)
-on_lane_stays ts window line lane lanes None = reception_stays ts window line.t lane.y line.body
-on_lane_stays ts window line lane lanes (Some sending) = sending_stays ts window sending lane lanes
+on_lane_stays : (ts : List (List ℕ)) (worded : Bool) (window : Window) (line : LogLine) (lane : Lane) (lanes : List Lane) (o : Option Sending)
+    → Stays ts (shapes_on_lane worded window line lane lanes o)
+on_lane_stays ts worded window line lane lanes None = reception_stays ts worded window line.t lane.y line.body
+on_lane_stays ts worded window line lane lanes (Some sending) = sending_stays ts window sending lane lanes
 
-station_stays : (ts : List (List ℕ)) (window : Window) (l : Layout) (bands : List Band) (line : LogLine) → Stays ts (station_shapes window l bands line)
-station_stays ts window l bands line =
+station_stays : (ts : List (List ℕ)) (worded : Bool) (window : Window) (l : Layout) (bands : List Band) (line : LogLine) → Stays ts (station_shapes worded window l bands line)
+station_stays ts worded window l bands line =
     shown_stays ts (number_of_station l.stations line.name)
-    (λ k. shown (slice_get l.stations k) (λ station. shapes_at_station window line k (lanes_of_segment bands station.segment)))
-    (λ k. shown_stays ts (slice_get l.stations k) (λ station. shapes_at_station window line k (lanes_of_segment bands station.segment))
+    (λ k. shown (slice_get l.stations k) (λ station. shapes_at_station worded window line k (lanes_of_segment bands station.segment)))
+    (λ k. shown_stays ts (slice_get l.stations k) (λ station. shapes_at_station worded window line k (lanes_of_segment bands station.segment))
     (λ station. shown_stays ts (lane_of (lanes_of_segment bands station.segment) (Station k))
-    (λ lane. lane_shapes window line lane (lanes_of_segment bands station.segment))
-    (λ lane. on_lane_stays ts window line lane (lanes_of_segment bands station.segment) (sending_of line.t line.body))))
+    (λ lane. lane_shapes worded window line lane (lanes_of_segment bands station.segment))
+    (λ lane. on_lane_stays ts worded window line lane (lanes_of_segment bands station.segment) (sending_of line.t line.body))))
 
 port_stays : (ts : List (List ℕ)) (window : Window) (line : LogLine) (lanes : List Lane) (r p : ℕ) → Stays ts (port_shapes window line lanes r p)
 port_stays ts window line lanes r p =
@@ -105,34 +107,35 @@ either_stays ts true one two h k = h
 either_stays ts false one two h k = k
 
 -- a mark adds its title
-mark_leads : (ts : List (List ℕ)) (window : Window) (l : Layout) (bands : List Band) (line : LogLine) → IsLogLine line
-    → Leads (between_marks ts) (mark window l bands line) (between_marks (ts ++ title_of line ∷ []))
+mark_leads : (ts : List (List ℕ)) (worded : Bool) (window : Window) (l : Layout) (bands : List Band) (line : LogLine) → IsLogLine line
+    → Leads (between_marks ts) (mark worded window l bands line) (between_marks (ts ++ title_of line ∷ []))
 unfolding mark is_name_octet
-mark_leads ts window l bands line h =
+mark_leads ts worded window l bands line h =
     let later : List (List ℕ) = ts ++ title_of line ∷ [] in
     go_on (go_on (go_on (go_on (fixed (between_marks ts) (in_title (codes "g" ∷ codes "svg" ∷ []) ts []) (codes "<g><title>") refl)
     (plain_in_title (codes "g" ∷ codes "svg" ∷ []) ts [] (title_of line) (title_plain line h)))
     (fixed (in_title (codes "g" ∷ codes "svg" ∷ []) ts (title_of line)) (in_mark later) (codes "</title>") refl))
-    (either_stays later line.repeater (repeater_shapes window l bands line) (station_shapes window l bands line)
-    (repeater_stays later window l bands line) (station_stays later window l bands line)))
+    (either_stays later line.repeater (repeater_shapes window l bands line) (station_shapes worded window l bands line)
+    (repeater_stays later window l bands line) (station_stays later worded window l bands line)))
     (fixed (in_mark later) (between_marks later) (codes "</g>\n") refl)
 
 -- the titles of these lines, where the first of them meets the window or not
-line_leads : (ts : List (List ℕ)) (window : Window) (l : Layout) (bands : List Band) (line : LogLine) (lines : List LogLine) (b : Bool) → IsLogLine line
-    → ((later : List (List ℕ)) → Leads (between_marks later) (marks window l bands lines) (between_marks (later ++ map title_of (filter (does_meet window) lines))))
-    → Leads (between_marks ts) (cond b (mark window l bands line) [] ++ marks window l bands lines)
+line_leads : (ts : List (List ℕ)) (worded : Bool) (window : Window) (l : Layout) (bands : List Band) (line : LogLine) (lines : List LogLine) (rest : List ℕ) (b : Bool) → IsLogLine line
+    → ((later : List (List ℕ)) → Leads (between_marks later) rest (between_marks (later ++ map title_of (filter (does_meet window) lines))))
+    → Leads (between_marks ts) (cond b (mark worded window l bands line) [] ++ rest)
     (between_marks (ts ++ map title_of (cond b (line ∷ filter (does_meet window) lines) (filter (does_meet window) lines))))
-line_leads ts window l bands line lines true h more =
-    let rest : List (List ℕ) = map title_of (filter (does_meet window) lines) in
-    subst (λ (titles : List (List ℕ)). Leads (between_marks ts) (mark window l bands line ++ marks window l bands lines) (between_marks titles))
-    (append_assoc ts (title_of line ∷ []) rest)
-    (go_on (mark_leads ts window l bands line h) (more (ts ++ title_of line ∷ [])))
-line_leads ts window l bands line lines false h more = more ts
+line_leads ts worded window l bands line lines rest true h more =
+    let titles_of_rest : List (List ℕ) = map title_of (filter (does_meet window) lines) in
+    subst (λ (titles : List (List ℕ)). Leads (between_marks ts) (mark worded window l bands line ++ rest) (between_marks titles))
+    (append_assoc ts (title_of line ∷ []) titles_of_rest)
+    (go_on (mark_leads ts worded window l bands line h) (more (ts ++ title_of line ∷ [])))
+line_leads ts worded window l bands line lines rest false h more = more ts
 
 -- the marks add the titles of the lines that meet the window, in their order
-pub marks_lead : (ts : List (List ℕ)) (window : Window) (l : Layout) (bands : List Band) (lines : List LogLine) → AllByRecursion IsLogLine lines
-    → Leads (between_marks ts) (marks window l bands lines) (between_marks (ts ++ map title_of (filter (does_meet window) lines)))
-marks_lead ts window l bands [] h =
+pub marks_lead : (ts : List (List ℕ)) (rooms : List ℕ) (window : Window) (l : Layout) (bands : List Band) (lines : List LogLine) → AllByRecursion IsLogLine lines
+    → Leads (between_marks ts) (marks_from rooms window l bands lines) (between_marks (ts ++ map title_of (filter (does_meet window) lines)))
+marks_lead ts rooms window l bands [] h =
     subst (λ (titles : List (List ℕ)). Leads (between_marks ts) [] (between_marks titles)) (sym (append-nil ts)) (nothing (between_marks ts))
-marks_lead ts window l bands (line ∷ lines) h =
-    line_leads ts window l bands line lines (does_meet window line) h.0 (λ later. marks_lead later window l bands lines h.1)
+marks_lead ts rooms window l bands (line ∷ lines) h =
+    line_leads ts (has_word window l rooms line) window l bands line lines (marks_from (rooms_after window l rooms line) window l bands lines) (does_meet window line) h.0
+    (λ later. marks_lead later (rooms_after window l rooms line) window l bands lines h.1)

@@ -8,19 +8,21 @@ use Rattle.layout.specs.NameOctets.{is_name_octet}
 use Rattle.layout.specs.declared.lines.Layout.{Layout}
 use Rattle.layout.specs.declared.lines.SegmentLine.{SegmentLine}
 use Rattle.run_picture.specs.Axis.{axis, microseconds, tick, tick_at, tick_step, words_of_axis}
-use Rattle.run_picture.specs.Bands.{lane_text, name_of_tap, segment_text}
-use Rattle.run_picture.specs.Head.{clip_of_plot, ground, legend_of_repeaters, legend_of_sendings, legend_of_stations, pattern_of, patterns, size_of_picture, style_of_sendings, style_of_signs, style_of_words}
+use Rattle.run_picture.specs.Bands.{lane_text, letters_word, name_of_device, name_of_tap, segment_text}
+use Rattle.run_picture.specs.Head.{clip_of_plot, ground, pattern_of, patterns, size_of_picture, style_of_sendings, style_of_signs, style_of_words}
+use Rattle.run_picture.specs.Legend.{entries, entry_name, entry_shape, entry_x, entry_y, kind_name, kind_path, kind_word}
 use Rattle.run_picture.specs.Markup.{is_plain}
 use Rattle.run_picture.specs.Marks.{word_of_drop}
 use Rattle.run_picture.specs.Signs.{bar, left_of_bar, right_of_bar, sending_word, sign, sign_path, sign_word}
-use Rattle.run_picture.specs.Sizes.{half_bits_a_microsecond, half_bits_a_tenth, hundredths}
+use Rattle.run_picture.specs.Sizes.{half_bits_a_microsecond, half_bits_a_tenth}
 use Rattle.run_picture.specs.Times.{x_of}
 use Rattle.run_picture.specs.Waves.{is_seen, points_of_wave, seen_wave, wave}
+use Rattle.run_picture.specs.declared.kinds.Kind.{Kind}
 use Rattle.run_picture.specs.declared.lanes.Lane.{Lane}
 use Rattle.run_picture.specs.declared.signs.Outcome.{Outcome}
 use Rattle.run_picture.specs.declared.signs.Sign.{Sign}
 use Rattle.run_picture.specs.declared.window.Window.{Window}
-use Rattle.run_picture.proofs.PlainPieces.{points_plain, sending_word_plain, sign_path_plain, sign_word_plain, why_plain}
+use Rattle.run_picture.proofs.PlainPieces.{kind_name_plain, kind_path_plain, kind_word_plain, letters_plain, points_plain, sending_word_plain, sign_path_plain, sign_word_plain, why_plain}
 use Rattle.run_picture.proofs.Readings.{Leads, all_stay, between, fixed, in_value, nothing, number_between, number_in_value, plain_between, plain_in_value, go_on}
 
 pub style_of_words_leads : (ts : List (List ℕ)) → Leads (between (codes "svg" ∷ []) ts) style_of_words (between (codes "style" ∷ codes "svg" ∷ []) ts)
@@ -39,18 +41,6 @@ pub patterns_lead : (ts : List (List ℕ)) → Leads (between (codes "defs" ∷ 
 unfolding patterns pattern_of is_name_octet
 patterns_lead ts = fixed (between (codes "defs" ∷ codes "svg" ∷ []) ts) (between (codes "defs" ∷ codes "svg" ∷ []) ts) patterns refl
 
-pub legend_of_sendings_leads : (ts : List (List ℕ)) → Leads (between (codes "svg" ∷ []) ts) legend_of_sendings (between (codes "svg" ∷ []) ts)
-unfolding legend_of_sendings is_name_octet
-legend_of_sendings_leads ts = fixed (between (codes "svg" ∷ []) ts) (between (codes "svg" ∷ []) ts) legend_of_sendings refl
-
-pub legend_of_stations_leads : (ts : List (List ℕ)) → Leads (between (codes "svg" ∷ []) ts) legend_of_stations (between (codes "svg" ∷ []) ts)
-unfolding legend_of_stations is_name_octet
-legend_of_stations_leads ts = fixed (between (codes "svg" ∷ []) ts) (between (codes "svg" ∷ []) ts) legend_of_stations refl
-
-pub legend_of_repeaters_leads : (ts : List (List ℕ)) → Leads (between (codes "svg" ∷ []) ts) legend_of_repeaters (between (codes "svg" ∷ []) ts)
-unfolding legend_of_repeaters is_name_octet
-legend_of_repeaters_leads ts = fixed (between (codes "svg" ∷ []) ts) (between (codes "svg" ∷ []) ts) legend_of_repeaters refl
-
 pub words_of_axis_leads : (ts : List (List ℕ)) → Leads (between (codes "svg" ∷ []) ts) words_of_axis (between (codes "svg" ∷ []) ts)
 unfolding words_of_axis is_name_octet
 words_of_axis_leads ts = fixed (between (codes "svg" ∷ []) ts) (between (codes "svg" ∷ []) ts) words_of_axis refl
@@ -58,9 +48,7 @@ words_of_axis_leads ts = fixed (between (codes "svg" ∷ []) ts) (between (codes
 pub size_leads : (ts : List (List ℕ)) (height : ℕ) → Leads (between [] ts) (size_of_picture height) (between (codes "svg" ∷ []) ts)
 unfolding size_of_picture is_name_octet
 size_leads ts height =
-    go_on (go_on (go_on (go_on (fixed (between [] ts) (in_value [] ts (codes "svg")) (codes "<svg xmlns='http://www.w3.org/2000/svg' version='1.1' width='1280' height='") refl)
-    (number_in_value [] ts (codes "svg") (height / hundredths)))
-    (fixed (in_value [] ts (codes "svg")) (in_value [] ts (codes "svg")) (codes "' viewBox='-26000 0 128000 ") refl))
+    go_on (go_on (fixed (between [] ts) (in_value [] ts (codes "svg")) (codes "<svg xmlns='http://www.w3.org/2000/svg' version='1.1' width='100%' viewBox='-26000 0 133000 ") refl)
     (number_in_value [] ts (codes "svg") height))
     (fixed (in_value [] ts (codes "svg")) (between (codes "svg" ∷ []) ts) (codes "'>\n") refl)
 
@@ -74,9 +62,36 @@ clip_leads ts height =
 pub ground_leads : (ts : List (List ℕ)) (height : ℕ) → Leads (between (codes "svg" ∷ []) ts) (ground height) (between (codes "svg" ∷ []) ts)
 unfolding ground is_name_octet
 ground_leads ts height =
-    go_on (go_on (fixed (between (codes "svg" ∷ []) ts) (in_value (codes "svg" ∷ []) ts (codes "path")) (codes "<path d='M-26000 0h128000v") refl)
+    go_on (go_on (fixed (between (codes "svg" ∷ []) ts) (in_value (codes "svg" ∷ []) ts (codes "path")) (codes "<path d='M-26000 0h133000v") refl)
     (number_in_value (codes "svg" ∷ []) ts (codes "path") height))
-    (fixed (in_value (codes "svg" ∷ []) ts (codes "path")) (between (codes "svg" ∷ []) ts) (codes "h-128000z' fill='#ffffff'/>\n") refl)
+    (fixed (in_value (codes "svg" ∷ []) ts (codes "path")) (between (codes "svg" ∷ []) ts) (codes "h-133000z' fill='#ffffff'/>\n") refl)
+
+entry_shape_leads : (ts : List (List ℕ)) (n : ℕ) (kind : Kind) → Leads (between (codes "svg" ∷ []) ts) (entry_shape n kind) (between (codes "svg" ∷ []) ts)
+unfolding entry_shape is_name_octet
+entry_shape_leads ts n kind =
+    go_on (go_on (go_on (go_on (go_on (go_on (go_on (fixed (between (codes "svg" ∷ []) ts) (in_value (codes "svg" ∷ []) ts (codes "path")) (codes "<path class='") refl)
+    (plain_in_value (codes "svg" ∷ []) ts (codes "path") (kind_word kind) (kind_word_plain kind)))
+    (fixed (in_value (codes "svg" ∷ []) ts (codes "path")) (in_value (codes "svg" ∷ []) ts (codes "path")) (codes "' d='M-26000 0m") refl))
+    (number_in_value (codes "svg" ∷ []) ts (codes "path") (entry_x n)))
+    (fixed (in_value (codes "svg" ∷ []) ts (codes "path")) (in_value (codes "svg" ∷ []) ts (codes "path")) (codes " ") refl))
+    (number_in_value (codes "svg" ∷ []) ts (codes "path") (entry_y n)))
+    (plain_in_value (codes "svg" ∷ []) ts (codes "path") (kind_path kind) (kind_path_plain kind)))
+    (fixed (in_value (codes "svg" ∷ []) ts (codes "path")) (between (codes "svg" ∷ []) ts) (codes "'/>") refl)
+
+entry_name_leads : (ts : List (List ℕ)) (n : ℕ) (kind : Kind) → Leads (between (codes "svg" ∷ []) ts) (entry_name n kind) (between (codes "svg" ∷ []) ts)
+unfolding entry_name is_name_octet
+entry_name_leads ts n kind =
+    go_on (go_on (go_on (go_on (go_on (go_on (fixed (between (codes "svg" ∷ []) ts) (in_value (codes "svg" ∷ []) ts (codes "text")) (codes "<text x='-26000' dx='") refl)
+    (number_in_value (codes "svg" ∷ []) ts (codes "text") (entry_x n + 1700)))
+    (fixed (in_value (codes "svg" ∷ []) ts (codes "text")) (in_value (codes "svg" ∷ []) ts (codes "text")) (codes "' y='") refl))
+    (number_in_value (codes "svg" ∷ []) ts (codes "text") (entry_y n)))
+    (fixed (in_value (codes "svg" ∷ []) ts (codes "text")) (between (codes "text" ∷ codes "svg" ∷ []) ts) (codes "' dy='500'>") refl))
+    (plain_between (codes "text" ∷ codes "svg" ∷ []) ts (kind_name kind) refl (kind_name_plain kind)))
+    (fixed (between (codes "text" ∷ codes "svg" ∷ []) ts) (between (codes "svg" ∷ []) ts) (codes "</text>\n") refl)
+
+pub entries_lead : (ts : List (List ℕ)) (n : ℕ) (kinds : List Kind) → Leads (between (codes "svg" ∷ []) ts) (entries n kinds) (between (codes "svg" ∷ []) ts)
+entries_lead ts n [] = nothing (between (codes "svg" ∷ []) ts)
+entries_lead ts n (kind ∷ kinds) = go_on (go_on (entry_shape_leads ts n kind) (entry_name_leads ts n kind)) (entries_lead ts (n + 1) kinds)
 
 tenths_lead : (ts : List (List ℕ)) (rest : ℕ) (b : Bool) → Leads (between (codes "text" ∷ codes "svg" ∷ []) ts) (cond b [] (codes "." ++ decimal (rest / half_bits_a_tenth))) (between (codes "text" ∷ codes "svg" ∷ []) ts)
 tenths_lead ts rest true = nothing (between (codes "text" ∷ codes "svg" ∷ []) ts)
@@ -93,15 +108,15 @@ unfolding tick is_name_octet
 tick_leads ts window height t =
     go_on (go_on (go_on (go_on (go_on (go_on (go_on (go_on (go_on (go_on (go_on (go_on (fixed (between (codes "svg" ∷ []) ts) (in_value (codes "svg" ∷ []) ts (codes "path")) (codes "<path class='line' d='M") refl)
     (number_in_value (codes "svg" ∷ []) ts (codes "path") (x_of window t)))
-    (fixed (in_value (codes "svg" ∷ []) ts (codes "path")) (in_value (codes "svg" ∷ []) ts (codes "path")) (codes " 8300V") refl))
+    (fixed (in_value (codes "svg" ∷ []) ts (codes "path")) (in_value (codes "svg" ∷ []) ts (codes "path")) (codes " 7700V") refl))
     (number_in_value (codes "svg" ∷ []) ts (codes "path") height))
     (fixed (in_value (codes "svg" ∷ []) ts (codes "path")) (in_value (codes "svg" ∷ []) ts (codes "text")) (codes "'/><text class='tick' x='") refl))
     (number_in_value (codes "svg" ∷ []) ts (codes "text") (x_of window t)))
-    (fixed (in_value (codes "svg" ∷ []) ts (codes "text")) (between (codes "text" ∷ codes "svg" ∷ []) ts) (codes "' y='6200'>") refl))
+    (fixed (in_value (codes "svg" ∷ []) ts (codes "text")) (between (codes "text" ∷ codes "svg" ∷ []) ts) (codes "' y='5700'>") refl))
     (microseconds_lead ts t))
     (fixed (between (codes "text" ∷ codes "svg" ∷ []) ts) (in_value (codes "svg" ∷ []) ts (codes "text")) (codes "</text><text class='tick' x='") refl))
     (number_in_value (codes "svg" ∷ []) ts (codes "text") (x_of window t)))
-    (fixed (in_value (codes "svg" ∷ []) ts (codes "text")) (between (codes "text" ∷ codes "svg" ∷ []) ts) (codes "' y='7700'>") refl))
+    (fixed (in_value (codes "svg" ∷ []) ts (codes "text")) (between (codes "text" ∷ codes "svg" ∷ []) ts) (codes "' y='7200'>") refl))
     (number_between (codes "text" ∷ codes "svg" ∷ []) ts t refl))
     (fixed (between (codes "text" ∷ codes "svg" ∷ []) ts) (between (codes "svg" ∷ []) ts) (codes "</text>\n") refl)
 
@@ -118,24 +133,28 @@ axis_leads ts window height =
 pub lane_leads : (ts : List (List ℕ)) (l : Layout) (lane : Lane) (named : is_plain (name_of_tap l lane.tap) ≡ true) → Leads (between (codes "svg" ∷ []) ts) (lane_text l lane) (between (codes "svg" ∷ []) ts)
 unfolding lane_text is_name_octet
 lane_leads ts l lane named =
-    go_on (go_on (go_on (go_on (go_on (go_on (go_on (go_on (go_on (go_on (fixed (between (codes "svg" ∷ []) ts) (in_value (codes "svg" ∷ []) ts (codes "path")) (codes "<path class='lane' d='M0 ") refl)
+    go_on (go_on (go_on (go_on (go_on (go_on (go_on (go_on (go_on (go_on (go_on (go_on (fixed (between (codes "svg" ∷ []) ts) (in_value (codes "svg" ∷ []) ts (codes "path")) (codes "<path class='lane' d='M0 ") refl)
     (number_in_value (codes "svg" ∷ []) ts (codes "path") lane.y))
-    (fixed (in_value (codes "svg" ∷ []) ts (codes "path")) (in_value (codes "svg" ∷ []) ts (codes "text")) (codes "h100000'/><text class='name' x='-3600' y='") refl))
+    (fixed (in_value (codes "svg" ∷ []) ts (codes "path")) (in_value (codes "svg" ∷ []) ts (codes "text")) (codes "h100000'/><text class='name") refl))
+    (plain_in_value (codes "svg" ∷ []) ts (codes "text") (letters_word (name_of_device l lane.tap)) (letters_plain (name_of_device l lane.tap))))
+    (fixed (in_value (codes "svg" ∷ []) ts (codes "text")) (in_value (codes "svg" ∷ []) ts (codes "text")) (codes "' x='-4400' y='") refl))
     (number_in_value (codes "svg" ∷ []) ts (codes "text") lane.y))
-    (fixed (in_value (codes "svg" ∷ []) ts (codes "text")) (between (codes "text" ∷ codes "svg" ∷ []) ts) (codes "' dy='400'>") refl))
+    (fixed (in_value (codes "svg" ∷ []) ts (codes "text")) (between (codes "text" ∷ codes "svg" ∷ []) ts) (codes "' dy='500'>") refl))
     (plain_between (codes "text" ∷ codes "svg" ∷ []) ts (name_of_tap l lane.tap) refl named))
     (fixed (between (codes "text" ∷ codes "svg" ∷ []) ts) (in_value (codes "svg" ∷ []) ts (codes "text")) (codes "</text><text class='place' x='-600' y='") refl))
     (number_in_value (codes "svg" ∷ []) ts (codes "text") lane.y))
-    (fixed (in_value (codes "svg" ∷ []) ts (codes "text")) (between (codes "text" ∷ codes "svg" ∷ []) ts) (codes "' dy='350'>") refl))
+    (fixed (in_value (codes "svg" ∷ []) ts (codes "text")) (between (codes "text" ∷ codes "svg" ∷ []) ts) (codes "' dy='400'>") refl))
     (number_between (codes "text" ∷ codes "svg" ∷ []) ts lane.at refl))
     (fixed (between (codes "text" ∷ codes "svg" ∷ []) ts) (between (codes "svg" ∷ []) ts) (codes "</text>\n") refl)
 
 pub segment_leads : (ts : List (List ℕ)) (y : ℕ) (segment : SegmentLine) (named : is_plain segment.name ≡ true) → Leads (between (codes "svg" ∷ []) ts) (segment_text y segment) (between (codes "svg" ∷ []) ts)
 unfolding segment_text is_name_octet
 segment_leads ts y segment named =
-    go_on (go_on (go_on (go_on (fixed (between (codes "svg" ∷ []) ts) (in_value (codes "svg" ∷ []) ts (codes "text")) (codes "<text class='segment' x='-25500' y='") refl)
+    go_on (go_on (go_on (go_on (go_on (go_on (fixed (between (codes "svg" ∷ []) ts) (in_value (codes "svg" ∷ []) ts (codes "text")) (codes "<text class='segment") refl)
+    (plain_in_value (codes "svg" ∷ []) ts (codes "text") (letters_word segment.name) (letters_plain segment.name)))
+    (fixed (in_value (codes "svg" ∷ []) ts (codes "text")) (in_value (codes "svg" ∷ []) ts (codes "text")) (codes "' x='-25500' y='") refl))
     (number_in_value (codes "svg" ∷ []) ts (codes "text") y))
-    (fixed (in_value (codes "svg" ∷ []) ts (codes "text")) (between (codes "text" ∷ codes "svg" ∷ []) ts) (codes "' dy='400'>segment ") refl))
+    (fixed (in_value (codes "svg" ∷ []) ts (codes "text")) (between (codes "text" ∷ codes "svg" ∷ []) ts) (codes "' dy='500'>segment ") refl))
     (plain_between (codes "text" ∷ codes "svg" ∷ []) ts segment.name refl named))
     (fixed (between (codes "text" ∷ codes "svg" ∷ []) ts) (between (codes "svg" ∷ []) ts) (codes "</text>\n") refl)
 
@@ -187,6 +206,6 @@ word_of_drop_leads ts window t y why =
     (number_in_value (codes "g" ∷ codes "svg" ∷ []) ts (codes "text") (x_of window t)))
     (fixed (in_value (codes "g" ∷ codes "svg" ∷ []) ts (codes "text")) (in_value (codes "g" ∷ codes "svg" ∷ []) ts (codes "text")) (codes "' y='") refl))
     (number_in_value (codes "g" ∷ codes "svg" ∷ []) ts (codes "text") y))
-    (fixed (in_value (codes "g" ∷ codes "svg" ∷ []) ts (codes "text")) (between (codes "text" ∷ codes "g" ∷ codes "svg" ∷ []) ts) (codes "' dx='600' dy='-350'>") refl))
+    (fixed (in_value (codes "g" ∷ codes "svg" ∷ []) ts (codes "text")) (between (codes "text" ∷ codes "g" ∷ codes "svg" ∷ []) ts) (codes "' dx='600' dy='-450'>") refl))
     (plain_between (codes "text" ∷ codes "g" ∷ codes "svg" ∷ []) ts (why_text why) refl (why_plain why)))
     (fixed (between (codes "text" ∷ codes "g" ∷ codes "svg" ∷ []) ts) (between (codes "g" ∷ codes "svg" ∷ []) ts) (codes "</text>") refl)

@@ -1,5 +1,5 @@
 -- Pieces of a picture in which no octet means something in XML.
-use Rattle.std.proofs.Common.{◌≡◌, ℕ, ◌+◌, ◌-◌, ◌*◌, ◌/◌, Bool, true, false, cond, List, [], ◌∷◌, ◌++◌, codes, Some, None, refl}
+use Rattle.std.proofs.Common.{◌≡◌, ℕ, ◌+◌, ◌-◌, ◌*◌, ◌/◌, Bool, true, false, cond, List, [], ◌∷◌, ◌++◌, length, codes, Some, None, refl}
 use Rattle.std.specs.Prelude.{decimal, nat_lt, Option}
 use Rattle.mac_parameters.specs.Distances.{distance}
 use Rattle.collision_log.specs.Rows.{body_text, device_word, hit_text, why_text}
@@ -9,12 +9,16 @@ use Rattle.collision_log.specs.declared.row.Why.{Why}
 use Rattle.collision_log.specs.declared.row.Why.TheVariants as why
 use Rattle.log_meter.specs.Lines.{IsLogLine}
 use Rattle.log_meter.specs.declared.line.LogLine.{LogLine}
+use Rattle.run_picture.specs.Bands.{letters_word}
+use Rattle.run_picture.specs.Legend.{ending_name, kind_name, kind_path, kind_word, sign_entry, sign_name}
 use Rattle.run_picture.specs.Markup.{is_plain}
 use Rattle.run_picture.specs.Marks.{title_of}
 use Rattle.run_picture.specs.Signs.{sending_word, sign_path, sign_word}
-use Rattle.run_picture.specs.Sizes.{plot_width}
+use Rattle.run_picture.specs.Sizes.{longest_large_name, plot_width}
 use Rattle.run_picture.specs.Times.{place_of_time, x_of}
 use Rattle.run_picture.specs.Waves.{point_of_wave, points_of_wave}
+use Rattle.run_picture.specs.declared.kinds.Kind.{Kind}
+use Rattle.run_picture.specs.declared.kinds.Kind.TheVariants.{Bar, Front, Point}
 use Rattle.run_picture.specs.declared.lanes.Lane.{Lane}
 use Rattle.run_picture.specs.declared.signs.Outcome.{Outcome}
 use Rattle.run_picture.specs.declared.signs.Outcome.TheVariants as outcome
@@ -46,6 +50,52 @@ sending_word_plain outcome.Sent = refl
 sending_word_plain outcome.Collided = refl
 sending_word_plain outcome.GivenUp = refl
 sending_word_plain outcome.Cut = refl
+
+pub kind_word_plain : (kind : Kind) → is_plain (kind_word kind) ≡ true
+kind_word_plain (Bar ending) = sending_word_plain ending
+kind_word_plain Front = refl
+kind_word_plain (Point mark) = sign_word_plain mark
+
+ending_name_plain : (ending : Outcome) → is_plain (ending_name ending) ≡ true
+ending_name_plain outcome.Sent = refl
+ending_name_plain outcome.Collided = refl
+ending_name_plain outcome.GivenUp = refl
+ending_name_plain outcome.Cut = refl
+
+sign_name_plain : (mark : Sign) → is_plain (sign_name mark) ≡ true
+sign_name_plain the_sign.Hit = refl
+sign_name_plain the_sign.Received = refl
+sign_name_plain the_sign.Dropped = refl
+sign_name_plain the_sign.Clash = refl
+sign_name_plain the_sign.Closed = refl
+sign_name_plain the_sign.Opened = refl
+sign_name_plain the_sign.Halted = refl
+
+pub kind_name_plain : (kind : Kind) → is_plain (kind_name kind) ≡ true
+kind_name_plain (Bar ending) = ending_name_plain ending
+kind_name_plain Front = refl
+kind_name_plain (Point mark) = sign_name_plain mark
+
+sign_entry_plain : (mark : Sign) → is_plain (sign_entry mark) ≡ true
+sign_entry_plain the_sign.Hit = refl
+sign_entry_plain the_sign.Received = refl
+sign_entry_plain the_sign.Dropped = refl
+sign_entry_plain the_sign.Clash = refl
+sign_entry_plain the_sign.Closed = refl
+sign_entry_plain the_sign.Opened = refl
+sign_entry_plain the_sign.Halted = refl
+
+pub kind_path_plain : (kind : Kind) → is_plain (kind_path kind) ≡ true
+kind_path_plain (Bar ending) = refl
+kind_path_plain Front = refl
+kind_path_plain (Point mark) = sign_entry_plain mark
+
+long_plain : (b : Bool) → is_plain (cond b (codes " long") []) ≡ true
+long_plain true = refl
+long_plain false = refl
+
+pub letters_plain : (name : List ℕ) → is_plain (letters_word name) ≡ true
+letters_plain name = long_plain (nat_lt longest_large_name (length name))
 
 pub why_plain : (why : Why) → is_plain (why_text why) ≡ true
 why_plain why.Fragment = refl

@@ -14,18 +14,20 @@ use Rattle.layout.specs.declared.ways.Tap.TheVariants.{Station, Port}
 use Rattle.log_meter.specs.Lines.{IsLogLine}
 use Rattle.log_meter.specs.declared.line.LogLine.{LogLine}
 use Rattle.run_picture.specs.Bands.{bands_text, lane_text, name_at_station, name_of_port, name_of_tap}
-use Rattle.run_picture.specs.Head.{head, legend, style}
+use Rattle.run_picture.specs.Head.{head, style}
+use Rattle.run_picture.specs.Kinds.{drawn_kinds, every_kind}
 use Rattle.run_picture.specs.Lanes.{page_of}
 use Rattle.run_picture.specs.Markup.{TagReader, is_plain, titles_in, titles_of_reader}
 use Rattle.run_picture.specs.Marks.{title_of}
 use Rattle.run_picture.specs.PictureLaws.{PicturesAreClosed, TitlesAreLines}
 use Rattle.run_picture.specs.Pictures.{picture_on}
 use Rattle.run_picture.specs.Sendings.{does_meet}
+use Rattle.run_picture.specs.WordRooms.{first_rooms}
 use Rattle.run_picture.specs.declared.lanes.Band.{Band}
 use Rattle.run_picture.specs.declared.lanes.Page.{Page}
 use Rattle.run_picture.specs.declared.window.Window.{Window}
 use Rattle.run_picture.proofs.MarkReadings.{between_marks, marks_lead}
-use Rattle.run_picture.proofs.PieceReadings.{axis_leads, clip_leads, ground_leads, lane_leads, legend_of_repeaters_leads, legend_of_sendings_leads, legend_of_stations_leads, patterns_lead, segment_leads, size_leads, style_of_sendings_leads, style_of_signs_leads, style_of_words_leads}
+use Rattle.run_picture.proofs.PieceReadings.{axis_leads, clip_leads, ground_leads, entries_lead, lane_leads, patterns_lead, segment_leads, size_leads, style_of_sendings_leads, style_of_signs_leads, style_of_words_leads}
 use Rattle.run_picture.proofs.Plain.{decimal_plain, name_plain, plain_append}
 use Rattle.run_picture.proofs.Readings.{Leads, all_stay, between, fixed, go_on, nothing}
 
@@ -36,16 +38,12 @@ style_leads : (ts : List (List ℕ)) → Leads (between_marks ts) style (between
 unfolding style
 style_leads ts = go_on (go_on (style_of_words_leads ts) (style_of_sendings_leads ts)) (style_of_signs_leads ts)
 
-legend_leads : (ts : List (List ℕ)) → Leads (between_marks ts) legend (between_marks ts)
-unfolding legend
-legend_leads ts = go_on (go_on (legend_of_sendings_leads ts) (legend_of_stations_leads ts)) (legend_of_repeaters_leads ts)
-
 head_leads : (ts : List (List ℕ)) (height : ℕ) → Leads (between [] ts) (head height) (between_marks ts)
 unfolding head is_name_octet
 head_leads ts height =
-    go_on (go_on (go_on (go_on (go_on (go_on (go_on (size_leads ts height) (style_leads ts))
+    go_on (go_on (go_on (go_on (go_on (go_on (size_leads ts height) (style_leads ts))
     (fixed (between_marks ts) (in_defs ts) (codes "<defs>\n") refl)) (patterns_lead ts)) (clip_leads ts height))
-    (fixed (in_defs ts) (between_marks ts) (codes "</defs>\n") refl)) (ground_leads ts height)) (legend_leads ts)
+    (fixed (in_defs ts) (between_marks ts) (codes "</defs>\n") refl)) (ground_leads ts height)
 
 station_plain : (format segments : ℕ) (ss : List StationLine) → AllByRecursion (IsSoundStation format segments) ss → (k : ℕ) → is_plain (name_at_station (slice_get ss k)) ≡ true
 station_plain format segments [] h zero = refl
@@ -81,9 +79,10 @@ picture_leads : (page : Page) (window : Window) (l : Layout) (lines : List LogLi
 unfolding is_name_octet
 picture_leads page window l lines sound logged =
     let titles : List (List ℕ) = map title_of (filter (does_meet window) lines) in
-    go_on (go_on (go_on (go_on (head_leads [] page.height) (axis_leads [] window page.height))
+    go_on (go_on (go_on (go_on (go_on (head_leads [] page.height) (entries_lead [] 0 (drawn_kinds window lines every_kind)))
+    (axis_leads [] window page.height))
     (bands_lead [] l sound l.segments (recursion_from_All (λ s. IsName s.name) l.segments sound.segments) page.bands))
-    (marks_lead [] window l page.bands lines logged))
+    (marks_lead [] (first_rooms l) window l page.bands lines logged))
     (fixed (between_marks titles) (between [] titles) (codes "</svg>\n") refl)
 
 pub titles_are_lines : TitlesAreLines

@@ -33,9 +33,9 @@ microseconds t = decimal (t / half_bits_a_microsecond) ++ tenths (t % half_bits_
 -- the tick at half bit t: a line down the picture, its microseconds, and its half bits
 unfoldable pub tick : Window → ℕ → ℕ → List ℕ
 tick window height t =
-    codes "<path class='line' d='M" ++ decimal (x_of window t) ++ codes " 8300V" ++ decimal height
-    ++ codes "'/><text class='tick' x='" ++ decimal (x_of window t) ++ codes "' y='6200'>" ++ microseconds t
-    ++ codes "</text><text class='tick' x='" ++ decimal (x_of window t) ++ codes "' y='7700'>" ++ decimal t
+    codes "<path class='line' d='M" ++ decimal (x_of window t) ++ codes " 7700V" ++ decimal height
+    ++ codes "'/><text class='tick' x='" ++ decimal (x_of window t) ++ codes "' y='5700'>" ++ microseconds t
+    ++ codes "</text><text class='tick' x='" ++ decimal (x_of window t) ++ codes "' y='7200'>" ++ decimal t
     ++ codes "</text>\n"
 
 -- the tick at half bit t, if a multiple of the step is there
@@ -45,9 +45,9 @@ tick_at window height step t = if t % step == 0 then tick window height t else [
 -- the words of the axis
 unfoldable pub words_of_axis : List ℕ
 words_of_axis =
-    codes "<text class='axis' x='-1600' y='6200'>microseconds</text>"
-    ++ codes "<text class='axis' x='-1600' y='7700'>half bits</text>"
-    ++ codes "<text class='axis' x='-1600' y='8900'>place</text>\n"
+    codes "<text class='axis' x='-5200' y='5700'>microseconds</text>"
+    ++ codes "<text class='axis' x='-5200' y='7200'>half bits</text>"
+    ++ codes "<text class='axis' x='-600' y='8600'>place</text>\n"
 
 -- the ticks at these half bits
 abbrev pub ticks : Window → ℕ → ℕ → List ℕ → List ℕ

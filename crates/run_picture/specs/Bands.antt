@@ -1,12 +1,13 @@
 -- The texts of bands and lanes (profile). Stations, repeaters and ports have numbers from 0, and in names ports have
 -- numbers from 1; places are half bits; heights are hundredths of a pixel from the top.
-use Rattle.std.specs.Prelude.{ℕ, ◌+◌, List, [], ◌∷◌, ◌++◌, Option, None, Some, slice_get, flat_map, codes, decimal}
+use Rattle.std.specs.Prelude.{ℕ, ◌+◌, nat_lt, if◌then◌else◌, List, [], ◌∷◌, ◌++◌, length, Option, None, Some, slice_get, flat_map, codes, decimal}
 use Rattle.layout.specs.declared.lines.Layout.{Layout}
 use Rattle.layout.specs.declared.lines.RepeaterLine.{RepeaterLine}
 use Rattle.layout.specs.declared.lines.SegmentLine.{SegmentLine}
 use Rattle.layout.specs.declared.lines.StationLine.{StationLine}
 use Rattle.layout.specs.declared.ways.Tap.{Tap}
 use Rattle.layout.specs.declared.ways.Tap.TheVariants.{Station, Port}
+use Rattle.run_picture.specs.Sizes.{longest_large_name}
 use Rattle.run_picture.specs.declared.lanes.Band.{Band}
 use Rattle.run_picture.specs.declared.lanes.Lane.{Lane}
 
@@ -19,6 +20,11 @@ abbrev pub name_at_station : Option StationLine → List ℕ
 name_at_station None = []
 name_at_station (Some station) = station.name
 
+-- the name of this repeater
+abbrev pub name_at_repeater : Option RepeaterLine → List ℕ
+name_at_repeater None = []
+name_at_repeater (Some repeater) = repeater.name
+
 -- the name of port p of this repeater
 abbrev pub name_of_port : Option RepeaterLine → ℕ → List ℕ
 name_of_port None p = []
@@ -29,13 +35,22 @@ abbrev pub name_of_tap : Layout → Tap → List ℕ
 name_of_tap l (Station k) = name_at_station (slice_get l.stations k)
 name_of_tap l (Port r p) = name_of_port (slice_get l.repeaters r) p
 
+-- the name of the device of a tap
+abbrev pub name_of_device : Layout → Tap → List ℕ
+name_of_device l (Station k) = name_at_station (slice_get l.stations k)
+name_of_device l (Port r p) = name_at_repeater (slice_get l.repeaters r)
+
+-- the word by which the style gives a long name small letters
+abbrev pub letters_word : List ℕ → List ℕ
+letters_word name = if nat_lt longest_large_name (length name) then codes " long" else []
+
 -- a lane: a line, the name of its tap, and the place of its tap
 unfoldable pub lane_text : Layout → Lane → List ℕ
 lane_text l lane =
-    codes "<path class='lane' d='M0 " ++ decimal lane.y ++ codes "h100000'/><text class='name' x='-3600' y='"
-    ++ decimal lane.y ++ codes "' dy='400'>" ++ name_of_tap l lane.tap
-    ++ codes "</text><text class='place' x='-600' y='" ++ decimal lane.y ++ codes "' dy='350'>" ++ decimal lane.at
-    ++ codes "</text>\n"
+    codes "<path class='lane' d='M0 " ++ decimal lane.y ++ codes "h100000'/><text class='name"
+    ++ letters_word (name_of_device l lane.tap) ++ codes "' x='-4400' y='" ++ decimal lane.y ++ codes "' dy='500'>"
+    ++ name_of_tap l lane.tap ++ codes "</text><text class='place' x='-600' y='" ++ decimal lane.y
+    ++ codes "' dy='400'>" ++ decimal lane.at ++ codes "</text>\n"
 
 -- these lanes
 abbrev pub lanes_text : Layout → List Lane → List ℕ
@@ -44,8 +59,8 @@ lanes_text l lanes = flat_map (lane_text l) lanes
 -- the name of a segment, at the top of its band
 unfoldable pub segment_text : ℕ → SegmentLine → List ℕ
 segment_text y segment =
-    codes "<text class='segment' x='-25500' y='" ++ decimal y ++ codes "' dy='400'>segment " ++ segment.name
-    ++ codes "</text>\n"
+    codes "<text class='segment" ++ letters_word segment.name ++ codes "' x='-25500' y='" ++ decimal y
+    ++ codes "' dy='500'>segment " ++ segment.name ++ codes "</text>\n"
 
 -- the bands of these segments
 abbrev pub bands_text : Layout → List SegmentLine → List Band → List ℕ

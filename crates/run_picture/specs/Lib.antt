@@ -5,10 +5,13 @@ pub mod Lanes
 pub mod Signs
 pub mod Waves
 pub mod Sendings
+pub mod WordRooms
 pub mod Marks
 pub mod Bands
 pub mod Axis
 pub mod Head
+pub mod Kinds
+pub mod Legend
 pub mod Pictures
 pub mod Markup
 pub mod PictureLaws

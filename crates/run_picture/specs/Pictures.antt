@@ -7,6 +7,7 @@ use Rattle.run_picture.specs.Axis.{axis}
 use Rattle.run_picture.specs.Bands.{bands_text}
 use Rattle.run_picture.specs.Head.{head}
 use Rattle.run_picture.specs.Lanes.{page_of}
+use Rattle.run_picture.specs.Legend.{legend}
 use Rattle.run_picture.specs.Marks.{marks}
 use Rattle.run_picture.specs.declared.lanes.Page.{Page}
 use Rattle.run_picture.specs.declared.window.Window.{Window}
@@ -14,7 +15,7 @@ use Rattle.run_picture.specs.declared.window.Window.{Window}
 -- the picture on this page, of this window
 abbrev pub picture_on : Page → Window → Layout → List LogLine → List ℕ
 picture_on page window l lines =
-    head page.height ++ axis window page.height ++ bands_text l l.segments page.bands
+    head page.height ++ legend window lines ++ axis window page.height ++ bands_text l l.segments page.bands
     ++ marks window l page.bands lines ++ codes "</svg>\n"
 
 -- the picture of these lines

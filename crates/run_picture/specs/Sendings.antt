@@ -43,14 +43,22 @@ abbrev pub does_end : Outcome → Bool
 does_end outcome.Cut = false
 does_end _ = true
 
+-- whether a hit in half bit t is in the window and before the end of its sending
+abbrev pub is_heard : Window → Sending → ℕ → Bool
+is_heard window sending t = nat_lt t sending.end && is_in_window window t
+
 -- the sign of a hit that came so many half bits after the start of a sending, if it is in the window and before the
 -- sending's end
 abbrev pub hit_sign_at : Window → Sending → Option ℕ → ℕ → List ℕ
 hit_sign_at window sending None y = []
 hit_sign_at window sending (Some hit) y =
-    if nat_lt (sending.start + hit) sending.end && is_in_window window (sending.start + hit) then
-    sign window Hit (sending.start + hit) y
-    else []
+    if is_heard window sending (sending.start + hit) then sign window Hit (sending.start + hit) y else []
+
+-- whether a hit that came so many half bits after the start of a sending, if it had one, is in the window and before
+-- the sending's end
+abbrev pub is_hit_heard : Window → Sending → Option ℕ → Bool
+is_hit_heard window sending None = false
+is_hit_heard window sending (Some hit) = is_heard window sending (sending.start + hit)
 
 -- the sign of what a sending heard
 abbrev pub hit_sign : Window → Sending → ℕ → List ℕ

@@ -2,10 +2,6 @@
 -- hundredths of a pixel, times in half bits (profile).
 use Rattle.std.specs.Prelude.{ℕ}
 
--- the units of a pixel
-abbrev pub hundredths : ℕ
-hundredths = 100
-
 -- the width of the plot
 abbrev pub plot_width : ℕ
 plot_width = 100000
@@ -18,6 +14,18 @@ lane_distance = 1800
 abbrev pub place_height : ℕ
 place_height = 50
 
+-- the entries of a legend that stand beside each other, at most
+abbrev pub entries_a_row : ℕ
+entries_a_row = 6
+
+-- from one entry of a row to the next
+abbrev pub entry_width : ℕ
+entry_width = 22000
+
+-- from one row of entries to the next
+abbrev pub entry_height : ℕ
+entry_height = 2100
+
 -- where the first band begins, below the legend and the axis
 abbrev pub first_top : ℕ
 first_top = 9600
@@ -25,6 +33,14 @@ first_top = 9600
 -- between one band and the next
 abbrev pub band_gap : ℕ
 band_gap = 1400
+
+-- the octets of a name that has large letters, at most
+abbrev pub longest_large_name : ℕ
+longest_large_name = 20
+
+-- the hundredths of the plot's width that a word beside a sign takes
+abbrev pub word_share : ℕ
+word_share = 7
 
 -- the half bits of a microsecond
 abbrev pub half_bits_a_microsecond : ℕ

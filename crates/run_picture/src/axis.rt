@@ -72,15 +72,15 @@ fn add_tick(text: &mut List<u8>, window: Window, height: u64, t: u64) -> Result<
     let x = x_of(window, t);
     text.extend(b"<path class='line' d='M")?;
     add_number(text, x)?;
-    text.extend(b" 8300V")?;
+    text.extend(b" 7700V")?;
     add_number(text, height)?;
     text.extend(b"'/><text class='tick' x='")?;
     add_number(text, x)?;
-    text.extend(b"' y='6200'>")?;
+    text.extend(b"' y='5700'>")?;
     add_microseconds(text, t)?;
     text.extend(b"</text><text class='tick' x='")?;
     add_number(text, x)?;
-    text.extend(b"' y='7700'>")?;
+    text.extend(b"' y='7200'>")?;
     add_number(text, t)?;
     text.extend(b"</text>\n")
 }
@@ -109,9 +109,9 @@ fn add_tick_at(
 fn add_words_of_axis(text: &mut List<u8>) -> Result<(), OutOfMemory>
     ensures { OnOk result (text.new ≡ text.old ++ words_of_axis) }
 {
-    text.extend(b"<text class='axis' x='-1600' y='6200'>microseconds</text>")?;
-    text.extend(b"<text class='axis' x='-1600' y='7700'>half bits</text>")?;
-    text.extend(b"<text class='axis' x='-1600' y='8900'>place</text>\n")
+    text.extend(b"<text class='axis' x='-5200' y='5700'>microseconds</text>")?;
+    text.extend(b"<text class='axis' x='-5200' y='7200'>half bits</text>")?;
+    text.extend(b"<text class='axis' x='-600' y='8600'>place</text>\n")
 }
 
 /// Puts the axis at the end of a text.

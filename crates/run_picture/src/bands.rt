@@ -1,8 +1,9 @@
 //! The texts of bands and lanes: their names and places.
 ghost use Rattle.std.specs.Prelude.{◌≡◌, ◌<◌, ◌++◌, OnOk, length};
-ghost use Rattle.run_picture.specs.Bands.{bands_text, lane_text, lanes_text, name_of_tap, segment_text, port_name};
+ghost use Rattle.run_picture.specs.Bands.{bands_text, lane_text, lanes_text, letters_word, name_of_device, name_of_tap, segment_text, port_name};
 
 use crate::lanes::{Band, Lane};
+use crate::sizes::LONGEST_LARGE_NAME;
 use crate::window::add_number;
 use layout::{Layout, SegmentLine, Tap};
 use lists::{List, OutOfMemory};
@@ -34,6 +35,32 @@ fn add_name(text: &mut List<u8>, layout: &Layout, tap: Tap) -> Result<(), OutOfM
     }
 }
 
+/// The name of the device of a tap.
+fn name_of_device(layout: &Layout, tap: Tap) -> &str
+    ensures { result.now ≡ name_of_device layout.now tap }
+{
+    match tap {
+        Tap::Station(k) => match layout.stations.as_slice().get(k as usize) {
+            Some(station) => station.name.as_str(),
+            None => "",
+        },
+        Tap::Port { repeater, .. } => match layout.repeaters.as_slice().get(repeater as usize) {
+            Some(row) => row.name.as_str(),
+            None => "",
+        },
+    }
+}
+
+/// The word by which the style gives a long name small letters.
+fn letters_word(name: &str) -> &'static [u8]
+    ensures { result.now ≡ letters_word name.now }
+{
+    if name.len() > LONGEST_LARGE_NAME {
+        return b" long";
+    }
+    b""
+}
+
 /// Puts a lane with its name and its place at the end of a text.
 #[tactic(auto, unfolding(crate::specs::Bands::lane_text))]
 fn add_lane(text: &mut List<u8>, layout: &Layout, lane: &Lane) -> Result<(), OutOfMemory>
@@ -41,13 +68,15 @@ fn add_lane(text: &mut List<u8>, layout: &Layout, lane: &Lane) -> Result<(), Out
 {
     text.extend(b"<path class='lane' d='M0 ")?;
     add_number(text, lane.y)?;
-    text.extend(b"h100000'/><text class='name' x='-3600' y='")?;
+    text.extend(b"h100000'/><text class='name")?;
+    text.extend(letters_word(name_of_device(layout, lane.tap)))?;
+    text.extend(b"' x='-4400' y='")?;
     add_number(text, lane.y)?;
-    text.extend(b"' dy='400'>")?;
+    text.extend(b"' dy='500'>")?;
     add_name(text, layout, lane.tap)?;
     text.extend(b"</text><text class='place' x='-600' y='")?;
     add_number(text, lane.y)?;
-    text.extend(b"' dy='350'>")?;
+    text.extend(b"' dy='400'>")?;
     add_number(text, u64::from(lane.at))?;
     text.extend(b"</text>\n")
 }
@@ -67,9 +96,11 @@ fn add_lanes(text: &mut List<u8>, layout: &Layout, lanes: &[Lane]) -> Result<(),
 fn add_segment(text: &mut List<u8>, y: u64, segment: &SegmentLine) -> Result<(), OutOfMemory>
     ensures { OnOk result (text.new ≡ text.old ++ segment_text y segment.now) }
 {
-    text.extend(b"<text class='segment' x='-25500' y='")?;
+    text.extend(b"<text class='segment")?;
+    text.extend(letters_word(segment.name.as_str()))?;
+    text.extend(b"' x='-25500' y='")?;
     add_number(text, y)?;
-    text.extend(b"' dy='400'>segment ")?;
+    text.extend(b"' dy='500'>segment ")?;
     text.extend(segment.name.as_str().as_bytes())?;
     text.extend(b"</text>\n")
 }

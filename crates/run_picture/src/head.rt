@@ -1,8 +1,7 @@
-//! The head of a picture: its size, its style, its patterns and its legend.
+//! The head of a picture: its size, its style and its patterns.
 ghost use Rattle.std.specs.Prelude.{◌≡◌, ◌++◌, OnOk};
-ghost use Rattle.run_picture.specs.Head.{clip_of_plot, ground, head, legend, legend_of_repeaters, legend_of_sendings, legend_of_stations, pattern_of, patterns, size_of_picture, style, style_of_sendings, style_of_signs, style_of_words};
+ghost use Rattle.run_picture.specs.Head.{clip_of_plot, ground, head, pattern_of, patterns, size_of_picture, style, style_of_sendings, style_of_signs, style_of_words};
 
-use crate::sizes::HUNDREDTHS;
 use crate::window::add_number;
 use lists::{List, OutOfMemory};
 
@@ -12,10 +11,13 @@ fn add_style_of_words(text: &mut List<u8>) -> Result<(), OutOfMemory>
     ensures { OnOk result (text.new ≡ text.old ++ style_of_words) }
 {
     text.extend(
-        b"<style>text{font-family:sans-serif;font-size:1150px;fill:#222222}.segment{font-weight:bold}",
+        b"<style>svg{height:auto}text{font-family:sans-serif;font-size:1450px;fill:#222222}",
     )?;
-    text.extend(b".name,.place,.axis{text-anchor:end}.place,.word{font-size:950px;fill:#555555}")?;
-    text.extend(b".tick{text-anchor:middle;font-size:1050px}")
+    text.extend(
+        b".name,.segment{font-family:monospace}.segment{font-weight:bold}.long{font-size:1000px}",
+    )?;
+    text.extend(b".name,.place,.axis{text-anchor:end}.place,.word{font-size:1200px;fill:#555555}")?;
+    text.extend(b".tick,.axis{font-size:1300px}.tick{text-anchor:middle}")
 }
 
 /// Puts the style of lines, and of sendings by how they ended at the end of a text.
@@ -68,57 +70,6 @@ fn add_pattern(
     text.extend(b"</pattern>\n")
 }
 
-/// Puts the legend of sendings and their waves at the end of a text.
-#[tactic(auto, unfolding(crate::specs::Head::legend_of_sendings))]
-fn add_legend_of_sendings(text: &mut List<u8>) -> Result<(), OutOfMemory>
-    ensures { OnOk result (text.new ≡ text.old ++ legend_of_sendings) }
-{
-    text.extend(
-        b"<path class='sent' d='M-25500 950h2400v900h-2400z'/><text x='-22600' y='1400' dy='400'>sent</text>\n",
-    )?;
-    text.extend(b"<path class='collided' d='M-12500 950h2400v900h-2400z'/>")?;
-    text.extend(b"<text x='-9600' y='1400' dy='400'>collided</text>\n")?;
-    text.extend(
-        b"<path class='given_up' d='M500 950h2400v900h-2400z'/><text x='3400' y='1400' dy='400'>given up</text>\n",
-    )?;
-    text.extend(
-        b"<path class='cut' d='M13500 950h2400v900h-2400z'/><text x='16400' y='1400' dy='400'>cut</text>\n",
-    )?;
-    text.extend(b"<path class='wave' d='M26500 1400l1200 -700m-1200 700l1200 700'/>")?;
-    text.extend(b"<text x='28500' y='1400' dy='400'>wave front</text>\n")
-}
-
-/// Puts the legend of what stations hear at the end of a text.
-#[tactic(auto, unfolding(crate::specs::Head::legend_of_stations))]
-fn add_legend_of_stations(text: &mut List<u8>) -> Result<(), OutOfMemory>
-    ensures { OnOk result (text.new ≡ text.old ++ legend_of_stations) }
-{
-    text.extend(b"<path class='hit' d='M-24900 4400m0 -450l-350 -650h700z'/>")?;
-    text.extend(b"<text x='-23700' y='3600' dy='400'>collision heard</text>\n")?;
-    text.extend(
-        b"<path class='received' d='M-9900 3600m-380 0a380 380 0 1 0 760 0a380 380 0 1 0 -760 0z'/>",
-    )?;
-    text.extend(b"<text x='-8700' y='3600' dy='400'>received</text>\n")?;
-    text.extend(b"<path class='dropped' d='M1100 3600m-350 -350l700 700m0 -700l-700 700'/>")?;
-    text.extend(b"<text x='2300' y='3600' dy='400'>dropped</text>\n")
-}
-
-/// Puts the legend of what happens at repeaters at the end of a text.
-#[tactic(auto, unfolding(crate::specs::Head::legend_of_repeaters))]
-fn add_legend_of_repeaters(text: &mut List<u8>) -> Result<(), OutOfMemory>
-    ensures { OnOk result (text.new ≡ text.old ++ legend_of_repeaters) }
-{
-    text.extend(b"<path class='clash' d='M12100 3600m0 -700l170 480h500l-400 300l150 490")?;
-    text.extend(b"l-420 -290l-420 290l150 -490l-400 -300h500z'/>")?;
-    text.extend(b"<text x='13300' y='3600' dy='400'>clash</text>\n")?;
-    text.extend(b"<path class='closed' d='M22100 3600m-330 -330h660v660h-660z'/>")?;
-    text.extend(b"<text x='23300' y='3600' dy='400'>port closed</text>\n")?;
-    text.extend(b"<path class='opened' d='M35100 3600m-330 -330h660v660h-660z'/>")?;
-    text.extend(b"<text x='36300' y='3600' dy='400'>port opened</text>\n")?;
-    text.extend(b"<path class='halted' d='M48100 3600m0 -500l500 500l-500 500l-500 -500z'/>")?;
-    text.extend(b"<text x='49300' y='3600' dy='400'>port halted</text>\n")
-}
-
 /// Puts the style at the end of a text.
 #[tactic(auto, unfolding(crate::specs::Head::style))]
 fn add_style(text: &mut List<u8>) -> Result<(), OutOfMemory>
@@ -160,24 +111,14 @@ fn add_patterns(text: &mut List<u8>) -> Result<(), OutOfMemory>
     )
 }
 
-/// Puts the legend at the end of a text.
-#[tactic(auto, unfolding(crate::specs::Head::legend))]
-fn add_legend(text: &mut List<u8>) -> Result<(), OutOfMemory>
-    ensures { OnOk result (text.new ≡ text.old ++ legend) }
-{
-    add_legend_of_sendings(text)?;
-    add_legend_of_stations(text)?;
-    add_legend_of_repeaters(text)
-}
-
 /// Puts the tag that opens a picture of this height at the end of a text.
 #[tactic(auto, unfolding(crate::specs::Head::size_of_picture))]
 fn add_size(text: &mut List<u8>, height: u64) -> Result<(), OutOfMemory>
     ensures { OnOk result (text.new ≡ text.old ++ size_of_picture height) }
 {
-    text.extend(b"<svg xmlns='http://www.w3.org/2000/svg' version='1.1' width='1280' height='")?;
-    add_number(text, height / HUNDREDTHS)?;
-    text.extend(b"' viewBox='-26000 0 128000 ")?;
+    text.extend(
+        b"<svg xmlns='http://www.w3.org/2000/svg' version='1.1' width='100%' viewBox='-26000 0 133000 ",
+    )?;
     add_number(text, height)?;
     text.extend(b"'>\n")
 }
@@ -197,9 +138,9 @@ fn add_clip(text: &mut List<u8>, height: u64) -> Result<(), OutOfMemory>
 fn add_ground(text: &mut List<u8>, height: u64) -> Result<(), OutOfMemory>
     ensures { OnOk result (text.new ≡ text.old ++ ground height) }
 {
-    text.extend(b"<path d='M-26000 0h128000v")?;
+    text.extend(b"<path d='M-26000 0h133000v")?;
     add_number(text, height)?;
-    text.extend(b"h-128000z' fill='#ffffff'/>\n")
+    text.extend(b"h-133000z' fill='#ffffff'/>\n")
 }
 
 /// Puts the head of a picture of this height at the end of a text.
@@ -213,6 +154,5 @@ pub fn add_head(text: &mut List<u8>, height: u64) -> Result<(), OutOfMemory>
     add_patterns(text)?;
     add_clip(text, height)?;
     text.extend(b"</defs>\n")?;
-    add_ground(text, height)?;
-    add_legend(text)
+    add_ground(text, height)
 }

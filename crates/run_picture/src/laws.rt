@@ -1,5 +1,5 @@
 //! Laws of pictures: calls without a body, whose contracts are the laws.
-ghost use Rattle.run_picture.specs.Elements.{HitsHaveSigns, PortsHaveLanes, PortsHaveSigns, ReceptionsHaveSigns, SendingsHaveBars, StationsHaveLanes};
+ghost use Rattle.run_picture.specs.Elements.{EntriesHaveShapes, HitsHaveSigns, PortsHaveLanes, PortsHaveSigns, ReceptionsHaveSigns, SendingsHaveBars, ShapesHaveEntries, StationsHaveLanes};
 ghost use Rattle.run_picture.specs.PictureLaws.{IsAMicrosecond, IsATenth, LinesAreFew, LinesAreTitles, PicturesAreClosed, TitlesAreLines};
 
 /// The titles of a picture are the lines of the log that meet its window, without their line feeds, in their order,
@@ -38,6 +38,12 @@ pub fn sendings_have_bars()
 pub fn lines_have_signs()
     ensures receptions { ReceptionsHaveSigns }
     ensures ports { PortsHaveSigns }
+{}
+
+/// The legend of a picture has an entry for each kind of shape that its marks have, and for no other.
+pub fn legends_are_whole()
+    ensures shapes { ShapesHaveEntries }
+    ensures entries { EntriesHaveShapes }
 {}
 
 /// Each station, and each port of a repeater, has its lane among those of its segment, with its place.

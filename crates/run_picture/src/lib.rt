@@ -5,8 +5,10 @@ mod axis;
 mod bands;
 mod drawing;
 mod head;
+mod kinds;
 mod lanes;
 pub mod laws;
+mod legend;
 mod marks;
 mod sending;
 mod signs;
@@ -14,6 +16,7 @@ mod sizes;
 mod strangers;
 mod waves;
 mod window;
+mod word_rooms;
 
 pub use drawing::picture;
 pub use lists::OutOfMemory;

@@ -4,7 +4,7 @@ ghost use Rattle.std.specs.List.{AllByRecursion};
 ghost use Rattle.collision_log.specs.Rows.{why_text};
 ghost use Rattle.layout.specs.Sound.{IsSound};
 ghost use Rattle.log_meter.specs.Lines.{IsLogLine};
-ghost use Rattle.run_picture.specs.Marks.{is_one_tap, lane_of, lane_shapes, lanes_of_segment, mark, mark_of_line, marks, port_shapes, reception, repeater_shapes, shapes_of_line, sign_of_port, signs_of_ports, station_shapes, title_of, word_of_drop};
+ghost use Rattle.run_picture.specs.Marks.{is_one_tap, lane_of, lane_shapes, lanes_of_segment, mark, mark_of_line, marks, port_shapes, reception, repeater_shapes, shapes_of_line, sign_of_port, signs_of_ports, station_shapes, title_of, word_if, word_of_drop};
 ghost use Rattle.run_picture.specs.Times.{IsWindow};
 
 use crate::lanes::{Band, Lane};
@@ -12,10 +12,12 @@ use crate::sending::{add_sending, does_meet, sending_of};
 use crate::signs::{Sign, add_sign};
 use crate::strangers::{number_of_repeater, number_of_station};
 use crate::window::{Window, add_number, x_of};
+use crate::word_rooms::{station_of_word, take_room};
 use collision_log::{Body, Row, Why, row_text};
 use layout::{Layout, PortLine, Tap};
 use lists::{List, OutOfMemory};
 use log_meter::LogLine;
+use std::alloc::Global;
 
 /// Puts a line of the log, without its line feed, at the end of a text.
 fn add_title(text: &mut List<u8>, line: &LogLine) -> Result<(), OutOfMemory>
@@ -103,15 +105,35 @@ fn add_word(
     add_number(text, x_of(window, t))?;
     text.extend(b"' y='")?;
     add_number(text, y)?;
-    text.extend(b"' dx='600' dy='-350'>")?;
+    text.extend(b"' dx='600' dy='-450'>")?;
     text.extend(word_of(why))?;
     text.extend(b"</text>")
 }
 
-/// Puts the sign of a reception that ended in half bit t at the end of a text.
+/// Puts the word of a drop at the end of a text, where there is one.
+fn add_word_if(
+    text: &mut List<u8>,
+    worded: bool,
+    window: Window,
+    t: u64,
+    y: u64,
+    why: Why,
+) -> Result<(), OutOfMemory>
+    requires window { IsWindow window }
+    requires time { t < 2 ^ 32 }
+    ensures { OnOk result (text.new ≡ text.old ++ word_if worded window t y why) }
+{
+    if worded {
+        return add_word(text, window, t, y, why);
+    }
+    Ok(())
+}
+
+/// Puts the sign of a reception that ended in half bit t at the end of a text, with a word or without one.
 #[tactic(auto, unfolding(crate::specs::Marks::reception))]
 fn add_reception(
     text: &mut List<u8>,
+    worded: bool,
     window: Window,
     t: u64,
     y: u64,
@@ -119,13 +141,13 @@ fn add_reception(
 ) -> Result<(), OutOfMemory>
     requires window { IsWindow window }
     requires time { t < 2 ^ 32 }
-    ensures { OnOk result (text.new ≡ text.old ++ reception window t y body.now) }
+    ensures { OnOk result (text.new ≡ text.old ++ reception worded window t y body.now) }
 {
     match *body {
         Body::Received { .. } => add_sign(text, window, Sign::Received, t, y),
         Body::Dropped { why, .. } => {
             add_sign(text, window, Sign::Dropped, t, y)?;
-            add_word(text, window, t, y, why)
+            add_word_if(text, worded, window, t, y, why)
         }
         _ => Ok(()),
     }
@@ -134,6 +156,7 @@ fn add_reception(
 /// Puts the shapes of what happened at the station on a lane at the end of a text.
 fn add_lane_shapes(
     text: &mut List<u8>,
+    worded: bool,
     window: Window,
     line: &LogLine,
     lane: Lane,
@@ -141,17 +164,18 @@ fn add_lane_shapes(
 ) -> Result<(), OutOfMemory>
     requires window { IsWindow window }
     requires line { IsLogLine line.now }
-    ensures { OnOk result (text.new ≡ text.old ++ lane_shapes window line.now lane lanes.now) }
+    ensures { OnOk result (text.new ≡ text.old ++ lane_shapes worded window line.now lane lanes.now) }
 {
     if let Some(sending) = sending_of(line.t, &line.body) {
         return add_sending(text, window, sending, lane, lanes);
     }
-    add_reception(text, window, line.t, lane.y, &line.body)
+    add_reception(text, worded, window, line.t, lane.y, &line.body)
 }
 
 /// Puts the shapes of what happened at a station at the end of a text.
 fn add_station_shapes(
     text: &mut List<u8>,
+    worded: bool,
     window: Window,
     layout: &Layout,
     bands: &[Band],
@@ -160,7 +184,7 @@ fn add_station_shapes(
     requires window { IsWindow window }
     requires sound { IsSound layout.now }
     requires line { IsLogLine line.now }
-    ensures { OnOk result (text.new ≡ text.old ++ station_shapes window layout.now bands.now line.now) }
+    ensures { OnOk result (text.new ≡ text.old ++ station_shapes worded window layout.now bands.now line.now) }
 {
     let stations = layout.stations.as_slice();
     let Some(k) = number_of_station(stations, line.name.as_str()) else {
@@ -170,7 +194,7 @@ fn add_station_shapes(
     let Some(lane) = lane_of(lanes, Tap::Station(k as u32)) else {
         return Ok(());
     };
-    add_lane_shapes(text, window, line, lane, lanes)
+    add_lane_shapes(text, worded, window, line, lane, lanes)
 }
 
 /// The sign of what happened at a repeater for its port with this number, from 1, if it concerns the port.
@@ -253,6 +277,7 @@ fn add_repeater_shapes(
 /// Puts the shapes of what happened at a device at the end of a text.
 fn add_shapes(
     text: &mut List<u8>,
+    worded: bool,
     window: Window,
     layout: &Layout,
     bands: &[Band],
@@ -261,18 +286,19 @@ fn add_shapes(
     requires window { IsWindow window }
     requires sound { IsSound layout.now }
     requires line { IsLogLine line.now }
-    ensures { OnOk result (text.new ≡ text.old ++ shapes_of_line window layout.now bands.now line.now) }
+    ensures { OnOk result (text.new ≡ text.old ++ shapes_of_line worded window layout.now bands.now line.now) }
 {
     if line.repeater {
         return add_repeater_shapes(text, window, layout, bands, line);
     }
-    add_station_shapes(text, window, layout, bands, line)
+    add_station_shapes(text, worded, window, layout, bands, line)
 }
 
-/// Puts the mark of a line at the end of a text.
+/// Puts the mark of a line at the end of a text, with a word or without one.
 #[tactic(auto, unfolding(crate::specs::Marks::mark))]
 fn add_mark(
     text: &mut List<u8>,
+    worded: bool,
     window: Window,
     layout: &Layout,
     bands: &[Band],
@@ -281,18 +307,19 @@ fn add_mark(
     requires window { IsWindow window }
     requires sound { IsSound layout.now }
     requires line { IsLogLine line.now }
-    ensures { OnOk result (text.new ≡ text.old ++ mark window layout.now bands.now line.now) }
+    ensures { OnOk result (text.new ≡ text.old ++ mark worded window layout.now bands.now line.now) }
 {
     text.extend(b"<g><title>")?;
     add_title(text, line)?;
     text.extend(b"</title>")?;
-    add_shapes(text, window, layout, bands, line)?;
+    add_shapes(text, worded, window, layout, bands, line)?;
     text.extend(b"</g>\n")
 }
 
 /// Puts the mark of a line at the end of a text, if it meets the window.
 fn add_mark_of_line(
     text: &mut List<u8>,
+    worded: bool,
     window: Window,
     layout: &Layout,
     bands: &[Band],
@@ -301,16 +328,17 @@ fn add_mark_of_line(
     requires window { IsWindow window }
     requires sound { IsSound layout.now }
     requires line { IsLogLine line.now }
-    ensures { OnOk result (text.new ≡ text.old ++ mark_of_line window layout.now bands.now line.now) }
+    ensures { OnOk result (text.new ≡ text.old ++ mark_of_line worded window layout.now bands.now line.now) }
 {
     if does_meet(window, line) {
-        return add_mark(text, window, layout, bands, line);
+        return add_mark(text, worded, window, layout, bands, line);
     }
     Ok(())
 }
 
 /// Puts the marks of these lines at the end of a text.
 pub fn add_marks(
+    alloc: Global,
     text: &mut List<u8>,
     window: Window,
     layout: &Layout,
@@ -322,8 +350,11 @@ pub fn add_marks(
     requires lines { AllByRecursion IsLogLine lines.now }
     ensures { OnOk result (text.new ≡ text.old ++ marks window layout.now bands.now lines.now) }
 {
+    let mut rooms = vec![in alloc; 0u64; layout.stations.len()]?;
     for line in lines {
-        add_mark_of_line(text, window, layout, bands, line)?;
+        let station = station_of_word(window, layout, &rooms, line);
+        add_mark_of_line(text, station.is_some(), window, layout, bands, line)?;
+        take_room(window, &mut rooms, line.t, station);
     }
     Ok(())
 }

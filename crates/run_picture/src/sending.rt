@@ -1,6 +1,6 @@
 //! Sendings, as lines of a log tell them, and which lines meet a window.
 ghost use Rattle.std.specs.Prelude.{◌≡◌, ◌<◌, ◌^◌, ◌++◌, OnOk};
-ghost use Rattle.run_picture.specs.Sendings.{does_end, does_meet, hit_sign, last_wave, sending_of, sending_shapes};
+ghost use Rattle.run_picture.specs.Sendings.{does_end, does_meet, hit_sign, is_heard, is_in_window, last_wave, sending_of, sending_shapes};
 ghost use Rattle.run_picture.specs.Times.{IsWindow};
 
 use crate::lanes::Lane;
@@ -40,24 +40,38 @@ pub fn sending_of(t: u64, body: &Body) -> Option<Sending>
     })
 }
 
+/// Whether half bit t is in the window.
+pub fn is_in_window(window: Window, t: u64) -> bool
+    ensures { result ≡ is_in_window window t }
+{
+    window.from <= t && t < window.to
+}
+
 /// Whether a line meets the window.
 pub fn does_meet(window: Window, line: &LogLine) -> bool
     ensures { result ≡ does_meet window line.now }
 {
     match sending_of(line.t, &line.body) {
         Some(sending) => sending.start < window.to && window.from <= sending.end,
-        None => window.from <= line.t && line.t < window.to,
+        None => is_in_window(window, line.t),
     }
 }
 
 /// Whether a sending ended before the run did.
-fn does_end(outcome: Outcome) -> bool
+pub fn does_end(outcome: Outcome) -> bool
     ensures { result ≡ does_end outcome }
 {
     match outcome {
         Outcome::Cut => false,
         _ => true,
     }
+}
+
+/// Whether a hit in half bit t is in the window and before the end of its sending.
+pub fn is_heard(window: Window, sending: Sending, t: u64) -> bool
+    ensures { result ≡ is_heard window sending t }
+{
+    t < sending.end && is_in_window(window, t)
 }
 
 /// Puts the sign of what a sending heard at the end of a text, if that is in the window and before the sending's end.
@@ -70,7 +84,7 @@ fn add_hit(text: &mut List<u8>, window: Window, sending: Sending, y: u64) -> Res
         return Ok(());
     };
     let t = sending.start + u64::from(hit);
-    if t < sending.end && window.from <= t && t < window.to {
+    if is_heard(window, sending, t) {
         return add_sign(text, window, Sign::Hit, t, y);
     }
     Ok(())

@@ -28,7 +28,7 @@ pub enum Outcome {
 }
 
 /// The word by which the style names a sign.
-fn sign_word(sign: Sign) -> &'static [u8]
+pub fn sign_word(sign: Sign) -> &'static [u8]
     ensures { result.now ≡ sign_word sign }
 {
     match sign {
@@ -43,7 +43,7 @@ fn sign_word(sign: Sign) -> &'static [u8]
 }
 
 /// The lines of a sign, from its place on.
-fn sign_path(sign: Sign) -> &'static [u8]
+pub fn sign_path(sign: Sign) -> &'static [u8]
     ensures { result.now ≡ sign_path sign }
 {
     match sign {
@@ -82,7 +82,7 @@ pub fn add_sign(
 }
 
 /// The word by which the style names how a sending ended.
-fn sending_word(outcome: Outcome) -> &'static [u8]
+pub fn sending_word(outcome: Outcome) -> &'static [u8]
     ensures { result.now ≡ sending_word outcome }
 {
     match outcome {

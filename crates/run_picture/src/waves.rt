@@ -17,7 +17,7 @@ fn distance(p: u32, q: u32) -> u64
 }
 
 /// Whether a wave that begins in half bit t can be on its segment in the window.
-fn is_seen(window: Window, t: u64) -> bool
+pub fn is_seen(window: Window, t: u64) -> bool
     requires { t < 2 ^ 40 }
     ensures { result ≡ is_seen window t }
 {

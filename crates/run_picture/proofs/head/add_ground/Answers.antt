@@ -10,7 +10,7 @@ unfolding ground
 returns c =
     on_ok_weaker c.extend-2.result
     (λ e. joined_3 c.args.text.now
-    (codes "<path d='M-26000 0h128000v") (decimal c.args.height) (codes "h-128000z' fill='#ffffff'/>\n")
+    (codes "<path d='M-26000 0h133000v") (decimal c.args.height) (codes "h-133000z' fill='#ffffff'/>\n")
     c.extend.new.self c.add_number.new.text c.extend-2.new.self
     c.in_ok-extend.ensures.ok c.in_ok-add_number.ensures e)
     c.extend-2.ensures.ok
