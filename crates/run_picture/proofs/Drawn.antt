@@ -1,5 +1,5 @@
 -- What marks draw stands in the picture.
-use Rattle.std.proofs.Common.{◌≡◌, ℕ, zero, suc, ◌+◌, ◌<◌, ◌≤◌, Bool, true, false, cond, List, [], ◌∷◌, ◌++◌, flat_map, codes, Some, None, refl, sym, ap, subst, ◌∙◌, arith, append_assoc, append-nil, length}
+use Rattle.std.proofs.Common.{◌≡◌, ℕ, zero, suc, ◌+◌, ◌<◌, ◌≤◌, Bool, true, false, cond, List, [], ◌∷◌, ◌++◌, codes, Some, None, refl, sym, ap, subst, ◌∙◌, arith, append_assoc, append-nil, length}
 use Rattle.std.specs.Prelude.{Option, Contains, slice_get, slice_index_or, nat_le, nat_lt, max, min, decimal}
 use Rattle.std.proofs.lemmas.Bool.{and_from, eq-eqb, le-leb, lt-ltb}
 use Rattle.collision_log.specs.declared.row.Body.{Body}
@@ -69,16 +69,16 @@ in_marks : (rooms : List ℕ) (window : Window) (l : Layout) (bands : List Band)
     → does_meet window line ≡ true → HasMark window l bands line (marks_from rooms window l bands lines)
 in_marks rooms window l bands [] line k within at meets = absurd (omega arith)
 in_marks rooms window l bands (first ∷ lines) line zero within at meets =
-    let worded : Bool = has_word window l rooms line in
+    let worded : Bool = has_word window l rooms line lines in
     let one : Has (mark_of_line worded window l bands line) (mark worded window l bands line) =
     in_same _ _ (mark worded window l bands line) (sym (mark_shown worded window l bands line meets)) (whole (mark worded window l bands line)) in (
       worded,
       subst (λ z. Has (marks_from rooms window l bands (z ∷ lines)) (mark worded window l bands line)) (sym at)
-          (in_first (mark_of_line worded window l bands line) (marks_from (rooms_after window l rooms line) window l bands lines) (mark worded window l bands line) one),
+          (in_first (mark_of_line worded window l bands line) (marks_from (rooms_after window l rooms line lines) window l bands lines) (mark worded window l bands line) one),
     )
 in_marks rooms window l bands (first ∷ lines) line (suc k) within at meets =
-    let rest = in_marks (rooms_after window l rooms first) window l bands lines line k (omega arith) at meets in
-    (rest.0, in_second (mark_of_line (has_word window l rooms first) window l bands first) (marks_from (rooms_after window l rooms first) window l bands lines) (mark rest.0 window l bands line) rest.1)
+    let rest = in_marks (rooms_after window l rooms first lines) window l bands lines line k (omega arith) at meets in
+    (rest.0, in_second (mark_of_line (has_word window l rooms first lines) window l bands first) (marks_from (rooms_after window l rooms first lines) window l bands lines) (mark rest.0 window l bands line) rest.1)
 
 -- a line's mark stands in the picture
 mark_stands : (page : Page) (window : Window) (l : Layout) (lines : List LogLine) (line : LogLine) → Contains lines line → does_meet window line ≡ true

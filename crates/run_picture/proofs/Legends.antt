@@ -1,5 +1,5 @@
 -- The legend has an entry for each kind of shape that is drawn, and no other.
-use Rattle.std.proofs.Common.{◌≡◌, ℕ, zero, suc, ◌+◌, ◌<◌, ◌≤◌, ◌||◌, Bool, true, false, cond, List, [], ◌∷◌, ◌++◌, length, filter, codes, refl, sym, ap, subst, ◌∙◌, arith}
+use Rattle.std.proofs.Common.{◌≡◌, ℕ, zero, suc, ◌+◌, ◌<◌, ◌||◌, Bool, true, false, cond, List, [], ◌∷◌, ◌++◌, length, filter, codes, refl, sym, ap, subst, ◌∙◌, arith}
 use Rattle.std.specs.Prelude.{Contains, slice_index_or}
 use Rattle.std.specs.List.{list_any}
 use Rattle.std.proofs.lemmas.Bool.{true≢false}
@@ -7,9 +7,9 @@ use Rattle.std.proofs.lemmas.List.Folds.{list_any_at}
 use Rattle.log_meter.specs.declared.line.LogLine.{LogLine}
 use Rattle.run_picture.specs.Axis.{axis}
 use Rattle.run_picture.specs.Bands.{bands_text}
-use Rattle.run_picture.specs.Elements.{EntriesHaveShapes, HasEntry, ShapesHaveEntries}
+use Rattle.run_picture.specs.Elements.{EntriesHaveShapes, ShapesHaveEntries}
 use Rattle.run_picture.specs.Head.{head}
-use Rattle.run_picture.specs.Kinds.{does_draw, drawn_kinds, every_kind, is_drawn}
+use Rattle.run_picture.specs.Kinds.{does_draw, every_kind, is_drawn}
 use Rattle.run_picture.specs.Lanes.{page_of}
 use Rattle.run_picture.specs.Legend.{entries, entry, legend}
 use Rattle.run_picture.specs.Marks.{marks}

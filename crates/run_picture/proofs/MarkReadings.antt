@@ -137,5 +137,5 @@ pub marks_lead : (ts : List (List ℕ)) (rooms : List ℕ) (window : Window) (l 
 marks_lead ts rooms window l bands [] h =
     subst (λ (titles : List (List ℕ)). Leads (between_marks ts) [] (between_marks titles)) (sym (append-nil ts)) (nothing (between_marks ts))
 marks_lead ts rooms window l bands (line ∷ lines) h =
-    line_leads ts (has_word window l rooms line) window l bands line lines (marks_from (rooms_after window l rooms line) window l bands lines) (does_meet window line) h.0
-    (λ later. marks_lead later (rooms_after window l rooms line) window l bands lines h.1)
+    line_leads ts (has_word window l rooms line lines) window l bands line lines (marks_from (rooms_after window l rooms line lines) window l bands lines) (does_meet window line) h.0
+    (λ later. marks_lead later (rooms_after window l rooms line lines) window l bands lines h.1)

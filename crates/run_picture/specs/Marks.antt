@@ -135,8 +135,8 @@ mark_of_line worded window l bands line = if does_meet window line then mark wor
 abbrev pub marks_from : List ℕ → Window → Layout → List Band → List LogLine → List ℕ
 marks_from rooms window l bands [] = []
 marks_from rooms window l bands (line ∷ lines) =
-    mark_of_line (has_word window l rooms line) window l bands line
-    ++ marks_from (rooms_after window l rooms line) window l bands lines
+    mark_of_line (has_word window l rooms line lines) window l bands line
+    ++ marks_from (rooms_after window l rooms line lines) window l bands lines
 
 -- the marks of those of these lines that meet the window, in their order
 abbrev pub marks : Window → Layout → List Band → List LogLine → List ℕ

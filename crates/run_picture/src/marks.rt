@@ -351,8 +351,9 @@ pub fn add_marks(
     ensures { OnOk result (text.new ≡ text.old ++ marks window layout.now bands.now lines.now) }
 {
     let mut rooms = vec![in alloc; 0u64; layout.stations.len()]?;
-    for line in lines {
-        let station = station_of_word(window, layout, &rooms, line);
+    'lines: for n in 0..lines.len() {
+        let line = &lines[n];
+        let station = station_of_word(window, layout, &rooms, line, &lines[n + 1..]);
         add_mark_of_line(text, station.is_some(), window, layout, bands, line)?;
         take_room(window, &mut rooms, line.t, station);
     }

@@ -1,4 +1,4 @@
-use Rattle.std.proofs.Common.{List, ◌++◌, length, ap, ◌∙◌}
+use Rattle.std.proofs.Common.{List, ◌++◌, ap, ◌∙◌}
 use Rattle.std.proofs.lemmas.Result.{on_ok_weaker}
 use Rattle.layout.specs.declared.lines.SegmentLine.{SegmentLine}
 use Rattle.run_picture.specs.Axis.{axis}
