@@ -5,6 +5,7 @@
 pub mod laws;
 mod mail;
 mod mailbox;
+mod pauses;
 mod planned;
 mod rule;
 

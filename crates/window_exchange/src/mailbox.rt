@@ -4,10 +4,10 @@ ghost use Rattle.crossbeam_queue.specs.Passes.{view, IsPassOf, ruled_capacity};
 ghost use Rattle.window_exchange.specs.Balance.{name_lists};
 ghost use Rattle.window_exchange.specs.MailNames.{mail_name, IsHonest};
 
+use crate::pauses::Pauses;
 use crate::rule::{Again, MailRule, Puts, Takes};
 use crate::{Lists, Mail, Named, Planned};
 use crossbeam_queue::{Pass, RuledArrayQueue};
-use crossbeam_utils::Backoff;
 use lists::OutOfMemory;
 use std::alloc::Global;
 use std::marker::PhantomData;
@@ -59,39 +59,39 @@ impl<P: Planned, U: Named> Mailbox<P, U> {
         }
     }
 
-    /// Puts the mail into the box. While the box is full it tries again, and yields the processor after a few tries.
+    /// Puts the mail into the box. While the box is full it tries again, with longer and longer pauses.
     pub fn send<R: Wait>(&self, rt: &R, pass: &mut MailPass<P, U>, mail: Mail<U>)
         requires of { IsPassOf self.now.queue pass.old.pass }
         requires honest { IsHonest U.plan P.plan mail }
         ensures of { IsPassOf self.now.queue pass.new.pass }
         ensures lists { view pass.new.pass ≡ name_lists ((view pass.old.pass).put ++ mail_name U.name mail ∷ []) (view pass.old.pass).taken }
     {
-        let backoff = Backoff::new();
+        let mut pauses = Pauses::new();
         let mut mail = mail;
         for _ in rt.forever() {
             match self.queue.try_push_as::<Puts<U>>(&mut pass.pass, mail) {
                 Ok(()) => return,
                 Err(back) => mail = back,
             }
-            backoff.snooze();
+            pauses.pause(rt);
         }
         unreachable!()
     }
 
-    /// Takes the mail out of the box that was put there first. While the box is empty it tries again, and yields the
-    /// processor after a few tries.
+    /// Takes the mail out of the box that was put there first. While the box is empty it tries again, with longer and
+    /// longer pauses.
     pub fn receive<R: Wait>(&self, rt: &R, pass: &mut MailPass<P, U>) -> Mail<U>
         requires of { IsPassOf self.now.queue pass.old.pass }
         ensures of { IsPassOf self.now.queue pass.new.pass }
         ensures honest { IsHonest U.plan P.plan result }
         ensures lists { view pass.new.pass ≡ name_lists (view pass.old.pass).put ((view pass.old.pass).taken ++ mail_name U.name result ∷ []) }
     {
-        let backoff = Backoff::new();
+        let mut pauses = Pauses::new();
         for _ in rt.forever() {
             if let Some(mail) = self.queue.try_pop_as::<Takes<P, U>>(&mut pass.pass) {
                 return mail;
             }
-            backoff.snooze();
+            pauses.pause(rt);
         }
         unreachable!()
     }
