@@ -1,5 +1,5 @@
 -- The end of a run, from what was read and what was written.
-use Rattle.std.proofs.Common.{◌≡◌, ℕ, ◌≤◌, Option, Result, Ok, Err, IfOk, IfErr, OnOk, List, sym, subst, ◌∙◌, inl, inr, arith}
+use Rattle.std.proofs.Common.{◌≡◌, ℕ, ◌≤◌, Option, Ok, List, ◌∙◌, inl, inr, arith}
 use Rattle.layout.specs.declared.lines.Layout.{Layout}
 use Rattle.load_plan.specs.declared.plan.Plan.{Plan}
 use Rattle.outside.specs.Files.{Files, Rose}
@@ -7,59 +7,46 @@ use Rattle.outside.specs.declared.memory.File.{File}
 use Rattle.program_endings.specs.declared.endings.Ending.{Ending}
 use Rattle.program_endings.specs.declared.endings.Ending.TheVariants as ending
 use Rattle.program_endings.specs.Moments.{Moment}
-use Rattle.program_endings.specs.Endings.{IsBeforeRun, IsJudged, IsFiledEnd, IsFileEnd, IsPlainEnd, IsPlanned, HasOnlyRead, IsRunEnd, IsTakenEnd, IsText, IsUnloadedSaid, IsUnfiled}
+use Rattle.program_endings.specs.Endings.{IsBeforeRun, IsJudged, IsFiledEnd, IsFileEnd, IsPlainEnd, IsPlanned, HasOnlyFiled, HasOnlyRead, IsRunEnd, IsTakenEnd, IsText, IsTextEnd, IsUnloadedSaid, IsUnfiled}
 use Rattle.program_endings.specs.Writing.{put_all, IsBrokenAmong, IsSaid}
 use Rattle.program_endings.specs.Runs.{IsPlanOf, IsSummary, run_files}
 use Rattle.program_endings.specs.WrittenNames.{AreNamesFree, RunOf, ToWrite}
 
--- the files are whole, and the text was written
-pub run-filed : (files : List File) (IsRight : List ℕ → Type 0) (before after : Moment) (e : Ending) (right text : List ℕ) → after.held ≡ put_all files before.held → IsRight right → text ≡ right
-    → IsText text before.written after.written before.faults after.faults e → IsRunEnd files IsRight before after e
-run-filed files IsRight before after e right text held summed is written = inr (inl (held, (right, summed, rw is at written)))
+-- a text that was written after nothing but reading or filing
+pub text_before : (text : List ℕ) (before mid after : Moment) (e : Ending) → mid.written ≡ before.written → mid.faults ≡ before.faults → IsText text mid after e → IsText text before after e
+text_before text before mid after ending.Done silent still told = rw silent at told
+text_before text before mid after ending.Write silent still told = rw (silent, still) at told
+text_before text before mid after ending.Memory silent still told = rw silent at told
+text_before text before mid after _ silent still told = absurd told
 
-unfiled_by : (files : List File) (before after : Moment) (e : Ending) → IsBrokenAmong files before.held after.held → IsFileEnd before.writes after.writes e → after.written ≡ before.written → IsUnfiled files before after e
-unfiled_by files before after ending.Done broken end silent = absurd end
-unfiled_by files before after ending.Words broken end silent = absurd end
-unfiled_by files before after ending.Layout broken end silent = absurd end
-unfiled_by files before after ending.Load broken end silent = absurd end
-unfiled_by files before after ending.Read broken end silent = absurd end
+-- the files are whole, and the text was written
+pub run-filed : (files : List File) (IsRight : List ℕ → Type 0) (before mid after : Moment) (e : Ending) (right text : List ℕ) → HasOnlyFiled before mid → mid.held ≡ put_all files before.held → IsRight right → text ≡ right
+    → IsTextEnd text mid after e → IsRunEnd files IsRight before after e
+run-filed files IsRight before mid after e right text only held summed is told =
+    inr (inl (told.1 ∙ held, (right, summed, text_before right before mid after e only.written only.faults (rw is at told.0))))
+
+unfiled_by : (files : List File) (before after : Moment) (e : Ending) → IsBrokenAmong files before.held after.held → IsFileEnd before after e → after.written ≡ before.written → IsUnfiled files before after e
 unfiled_by files before after ending.Write broken end silent = (broken, end, silent)
 unfiled_by files before after ending.Memory broken end silent = (broken, silent)
-unfiled_by files before after ending.Probe broken end silent = absurd end
-unfiled_by files before after ending.Log broken end silent = absurd end
-unfiled_by files before after ending.Stranger broken end silent = absurd end
-unfiled_by files before after ending.Unquiet broken end silent = absurd end
-unfiled_by files before after ending.State broken end silent = absurd end
-unfiled_by files before after ending.Output broken end silent = absurd end
+unfiled_by files before after _ broken end silent = absurd end
 
 -- a file could not be written
-pub run-unfiled : (files : List File) (IsRight : List ℕ → Type 0) (before after : Moment) (e : Ending) → IsBrokenAmong files before.held after.held → IsFileEnd before.writes after.writes e → after.written ≡ before.written
-    → IsRunEnd files IsRight before after e
-run-unfiled files IsRight before after e broken end silent = inr (inr (unfiled_by files before after e broken end silent))
+pub run-unfiled : (files : List File) (IsRight : List ℕ → Type 0) (before after : Moment) (e : Ending) → IsBrokenAmong files before.held after.held → IsFileEnd before after e → HasOnlyFiled before after → IsRunEnd files IsRight before after e
+run-unfiled files IsRight before after e broken end only = inr (inr (unfiled_by files before after e broken end only.written))
 
 pub rose-before : (a b c : ℕ) → a ≤ b → Rose b c → Rose a c
 rose-before a b c le rose = omega (arith, le, rose)
 
 unfiled_before : (files : List File) (before mid after : Moment) (e : Ending) → HasOnlyRead before mid → IsUnfiled files mid after e → IsUnfiled files before after e
-unfiled_before files before mid after ending.Done read un = un
-unfiled_before files before mid after ending.Words read un = un
-unfiled_before files before mid after ending.Layout read un = un
-unfiled_before files before mid after ending.Load read un = un
-unfiled_before files before mid after ending.Read read un = un
 unfiled_before files before mid after ending.Write read un =
     (rw read.held at un.0, rose-before before.writes mid.writes after.writes read.writes un.1, rw read.written at un.2)
 unfiled_before files before mid after ending.Memory read un = (rw read.held at un.0, rw read.written at un.1)
-unfiled_before files before mid after ending.Probe read un = un
-unfiled_before files before mid after ending.Log read un = un
-unfiled_before files before mid after ending.Stranger read un = un
-unfiled_before files before mid after ending.Unquiet read un = un
-unfiled_before files before mid after ending.State read un = un
-unfiled_before files before mid after ending.Output read un = un
+unfiled_before files before mid after _ read un = absurd un
 
 pub filed_before : (files : List File) (IsRight : List ℕ → Type 0) (before mid after : Moment) (e : Ending) → HasOnlyRead before mid → IsFiledEnd files IsRight mid after e → IsFiledEnd files IsRight before after e
 filed_before files IsRight before mid after e read filed =
     elim filed [
-      | inl all ↦ inl (rw read.held at all.0, (all.1.0, all.1.1, rw (read.written, read.faults) at all.1.2))
+      | inl all ↦ inl (rw read.held at all.0, (all.1.0, all.1.1, text_before all.1.0 before mid after e read.written read.faults all.1.2))
       | inr un ↦ inr (unfiled_before files before mid after e read un)
     ]
 
@@ -76,9 +63,6 @@ pub said_before : (line : List ℕ) (before mid after : Moment) → HasOnlyRead 
 said_before line before mid after read said = rw (read.written, read.refused) at said
 
 pub unloaded_before : (network : Layout) (before mid after : Moment) (e : Ending) → HasOnlyRead before mid → IsUnloadedSaid network mid after e → IsUnloadedSaid network before after e
-unloaded_before network before mid after ending.Done read said = said
-unloaded_before network before mid after ending.Words read said = said
-unloaded_before network before mid after ending.Layout read said = said
 unloaded_before network before mid after ending.Load read said =
     record { station = said.station; fault = said.fault; loaded = rw read.held at said.loaded; name = said.name; named = said.named; said = said_before _ before mid after read said.said }
 unloaded_before network before mid after ending.Read read said =
@@ -89,14 +73,8 @@ unloaded_before network before mid after ending.Read read said =
       unread = elim said.unread [ inl absent ↦ inl (rw read.held at absent) | inr rose ↦ inr (rose-before before.reads mid.reads after.reads read.reads rose) ];
       said = said_before _ before mid after read said.said;
     }
-unloaded_before network before mid after ending.Write read said = said
 unloaded_before network before mid after ending.Memory read said = rw read.written at said
-unloaded_before network before mid after ending.Probe read said = said
-unloaded_before network before mid after ending.Log read said = said
-unloaded_before network before mid after ending.Stranger read said = said
-unloaded_before network before mid after ending.Unquiet read said = said
-unloaded_before network before mid after ending.State read said = said
-unloaded_before network before mid after ending.Output read said = said
+unloaded_before network before mid after _ read said = absurd said
 
 -- the loads of a layout could not be read
 pub plan-unloaded : (layout : List ℕ) (outputs : ToWrite) (network : Layout) (before mid after : Moment) (e : Ending) → HasOnlyRead before mid → IsJudged layout before.held (Ok network) → AreNamesFree layout outputs network → after.held ≡ mid.held
@@ -104,13 +82,14 @@ pub plan-unloaded : (layout : List ℕ) (outputs : ToWrite) (network : Layout) (
 plan-unloaded layout outputs network before mid after e read judged free held said =
     inr (inr (inl (record { network = network; judged = judged; free = free; said = unloaded_before network before mid after e read said }, rw read.held at held)))
 
-taken_before : (layout : List ℕ) (outputs : ToWrite) (network : Layout) (before mid after : Moment) (e : Ending) → HasOnlyRead before mid → IsTakenEnd layout outputs network mid.written after.written mid.refused after.refused e
-    → IsTakenEnd layout outputs network before.written after.written before.refused after.refused e
-taken_before layout outputs network before mid after e read h = rw (read.written, read.refused) at h
+taken_before : (layout : List ℕ) (outputs : ToWrite) (network : Layout) (before mid after : Moment) (e : Ending) → HasOnlyRead before mid → IsTakenEnd layout outputs network mid after e → IsTakenEnd layout outputs network before after e
+taken_before layout outputs network before mid after ending.Output read h = (h.0, h.1, said_before _ before mid after read h.2)
+taken_before layout outputs network before mid after ending.Memory read h = rw read.written at h
+taken_before layout outputs network before mid after _ read h = absurd h
 
 -- a file to be written has the name of an input
 pub plan-taken : (layout : List ℕ) (outputs : ToWrite) (network : Layout) (before mid after : Moment) (e : Ending) → HasOnlyRead before mid → IsJudged layout before.held (Ok network) → after.held ≡ mid.held
-    → IsTakenEnd layout outputs network mid.written after.written mid.refused after.refused e → IsBeforeRun layout outputs before after e
+    → IsTakenEnd layout outputs network mid after e → IsBeforeRun layout outputs before after e
 plan-taken layout outputs network before mid after e read judged held said =
     inr (inl (record { network = network; judged = judged; said = taken_before layout outputs network before mid after e read said }, rw read.held at held))
 
@@ -129,24 +108,3 @@ read-twice before mid after one two =
       faults = two.faults ∙ one.faults;
       refused = two.refused ∙ one.refused;
     }
-
--- the plan of a network that was read
-pub planned-of : (layout : List ℕ) (network : Layout) (before mid : Moment) (r : Result Plan Ending) → HasOnlyRead before mid → IsJudged layout before.held (Ok network) → IfOk r (λ plan. IsPlanOf mid.held network plan)
-    → IfOk r (λ plan. IsPlanned layout before.held plan)
-planned-of layout network before mid (Ok plan) read judged is = record { network = network; judged = judged; is = plan-before before.held mid.held network plan read.held is }
-planned-of layout network before mid (Err e) read judged is = tt
-
-pub read-through : (before mid after : Moment) (r : Result Plan Ending) → HasOnlyRead before mid → OnOk r (HasOnlyRead mid after) → OnOk r (HasOnlyRead before after)
-read-through before mid after (Ok plan) one two = read-twice before mid after one two
-read-through before mid after (Err e) one two = tt
-
--- there is none
-pub unplanned-of : (layout : List ℕ) (outputs : ToWrite) (network : Layout) (before mid after : Moment) (r : Result Plan Ending) → HasOnlyRead before mid → IsJudged layout before.held (Ok network) → AreNamesFree layout outputs network → after.held ≡ mid.held
-    → IfErr r (λ e. IsUnloadedSaid network mid after e) → IfErr r (λ e. IsBeforeRun layout outputs before after e)
-unplanned-of layout outputs network before mid after (Ok plan) read judged free held said = tt
-unplanned-of layout outputs network before mid after (Err e) read judged free held said = plan-unloaded layout outputs network before mid after e read judged free held said
-
--- the names that are free for a network are so for its plan
-pub free-of : (layout : List ℕ) (outputs : ToWrite) (held : Option Files) (network : Layout) (r : Result Plan Ending) → AreNamesFree layout outputs network → IfOk r (λ plan. IsPlanOf held network plan) → IfOk r (λ plan. AreNamesFree layout outputs plan.layout)
-free-of layout outputs held network (Ok plan) free is = subst (λ n. AreNamesFree layout outputs n) (sym is.layout) free
-free-of layout outputs held network (Err e) free is = tt

@@ -1,9 +1,8 @@
 -- The ends of stop and of resume, from what was read and what was written.
-use Rattle.std.proofs.Common.{◌≡◌, ℕ, Option, None, Some, Result, Ok, Err, IfOk, List, refl, sym, ap, subst, ◌∙◌, inl, inr}
+use Rattle.std.proofs.Common.{◌≡◌, ℕ, Option, None, Some, List, refl, sym, ap, subst, ◌∙◌, inl, inr}
 use Rattle.std.specs.Prelude.{IfSome}
 use Rattle.collision_log.specs.declared.row.Row.{Row}
 use Rattle.load_plan.specs.declared.plan.Plan.{Plan}
-use Rattle.network.specs.declared.outputs.Outputs.{Outputs}
 use Rattle.network.specs.declared.outputs.Taken.{Taken}
 use Rattle.outside.specs.Files.{Files}
 use Rattle.program_texts.specs.Texts.{line_of_no_quiet, line_of_stopped, name_of_state}
@@ -16,7 +15,7 @@ use Rattle.net_step.specs.Stops.{HasNoQuiet, IsFirstQuiet}
 use Rattle.program_endings.specs.declared.endings.Ending.{Ending}
 use Rattle.program_endings.specs.declared.endings.Ending.TheVariants as ending
 use Rattle.program_endings.specs.CheckpointFiles.{HasState}
-use Rattle.program_endings.specs.Endings.{HasOnlyRead, IsBeforeRun, IsFileEnd, IsPlanned, IsResumeEnd, IsRunEnd, IsStopEnd, IsText, IsUnstated, Says}
+use Rattle.program_endings.specs.Endings.{HasOnlyFiled, HasOnlyRead, IsBeforeRun, IsFileEnd, IsPlanned, IsResumeEnd, IsRunEnd, IsStopEnd, IsTextEnd, IsUnstated, Says}
 use Rattle.program_endings.specs.Moments.{Moment}
 use Rattle.program_endings.specs.Runs.{IsResumedSummary, IsStopLine, IsSummaryOver, output_files, resumed_files, state_files}
 use Rattle.program_endings.specs.Writing.{IsBroken, put_file}
@@ -47,20 +46,11 @@ pub state-before : (plan : Plan) (name : List ℕ) (held mid : Option Files) (st
 state-before plan name held mid state is has = rw is at has
 
 unstated_before : (plan : Plan) (name : List ℕ) (before mid after : Moment) (e : Ending) → HasOnlyRead before mid → IsUnstated plan name mid after e → IsUnstated plan name before after e
-unstated_before plan name before mid after ending.Done read said = said
-unstated_before plan name before mid after ending.Words read said = said
-unstated_before plan name before mid after ending.Layout read said = said
-unstated_before plan name before mid after ending.Load read said = said
 unstated_before plan name before mid after ending.Read read said =
     (elim said.0 [ inl absent ↦ inl (rw read.held at absent) | inr rose ↦ inr (rose-before before.reads mid.reads after.reads read.reads rose) ], said_before _ before mid after read said.1)
-unstated_before plan name before mid after ending.Write read said = said
 unstated_before plan name before mid after ending.Memory read said = rw read.written at said
-unstated_before plan name before mid after ending.Probe read said = said
-unstated_before plan name before mid after ending.Log read said = said
-unstated_before plan name before mid after ending.Stranger read said = said
-unstated_before plan name before mid after ending.Unquiet read said = said
 unstated_before plan name before mid after ending.State read said = (said.0, rw read.held at said.1, said_before _ before mid after read said.2)
-unstated_before plan name before mid after ending.Output read said = said
+unstated_before plan name before mid after _ read said = absurd said
 
 -- the state could not be read
 pub resume-unstated : (layout prefix name : List ℕ) (plan : Plan) (before mid after : Moment) (e : Ending) → HasOnlyRead before mid → IsPlanned layout before.held plan → AreNamesFree layout (RunOf prefix) plan.layout → name ≡ name_of_state prefix
@@ -87,17 +77,16 @@ resume-ran layout prefix name plan state before aimed mid after e first read pla
     ]
 
 -- the state and then the line of its half bit were written
-pub stop-filed : (prefix : List ℕ) (plan : Plan) (state : NetState) (before after : Moment) (e : Ending) (line text : List ℕ) → state ≡ state_at plan state.t
-    → after.held ≡ put_file (name_of_state prefix) (text_of_state plan state) before.held → line ≡ line_of_stopped state.t → text ≡ line → IsText text before.written after.written before.faults after.faults e
-    → IsRunEnd (state_files prefix plan state.t) (IsStopLine state.t) before after e
-stop-filed prefix plan state before after e line text at held said is written =
-    run-filed (state_files prefix plan state.t) (IsStopLine state.t) before after e line text (held ∙ ap (λ s. put_file (name_of_state prefix) (text_of_state plan s) before.held) at) said is written
+pub stop-filed : (prefix : List ℕ) (plan : Plan) (state : NetState) (before mid after : Moment) (e : Ending) (line text : List ℕ) → state ≡ state_at plan state.t → HasOnlyFiled before mid
+    → mid.held ≡ put_file (name_of_state prefix) (text_of_state plan state) before.held → line ≡ line_of_stopped state.t → text ≡ line → IsTextEnd text mid after e → IsRunEnd (state_files prefix plan state.t) (IsStopLine state.t) before after e
+stop-filed prefix plan state before mid after e line text at only held said is told =
+    run-filed (state_files prefix plan state.t) (IsStopLine state.t) before mid after e line text only (held ∙ ap (λ s. put_file (name_of_state prefix) (text_of_state plan s) before.held) at) said is told
 
 -- the state could not be written
 pub stop-unfiled : (prefix : List ℕ) (plan : Plan) (state : NetState) (before after : Moment) (e : Ending) → state ≡ state_at plan state.t → IsBroken (name_of_state prefix) (text_of_state plan state) before.held after.held
-    → IsFileEnd before.writes after.writes e → after.written ≡ before.written → IsRunEnd (state_files prefix plan state.t) (IsStopLine state.t) before after e
-stop-unfiled prefix plan state before after e at broken end silent =
-    run-unfiled (state_files prefix plan state.t) (IsStopLine state.t) before after e (inl (subst (λ (s : NetState). IsBroken (name_of_state prefix) (text_of_state plan s) before.held after.held) at broken)) end silent
+    → IsFileEnd before after e → HasOnlyFiled before after → IsRunEnd (state_files prefix plan state.t) (IsStopLine state.t) before after e
+stop-unfiled prefix plan state before after e at broken end only =
+    run-unfiled (state_files prefix plan state.t) (IsStopLine state.t) before after e (inl (subst (λ (s : NetState). IsBroken (name_of_state prefix) (text_of_state plan s) before.held after.held) at broken)) end only
 
 -- the state of a quiet half bit is one of its plan
 pub of-plan : (plan : Plan) (state : NetState) → IsQuiet plan state.t → state ≡ state_at plan state.t → IsStateOfPlan plan state
@@ -114,15 +103,6 @@ first-from plan asked from t is first = rw is at first
 
 pub never-from : (plan : Plan) (asked from : ℕ) → asked ≡ from → HasNoQuiet plan asked → HasNoQuiet plan from
 never-from plan asked from is never = subst (λ n. HasNoQuiet plan n) is never
-
--- what a run gave
-pub rows-of : {E : Type 0} (r : Result Outputs E) (outputs : Outputs) (all : List Row) → r ≡ Ok outputs → IfOk r (λ o. o.rows ≡ all) → outputs.rows ≡ all
-rows-of (Ok o) outputs all is right = let same : o ≡ outputs = cc in ap (λ (x : Outputs). x.rows) (sym same) ∙ right
-rows-of (Err e) outputs all is right = absurd (cc)
-
-pub captures-of : {E : Type 0} (r : Result Outputs E) (outputs : Outputs) (all : List (List Taken)) → r ≡ Ok outputs → IfOk r (λ o. o.captures ≡ all) → outputs.captures ≡ all
-captures-of (Ok o) outputs all is right = let same : o ≡ outputs = cc in ap (λ (x : Outputs). x.captures) (sym same) ∙ right
-captures-of (Err e) outputs all is right = absurd (cc)
 
 -- what went on from a state left these files
 pub resume-filed : (prefix : List ℕ) (plan : Plan) (rows rest : List Row) (captures more : List (List Taken)) (before after : Moment) (e : Ending) → rows ≡ rest → captures ≡ more

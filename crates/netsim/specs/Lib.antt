@@ -1,3 +1,4 @@
+pub mod LoadLines
 pub mod Tellings
 pub mod TapStops
 pub mod WrittenBy

@@ -1,19 +1,18 @@
 //! What a probe aims at: taps by their words, and an end within the run.
-ghost use Rattle.std.specs.Prelude.{◌≡◌, ◌≤◌, All, IfOk, IfErr, OnOk, OnErr};
+ghost use Rattle.std.specs.Prelude.{◌≡◌, ◌≤◌, All, IfOk, IfErr, OnOk};
 ghost use Rattle.layout.specs.Sound.{IsSound};
 ghost use Rattle.line_probe.specs.Taps.{HasTap};
+ghost use Rattle.program_endings.specs.Endings.{HasOnlyRead};
 ghost use Rattle.program_endings.specs.ProbeEnds.{IsAimEnd};
 ghost use Rattle.netsim.specs.TapStops.{IsTapStop};
 ghost use Rattle.program_endings.specs.Probes.{AreTapsOf, half_bits_of};
-ghost use Rattle.program_texts.specs.Texts.{line_of_tap_fault};
-ghost use Rattle.program_endings.specs.Writing.{IsSaid};
 
-use crate::sink_texts::say;
+use crate::world::World;
 use layout::Layout;
 use line_probe::{Tap, find_tap};
-use lists::{List, OutOfMemory, Text};
+use lists::{List, Text};
 use mac_parameters::HALF_BITS_A_BIT;
-use outside::Sink;
+use outside::{Sink, Store};
 use program_endings::Ending;
 use program_texts::{line_of_range_fault, line_of_tap_fault};
 use program_words::Report;
@@ -49,45 +48,35 @@ fn taps_of<'a>(alloc: Global, network: &Layout, words: &'a [Text]) -> Result<Lis
     Ok(taps)
 }
 
-/// Says that a word names no tap.
-fn say_tap_fault<K: Sink>(alloc: Global, word: &str, out: &mut K) -> Result<(), OutOfMemory>
-    ensures said { OnOk result (IsSaid (line_of_tap_fault word.now) (K.written out.old) (K.written out.new) (K.refused out.old) (K.refused out.new)) }
-    ensures silent { OnErr result (K.written out.new ≡ K.written out.old) }
-{
-    let line = line_of_tap_fault(alloc, word)?;
-    say(out, line.as_slice());
-    Ok(())
-}
-
 /// The taps that these words name in a network whose run has the half bits before `to`, or says for this report what
 /// isn't there: the first word that names no tap, or else those half bits.
-pub(crate) fn aim<K: Sink>(
+pub(crate) fn aim<S: Store, K: Sink>(
     alloc: Global,
     report: Report,
     network: &Layout,
     to: u32,
     words: &[Text],
-    out: &mut K,
+    world: &mut World<S, K>,
 ) -> Result<List<Tap>, Ending>
     requires { IsSound network.now }
     ensures taps { IfOk result (λ taps. AreTapsOf network.now words.now taps) }
     ensures there { IfOk result (λ taps. All (HasTap network.now) taps) }
     ensures within { OnOk result (to ≤ half_bits_of network.now) }
-    ensures silent { OnOk result (K.written out.new ≡ K.written out.old) }
-    ensures faults { OnOk result (K.faults out.new ≡ K.faults out.old) }
-    ensures refused { OnOk result (K.refused out.new ≡ K.refused out.old) }
-    ensures missed { IfErr result (λ e. IsAimEnd report network.now to words.now (K.written out.old) (K.written out.new) (K.refused out.old) (K.refused out.new) e) }
+    ensures read { OnOk result (HasOnlyRead world.old world.new) }
+    ensures missed { IfErr result (λ e. IsAimEnd report network.now to words.now world.old world.new e) }
+    ensures held { world.new.held ≡ world.old.held }
 {
     let taps = match taps_of(alloc, network, words) {
         Ok(taps) => taps,
         Err(TapStop::OutOfMemory) => return Err(Ending::Memory),
-        Err(TapStop::Unknown { word }) => match say_tap_fault(alloc, word, out) {
-            Ok(()) => return Err(Ending::Probe),
-            Err(OutOfMemory) => return Err(Ending::Memory),
-        },
+        Err(TapStop::Unknown { word }) => {
+            let line = line_of_tap_fault(alloc, word)?;
+            world.say(line.as_slice());
+            return Err(Ending::Probe);
+        }
     };
     if u64::from(to) > u64::from(HALF_BITS_A_BIT) * network.until_bits {
-        say(out, line_of_range_fault(report).as_bytes());
+        world.say(line_of_range_fault(report).as_bytes());
         return Err(Ending::Probe);
     }
     Ok(taps)

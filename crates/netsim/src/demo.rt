@@ -1,18 +1,19 @@
 //! The form that runs the layout of demo of a number.
 ghost use Rattle.std.specs.Prelude.{◌≡◌, ◌≤◌, IfOk};
 ghost use Rattle.layout.specs.Limits.{most_repeaters};
+ghost use Rattle.program_endings.specs.Answers.{ending_of};
 ghost use Rattle.program_endings.specs.Demos.{IsDemoText, line_of_demo};
-ghost use Rattle.program_endings.specs.Endings.{IsDemoTold};
+ghost use Rattle.program_endings.specs.Endings.{IsDemoEnd};
 ghost use Rattle.program_words.specs.WordLimits.{most_workers};
 
 use crate::plans::empty_loads;
 use crate::runs::summary_of;
-use crate::sink_texts::write_line;
+use crate::world::World;
 use demo_layout::demo as demo_layout_of;
 use layout::Layout;
 use lists::{List, OutOfMemory};
 use load_plan::make_plan;
-use outside::{Gate, Sink};
+use outside::{Gate, Sink, Store};
 use program_endings::Ending;
 use program_texts::add_count;
 use std::alloc::Global;
@@ -61,22 +62,20 @@ fn text_of_demo<X: Threads + Wait + Sync, G: Gate>(
 }
 
 /// Runs the layout of demo of a number on 1 to 64 workers, and says its size and the summary. It may wait.
-pub(crate) fn demo<X: Threads + Wait + Sync, G: Gate, K: Sink>(
+pub(crate) fn demo<X: Threads + Wait + Sync, G: Gate, S: Store, K: Sink>(
     rt: &X,
     alloc: Global,
     number: u32,
     workers: u32,
     gate: &G,
-    out: &mut K,
-) -> Ending
+    world: &mut World<S, K>,
+) -> Result<(), Ending>
     requires least { 1 ≤ number }
     requires most { number ≤ most_repeaters }
     requires least_workers { 1 ≤ workers }
     requires most_workers { workers ≤ most_workers }
-    ensures { IsDemoTold number (K.written out.old) (K.written out.new) (K.faults out.old) (K.faults out.new) result }
+    ensures { IsDemoEnd number world.old world.new (ending_of result) }
 {
-    match text_of_demo(rt, alloc, number, workers, gate) {
-        Ok(text) => write_line(out, text.as_slice()),
-        Err(OutOfMemory) => Ending::Memory,
-    }
+    let text = text_of_demo(rt, alloc, number, workers, gate)?;
+    world.tell(text.as_slice())
 }

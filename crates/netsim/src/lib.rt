@@ -19,9 +19,11 @@ mod sink_texts;
 mod stops;
 mod tell;
 mod top_call;
+mod world;
 mod written;
 
 pub use program_endings::{Ending, laws};
 pub use program_texts::HELP;
 pub use program_words::Words;
 pub use top_call::{netsim, run_words};
+pub use world::World;

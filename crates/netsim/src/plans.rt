@@ -3,13 +3,13 @@ ghost use Rattle.std.specs.Prelude.{◌≡◌, ◌≤◌, [], All, IfOk, IfErr, 
 ghost use Rattle.layout.specs.Sound.{IsSound};
 ghost use Rattle.program_endings.specs.Endings.{IsBeforeRun, IsPlanned, IsUnloadedSaid, HasOnlyRead};
 ghost use Rattle.program_endings.specs.FileLimits.{most_load_records};
-ghost use Rattle.program_endings.specs.Moments.{moment};
 ghost use Rattle.program_endings.specs.Runs.{IsPlanOf};
 ghost use Rattle.program_endings.specs.WrittenNames.{AreNamesFree};
 ghost use Rattle.netsim.specs.WrittenBy.{written_by};
 
 use crate::judge::read_network;
 use crate::loads::read_network_loads;
+use crate::world::World;
 use crate::written::{Written, judge_names};
 use layout::Layout;
 use lists::{List, OutOfMemory};
@@ -22,29 +22,18 @@ use std::alloc::Global;
 pub(crate) fn plan_network<S: Store, K: Sink>(
     alloc: Global,
     network: Layout,
-    store: &mut S,
-    out: &mut K,
+    world: &mut World<S, K>,
 ) -> Result<Plan, Ending>
     requires { IsSound network }
-    ensures planned { IfOk result (λ plan. IsPlanOf (S.held store.old) network plan) }
+    ensures planned { IfOk result (λ plan. IsPlanOf world.old.held network plan) }
     ensures sound { IfOk result (λ plan. IsSound plan.layout) }
-    ensures read { OnOk result (HasOnlyRead
-        (moment S.held S.read_faults S.write_faults K.written K.faults K.refused store.old out.old)
-        (moment S.held S.read_faults S.write_faults K.written K.faults K.refused store.new out.new)) }
-    ensures unloaded { IfErr result (λ e. IsUnloadedSaid network
-        (moment S.held S.read_faults S.write_faults K.written K.faults K.refused store.old out.old)
-        (moment S.held S.read_faults S.write_faults K.written K.faults K.refused store.new out.new)
-        e) }
-    ensures held { S.held store.new ≡ S.held store.old }
+    ensures read { OnOk result (HasOnlyRead world.old world.new) }
+    ensures unloaded { IfErr result (λ e. IsUnloadedSaid network world.old world.new e) }
+    ensures held { world.new.held ≡ world.old.held }
 {
-    let loads = match read_network_loads(alloc, &network, store, out) {
-        Ok(loads) => loads,
-        Err(ended) => return Err(ended),
-    };
-    match make_plan(alloc, network, loads) {
-        Ok(plan) => Ok(plan),
-        Err(OutOfMemory) => Err(Ending::Memory),
-    }
+    let loads = read_network_loads(alloc, &network, world)?;
+    let plan = make_plan(alloc, network, loads)?;
+    Ok(plan)
 }
 
 /// Reads a layout file, tests that no file to be written has its name or that of a load, reads its loads and makes their
@@ -54,28 +43,18 @@ pub(crate) fn read_plan<S: Store, K: Sink>(
     layout: &str,
     written: Written,
     prefix: &str,
-    store: &mut S,
-    out: &mut K,
+    world: &mut World<S, K>,
 ) -> Result<Plan, Ending>
-    ensures planned { IfOk result (λ plan. IsPlanned layout.now (S.held store.old) plan) }
+    ensures planned { IfOk result (λ plan. IsPlanned layout.now world.old.held plan) }
     ensures free { IfOk result (λ plan. AreNamesFree layout.now (written_by written prefix.now) plan.layout) }
     ensures sound { IfOk result (λ plan. IsSound plan.layout) }
-    ensures read { OnOk result (HasOnlyRead
-        (moment S.held S.read_faults S.write_faults K.written K.faults K.refused store.old out.old)
-        (moment S.held S.read_faults S.write_faults K.written K.faults K.refused store.new out.new)) }
-    ensures unplanned { IfErr result (λ e. IsBeforeRun layout.now (written_by written prefix.now)
-        (moment S.held S.read_faults S.write_faults K.written K.faults K.refused store.old out.old)
-        (moment S.held S.read_faults S.write_faults K.written K.faults K.refused store.new out.new)
-        e) }
+    ensures read { OnOk result (HasOnlyRead world.old world.new) }
+    ensures unplanned { IfErr result (λ e. IsBeforeRun layout.now (written_by written prefix.now) world.old world.new e) }
 {
-    let network = match read_network(alloc, layout, store, out) {
-        Ok(network) => network,
-        Err(ended) => return Err(ended),
-    };
-    match judge_names(alloc, layout, written, prefix, &network, out) {
-        Ok(()) => plan_network(alloc, network, store, out),
-        Err(ended) => Err(ended),
-    }
+    let network = read_network(alloc, layout, world)?;
+    judge_names(alloc, layout, written, prefix, &network, world)?;
+    let plan = plan_network(alloc, network, world)?;
+    Ok(plan)
 }
 
 /// So many loads without a record.

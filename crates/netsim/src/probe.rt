@@ -6,56 +6,50 @@ ghost use Rattle.line_probe.specs.Taps.{HasTap};
 ghost use Rattle.line_probe.specs.declared.tap.Tap.{Tap};
 ghost use Rattle.load_plan.specs.declared.plan.Plan.{Plan};
 ghost use Rattle.network.specs.Outputs.{half_bits};
+ghost use Rattle.program_endings.specs.Answers.{ending_of};
 ghost use Rattle.program_endings.specs.ProbeEnds.{AreTapsTold, AreTextsTold, IsProbeEnd};
 ghost use Rattle.program_words.specs.WordLimits.{most_probed, most_taps};
-ghost use Rattle.program_endings.specs.Moments.{moment};
 ghost use Rattle.program_texts.specs.HeardTexts.{AreHeard};
 
 use crate::aim::aim;
 use crate::judge::read_network;
 use crate::page::text_of_page;
 use crate::plans::plan_network;
-use crate::sink_texts::{write_line, write_text};
+use crate::world::World;
 use line_probe::{Tap, heard_at_taps};
-use lists::{List, OutOfMemory, Text};
+use lists::{List, Text};
 use load_plan::Plan;
 use manchester_line::Sym;
-use outside::{Sink, SinkFail, Store};
+use outside::{Sink, Store};
 use program_endings::Ending;
 use program_texts::{text_of_tap, text_of_waves};
 use program_words::Report;
 use std::alloc::Global;
 
 /// Writes what the taps of these words hear, of what they all hear from half bit `from` on, tap by tap.
-fn write_taps<K: Sink>(
+fn write_taps<S: Store, K: Sink>(
     alloc: Global,
     heard: &List<Sym>,
     words: &[Text],
     from: u64,
-    out: &mut K,
-) -> Ending
+    world: &mut World<S, K>,
+) -> Result<(), Ending>
     requires heard { AreHeard heard.now (length words.now) from }
     requires short { from + length heard.now ≤ 2 ^ 63 }
-    ensures { (plan : Plan) (taps : List Tap) (n : ℕ) → heard.now ≡ rows_of_taps plan taps from n → length taps ≡ length words.now →
-        AreTextsTold plan from n words.now taps (K.written out.old) (K.written out.new) (K.faults out.old) (K.faults out.new) result }
+    ensures told { (plan : Plan) (taps : List Tap) (n : ℕ) → heard.now ≡ rows_of_taps plan taps from n → length taps ≡ length words.now →
+        AreTextsTold plan from n words.now taps world.old world.new (ending_of result) }
+    ensures held { world.new.held ≡ world.old.held }
 {
     for k in 0..words.len() {
-        let text = match text_of_tap(alloc, heard, words.len(), k, from, words[k].as_str()) {
-            Ok(text) => text,
-            Err(OutOfMemory) => return Ending::Memory,
-        };
-        match write_text(out, text.as_slice()) {
-            Ok(()) => {}
-            Err(SinkFail::Failed) => return Ending::Write,
-            Err(SinkFail::OutOfMemory) => return Ending::Memory,
-        }
+        let text = text_of_tap(alloc, heard, words.len(), k, from, words[k].as_str())?;
+        world.tell(text.as_slice())?;
     }
-    Ending::Done
+    Ok(())
 }
 
 /// Writes this report of a plan's run from half bit `from` on and before half bit `to`: what these taps hear, as runs
 /// and bursts tap by tap, or as the waves of all; or the page.
-fn tell_taps<K: Sink>(
+fn tell_taps<S: Store, K: Sink>(
     alloc: Global,
     report: Report,
     plan: &Plan,
@@ -63,8 +57,8 @@ fn tell_taps<K: Sink>(
     taps: &[Tap],
     from: u32,
     to: u32,
-    out: &mut K,
-) -> Ending
+    world: &mut World<S, K>,
+) -> Result<(), Ending>
     requires taps { All (HasTap plan.now.layout) taps.now }
     requires named { length taps.now ≡ length words.now }
     requires few { length taps.now ≤ most_taps }
@@ -72,23 +66,24 @@ fn tell_taps<K: Sink>(
     requires short { to ≤ from + most_probed }
     requires end { to ≤ half_bits plan.now }
     requires late { to ≤ most_half_bits }
-    ensures { AreTapsTold report plan.now from to words.now taps.now (K.written out.old) (K.written out.new) (K.faults out.old) (K.faults out.new) result }
+    ensures told { AreTapsTold report plan.now from to words.now taps.now world.old world.new (ending_of result) }
+    ensures held { world.new.held ≡ world.old.held }
 {
     let begin = u64::from(from);
     let end = u64::from(to);
     match report {
-        Report::Runs => match heard_at_taps(alloc, plan, taps, begin, end) {
-            Ok(heard) => write_taps(alloc, &heard, words, begin, out),
-            Err(OutOfMemory) => Ending::Memory,
-        },
-        Report::Waves => match text_of_waves(alloc, plan, words, taps, begin, end) {
-            Ok(text) => write_line(out, text.as_slice()),
-            Err(OutOfMemory) => Ending::Memory,
-        },
-        Report::Page => match text_of_page(alloc, plan, begin, end) {
-            Ok(text) => write_line(out, text.as_slice()),
-            Err(OutOfMemory) => Ending::Memory,
-        },
+        Report::Runs => {
+            let heard = heard_at_taps(alloc, plan, taps, begin, end)?;
+            write_taps(alloc, &heard, words, begin, world)
+        }
+        Report::Waves => {
+            let text = text_of_waves(alloc, plan, words, taps, begin, end)?;
+            world.tell(text.as_slice())
+        }
+        Report::Page => {
+            let text = text_of_page(alloc, plan, begin, end)?;
+            world.tell(text.as_slice())
+        }
     }
 }
 
@@ -101,29 +96,25 @@ pub(crate) fn probe<S: Store, K: Sink>(
     from: u32,
     to: u32,
     words: &[Text],
-    store: &mut S,
-    out: &mut K,
-) -> Ending
+    world: &mut World<S, K>,
+) -> Result<(), Ending>
     requires order { from < to }
     requires short { to ≤ from + most_probed }
     requires late { to ≤ most_half_bits }
     requires few { length words.now ≤ most_taps }
-    ensures { IsProbeEnd report layout.now from to words.now
-        (moment S.held S.read_faults S.write_faults K.written K.faults K.refused store.old out.old)
-        (moment S.held S.read_faults S.write_faults K.written K.faults K.refused store.new out.new)
-        result }
+    ensures { IsProbeEnd report layout.now from to words.now world.old world.new (ending_of result) }
 {
-    let network = match read_network(alloc, layout, store, out) {
-        Ok(network) => network,
-        Err(ended) => return ended,
-    };
-    let taps = match aim(alloc, report, &network, to, words, out) {
-        Ok(taps) => taps,
-        Err(ended) => return ended,
-    };
-    let plan = match plan_network(alloc, network, store, out) {
-        Ok(plan) => plan,
-        Err(ended) => return ended,
-    };
-    tell_taps(alloc, report, &plan, words, taps.as_slice(), from, to, out)
+    let network = read_network(alloc, layout, world)?;
+    let taps = aim(alloc, report, &network, to, words, world)?;
+    let plan = plan_network(alloc, network, world)?;
+    tell_taps(
+        alloc,
+        report,
+        &plan,
+        words,
+        taps.as_slice(),
+        from,
+        to,
+        world,
+    )
 }

@@ -2,16 +2,16 @@
 ghost use Rattle.std.specs.Prelude.{◌≡◌, ◌≤◌, All, IfOk};
 ghost use Rattle.layout.specs.Sound.{IsSound};
 ghost use Rattle.network.specs.Outputs.{captures, rows};
+ghost use Rattle.program_endings.specs.Answers.{ending_of};
 ghost use Rattle.program_endings.specs.Endings.{IsPlainEnd, IsRunEnd};
 ghost use Rattle.program_words.specs.WordLimits.{most_workers};
-ghost use Rattle.program_endings.specs.Moments.{moment};
 ghost use Rattle.program_endings.specs.Runs.{IsSummary, IsSummaryOver, output_files, run_files};
 ghost use Rattle.run_texts.specs.Captures.{AreShort};
 ghost use Rattle.run_texts.specs.Counts.{AreLeft, counts_of};
 
 use crate::outputs::file_outputs;
 use crate::plans::read_plan;
-use crate::sink_texts::write_line;
+use crate::world::World;
 use crate::written::Written;
 use lists::{List, OutOfMemory};
 use load_plan::Plan;
@@ -48,52 +48,35 @@ pub(crate) fn file_run<S: Store, K: Sink>(
     plan: &Plan,
     outputs: &Outputs,
     prefix: &str,
-    store: &mut S,
-    out: &mut K,
-) -> Ending
+    world: &mut World<S, K>,
+) -> Result<(), Ending>
     requires sound { IsSound plan.now.layout }
     requires left { AreLeft (counts_of plan.now outputs.now.rows) }
     requires short { All AreShort outputs.now.captures }
     ensures { IsRunEnd (output_files prefix.now plan.now outputs.now.rows outputs.now.captures)
-        (IsSummaryOver plan.now outputs.now.rows)
-        (moment S.held S.read_faults S.write_faults K.written K.faults K.refused store.old out.old)
-        (moment S.held S.read_faults S.write_faults K.written K.faults K.refused store.new out.new)
-        result }
+        (IsSummaryOver plan.now outputs.now.rows) world.old world.new (ending_of result) }
 {
-    let summary = match summary_of(alloc, plan, outputs) {
-        Ok(summary) => summary,
-        Err(OutOfMemory) => return Ending::Memory,
-    };
-    match file_outputs(alloc, plan, outputs, prefix, store) {
-        Ok(()) => write_line(out, summary.as_slice()),
-        Err(ended) => ended,
-    }
+    let summary = summary_of(alloc, plan, outputs)?;
+    file_outputs(alloc, plan, outputs, prefix, world)?;
+    world.tell(summary.as_slice())
 }
 
-/// The same of a plan's whole run, if it gave something.
+/// The same of a plan's whole run.
 fn file_whole_run<S: Store, K: Sink>(
     alloc: Global,
     plan: &Plan,
-    outputs: Result<Outputs, OutOfMemory>,
+    outputs: &Outputs,
     prefix: &str,
-    store: &mut S,
-    out: &mut K,
-) -> Ending
+    world: &mut World<S, K>,
+) -> Result<(), Ending>
     requires sound { IsSound plan.now.layout }
-    requires rows { IfOk outputs (λ outputs. outputs.rows ≡ rows plan.now) }
-    requires captures { IfOk outputs (λ outputs. outputs.captures ≡ captures plan.now) }
-    ensures { IsRunEnd (run_files prefix.now plan.now) (IsSummary plan.now)
-        (moment S.held S.read_faults S.write_faults K.written K.faults K.refused store.old out.old)
-        (moment S.held S.read_faults S.write_faults K.written K.faults K.refused store.new out.new)
-        result }
+    requires rows { outputs.now.rows ≡ rows plan.now }
+    requires captures { outputs.now.captures ≡ captures plan.now }
+    ensures { IsRunEnd (run_files prefix.now plan.now) (IsSummary plan.now) world.old world.new (ending_of result) }
 {
-    let outputs = match outputs {
-        Ok(outputs) => outputs,
-        Err(OutOfMemory) => return Ending::Memory,
-    };
     frames_are_left(plan);
     captures_are_short(plan);
-    file_run(alloc, plan, &outputs, prefix, store, out)
+    file_run(alloc, plan, outputs, prefix, world)
 }
 
 /// Runs the network of a layout file and its loads on one thread, writes the files of a prefix, and says the summary.
@@ -102,20 +85,13 @@ pub(crate) fn plain<G: Gate, S: Store, K: Sink>(
     layout: &str,
     prefix: &str,
     gate: &G,
-    store: &mut S,
-    out: &mut K,
-) -> Ending
-    ensures { IsPlainEnd layout.now prefix.now
-        (moment S.held S.read_faults S.write_faults K.written K.faults K.refused store.old out.old)
-        (moment S.held S.read_faults S.write_faults K.written K.faults K.refused store.new out.new)
-        result }
+    world: &mut World<S, K>,
+) -> Result<(), Ending>
+    ensures { IsPlainEnd layout.now prefix.now world.old world.new (ending_of result) }
 {
-    let plan = match read_plan(alloc, layout, Written::Run, prefix, store, out) {
-        Ok(plan) => plan,
-        Err(ended) => return ended,
-    };
-    let outputs = run_in_turn(alloc, &plan, gate);
-    file_whole_run(alloc, &plan, outputs, prefix, store, out)
+    let plan = read_plan(alloc, layout, Written::Run, prefix, world)?;
+    let outputs = run_in_turn(alloc, &plan, gate)?;
+    file_whole_run(alloc, &plan, &outputs, prefix, world)
 }
 
 /// The same on 1 to 64 workers. It may wait.
@@ -126,20 +102,13 @@ pub(crate) fn run<X: Threads + Wait + Sync, G: Gate, S: Store, K: Sink>(
     prefix: &str,
     workers: u32,
     gate: &G,
-    store: &mut S,
-    out: &mut K,
-) -> Ending
+    world: &mut World<S, K>,
+) -> Result<(), Ending>
     requires least { 1 ≤ workers }
     requires most { workers ≤ most_workers }
-    ensures { IsPlainEnd layout.now prefix.now
-        (moment S.held S.read_faults S.write_faults K.written K.faults K.refused store.old out.old)
-        (moment S.held S.read_faults S.write_faults K.written K.faults K.refused store.new out.new)
-        result }
+    ensures { IsPlainEnd layout.now prefix.now world.old world.new (ending_of result) }
 {
-    let plan = match read_plan(alloc, layout, Written::Run, prefix, store, out) {
-        Ok(plan) => plan,
-        Err(ended) => return ended,
-    };
-    let outputs = run_by_windows(rt, alloc, &plan, workers, gate);
-    file_whole_run(alloc, &plan, outputs, prefix, store, out)
+    let plan = read_plan(alloc, layout, Written::Run, prefix, world)?;
+    let outputs = run_by_windows(rt, alloc, &plan, workers, gate)?;
+    file_whole_run(alloc, &plan, &outputs, prefix, world)
 }

@@ -1,11 +1,9 @@
 //! Texts to a sink.
 ghost use Rattle.std.specs.Prelude.{◌≡◌, ◌≤◌, OnOk, OnErr, IsErrOf};
 ghost use Rattle.outside.specs.Files.{Rose};
-ghost use Rattle.program_endings.specs.Endings.{IsText};
-ghost use Rattle.program_endings.specs.Writing.{IsSaid, added, IsCutShort};
+ghost use Rattle.program_endings.specs.Writing.{added, IsCutShort};
 
 use outside::{Sink, SinkFail};
-use program_endings::Ending;
 
 /// Writes a text, or a front of it where the sink refuses.
 pub(crate) fn write_text<K: Sink>(out: &mut K, text: &[u8]) -> Result<(), SinkFail>
@@ -25,25 +23,4 @@ pub(crate) fn write_text<K: Sink>(out: &mut K, text: &[u8]) -> Result<(), SinkFa
         done += count;
     }
     Ok(())
-}
-
-/// Says a line, or a front of it where the sink refuses.
-pub(crate) fn say<K: Sink>(out: &mut K, line: &[u8])
-    ensures said { IsSaid line.now (K.written out.old) (K.written out.new) (K.refused out.old) (K.refused out.new) }
-    ensures faults { K.faults out.old ≤ K.faults out.new }
-{
-    match write_text(out, line) {
-        Ok(()) | Err(_) => {}
-    }
-}
-
-/// Writes the line that a call is made for.
-pub(crate) fn write_line<K: Sink>(out: &mut K, line: &[u8]) -> Ending
-    ensures { IsText line.now (K.written out.old) (K.written out.new) (K.faults out.old) (K.faults out.new) result }
-{
-    match write_text(out, line) {
-        Ok(()) => Ending::Done,
-        Err(SinkFail::Failed) => Ending::Write,
-        Err(SinkFail::OutOfMemory) => Ending::Memory,
-    }
 }

@@ -2,11 +2,11 @@
 ghost use Rattle.std.specs.Prelude.{IfOk};
 ghost use Rattle.layout.specs.Sound.{IsSound};
 ghost use Rattle.netsim.specs.Tellings.{told_by};
+ghost use Rattle.program_endings.specs.Answers.{ending_of};
 ghost use Rattle.program_endings.specs.Endings.{IsTellingEnd};
-ghost use Rattle.program_endings.specs.Moments.{moment};
 
 use crate::judge::read_network;
-use crate::sink_texts::write_line;
+use crate::world::World;
 use layout::Layout;
 use lists::{List, OutOfMemory};
 use outside::{Sink, Store};
@@ -41,20 +41,11 @@ pub(crate) fn tell<S: Store, K: Sink>(
     alloc: Global,
     telling: Telling,
     layout: &str,
-    store: &mut S,
-    out: &mut K,
-) -> Ending
-    ensures { IsTellingEnd (told_by telling) layout.now
-        (moment S.held S.read_faults S.write_faults K.written K.faults K.refused store.old out.old)
-        (moment S.held S.read_faults S.write_faults K.written K.faults K.refused store.new out.new)
-        result }
+    world: &mut World<S, K>,
+) -> Result<(), Ending>
+    ensures { IsTellingEnd (told_by telling) layout.now world.old world.new (ending_of result) }
 {
-    let network = match read_network(alloc, layout, store, out) {
-        Ok(network) => network,
-        Err(ended) => return ended,
-    };
-    match telling.text(alloc, &network) {
-        Ok(text) => write_line(out, text.as_slice()),
-        Err(OutOfMemory) => Ending::Memory,
-    }
+    let network = read_network(alloc, layout, world)?;
+    let text = telling.text(alloc, &network)?;
+    world.tell(text.as_slice())
 }

@@ -1,10 +1,9 @@
 //! The top call.
-ghost use Rattle.std.specs.Prelude.{◌≡◌, ◌⊎◌, ◌↔◌, None};
+ghost use Rattle.std.specs.Prelude.{◌≡◌, ◌⊎◌, ◌↔◌, None, Some};
 ghost use Rattle.outside.specs.Files.{Rose};
 ghost use Rattle.program_endings.specs.LoggedCollisions.{AreCollisionsLogged};
-ghost use Rattle.program_endings.specs.Answers.{IsAnswer, IsEnd};
-ghost use Rattle.program_endings.specs.Moments.{moment};
-ghost use Rattle.program_words.specs.Requests.{asked};
+ghost use Rattle.program_endings.specs.Answers.{IsAnswer, IsEnd, IsEndOf, ending_of};
+ghost use Rattle.program_words.specs.Requests.{HasNumbersInRange, asked, asked_of};
 ghost use Rattle.program_endings.specs.Statuses.{IfFiles, IsDone, IsDoneOrMemory, IsRefusal, IsRunBroken, IsRunRefused, IsUnhindered};
 
 use crate::demo::demo;
@@ -14,9 +13,9 @@ use crate::picture::picture;
 use crate::probe::probe;
 use crate::resumes::resume;
 use crate::runs::{plain, run};
-use crate::sink_texts::{say, write_line};
 use crate::stops::stop;
 use crate::tell::{Telling, tell};
+use crate::world::World;
 use outside::{Gate, Sink, Store};
 use program_endings::Ending;
 use program_texts::{HELP, VERSION, WORDS_FAULT};
@@ -25,59 +24,69 @@ use std::alloc::Global;
 use std::sync::Wait;
 use std::thread::Threads;
 
-/// Does what the words ask for. The forms `run` and `demo` may wait for other workers. The others are done by calls
-/// that take no runtime, and so return; words of no form too.
-pub fn run_words<X: Threads + Wait + Sync, S: Store, K: Sink, G: Gate>(
+/// Does what is asked for.
+fn serve<X: Threads + Wait + Sync, S: Store, K: Sink, G: Gate>(
     rt: &X,
     alloc: Global,
-    words: &Words,
-    store: &mut S,
-    out: &mut K,
+    request: Request<'_>,
+    world: &mut World<S, K>,
     gate: &G,
-) -> Ending
-    ensures { IsEnd words.now
-        (moment S.held S.read_faults S.write_faults K.written K.faults K.refused store.old out.old)
-        (moment S.held S.read_faults S.write_faults K.written K.faults K.refused store.new out.new)
-        result }
+) -> Result<(), Ending>
+    requires { HasNumbersInRange request }
+    ensures { IsEndOf (Some (asked_of request)) world.old world.new (ending_of result) }
 {
-    let Some(request) = read_words(words) else {
-        say(out, WORDS_FAULT.as_bytes());
-        return Ending::Words;
-    };
     match request {
-        Request::Check { layout } => tell(alloc, Telling::Verdict, layout, store, out),
-        Request::Slack { layout } => tell(alloc, Telling::Slacks, layout, store, out),
-        Request::Plain { layout, prefix } => plain(alloc, layout, prefix, gate, store, out),
+        Request::Check { layout } => tell(alloc, Telling::Verdict, layout, world),
+        Request::Slack { layout } => tell(alloc, Telling::Slacks, layout, world),
+        Request::Plain { layout, prefix } => plain(alloc, layout, prefix, gate, world),
         Request::Run {
             layout,
             prefix,
             workers,
-        } => run(rt, alloc, layout, prefix, workers, gate, store, out),
+        } => run(rt, alloc, layout, prefix, workers, gate, world),
         Request::Stop {
             layout,
             prefix,
             from,
-        } => stop(alloc, layout, prefix, from, store, out),
-        Request::Resume { layout, prefix } => resume(alloc, layout, prefix, store, out),
-        Request::Demo { number, workers } => demo(rt, alloc, number, workers, gate, out),
+        } => stop(alloc, layout, prefix, from, world),
+        Request::Resume { layout, prefix } => resume(alloc, layout, prefix, world),
+        Request::Demo { number, workers } => demo(rt, alloc, number, workers, gate, world),
         Request::Probe {
             report,
             layout,
             from,
             to,
             taps,
-        } => probe(alloc, report, layout, from, to, taps, store, out),
-        Request::Meter { log } => meter(alloc, log, store, out),
+        } => probe(alloc, report, layout, from, to, taps, world),
+        Request::Meter { log } => meter(alloc, log, world),
         Request::Picture {
             layout,
             log,
             from,
             to,
-        } => picture(alloc, layout, log, from, to, store, out),
-        Request::Frames { layout, log } => frames(alloc, layout, log, store, out),
-        Request::Help => write_line(out, HELP.as_bytes()),
-        Request::Version => write_line(out, VERSION.as_bytes()),
+        } => picture(alloc, layout, log, from, to, world),
+        Request::Frames { layout, log } => frames(alloc, layout, log, world),
+        Request::Help => world.tell(HELP.as_bytes()),
+        Request::Version => world.tell(VERSION.as_bytes()),
     }
+}
+
+/// Does what the words ask for. The forms `run` and `demo` may wait for other workers. The others are done by calls
+/// that take no runtime, and so return; words of no form too.
+pub fn run_words<X: Threads + Wait + Sync, S: Store, K: Sink, G: Gate>(
+    rt: &X,
+    alloc: Global,
+    words: &Words,
+    world: &mut World<S, K>,
+    gate: &G,
+) -> Ending
+    ensures { IsEnd words.now world.old world.new result }
+{
+    let Some(request) = read_words(words) else {
+        world.say(WORDS_FAULT.as_bytes());
+        return Ending::Words;
+    };
+    Ending::of(serve(rt, alloc, request, world, gate))
 }
 
 /// The top call: does what the words ask for, and answers the program's status.
@@ -106,15 +115,12 @@ pub fn netsim<X: Threads + Wait + Sync, S: Store, K: Sink, G: Gate>(
     rt: &X,
     alloc: Global,
     words: &Words,
-    store: &mut S,
-    out: &mut K,
+    world: &mut World<S, K>,
     gate: &G,
 ) -> u8
     // The status is that of an ending which the words allow between entry and exit. Module `laws` says what else each
     // tells.
-    ensures ended { IsAnswer words.now
-        (moment S.held S.read_faults S.write_faults K.written K.faults K.refused store.old out.old)
-        (moment S.held S.read_faults S.write_faults K.written K.faults K.refused store.new out.new)
+    ensures ended { IsAnswer words.now world.old world.new
         result }
 
     // Status 1 exactly where the words are none of the forms.
@@ -123,42 +129,32 @@ pub fn netsim<X: Threads + Wait + Sync, S: Store, K: Sink, G: Gate>(
     // Status 0 only where what the words ask for is done, as the record of their form says: of a run, on any number of
     // workers, the store holds its files, by the layout and the loads held at entry, and the sink got the summary; of a
     // form that tells, the sink got its text; nothing else is changed.
-    ensures done { result ≡ 0 → IsDone (asked words.now)
-        (moment S.held S.read_faults S.write_faults K.written K.faults K.refused store.old out.old)
-        (moment S.held S.read_faults S.write_faults K.written K.faults K.refused store.new out.new) }
+    ensures done { result ≡ 0 → IsDone (asked words.now) world.old world.new }
 
     // Of `plain` and `run`, where the sink got the verdict within: of two attempts of different stations that overlap
     // over an open path each that ends within the run has a whole line in PREFIX.log as the store holds it, with a hit
     // before the 512th bit.
-    ensures detected { result ≡ 0 → IfFiles (asked words.now) (λ layout prefix. AreCollisionsLogged layout prefix
-        (moment S.held S.read_faults S.write_faults K.written K.faults K.refused store.old out.old)
-        (moment S.held S.read_faults S.write_faults K.written K.faults K.refused store.new out.new)) }
+    ensures detected { result ≡ 0 → IfFiles (asked words.now) (λ layout prefix. AreCollisionsLogged layout prefix world.old world.new) }
 
     // With the statuses 1 to 4 and 7 to 12 every file is as at entry.
-    ensures refused { IsRefusal result → S.held store.new ≡ S.held store.old }
+    ensures refused { IsRefusal result → world.new.held ≡ world.old.held }
 
     // Status 5 only where a write to the store or to the sink failed.
     ensures failed { result ≡ 5
-        → Rose (S.write_faults store.old) (S.write_faults store.new) ⊎ Rose (K.faults out.old) (K.faults out.new) }
+        → Rose world.old.writes world.new.writes ⊎ Rose world.old.faults world.new.faults }
 
     // After a failed write the files of `plain` or `run` before one of them are whole, that one is as it was or a front
     // of its text, later ones are as at entry, and the sink got nothing; or all are whole, and the sink got a front of
     // the summary.
-    ensures broken { result ≡ 5 → IfFiles (asked words.now) (λ layout prefix. IsRunBroken layout prefix
-        (moment S.held S.read_faults S.write_faults K.written K.faults K.refused store.old out.old)
-        (moment S.held S.read_faults S.write_faults K.written K.faults K.refused store.new out.new)) }
+    ensures broken { result ≡ 5 → IfFiles (asked words.now) (λ layout prefix. IsRunBroken layout prefix world.old world.new) }
 
     // So too where memory was wanting, or nothing was begun.
-    ensures memory { result ≡ 6 → IfFiles (asked words.now) (λ layout prefix. IsRunRefused layout prefix
-        (moment S.held S.read_faults S.write_faults K.written K.faults K.refused store.old out.old)
-        (moment S.held S.read_faults S.write_faults K.written K.faults K.refused store.new out.new)) }
+    ensures memory { result ≡ 6 → IfFiles (asked words.now) (λ layout prefix. IsRunRefused layout prefix world.old world.new) }
 
     // Complete: for `plain` and `run` a layout and loads that are held without fault, none of whose names is that of a
     // file to be written, and no count that rose, give status 0 or 6.
-    ensures complete { IsUnhindered words.now
-        (moment S.held S.read_faults S.write_faults K.written K.faults K.refused store.old out.old)
-        (moment S.held S.read_faults S.write_faults K.written K.faults K.refused store.new out.new)
+    ensures complete { IsUnhindered words.now world.old world.new
         → IsDoneOrMemory result }
 {
-    run_words(rt, alloc, words, store, out, gate).status()
+    run_words(rt, alloc, words, world, gate).status()
 }

@@ -1,15 +1,13 @@
 //! The files that a form writes, and whether one of them has the name of a file that it reads.
-ghost use Rattle.std.specs.Prelude.{◌≡◌, IfErr, IfOk, OnErr, OnOk, option_map, string_bytes};
+ghost use Rattle.std.specs.Prelude.{◌≡◌, IfErr, IfOk, OnOk, option_map, string_bytes};
 ghost use Rattle.netsim.specs.WrittenBy.{written_by};
-ghost use Rattle.program_endings.specs.Endings.{IsTakenEnd};
-ghost use Rattle.program_endings.specs.Writing.{IsSaid};
+ghost use Rattle.program_endings.specs.Endings.{HasOnlyRead, IsTakenEnd};
 ghost use Rattle.program_endings.specs.WrittenNames.{AreNamesFree, capture_names, first_name_of_input, first_taken_name, is_name_of_input, is_name_of_load};
-ghost use Rattle.program_texts.specs.Texts.{line_of_output_fault};
 
-use crate::sink_texts::say;
+use crate::world::World;
 use layout::{Layout, StationLine};
 use lists::OutOfMemory;
-use outside::Sink;
+use outside::{Sink, Store};
 use program_endings::Ending;
 use program_texts::{
     line_of_output_fault, name_of_capture, name_of_counters, name_of_log, name_of_state,
@@ -99,38 +97,24 @@ fn taken_name(
     }
 }
 
-/// Says that a file to be written has the name of an input.
-fn say_taken<K: Sink>(alloc: Global, name: &str, out: &mut K) -> Result<(), OutOfMemory>
-    ensures said { OnOk result (IsSaid (line_of_output_fault name.now) (K.written out.old) (K.written out.new) (K.refused out.old) (K.refused out.new)) }
-    ensures silent { OnErr result (K.written out.new ≡ K.written out.old) }
-{
-    let line = line_of_output_fault(alloc, name)?;
-    say(out, line.as_slice());
-    Ok(())
-}
-
 /// Tests that no file to be written has the name of the layout or of a load, or says which is the first that has.
-pub(crate) fn judge_names<K: Sink>(
+pub(crate) fn judge_names<S: Store, K: Sink>(
     alloc: Global,
     layout: &str,
     written: Written,
     prefix: &str,
     network: &Layout,
-    out: &mut K,
+    world: &mut World<S, K>,
 ) -> Result<(), Ending>
     ensures free { OnOk result (AreNamesFree layout.now (written_by written prefix.now) network.now) }
-    ensures silent { OnOk result (K.written out.new ≡ K.written out.old) }
-    ensures faults { OnOk result (K.faults out.new ≡ K.faults out.old) }
-    ensures refused { OnOk result (K.refused out.new ≡ K.refused out.old) }
-    ensures taken { IfErr result (λ e. IsTakenEnd layout.now (written_by written prefix.now) network.now (K.written out.old) (K.written out.new) (K.refused out.old) (K.refused out.new) e) }
+    ensures read { OnOk result (HasOnlyRead world.old world.new) }
+    ensures taken { IfErr result (λ e. IsTakenEnd layout.now (written_by written prefix.now) network.now world.old world.new e) }
+    ensures held { world.new.held ≡ world.old.held }
 {
-    let name = match taken_name(alloc, layout, written, prefix, network) {
-        Ok(None) => return Ok(()),
-        Ok(Some(name)) => name,
-        Err(OutOfMemory) => return Err(Ending::Memory),
+    let Some(name) = taken_name(alloc, layout, written, prefix, network)? else {
+        return Ok(());
     };
-    match say_taken(alloc, name.as_str(), out) {
-        Ok(()) => Err(Ending::Output),
-        Err(OutOfMemory) => Err(Ending::Memory),
-    }
+    let line = line_of_output_fault(alloc, name.as_str())?;
+    world.say(line.as_slice());
+    Err(Ending::Output)
 }

@@ -7,16 +7,13 @@ mod progress;
 use fault_hints::{early_warning, hints};
 use input_hints::Ended;
 use lists::{OutOfMemory, Text};
-use netsim::{HELP, Words, netsim};
+use netsim::{Ending, HELP, Words, World, netsim};
 use outside::{FolderStore, OutSink};
 use progress::Progress;
 use std::io::IsTerminal;
 use std::process::ExitCode;
 use std::rt::Files;
 use std::{env, io};
-
-/// The status for want of memory.
-const MEMORY: u8 = 6;
 
 /// What is said where memory is wanting for anything else.
 const NO_MEMORY: &str = "netsim: there was not enough memory\n";
@@ -73,15 +70,18 @@ fn main(rt: HostRuntime) -> ExitCode {
         Ok(words) => words,
         Err(OutOfMemory) => {
             let _ = eprint!(rt; "{NO_MEMORY}");
-            return ExitCode::from(MEMORY);
+            return ExitCode::from(Ending::Memory.status());
         }
     };
-    let mut store = FolderStore::new(&rt, rt.alloc());
-    let mut out = OutSink::new(&rt, rt.alloc());
+    let mut world = World {
+        store: FolderStore::new(&rt, rt.alloc()),
+        out: OutSink::new(&rt, rt.alloc()),
+    };
     let warning = early_warning(&rt, rt.alloc(), words.as_slice()).unwrap_or(None);
     let progress = Progress::new(&rt, is_watched(&rt), warning);
-    let status = netsim(&rt, rt.alloc(), &words, &mut store, &mut out, &progress);
+    let status = netsim(&rt, rt.alloc(), &words, &mut world, &progress);
     progress.clear();
+    let World { mut store, mut out } = world;
     tell(&rt, &words, status, &mut store, &mut out);
     ExitCode::from(status)
 }

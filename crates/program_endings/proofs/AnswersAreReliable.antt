@@ -42,55 +42,55 @@ abbrev PlanWith : (Layout → Type 0) → Files → Plan → Type 0
 PlanWith Q files plan = Q plan.layout
 
 -- an ending after which it was said that what a probe aims at isn't there, with its status
-missed_with : (told : Report) (network : Layout) (to : ℕ) (taps : List (List ℕ)) (written now : Option (List ℕ)) (refused risen : ℕ) (e : Ending) → IsAimEnd told network to taps written now refused risen e
+missed_with : (told : Report) (network : Layout) (to : ℕ) (taps : List (List ℕ)) (before after : Moment) (e : Ending) → IsAimEnd told network to taps before after e
     → IsDoneOrMemory (status_of e) ⊎ ((status_of e ≡ 7) × HasNoAim network to taps)
-missed_with told network to taps written now refused risen ending.Done h = absurd h
-missed_with told network to taps written now refused risen ending.Words h = absurd h
-missed_with told network to taps written now refused risen ending.Layout h = absurd h
-missed_with told network to taps written now refused risen ending.Load h = absurd h
-missed_with told network to taps written now refused risen ending.Read h = absurd h
-missed_with told network to taps written now refused risen ending.Write h = absurd h
-missed_with told network to taps written now refused risen ending.Memory h = inl (inr refl)
-missed_with told network to taps written now refused risen ending.Probe h = inr (refl, elim h.1 [ inl unknown ↦ inl (unknown.0, unknown.1) | inr past ↦ inr past.2 ])
-missed_with told network to taps written now refused risen ending.Log h = absurd h
-missed_with told network to taps written now refused risen ending.Stranger h = absurd h
-missed_with told network to taps written now refused risen ending.Unquiet h = absurd h
-missed_with told network to taps written now refused risen ending.State h = absurd h
-missed_with told network to taps written now refused risen ending.Output h = absurd h
+missed_with told network to taps before after ending.Done h = absurd h
+missed_with told network to taps before after ending.Words h = absurd h
+missed_with told network to taps before after ending.Layout h = absurd h
+missed_with told network to taps before after ending.Load h = absurd h
+missed_with told network to taps before after ending.Read h = absurd h
+missed_with told network to taps before after ending.Write h = absurd h
+missed_with told network to taps before after ending.Memory h = inl (inr refl)
+missed_with told network to taps before after ending.Probe h = inr (refl, elim h.1 [ inl unknown ↦ inl (unknown.0, unknown.1) | inr past ↦ inr past.2 ])
+missed_with told network to taps before after ending.Log h = absurd h
+missed_with told network to taps before after ending.Stranger h = absurd h
+missed_with told network to taps before after ending.Unquiet h = absurd h
+missed_with told network to taps before after ending.State h = absurd h
+missed_with told network to taps before after ending.Output h = absurd h
 
 -- an ending after which it was said which line of a log names what a network lacks, with its status
-strange_with : (network : Layout) (lines : List LogLine) (written now : Option (List ℕ)) (refused risen : ℕ) (e : Ending) → IsStrangeEnd network lines written now refused risen e
+strange_with : (network : Layout) (lines : List LogLine) (before after : Moment) (e : Ending) → IsStrangeEnd network lines before after e
     → IsDoneOrMemory (status_of e) ⊎ ((status_of e ≡ 11) × ((n : ℕ) × (first_stranger network lines ≡ Some n)))
-strange_with network lines written now refused risen ending.Done h = absurd h
-strange_with network lines written now refused risen ending.Words h = absurd h
-strange_with network lines written now refused risen ending.Layout h = absurd h
-strange_with network lines written now refused risen ending.Load h = absurd h
-strange_with network lines written now refused risen ending.Read h = absurd h
-strange_with network lines written now refused risen ending.Write h = absurd h
-strange_with network lines written now refused risen ending.Memory h = inl (inr refl)
-strange_with network lines written now refused risen ending.Probe h = absurd h
-strange_with network lines written now refused risen ending.Log h = absurd h
-strange_with network lines written now refused risen ending.Stranger h = inr (refl, (h.0, h.1))
-strange_with network lines written now refused risen ending.Unquiet h = absurd h
-strange_with network lines written now refused risen ending.State h = absurd h
-strange_with network lines written now refused risen ending.Output h = absurd h
+strange_with network lines before after ending.Done h = absurd h
+strange_with network lines before after ending.Words h = absurd h
+strange_with network lines before after ending.Layout h = absurd h
+strange_with network lines before after ending.Load h = absurd h
+strange_with network lines before after ending.Read h = absurd h
+strange_with network lines before after ending.Write h = absurd h
+strange_with network lines before after ending.Memory h = inl (inr refl)
+strange_with network lines before after ending.Probe h = absurd h
+strange_with network lines before after ending.Log h = absurd h
+strange_with network lines before after ending.Stranger h = inr (refl, (h.0, h.1))
+strange_with network lines before after ending.Unquiet h = absurd h
+strange_with network lines before after ending.State h = absurd h
+strange_with network lines before after ending.Output h = absurd h
 
 -- an ending after which it was said which line of a log names what a plan lacks, with its status
-unplanned_with : (plan : Plan) (lines : List LogLine) (written now : Option (List ℕ)) (refused risen : ℕ) (e : Ending) → IsUnplannedEnd plan lines written now refused risen e
+unplanned_with : (plan : Plan) (lines : List LogLine) (before after : Moment) (e : Ending) → IsUnplannedEnd plan lines before after e
     → IsDoneOrMemory (status_of e) ⊎ ((status_of e ≡ 11) × ((n : ℕ) × (first_unplanned plan lines ≡ Some n)))
-unplanned_with plan lines written now refused risen ending.Done h = absurd h
-unplanned_with plan lines written now refused risen ending.Words h = absurd h
-unplanned_with plan lines written now refused risen ending.Layout h = absurd h
-unplanned_with plan lines written now refused risen ending.Load h = absurd h
-unplanned_with plan lines written now refused risen ending.Read h = absurd h
-unplanned_with plan lines written now refused risen ending.Write h = absurd h
-unplanned_with plan lines written now refused risen ending.Memory h = inl (inr refl)
-unplanned_with plan lines written now refused risen ending.Probe h = absurd h
-unplanned_with plan lines written now refused risen ending.Log h = absurd h
-unplanned_with plan lines written now refused risen ending.Stranger h = inr (refl, (h.0, h.1))
-unplanned_with plan lines written now refused risen ending.Unquiet h = absurd h
-unplanned_with plan lines written now refused risen ending.State h = absurd h
-unplanned_with plan lines written now refused risen ending.Output h = absurd h
+unplanned_with plan lines before after ending.Done h = absurd h
+unplanned_with plan lines before after ending.Words h = absurd h
+unplanned_with plan lines before after ending.Layout h = absurd h
+unplanned_with plan lines before after ending.Load h = absurd h
+unplanned_with plan lines before after ending.Read h = absurd h
+unplanned_with plan lines before after ending.Write h = absurd h
+unplanned_with plan lines before after ending.Memory h = inl (inr refl)
+unplanned_with plan lines before after ending.Probe h = absurd h
+unplanned_with plan lines before after ending.Log h = absurd h
+unplanned_with plan lines before after ending.Stranger h = inr (refl, (h.0, h.1))
+unplanned_with plan lines before after ending.Unquiet h = absurd h
+unplanned_with plan lines before after ending.State h = absurd h
+unplanned_with plan lines before after ending.Output h = absurd h
 
 module _ (entry exit : Moment) (r : ¬ Rose entry.reads exit.reads) (w : ¬ Rose entry.writes exit.writes) (f : ¬ Rose entry.faults exit.faults) where
   early_done : (Q : Layout → Type 0) (layout : List ℕ) (e : Ending) → IsEarly layout entry exit e → IfPlanned layout entry.held (PlanWith Q) (IsDoneOrMemory (status_of e))
@@ -140,7 +140,7 @@ module _ (entry exit : Moment) (r : ¬ Rose entry.reads exit.reads) (w : ¬ Rose
       let X : Type 0 = IsDoneOrMemory (status_of e) in
       by_probe (IfPlanned layout entry.held (PlanWith AnyNetwork) (X ⊎ Y)) told layout from to taps entry exit e (λ early. or_else AnyNetwork layout Y X (early_done AnyNetwork layout e early))
       (λ missed. always_planned layout entry.held (PlanWith AnyNetwork) (X ⊎ Y)
-      (elim (missed_with told missed.network to taps entry.written exit.written entry.refused exit.refused e missed.missed) [ inl done ↦ inl done | inr miss ↦ inr (miss.0, (missed.network, missed.judged, miss.1)) ]))
+      (elim (missed_with told missed.network to taps entry exit e missed.missed) [ inl done ↦ inl done | inr miss ↦ inr (miss.0, (missed.network, missed.judged, miss.1)) ]))
       (λ unprobed. or_else AnyNetwork layout Y X (unloaded_done AnyNetwork layout unprobed.network e unprobed.judged tt unprobed.said))
       (λ probed. always_planned layout entry.held (PlanWith AnyNetwork) (X ⊎ Y) (inl (text_whole probed.text entry exit e probed.written f))) h
 
@@ -159,7 +159,7 @@ module _ (entry exit : Moment) (r : ¬ Rose entry.reads exit.reads) (w : ¬ Rose
       (known_telling layout entry.held entry.reads exit.reads entry.faults exit.faults (status_of e) (early_told layout entry exit e early)))
       (λ unlogged. if_some entry.held _ _ (λ files says has. inl (says has.1.0 has.1.1 r f)) (unmetered_whole log entry exit e unlogged.said))
       (λ drawn strange. some_of entry.held _ (λ files has.
-      elim (strange_with drawn.network drawn.lines entry.written exit.written entry.refused exit.refused e strange) [
+      elim (strange_with drawn.network drawn.lines entry exit e strange) [
         | inl done ↦ inl done
         | inr named ↦ inr (named.0, (drawn.network, drawn.judged, (named.1.0, record { lines = drawn.lines; read = drawn.read; first = named.1.1 })))
       ]))
@@ -174,7 +174,7 @@ module _ (entry exit : Moment) (r : ¬ Rose entry.reads exit.reads) (w : ¬ Rose
       (λ unqueued. if_some entry.held _ _ (λ files known has. inl (known has.0)) (unloaded_done AnyNetwork layout unqueued.network e unqueued.judged tt unqueued.said))
       (λ untabled. if_some entry.held _ _ (λ files says has. inl (says has.1.0 has.1.1 r f)) (unmetered_whole log entry exit e untabled.said))
       (λ d unplanned. some_of entry.held _ (λ files has.
-      elim (unplanned_with d.plan d.lines entry.written exit.written entry.refused exit.refused e unplanned) [
+      elim (unplanned_with d.plan d.lines entry exit e unplanned) [
         | inl done ↦ inl done
         | inr named ↦ inr (named.0, (d.plan, d.planned, (named.1.0, record { lines = d.lines; read = d.read; first = named.1.1 })))
       ]))

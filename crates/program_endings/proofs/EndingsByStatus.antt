@@ -87,8 +87,8 @@ frames_end o layout log entry exit e is end = subst (λ a. IsEndOf a entry exit 
 
 -- what comes of each of the five ways in which frames ends comes of its end
 pub by_frames : (X : Type 0) (layout log : List ℕ) (before after : Moment) (e : Ending) → (IsEarly layout before after e → X) → (IsUnqueued layout before after e → X) → (IsUntabled layout log before after e → X)
-    → ((d : IsTabled layout log before after e) → IsUnplannedEnd d.plan d.lines before.written after.written before.refused after.refused e → X)
-    → ((d : IsTabled layout log before after e) → AreTabled d.plan d.lines before.written after.written before.faults after.faults e → X) → IsFramesEnd layout log before after e → X
+    → ((d : IsTabled layout log before after e) → IsUnplannedEnd d.plan d.lines before after e → X)
+    → ((d : IsTabled layout log before after e) → AreTabled d.plan d.lines before after e → X) → IsFramesEnd layout log before after e → X
 by_frames X layout log before after e early unqueued untabled unplanned tabled h =
     elim h.1 [
       | inl one ↦ early one
@@ -100,8 +100,8 @@ by_frames X layout log before after e early unqueued untabled unplanned tabled h
 
 -- what comes of each of the four ways in which picture ends comes of its end
 pub by_picture : (X : Type 0) (layout log : List ℕ) (from to : ℕ) (before after : Moment) (e : Ending) → (IsEarly layout before after e → X) → (IsUnlogged layout log before after e → X)
-    → ((d : IsDrawn layout log from to before after e) → IsStrangeEnd d.network d.lines before.written after.written before.refused after.refused e → X)
-    → ((d : IsDrawn layout log from to before after e) → ArePictured d.network d.lines from to before.written after.written before.faults after.faults e → X) → IsPictureEnd layout log from to before after e → X
+    → ((d : IsDrawn layout log from to before after e) → IsStrangeEnd d.network d.lines before after e → X)
+    → ((d : IsDrawn layout log from to before after e) → ArePictured d.network d.lines from to before after e → X) → IsPictureEnd layout log from to before after e → X
 by_picture X layout log from to before after e early unlogged strange pictured h =
     elim h.1 [
       | inl one ↦ early one
@@ -150,7 +150,7 @@ by_resume X layout prefix before after e early taken unloaded unrun unresumed re
 
 -- what comes of each of the two ways in which demo ends comes of its end
 pub by_demo : (X : Type 0) (number : ℕ) (before after : Moment) (e : Ending) → (e ≡ ending.Memory → after.written ≡ before.written → X)
-    → ((text : List ℕ) → IsDemoText number text → IsText text before.written after.written before.faults after.faults e → X) → IsDemoEnd number before after e → X
+    → ((text : List ℕ) → IsDemoText number text → IsText text before after e → X) → IsDemoEnd number before after e → X
 by_demo X number before after e none told h = elim h.0 [ inl unmade ↦ none unmade.0 unmade.1 | inr made ↦ told made.0 made.1 made.2 ]
 
 -- what holds of the end of every form that only tells of a layout

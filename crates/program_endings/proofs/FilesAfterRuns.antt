@@ -18,7 +18,7 @@ use Rattle.program_endings.proofs.EndingsByStatus.{by_demo, by_way, demo_end, en
 use Rattle.program_endings.proofs.EveryForm.{never_demo, never_meter, never_picture, never_probe, never_resume, never_stop, never_words, never_frames}
 
 -- an ending that comes neither early nor of want of memory is that of a run
-run_of : (layout prefix : List ℕ) (before after : Moment) (e : Ending) → (IsEarly layout before after e → ⊥) → ((network : Layout) → IsTakenEnd layout (RunOf prefix) network before.written after.written before.refused after.refused e → ⊥) → ((network : Layout) → IsUnloadedSaid network before after e → ⊥) → (e ≡ ending.Memory → ⊥)
+run_of : (layout prefix : List ℕ) (before after : Moment) (e : Ending) → (IsEarly layout before after e → ⊥) → ((network : Layout) → IsTakenEnd layout (RunOf prefix) network before after e → ⊥) → ((network : Layout) → IsUnloadedSaid network before after e → ⊥) → (e ≡ ending.Memory → ⊥)
     → IsPlainEnd layout prefix before after e → IsRun layout prefix before after e
 run_of layout prefix before after e early taken unloaded memory h =
     by_way (IsRun layout prefix before after e) layout prefix before after e (λ one. absurd (early one)) (λ two. absurd (taken two.network two.said)) (λ three. absurd (unloaded three.network three.said)) (λ unrun. absurd (memory unrun.0)) (λ run. run) h
@@ -139,7 +139,7 @@ demos_are_refused words entry exit status answer six number workers is =
 pub demos_keep_files : DoDemosKeepFiles
 demos_keep_files words entry exit status answer number workers is = (demo_end (asked words) number workers entry exit answer.by is answer.allowed).1
 
-text_status : (text : List ℕ) (before after : Moment) (e : Ending) → IsText text before.written after.written before.faults after.faults e → IsDemoStatus (status_of e)
+text_status : (text : List ℕ) (before after : Moment) (e : Ending) → IsText text before after e → IsDemoStatus (status_of e)
 text_status text before after ending.Done written = inl refl
 text_status text before after ending.Words written = absurd written
 text_status text before after ending.Layout written = absurd written
@@ -166,7 +166,7 @@ texts_are_failed words entry exit status answer five =
 pub texts_keep_files : DoTextsKeepFiles
 texts_keep_files words entry exit status answer = of_texts (asked words) entry exit answer.by (λ text. exit.held ≡ entry.held) (λ text end. end.1) answer.allowed
 
-text_cut : (text : List ℕ) (before after : Moment) (e : Ending) → IsText text before.written after.written before.faults after.faults e → (status_of e ≡ 0) ⊎ IsCutShort text before.written after.written
+text_cut : (text : List ℕ) (before after : Moment) (e : Ending) → IsText text before after e → (status_of e ≡ 0) ⊎ IsCutShort text before.written after.written
 text_cut text before after ending.Done written = inl refl
 text_cut text before after ending.Words written = absurd written
 text_cut text before after ending.Layout written = absurd written

@@ -83,7 +83,7 @@ module _ (X : ℕ → Type 0) (P : Files → Plan → Type 0) (layout log : List
 
   unplanned_known : (e : Ending) (plan : Plan) (lines : List LogLine) → IsPlanned layout before.held plan → HasLog log before.held lines
       → ((n : ℕ) → first_unplanned plan lines ≡ Some n → (files : Files) → HasLog log (Some files) lines → P files plan → X 11)
-      → IsUnplannedEnd plan lines before.written after.written before.refused after.refused e → IfPlanned layout before.held P (X (status_of e))
+      → IsUnplannedEnd plan lines before after e → IfPlanned layout before.held P (X (status_of e))
   unplanned_known ending.Done plan lines planned read strange said = absurd said
   unplanned_known ending.Words plan lines planned read strange said = absurd said
   unplanned_known ending.Layout plan lines planned read strange said = absurd said
@@ -101,7 +101,7 @@ module _ (X : ℕ → Type 0) (P : Files → Plan → Type 0) (layout log : List
   -- what an end of frames says, where it is known what it says of a log that isn't held, of one with a fault, of a line that names what the plan lacks, and of a table
   table_known : (e : Ending) → ((files : Files) (plan : Plan) → IsAbsent log (Some files) → P files plan → X 4) → ((files : Files) (plan : Plan) (g : LogFault) → HasLogFault log (Some files) g → P files plan → X 8)
       → ((plan : Plan) (lines : List LogLine) (n : ℕ) → first_unplanned plan lines ≡ Some n → (files : Files) → HasLog log (Some files) lines → P files plan → X 11)
-      → ((plan : Plan) (lines : List LogLine) → AreTabled plan lines before.written after.written before.faults after.faults e → (files : Files) → HasLog log (Some files) lines → P files plan → X (status_of e))
+      → ((plan : Plan) (lines : List LogLine) → AreTabled plan lines before after e → (files : Files) → HasLog log (Some files) lines → P files plan → X (status_of e))
       → IsFramesEnd layout log before after e → IfPlanned layout before.held P (X (status_of e))
   table_known e absent fault strange done h =
       let says : Says (WholeTells X) before.reads after.reads = whole_tells X before.reads after.reads six four in
@@ -159,7 +159,7 @@ tables_are_complete words entry exit status answer layout log is =
     (λ plan lines tabled files read has r f. text_whole tabled.table entry exit answer.by tabled.text f) (frames_end (asked words) layout log entry exit answer.by is answer.allowed))
 
 -- the table that was told
-text_of : (layout log : List ℕ) (before after : Moment) (e : Ending) (d : IsTabled layout log before after e) (tabled : AreTabled d.plan d.lines before.written after.written before.faults after.faults e)
+text_of : (layout log : List ℕ) (before after : Moment) (e : Ending) (d : IsTabled layout log before after e) (tabled : AreTabled d.plan d.lines before after e)
     → IsTableText layout log before.held tabled.table
 text_of layout log before after e d tabled = record { plan = d.plan; planned = d.planned; lines = d.lines; read = d.read; known = tabled.known; is = tabled.right }
 

@@ -127,7 +127,7 @@ known_taken layout outputs None network name X judged taken = tt
 known_taken layout outputs (Some files) network name X judged taken = λ l known. absurd (taken_or_free layout outputs files network known.network name judged known.judged taken known.so)
 
 module _ (X : ℕ → Loaded → Type 0) (layout : List ℕ) (outputs : ToWrite) (before after : Moment) (says : Says X before.reads after.reads) where
-  pub taken_known : (network : Layout) (e : Ending) → IsJudged layout before.held (Ok network) → IsTakenEnd layout outputs network before.written after.written before.refused after.refused e → IfKnown (AreNamesFree layout outputs) layout before.held (X (status_of e))
+  pub taken_known : (network : Layout) (e : Ending) → IsJudged layout before.held (Ok network) → IsTakenEnd layout outputs network before after e → IfKnown (AreNamesFree layout outputs) layout before.held (X (status_of e))
   taken_known network ending.Done judged said = absurd said
   taken_known network ending.Words judged said = absurd said
   taken_known network ending.Layout judged said = absurd said
@@ -316,7 +316,7 @@ known_telling layout None reads read faults faulted n known = tt
 known_telling layout (Some files) reads read faults faulted n known =
     λ network good. known (loaded files network.stations) (record { network = network; judged = good; so = tt; is = refl })
 
-pub text_whole : (text : List ℕ) (before after : Moment) (e : Ending) → IsText text before.written after.written before.faults after.faults e → ¬ Rose before.faults after.faults → IsDoneOrMemory (status_of e)
+pub text_whole : (text : List ℕ) (before after : Moment) (e : Ending) → IsText text before after e → ¬ Rose before.faults after.faults → IsDoneOrMemory (status_of e)
 text_whole text before after ending.Done written never = inl refl
 text_whole text before after ending.Words written never = absurd written
 text_whole text before after ending.Layout written never = absurd written

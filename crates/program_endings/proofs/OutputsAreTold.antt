@@ -54,7 +54,7 @@ module _ (layout : List ℕ) (outputs : ToWrite) (before after : Moment) where
   early_taken ending.State early = absurd early
   early_taken ending.Output early = absurd early
 
-  said_taken : (network : Layout) (e : Ending) → IsTakenEnd layout outputs network before.written after.written before.refused after.refused e → IfTaken layout outputs before.held (IsFaultStatus 12 (status_of e) before.reads after.reads)
+  said_taken : (network : Layout) (e : Ending) → IsTakenEnd layout outputs network before after e → IfTaken layout outputs before.held (IsFaultStatus 12 (status_of e) before.reads after.reads)
   said_taken network ending.Done said = absurd said
   said_taken network ending.Words said = absurd said
   said_taken network ending.Layout said = absurd said

@@ -131,7 +131,7 @@ module _ (X : ℕ → Layout → Logged → Type 0) (layout log : List ℕ) (bef
   unmetered_logged ending.Output said = absurd said
 
   strange_logged : (network : Layout) (lines : List LogLine) (e : Ending) → IsJudged layout before.held (Ok network) → HasLog log before.held lines
-      → IsStrangeEnd network lines before.written after.written before.refused after.refused e → IfLogged layout log before.held (X (status_of e))
+      → IsStrangeEnd network lines before after e → IfLogged layout log before.held (X (status_of e))
   strange_logged network lines ending.Done judged has said = absurd said
   strange_logged network lines ending.Words judged has said = absurd said
   strange_logged network lines ending.Layout judged has said = absurd said
@@ -148,7 +148,7 @@ module _ (X : ℕ → Layout → Logged → Type 0) (layout log : List ℕ) (bef
 
   -- what an end of a picture says, where it is known what it says of one that is drawn
   picture_known : (from to : ℕ) (e : Ending)
-      → ((network : Layout) (lines : List LogLine) → ArePictured network lines from to before.written after.written before.faults after.faults e → X (status_of e) network (Lines lines))
+      → ((network : Layout) (lines : List LogLine) → ArePictured network lines from to before after e → X (status_of e) network (Lines lines))
       → IsPictureEnd layout log from to before after e → IfLogged layout log before.held (X (status_of e))
   picture_known from to e done h =
       by_picture (IfLogged layout log before.held (X (status_of e))) layout log from to before after e (early_logged e) (λ unlogged. unmetered_logged e unlogged.said)

@@ -42,35 +42,35 @@ aim_or_miss network to taps aim miss =
     ]
 
 -- an ending after which it was said that what a probe aims at isn't there
-missed_of : (told : Report) (network : Layout) (to : ℕ) (taps : List (List ℕ)) (written now : Option (List ℕ)) (refused risen : ℕ) (e : Ending) → IsAimEnd told network to taps written now refused risen e → HasNoAim network to taps ⊎ (e ≡ ending.Memory)
-missed_of told network to taps written now refused risen ending.Done h = absurd h
-missed_of told network to taps written now refused risen ending.Words h = absurd h
-missed_of told network to taps written now refused risen ending.Layout h = absurd h
-missed_of told network to taps written now refused risen ending.Load h = absurd h
-missed_of told network to taps written now refused risen ending.Read h = absurd h
-missed_of told network to taps written now refused risen ending.Write h = absurd h
-missed_of told network to taps written now refused risen ending.Memory h = inr refl
-missed_of told network to taps written now refused risen ending.Probe h = inl (elim h.1 [ inl unknown ↦ inl (unknown.0, unknown.1) | inr past ↦ inr past.2 ])
-missed_of told network to taps written now refused risen ending.Log h = absurd h
-missed_of told network to taps written now refused risen ending.Stranger h = absurd h
-missed_of told network to taps written now refused risen ending.Unquiet h = absurd h
-missed_of told network to taps written now refused risen ending.State h = absurd h
-missed_of told network to taps written now refused risen ending.Output h = absurd h
+missed_of : (told : Report) (network : Layout) (to : ℕ) (taps : List (List ℕ)) (before after : Moment) (e : Ending) → IsAimEnd told network to taps before after e → HasNoAim network to taps ⊎ (e ≡ ending.Memory)
+missed_of told network to taps before after ending.Done h = absurd h
+missed_of told network to taps before after ending.Words h = absurd h
+missed_of told network to taps before after ending.Layout h = absurd h
+missed_of told network to taps before after ending.Load h = absurd h
+missed_of told network to taps before after ending.Read h = absurd h
+missed_of told network to taps before after ending.Write h = absurd h
+missed_of told network to taps before after ending.Memory h = inr refl
+missed_of told network to taps before after ending.Probe h = inl (elim h.1 [ inl unknown ↦ inl (unknown.0, unknown.1) | inr past ↦ inr past.2 ])
+missed_of told network to taps before after ending.Log h = absurd h
+missed_of told network to taps before after ending.Stranger h = absurd h
+missed_of told network to taps before after ending.Unquiet h = absurd h
+missed_of told network to taps before after ending.State h = absurd h
+missed_of told network to taps before after ending.Output h = absurd h
 
-missed_status : (told : Report) (network : Layout) (to : ℕ) (taps : List (List ℕ)) (written now : Option (List ℕ)) (refused risen : ℕ) (e : Ending) → IsAimEnd told network to taps written now refused risen e → (status_of e ≡ 7) ⊎ (status_of e ≡ 6)
-missed_status told network to taps written now refused risen ending.Done h = absurd h
-missed_status told network to taps written now refused risen ending.Words h = absurd h
-missed_status told network to taps written now refused risen ending.Layout h = absurd h
-missed_status told network to taps written now refused risen ending.Load h = absurd h
-missed_status told network to taps written now refused risen ending.Read h = absurd h
-missed_status told network to taps written now refused risen ending.Write h = absurd h
-missed_status told network to taps written now refused risen ending.Memory h = inr refl
-missed_status told network to taps written now refused risen ending.Probe h = inl refl
-missed_status told network to taps written now refused risen ending.Log h = absurd h
-missed_status told network to taps written now refused risen ending.Stranger h = absurd h
-missed_status told network to taps written now refused risen ending.Unquiet h = absurd h
-missed_status told network to taps written now refused risen ending.State h = absurd h
-missed_status told network to taps written now refused risen ending.Output h = absurd h
+missed_status : (told : Report) (network : Layout) (to : ℕ) (taps : List (List ℕ)) (before after : Moment) (e : Ending) → IsAimEnd told network to taps before after e → (status_of e ≡ 7) ⊎ (status_of e ≡ 6)
+missed_status told network to taps before after ending.Done h = absurd h
+missed_status told network to taps before after ending.Words h = absurd h
+missed_status told network to taps before after ending.Layout h = absurd h
+missed_status told network to taps before after ending.Load h = absurd h
+missed_status told network to taps before after ending.Read h = absurd h
+missed_status told network to taps before after ending.Write h = absurd h
+missed_status told network to taps before after ending.Memory h = inr refl
+missed_status told network to taps before after ending.Probe h = inl refl
+missed_status told network to taps before after ending.Log h = absurd h
+missed_status told network to taps before after ending.Stranger h = absurd h
+missed_status told network to taps before after ending.Unquiet h = absurd h
+missed_status told network to taps before after ending.State h = absurd h
+missed_status told network to taps before after ending.Output h = absurd h
 
 -- this network was judged good and misses something
 abbrev IsMissing : List ℕ → ℕ → List (List ℕ) → Files → Type 0
@@ -108,7 +108,7 @@ module _ (layout : List ℕ) (to : ℕ) (taps : List (List ℕ)) (before after :
 
   missed_missing : (told : Report) (e : Ending) → IsMissed told layout to taps before after e → IfSome before.held (λ files. IsMissing layout to taps files → IsFaultStatus 7 (status_of e) before.reads after.reads)
   missed_missing told e missed =
-      some_of before.held _ (λ files miss. elim (missed_status told missed.network to taps before.written after.written before.refused after.refused e missed.missed) [ inl seven ↦ inl seven | inr six ↦ inr (inl six) ])
+      some_of before.held _ (λ files miss. elim (missed_status told missed.network to taps before after e missed.missed) [ inl seven ↦ inl seven | inr six ↦ inr (inl six) ])
 
 aim_of : (told : Report) (layout : List ℕ) (from to : ℕ) (taps : List (List ℕ)) (before after : Moment) (e : Ending) (probed : IsProbed told layout from to taps before after e) → HasAim probed.right.planned.network to taps
 aim_of told layout from to taps before after e probed =
@@ -183,7 +183,7 @@ probe_known : (X : ℕ → Loaded → Type 0) (told : Report) (layout : List ℕ
 probe_known X told layout from to taps before after e says done h =
     by_probe (IfAimed layout to taps before.held (X (status_of e))) told layout from to taps before after e
     (λ early. aimed_known layout to taps before.held (X (status_of e)) (early_known AnyNetwork X layout before after says e early))
-    (λ missed. aimed_missed layout to taps before.held (X (status_of e)) missed.network e missed.judged (missed_of told missed.network to taps before.written after.written before.refused after.refused e missed.missed)
+    (λ missed. aimed_missed layout to taps before.held (X (status_of e)) missed.network e missed.judged (missed_of told missed.network to taps before after e missed.missed)
     (λ six l. subst (λ (a : Ending). X (status_of a) l) (symmetric six) (says.memory l)))
     (λ unprobed. aimed_known layout to taps before.held (X (status_of e)) (unloaded_known AnyNetwork X layout before after says unprobed.network e unprobed.judged tt unprobed.said))
     (λ probed. aimed_known layout to taps before.held (X (status_of e))

@@ -1,5 +1,5 @@
 -- How a call ends by its words, and the status that it answers (profile).
-use Rattle.std.specs.Prelude.{◌≡◌, ℕ, List, Option, None, Some}
+use Rattle.std.specs.Prelude.{◌≡◌, ℕ, List, Option, None, Some, Result, Ok, Err}
 use Rattle.program_endings.specs.Moments.{Moment}
 use Rattle.program_words.specs.Requests.{Asked, asked, Check, Slack, Plain, Run, Stop, Resume, Demo, Probe, Meter, Picture, Frames, Help, Version}
 use Rattle.program_texts.specs.Texts.{line_of_words_fault}
@@ -29,6 +29,11 @@ IsEndOf (Some Version) before after e = IsTextEnd VERSION.now before after e
 -- the end of a call with these words
 abbrev pub IsEnd : List (List ℕ) → Moment → Moment → Ending → Type 0
 IsEnd words before after e = IsEndOf (asked words) before after e
+
+-- how a call ends that came to its end, or to this one
+abbrev pub ending_of : Result (Unit {0}) Ending → Ending
+ending_of (Ok _) = ending.Done
+ending_of (Err e) = e
 
 -- the program's status
 abbrev pub status_of : Ending → ℕ

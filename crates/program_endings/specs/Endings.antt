@@ -11,7 +11,6 @@ use Rattle.frame_table.specs.Tables.{IsFrameTable}
 use Rattle.frame_table.specs.Unplanned.{first_unplanned}
 use Rattle.layout_file.specs.Faults.{judged}
 use Rattle.layout.specs.declared.lines.Layout.{Layout}
-use Rattle.layout.specs.declared.lines.StationLine.{StationLine}
 use Rattle.layout_file.specs.declared.fault.LayoutFault.{LayoutFault}
 use Rattle.load_files.specs.Loaded.{IsLoaded, IsFirstAbsent, Faulty, load_of}
 use Rattle.load_plan.specs.declared.plan.Plan.{Plan}
@@ -50,6 +49,13 @@ HasFault name held = (fault : LayoutFault) × IsJudged name held (Err fault)
 abbrev pub Says : List ℕ → Moment → Moment → Type 0
 Says line before after = IsSaid line before.written after.written before.refused after.refused
 
+-- this line was said, or a front of it, and the store is as before
+pub record IsOnlySaid (line : List ℕ) (before after : Moment) : Type 0 where
+  pub said : Says line before after
+  pub held : after.held ≡ before.held
+  pub reads : after.reads ≡ before.reads
+  pub writes : after.writes ≡ before.writes
+
 -- the layout has a fault, and its line was said
 abbrev pub IsFaultSaid : List ℕ → Moment → Moment → Type 0
 IsFaultSaid name before after =
@@ -73,10 +79,15 @@ pub record IsLoadUnreadSaid (network : Layout) (before after : Moment) : Type 0 
   pub unread : IsFirstAbsent before.held network.stations name ⊎ Rose before.reads after.reads
   pub said : Says (line_of_read_fault name) before after
 
--- the layout isn't held or a read failed, and that was said
+-- a file isn't held or a read failed, and that was said
 abbrev pub IsUnreadSaid : List ℕ → Moment → Moment → Type 0
 IsUnreadSaid name before after =
     (IsAbsent name before.held ⊎ Rose before.reads after.reads) × Says (line_of_read_fault name) before after
+
+-- a file could not be read, and that was said, or there was no memory for one of both
+abbrev pub IsUnread : List ℕ → Moment → Moment → Ending → Type 0
+IsUnread name before after e =
+    ((e ≡ ending.Read) × IsUnreadSaid name before after) ⊎ ((e ≡ ending.Memory) × (after.written ≡ before.written))
 
 -- the call ended before a layout without fault was read
 abbrev pub IsEarly : List ℕ → Moment → Moment → Ending → Type 0
@@ -93,24 +104,6 @@ IsEarly name before after ending.Stranger = ⊥
 IsEarly name before after ending.Unquiet = ⊥
 IsEarly name before after ending.State = ⊥
 IsEarly name before after ending.Output = ⊥
-
--- what is said of the load of a station, from 0, with a fault: its line, and nothing without memory; the last two
--- numbers count what the sink refused
-abbrev pub IsFaultyEnd :
-    List StationLine → ℕ → CaptureFault → Option (List ℕ) → Option (List ℕ) → ℕ → ℕ → Ending → Type 0
-IsFaultyEnd stations station fault written now refused risen ending.Load =
-    (name : List ℕ) × (option_map (λ s. s.name) (slice_get stations station) ≡ Some name)
-    × IsSaid (line_of_load_fault name fault) written now refused risen
-IsFaultyEnd stations station fault written now refused risen ending.Memory = now ≡ written
-IsFaultyEnd stations station fault written now refused risen _ = ⊥
-
--- what is said of the load of a station, from 0, that can't be read: its line, and nothing without memory
-abbrev pub IsUnreadEnd : List StationLine → ℕ → Option (List ℕ) → Option (List ℕ) → ℕ → ℕ → Ending → Type 0
-IsUnreadEnd stations station written now refused risen ending.Read =
-    (name : List ℕ) × (load_of stations station ≡ Some name)
-    × IsSaid (line_of_read_fault name) written now refused risen
-IsUnreadEnd stations station written now refused risen ending.Memory = now ≡ written
-IsUnreadEnd stations station written now refused risen _ = ⊥
 
 -- the call ended before the network's loads, without fault, were read
 abbrev pub IsUnloadedSaid : Layout → Moment → Moment → Ending → Type 0
@@ -129,21 +122,20 @@ IsUnloadedSaid network before after ending.State = ⊥
 IsUnloadedSaid network before after ending.Output = ⊥
 
 -- what is said of a file to be written that has the name of the layout or of a load: the line of the first such name,
--- and nothing without memory; the last two numbers count what the sink refused
-abbrev pub IsTakenEnd :
-    List ℕ → ToWrite → Layout → Option (List ℕ) → Option (List ℕ) → ℕ → ℕ → Ending → Type 0
-IsTakenEnd layout outputs network written now refused risen ending.Output =
+-- and nothing without memory
+abbrev pub IsTakenEnd : List ℕ → ToWrite → Layout → Moment → Moment → Ending → Type 0
+IsTakenEnd layout outputs network before after ending.Output =
     (name : List ℕ) × (first_taken_name layout outputs network ≡ Some name)
-    × IsSaid (line_of_output_fault name) written now refused risen
-IsTakenEnd layout outputs network written now refused risen ending.Memory = now ≡ written
-IsTakenEnd layout outputs network written now refused risen _ = ⊥
+    × Says (line_of_output_fault name) before after
+IsTakenEnd layout outputs network before after ending.Memory = after.written ≡ before.written
+IsTakenEnd layout outputs network before after _ = ⊥
 
 -- the layout has no fault, a file to be written has its name or that of a load, and the first such name was said; or
 -- there was no memory to look for one
 pub record IsTaken (layout : List ℕ) (outputs : ToWrite) (before after : Moment) (e : Ending) : Type 0 where
   pub network : Layout
   pub judged : IsJudged layout before.held (Ok network)
-  pub said : IsTakenEnd layout outputs network before.written after.written before.refused after.refused e
+  pub said : IsTakenEnd layout outputs network before after e
 
 -- the layout has no fault, no file to be written has the name of the layout or of a load, and the call ended before the
 -- loads were read
@@ -153,27 +145,32 @@ pub record IsLoadEnd (layout : List ℕ) (outputs : ToWrite) (before after : Mom
   pub free : AreNamesFree layout outputs network
   pub said : IsUnloadedSaid network before after e
 
--- a fixed text was written to the sink, or a front of it was; the last two numbers count the failed writes
-abbrev pub IsText : List ℕ → Option (List ℕ) → Option (List ℕ) → ℕ → ℕ → Ending → Type 0
-IsText text written now faults risen ending.Done = now ≡ added text written
-IsText text written now faults risen ending.Words = ⊥
-IsText text written now faults risen ending.Layout = ⊥
-IsText text written now faults risen ending.Load = ⊥
-IsText text written now faults risen ending.Read = ⊥
-IsText text written now faults risen ending.Write = IsCutShort text written now × Rose faults risen
-IsText text written now faults risen ending.Memory = IsCutShort text written now
-IsText text written now faults risen ending.Probe = ⊥
-IsText text written now faults risen ending.Log = ⊥
-IsText text written now faults risen ending.Stranger = ⊥
-IsText text written now faults risen ending.Unquiet = ⊥
-IsText text written now faults risen ending.State = ⊥
-IsText text written now faults risen ending.Output = ⊥
+-- a fixed text was written to the sink, or a front of it was
+abbrev pub IsText : List ℕ → Moment → Moment → Ending → Type 0
+IsText text before after ending.Done = after.written ≡ added text before.written
+IsText text before after ending.Words = ⊥
+IsText text before after ending.Layout = ⊥
+IsText text before after ending.Load = ⊥
+IsText text before after ending.Read = ⊥
+IsText text before after ending.Write =
+    IsCutShort text before.written after.written × Rose before.faults after.faults
+IsText text before after ending.Memory = IsCutShort text before.written after.written
+IsText text before after ending.Probe = ⊥
+IsText text before after ending.Log = ⊥
+IsText text before after ending.Stranger = ⊥
+IsText text before after ending.Unquiet = ⊥
+IsText text before after ending.State = ⊥
+IsText text before after ending.Output = ⊥
+
+-- a write failed, or there was no memory
+abbrev pub IsWriteFailure : Ending → Type 0
+IsWriteFailure e = (e ≡ ending.Write) ⊎ (e ≡ ending.Memory)
 
 -- all these files are whole; a text that is right was written, or a front of it
 abbrev pub AreFiled : List File → (List ℕ → Type 0) → Moment → Moment → Ending → Type 0
 AreFiled files IsRight before after e =
     (after.held ≡ put_all files before.held)
-    × ((text : List ℕ) × IsRight text × IsText text before.written after.written before.faults after.faults e)
+    × ((text : List ℕ) × IsRight text × IsText text before after e)
 
 -- one of these files could not be written, or there was no memory for it; nothing was said
 abbrev pub IsUnfiled : List File → Moment → Moment → Ending → Type 0
@@ -194,10 +191,16 @@ IsUnfiled files before after ending.State = ⊥
 IsUnfiled files before after ending.Output = ⊥
 
 -- a file could not be written: a write to the store failed, or there was no memory
-abbrev pub IsFileEnd : ℕ → ℕ → Ending → Type 0
-IsFileEnd writes risen ending.Write = Rose writes risen
-IsFileEnd writes risen ending.Memory = Unit {0}
-IsFileEnd writes risen _ = ⊥
+abbrev pub IsFileEnd : Moment → Moment → Ending → Type 0
+IsFileEnd before after ending.Write = Rose before.writes after.writes
+IsFileEnd before after ending.Memory = Unit {0}
+IsFileEnd before after _ = ⊥
+
+-- nothing but files was written; the count of failed writes of the store doesn't fall
+pub record HasOnlyFiled (before after : Moment) : Type 0 where
+  pub writes : before.writes ≤ after.writes
+  pub written : after.written ≡ before.written
+  pub faults : after.faults ≡ before.faults
 
 -- there was no memory for the run, before a file was begun
 abbrev pub IsUnrun : Moment → Moment → Ending → Type 0
@@ -322,7 +325,7 @@ pub record IsTold (Tells : Layout → List ℕ → Type 0) (layout : List ℕ) (
   pub judged : IsJudged layout before.held (Ok network)
   pub text : List ℕ
   pub right : Tells network text
-  pub written : IsText text before.written after.written before.faults after.faults e
+  pub written : IsText text before after e
 
 -- the end of a form whose text tells this of a layout's network; it reads no loads
 abbrev pub IsTellingEnd : (Layout → List ℕ → Type 0) → List ℕ → Moment → Moment → Ending → Type 0
@@ -340,19 +343,17 @@ IsSlackEnd layout before after e = IsTellingEnd IsSlackText layout before after 
 -- the end of a form that writes a fixed text
 abbrev pub IsTextEnd : List ℕ → Moment → Moment → Ending → Type 0
 IsTextEnd text before after e =
-    IsText text before.written after.written before.faults after.faults e × (after.held ≡ before.held)
+    IsText text before after e × (after.held ≡ before.held)
 
--- the text of demo of a number was written, or a front of it, or there was no memory for it; the last two numbers count
--- the failed writes
-abbrev pub IsDemoTold : ℕ → Option (List ℕ) → Option (List ℕ) → ℕ → ℕ → Ending → Type 0
-IsDemoTold number written now faults risen e =
-    ((e ≡ ending.Memory) × (now ≡ written))
-    ⊎ ((text : List ℕ) × IsDemoText number text × IsText text written now faults risen e)
+-- the text of demo of a number was written, or a front of it, or there was no memory for it
+abbrev pub IsDemoTold : ℕ → Moment → Moment → Ending → Type 0
+IsDemoTold number before after e =
+    ((e ≡ ending.Memory) × (after.written ≡ before.written))
+    ⊎ ((text : List ℕ) × IsDemoText number text × IsText text before after e)
 
 -- the end of the form demo NUMBER WORKERS: its text; it reads and writes no file
 abbrev pub IsDemoEnd : ℕ → Moment → Moment → Ending → Type 0
-IsDemoEnd number before after e =
-    IsDemoTold number before.written after.written before.faults after.faults e × (after.held ≡ before.held)
+IsDemoEnd number before after e = IsDemoTold number before after e × (after.held ≡ before.held)
 
 -- the log has a fault, and its line was said
 abbrev pub IsLogFaultSaid : List ℕ → Moment → Moment → Type 0
@@ -370,7 +371,7 @@ IsUnmetered log before after _ = ⊥
 pub record IsMetered (log : List ℕ) (before after : Moment) (e : Ending) : Type 0 where
   pub text : List ℕ
   pub right : IsMeterText log before.held text
-  pub written : IsText text before.written after.written before.faults after.faults e
+  pub written : IsText text before after e
 
 -- the end of the form meter LOG: it writes no file
 abbrev pub IsMeterEnd : List ℕ → Moment → Moment → Ending → Type 0
@@ -384,27 +385,24 @@ pub record IsUnlogged (layout log : List ℕ) (before after : Moment) (e : Endin
   pub said : IsUnmetered log before after e
 
 -- what is said of the first of these lines, from 1, that names what a network lacks: its line, and nothing without
--- memory; the last two numbers count what the sink refused
-abbrev pub IsStrangeEnd : Layout → List LogLine → Option (List ℕ) → Option (List ℕ) → ℕ → ℕ → Ending → Type 0
-IsStrangeEnd network lines written now refused risen ending.Stranger =
-    (n : ℕ) × (first_stranger network lines ≡ Some n) × IsSaid (line_of_stranger n) written now refused risen
-IsStrangeEnd network lines written now refused risen ending.Memory = now ≡ written
-IsStrangeEnd network lines written now refused risen _ = ⊥
+-- memory
+abbrev pub IsStrangeEnd : Layout → List LogLine → Moment → Moment → Ending → Type 0
+IsStrangeEnd network lines before after ending.Stranger =
+    (n : ℕ) × (first_stranger network lines ≡ Some n) × Says (line_of_stranger n) before after
+IsStrangeEnd network lines before after ending.Memory = after.written ≡ before.written
+IsStrangeEnd network lines before after _ = ⊥
 
 -- the picture of what these lines, none of which names what a network lacks, tell of the half bits from one on and
--- before another was written, or a front of it; the last two numbers count the failed writes
-pub record ArePictured (network : Layout) (lines : List LogLine) (from to : ℕ) (written now : Option (List ℕ))
-    (faults risen : ℕ) (e : Ending) : Type 0 where
+-- before another was written, or a front of it
+pub record ArePictured (network : Layout) (lines : List LogLine) (from to : ℕ) (before after : Moment) (e : Ending)
+    : Type 0 where
   pub known : first_stranger network lines ≡ None
-  pub text : IsText (picture_of network lines from to) written now faults risen e
+  pub text : IsText (picture_of network lines from to) before after e
 
--- these lines were drawn, or one of them names what the network lacks, or there was no memory; of the last four numbers
--- two count the failed writes, and two what the sink refused
-abbrev pub IsDrawnEnd :
-    Layout → List LogLine → ℕ → ℕ → Option (List ℕ) → Option (List ℕ) → ℕ → ℕ → ℕ → ℕ → Ending → Type 0
-IsDrawnEnd network lines from to written now faults faulted refused risen e =
-    IsStrangeEnd network lines written now refused risen e
-    ⊎ ArePictured network lines from to written now faults faulted e
+-- these lines were drawn, or one of them names what the network lacks, or there was no memory
+abbrev pub IsDrawnEnd : Layout → List LogLine → ℕ → ℕ → Moment → Moment → Ending → Type 0
+IsDrawnEnd network lines from to before after e =
+    IsStrangeEnd network lines before after e ⊎ ArePictured network lines from to before after e
 
 -- the layout and the log have no fault, and the log's lines were drawn, or one names what the layout lacks
 pub record IsDrawn (layout log : List ℕ) (from to : ℕ) (before after : Moment) (e : Ending) : Type 0 where
@@ -412,9 +410,7 @@ pub record IsDrawn (layout log : List ℕ) (from to : ℕ) (before after : Momen
   pub judged : IsJudged layout before.held (Ok network)
   pub lines : List LogLine
   pub read : HasLog log before.held lines
-  pub drawn :
-      IsDrawnEnd network lines from to before.written after.written before.faults after.faults before.refused
-      after.refused e
+  pub drawn : IsDrawnEnd network lines from to before after e
 
 -- the end of the form picture LAYOUT LOG FROM TO: it writes no file
 abbrev pub IsPictureEnd : List ℕ → List ℕ → ℕ → ℕ → Moment → Moment → Ending → Type 0
@@ -435,21 +431,16 @@ pub record IsUntabled (layout log : List ℕ) (before after : Moment) (e : Endin
   pub planned : IsPlanned layout before.held plan
   pub said : IsUnmetered log before after e
 
--- the table of a plan and of these lines, none of which names what the plan lacks, was written, or a front of it; the
--- last two numbers count the failed writes
-pub record AreTabled (plan : Plan) (lines : List LogLine) (written now : Option (List ℕ)) (faults risen : ℕ)
-    (e : Ending) : Type 0 where
+-- the table of a plan and of these lines, none of which names what the plan lacks, was written, or a front of it
+pub record AreTabled (plan : Plan) (lines : List LogLine) (before after : Moment) (e : Ending) : Type 0 where
   pub known : first_unplanned plan lines ≡ None
   pub table : List ℕ
   pub right : IsFrameTable plan lines table
-  pub text : IsText table written now faults risen e
+  pub text : IsText table before after e
 
--- the table of a plan and of these lines was written, or one of them names what the plan lacks, or there was no memory;
--- of the last four numbers two count the failed writes, and two what the sink refused
-abbrev pub IsTableEnd :
-    Plan → List LogLine → Option (List ℕ) → Option (List ℕ) → ℕ → ℕ → ℕ → ℕ → Ending → Type 0
-IsTableEnd plan lines written now faults faulted refused risen e =
-    IsUnplannedEnd plan lines written now refused risen e ⊎ AreTabled plan lines written now faults faulted e
+-- the table of a plan and of these lines was written, or one of them names what the plan lacks, or there was no memory
+abbrev pub IsTableEnd : Plan → List LogLine → Moment → Moment → Ending → Type 0
+IsTableEnd plan lines before after e = IsUnplannedEnd plan lines before after e ⊎ AreTabled plan lines before after e
 
 -- the layout, its loads and the log have no fault, and the table of the plan and of the log's lines was written, or a
 -- line names what the plan lacks
@@ -458,8 +449,7 @@ pub record IsTabled (layout log : List ℕ) (before after : Moment) (e : Ending)
   pub planned : IsPlanned layout before.held plan
   pub lines : List LogLine
   pub read : HasLog log before.held lines
-  pub tabled :
-      IsTableEnd plan lines before.written after.written before.faults after.faults before.refused after.refused e
+  pub tabled : IsTableEnd plan lines before after e
 
 -- the end of the form frames LAYOUT LOG: it writes no file
 abbrev pub IsFramesEnd : List ℕ → List ℕ → Moment → Moment → Ending → Type 0

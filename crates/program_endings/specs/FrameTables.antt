@@ -5,6 +5,7 @@ use Rattle.load_plan.specs.declared.plan.Plan.{Plan}
 use Rattle.log_meter.specs.declared.line.LogLine.{LogLine}
 use Rattle.outside.specs.Files.{Files}
 use Rattle.program_endings.specs.Meters.{HasLog}
+use Rattle.program_endings.specs.Moments.{Moment}
 use Rattle.program_endings.specs.Writing.{IsSaid}
 use Rattle.program_endings.specs.declared.endings.Ending.{Ending}
 use Rattle.program_endings.specs.declared.endings.Ending.TheVariants as ending
@@ -22,10 +23,10 @@ pub record IsPlannedLog (plan : Plan) (log : List ℕ) (held : Option Files) : T
   pub read : HasLog log held lines
   pub known : first_unplanned plan lines ≡ None
 
--- what is said of the first of these lines that names what a plan lacks: its line, and nothing without memory; the last
--- two numbers count what the sink refused
-abbrev pub IsUnplannedEnd : Plan → List LogLine → Option (List ℕ) → Option (List ℕ) → ℕ → ℕ → Ending → Type 0
-IsUnplannedEnd plan lines written now refused risen ending.Stranger =
-    (n : ℕ) × (first_unplanned plan lines ≡ Some n) × IsSaid (line_of_unplanned n) written now refused risen
-IsUnplannedEnd plan lines written now refused risen ending.Memory = now ≡ written
-IsUnplannedEnd plan lines written now refused risen _ = ⊥
+-- what is said of the first of these lines that names what a plan lacks: its line, and nothing without memory
+abbrev pub IsUnplannedEnd : Plan → List LogLine → Moment → Moment → Ending → Type 0
+IsUnplannedEnd plan lines before after ending.Stranger =
+    (n : ℕ) × (first_unplanned plan lines ≡ Some n)
+    × IsSaid (line_of_unplanned n) before.written after.written before.refused after.refused
+IsUnplannedEnd plan lines before after ending.Memory = after.written ≡ before.written
+IsUnplannedEnd plan lines before after _ = ⊥

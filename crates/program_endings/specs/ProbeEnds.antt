@@ -7,7 +7,6 @@ use Rattle.layout.specs.declared.lines.Layout.{Layout}
 use Rattle.line_probe.specs.declared.tap.Tap.{Tap}
 use Rattle.load_plan.specs.declared.plan.Plan.{Plan}
 use Rattle.network.specs.Outputs.{half_bits}
-use Rattle.program_endings.specs.Writing.{IsSaid}
 use Rattle.program_endings.specs.Moments.{Moment}
 use Rattle.program_endings.specs.Probes.{AreTapsOf, HasAim, IsMissLine}
 use Rattle.run_page.specs.Pages.{IsPage}
@@ -17,23 +16,21 @@ use Rattle.program_words.specs.declared.words.Report.TheVariants as report
 use Rattle.wave_dump.specs.Heard.{waves_of_plan}
 use Rattle.program_endings.specs.declared.endings.Ending.{Ending}
 use Rattle.program_endings.specs.declared.endings.Ending.TheVariants as ending
-use Rattle.program_endings.specs.Endings.{IsJudged, IsEarly, IsUnloadedSaid, IsText, IsPlanned}
+use Rattle.program_endings.specs.Endings.{IsJudged, IsEarly, IsUnloadedSaid, IsText, IsPlanned, Says}
 
--- what a probe aims at isn't there: that was said, and nothing without memory; the last two numbers count what the sink
--- refused
-abbrev pub IsAimEnd :
-    Report → Layout → ℕ → List (List ℕ) → Option (List ℕ) → Option (List ℕ) → ℕ → ℕ → Ending → Type 0
-IsAimEnd told network to words written now refused risen ending.Probe =
-    (line : List ℕ) × IsMissLine told network to words line × IsSaid line written now refused risen
-IsAimEnd told network to words written now refused risen ending.Memory = now ≡ written
-IsAimEnd told network to words written now refused risen _ = ⊥
+-- what a probe aims at isn't there: that was said, and nothing without memory
+abbrev pub IsAimEnd : Report → Layout → ℕ → List (List ℕ) → Moment → Moment → Ending → Type 0
+IsAimEnd told network to words before after ending.Probe =
+    (line : List ℕ) × IsMissLine told network to words line × Says line before after
+IsAimEnd told network to words before after ending.Memory = after.written ≡ before.written
+IsAimEnd told network to words before after _ = ⊥
 
 -- the layout has no fault, what a probe aims at isn't in its network, and that was said
 pub record IsMissed (told : Report) (layout : List ℕ) (to : ℕ) (words : List (List ℕ)) (before after : Moment)
     (e : Ending) : Type 0 where
   pub network : Layout
   pub judged : IsJudged layout before.held (Ok network)
-  pub missed : IsAimEnd told network to words before.written after.written before.refused after.refused e
+  pub missed : IsAimEnd told network to words before after e
 
 -- the layout has no fault, what a probe aims at is in its network, and the call ended before the loads were read
 pub record IsUnprobed (layout : List ℕ) (to : ℕ) (words : List (List ℕ)) (before after : Moment) (e : Ending)
@@ -66,22 +63,18 @@ pub record IsProbed (told : Report) (layout : List ℕ) (from to : ℕ) (words :
     (e : Ending) : Type 0 where
   pub text : List ℕ
   pub right : IsProbeText told layout before.held from to words text
-  pub written : IsText text before.written after.written before.faults after.faults e
+  pub written : IsText text before after e
 
--- the text of what the taps of these words hear in so many half bits from this one on was written, or a front of it;
--- the last two numbers count the failed writes
-abbrev pub AreTextsTold :
-    Plan → ℕ → ℕ → List (List ℕ) → List Tap → Option (List ℕ) → Option (List ℕ) → ℕ → ℕ → Ending → Type 0
-AreTextsTold plan from n words taps written now faults risen e =
-    (text : List ℕ) × IsTextOfTaps plan from n words taps text × IsText text written now faults risen e
+-- the text of what the taps of these words hear in so many half bits from this one on was written, or a front of it
+abbrev pub AreTextsTold : Plan → ℕ → ℕ → List (List ℕ) → List Tap → Moment → Moment → Ending → Type 0
+AreTextsTold plan from n words taps before after e =
+    (text : List ℕ) × IsTextOfTaps plan from n words taps text × IsText text before after e
 
--- this report of a plan's run was written, or a front of it, or there was no memory for it; the last two numbers count
--- the failed writes
-abbrev pub AreTapsTold :
-    Report → Plan → ℕ → ℕ → List (List ℕ) → List Tap → Option (List ℕ) → Option (List ℕ) → ℕ → ℕ → Ending → Type 0
-AreTapsTold told plan from to words taps written now faults risen e =
-    ((e ≡ ending.Memory) × (now ≡ written))
-    ⊎ ((text : List ℕ) × IsReportOf told plan from to words taps text × IsText text written now faults risen e)
+-- this report of a plan's run was written, or a front of it, or there was no memory for it
+abbrev pub AreTapsTold : Report → Plan → ℕ → ℕ → List (List ℕ) → List Tap → Moment → Moment → Ending → Type 0
+AreTapsTold told plan from to words taps before after e =
+    ((e ≡ ending.Memory) × (after.written ≡ before.written))
+    ⊎ ((text : List ℕ) × IsReportOf told plan from to words taps text × IsText text before after e)
 
 -- the end of the forms probe LAYOUT FROM TO TAP .., waves LAYOUT FROM TO TAP .. and page LAYOUT FROM TO: they write no
 -- file

@@ -35,7 +35,17 @@ pub enum Ending {
 }
 
 impl Ending {
-    ghost use Rattle.program_endings.specs.Answers.{status_of};
+    ghost use Rattle.program_endings.specs.Answers.{ending_of, status_of};
+
+    /// How a call ends of which this came.
+    pub fn of(done: Result<(), Ending>) -> Ending
+        ensures { result ≡ ending_of done }
+    {
+        match done {
+            Ok(()) => Ending::Done,
+            Err(ending) => ending,
+        }
+    }
 
     /// The program's status.
     pub fn status(self) -> u8

@@ -1,7 +1,7 @@
 //! Files that are longer than a block are read and written by blocks.
 use crate::calls::{BLOCK, CAPTURE, words_of};
 use lists::OutOfMemory;
-use netsim::netsim;
+use netsim::{World, netsim};
 use outside::{MemorySink, MemoryStore, OpenGate};
 
 /// One segment with stations a and b, of which b has a load.
@@ -55,14 +55,17 @@ fn long_files(rt: HostRuntime) -> Result<(), OutOfMemory> {
     store.put("b.pcap", long_load(&rt)?.as_slice())?;
     assert_eq!(rt; store.largest(), 0);
     let words = words_of(&rt, &["plain", "l.toml", "out"])?;
-    let mut sink = MemorySink::new(rt.alloc());
-    let status = netsim(&rt, rt.alloc(), &words, &mut store, &mut sink, &OpenGate);
+    let mut world = World {
+        store,
+        out: MemorySink::new(rt.alloc()),
+    };
+    let status = netsim(&rt, rt.alloc(), &words, &mut world, &OpenGate);
     assert_eq!(rt; status, 0);
     assert_eq!(rt;
-        sink.bytes(),
+        world.out.bytes(),
         b"within 212 a b\nhalf_bits 1200000\nsent 45 collided 0 late 0 given_up 0 cut 0 left 0 received 45 dropped 0 clash 0 closed 0 opened 0\n".as_slice()
     );
-    assert_eq!(rt; held_length(&store, "out.b.pcap"), 24 + 45 * (16 + 1_514));
-    assert_eq!(rt; store.largest(), BLOCK);
+    assert_eq!(rt; held_length(&world.store, "out.b.pcap"), 24 + 45 * (16 + 1_514));
+    assert_eq!(rt; world.store.largest(), BLOCK);
     Ok(())
 }

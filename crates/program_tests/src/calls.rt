@@ -1,6 +1,6 @@
 //! Calls over stores and sinks in memory, for the tests.
 use lists::{OutOfMemory, Text};
-use netsim::{Words, netsim};
+use netsim::{Words, World, netsim};
 use outside::{MemorySink, MemoryStore, OpenGate};
 use std::sync::Wait;
 use std::thread::Threads;
@@ -85,7 +85,7 @@ fn two_loads<R: AllocGlobal>(rt: &R) -> Result<String, OutOfMemory> {
 }
 
 /// A store with the files of all forms, and with a layout, a load, a log and a state that are refused.
-pub fn store_of<R: AllocGlobal>(rt: &R, case: &Case<'_>) -> Result<MemoryStore, OutOfMemory> {
+fn store_of<R: AllocGlobal>(rt: &R, case: &Case<'_>) -> Result<MemoryStore, OutOfMemory> {
     let mut store = MemoryStore::with_failing(
         rt.alloc(),
         &[case.read],
@@ -106,16 +106,28 @@ pub fn store_of<R: AllocGlobal>(rt: &R, case: &Case<'_>) -> Result<MemoryStore, 
     Ok(store)
 }
 
+/// That store, and a sink to which nothing was written.
+pub fn world_of<R: AllocGlobal>(
+    rt: &R,
+    case: &Case<'_>,
+) -> Result<World<MemoryStore, MemorySink>, OutOfMemory> {
+    Ok(World {
+        store: store_of(rt, case)?,
+        out: MemorySink::with_failing(rt.alloc(), &[case.write])?,
+    })
+}
+
 /// Whether the call gives the case's status and says what it must, by blocks that are no larger than promised.
 pub fn is_right<R: Threads + Wait + Sync + AllocGlobal>(
     rt: &R,
     case: &Case<'_>,
-    store: &mut MemoryStore,
+    world: &mut World<MemoryStore, MemorySink>,
 ) -> Result<bool, OutOfMemory> {
     let words = words_of(rt, case.words)?;
-    let mut sink = MemorySink::with_failing(rt.alloc(), &[case.write])?;
-    let status = netsim(rt, rt.alloc(), &words, store, &mut sink, &OpenGate);
-    Ok(status == case.status && sink.bytes() == case.said.as_bytes() && store.largest() <= BLOCK)
+    let status = netsim(rt, rt.alloc(), &words, world, &OpenGate);
+    Ok(status == case.status
+        && world.out.bytes() == case.said.as_bytes()
+        && world.store.largest() <= BLOCK)
 }
 
 /// Whether a call gives what it must and begins no file of a run, nor a state over that one.
@@ -123,9 +135,9 @@ pub fn is_alone<R: Threads + Wait + Sync + AllocGlobal>(
     rt: &R,
     case: &Case<'_>,
 ) -> Result<bool, OutOfMemory> {
-    let mut store = store_of(rt, case)?;
-    let right = is_right(rt, case, &mut store)?;
-    Ok(right && store.get("out.log").is_none() && holds(&store, "out.state", STATE))
+    let mut world = world_of(rt, case)?;
+    let right = is_right(rt, case, &mut world)?;
+    Ok(right && world.store.get("out.log").is_none() && holds(&world.store, "out.state", STATE))
 }
 
 /// Whether a file holds this text.

@@ -1,10 +1,10 @@
 //! Each form over a store and a sink of which no call fails.
 use crate::calls::{
-    CAPTURE, COUNTERS, Case, LOG, RUN, RUNS, holds, is_alone, is_right, store_of, words_of,
+    CAPTURE, COUNTERS, Case, LOG, RUN, RUNS, holds, is_alone, is_right, words_of, world_of,
 };
 use lists::OutOfMemory;
 use netsim::{HELP, netsim};
-use outside::{MemorySink, MemoryStore, OpenGate};
+use outside::{MemoryStore, OpenGate};
 
 /// Whether a store holds all files of the run of one frame, whose record has 60 octets and is of 58,100 ns.
 pub fn holds_one_frame(store: &MemoryStore) -> bool {
@@ -76,9 +76,9 @@ fn forms(rt: HostRuntime) -> Result<(), OutOfMemory> {
 fn runs(rt: HostRuntime) -> Result<(), OutOfMemory> {
     for words in RUNS {
         let case = Case { words, ..RUN };
-        let mut store = store_of(&rt, &case)?;
-        assert!(rt; is_right(&rt, &case, &mut store)?);
-        assert!(rt; holds_one_frame(&store));
+        let mut world = world_of(&rt, &case)?;
+        assert!(rt; is_right(&rt, &case, &mut world)?);
+        assert!(rt; holds_one_frame(&world.store));
     }
     Ok(())
 }
@@ -86,12 +86,11 @@ fn runs(rt: HostRuntime) -> Result<(), OutOfMemory> {
 #[test]
 fn a_page(rt: HostRuntime) -> Result<(), OutOfMemory> {
     let words = words_of(&rt, &["page", "l.toml", "0", "1400"])?;
-    let mut store = store_of(&rt, &RUN)?;
-    let mut sink = MemorySink::new(rt.alloc());
-    let status = netsim(&rt, rt.alloc(), &words, &mut store, &mut sink, &OpenGate);
+    let mut world = world_of(&rt, &RUN)?;
+    let status = netsim(&rt, rt.alloc(), &words, &mut world, &OpenGate);
     assert_eq!(rt; status, 0);
     assert!(rt;
-        sink.bytes().starts_with(b"<!DOCTYPE html>\n") && sink.bytes().ends_with(b"</html>\n")
+        world.out.bytes().starts_with(b"<!DOCTYPE html>\n") && world.out.bytes().ends_with(b"</html>\n")
     );
     Ok(())
 }
@@ -99,10 +98,9 @@ fn a_page(rt: HostRuntime) -> Result<(), OutOfMemory> {
 #[test]
 fn a_picture(rt: HostRuntime) -> Result<(), OutOfMemory> {
     let words = words_of(&rt, &["picture", "l.toml", "m.log", "0", "1400"])?;
-    let mut store = store_of(&rt, &RUN)?;
-    let mut sink = MemorySink::new(rt.alloc());
-    let status = netsim(&rt, rt.alloc(), &words, &mut store, &mut sink, &OpenGate);
+    let mut world = world_of(&rt, &RUN)?;
+    let status = netsim(&rt, rt.alloc(), &words, &mut world, &OpenGate);
     assert_eq!(rt; status, 0);
-    assert!(rt; sink.bytes().starts_with(b"<svg") && sink.bytes().ends_with(b"</svg>\n"));
+    assert!(rt; world.out.bytes().starts_with(b"<svg") && world.out.bytes().ends_with(b"</svg>\n"));
     Ok(())
 }

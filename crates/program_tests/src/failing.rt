@@ -1,5 +1,5 @@
 //! What is said and left where a call of the store or of the sink fails: each call in turn, for each form of words.
-use crate::calls::{Case, RUN, RUNS, STATE, holds, is_alone, is_right, store_of};
+use crate::calls::{Case, RUN, RUNS, STATE, holds, is_alone, is_right, world_of};
 use crate::done::holds_one_frame;
 use lists::OutOfMemory;
 use outside::MemoryStore;
@@ -194,9 +194,9 @@ fn files_are_left<R: Threads + Wait + Sync + AllocGlobal>(
                 said: "",
                 ..RUN
             };
-            let mut store = store_of(rt, &case)?;
-            let right = is_right(rt, &case, &mut store)?;
-            if !right || !is_left(&store, whole, count, begun) {
+            let mut world = world_of(rt, &case)?;
+            let right = is_right(rt, &case, &mut world)?;
+            if !right || !is_left(&world.store, whole, count, begun) {
                 return Ok(false);
             }
         }
@@ -206,10 +206,10 @@ fn files_are_left<R: Threads + Wait + Sync + AllocGlobal>(
 
 #[test]
 fn starts_and_appends_that_fail(rt: HostRuntime) -> Result<(), OutOfMemory> {
-    let mut whole = store_of(&rt, &RUN)?;
+    let mut whole = world_of(&rt, &RUN)?;
     assert!(rt; is_right(&rt, &RUN, &mut whole)?);
     for words in RUNS {
-        assert!(rt; files_are_left(&rt, words, &whole)?);
+        assert!(rt; files_are_left(&rt, words, &whole.store)?);
         let silent = Case {
             words,
             write: 1,
@@ -217,9 +217,9 @@ fn starts_and_appends_that_fail(rt: HostRuntime) -> Result<(), OutOfMemory> {
             said: "",
             ..RUN
         };
-        let mut store = store_of(&rt, &silent)?;
-        assert!(rt; is_right(&rt, &silent, &mut store)?);
-        assert!(rt; holds_one_frame(&store));
+        let mut world = world_of(&rt, &silent)?;
+        assert!(rt; is_right(&rt, &silent, &mut world)?);
+        assert!(rt; holds_one_frame(&world.store));
     }
     Ok(())
 }
@@ -234,16 +234,16 @@ fn stops_that_fail(rt: HostRuntime) -> Result<(), OutOfMemory> {
         ..RUN
     };
     let begun = Case { start: 1, ..stop };
-    let mut store = store_of(&rt, &begun)?;
-    assert!(rt; is_right(&rt, &begun, &mut store)?);
-    assert!(rt; store.get("new.state").is_none());
+    let mut world = world_of(&rt, &begun)?;
+    assert!(rt; is_right(&rt, &begun, &mut world)?);
+    assert!(rt; world.store.get("new.state").is_none());
     let filled = Case { append: 1, ..stop };
-    let mut store = store_of(&rt, &filled)?;
-    assert!(rt; is_right(&rt, &filled, &mut store)?);
-    assert!(rt; holds(&store, "new.state", ""));
+    let mut world = world_of(&rt, &filled)?;
+    assert!(rt; is_right(&rt, &filled, &mut world)?);
+    assert!(rt; holds(&world.store, "new.state", ""));
     let said = Case { write: 1, ..stop };
-    let mut store = store_of(&rt, &said)?;
-    assert!(rt; is_right(&rt, &said, &mut store)?);
-    assert!(rt; holds(&store, "new.state", STATE));
+    let mut world = world_of(&rt, &said)?;
+    assert!(rt; is_right(&rt, &said, &mut world)?);
+    assert!(rt; holds(&world.store, "new.state", STATE));
     Ok(())
 }

@@ -1,47 +1,33 @@
-use Rattle.std.proofs.Common.{refl}
-use Rattle.program_endings.specs.Endings.{HasOnlyRead, IsPlanned}
-use Rattle.program_endings.specs.Moments.{Moment, moment}
+use Rattle.std.proofs.Common.{rules}
+use Rattle.program_endings.specs.Endings.{IsPlanned}
 use Rattle.netsim.proofs.FrameEnds.{frames-early, frames-tabled, frames-unqueued, frames-untabled}
 use Rattle.netsim.proofs.RunEnds.{plan-before, read-twice}
 use Rattle.netsim.proofs.frames.frames.Goals as goal
 
-pub returns-in-Err : goal.returns-in-Err
-returns-in-Err g c =
-    let before : Moment = moment g.S.Store.held g.S.Store.read_faults g.S.Store.write_faults g.K.Sink.written g.K.Sink.faults g.K.Sink.refused c.args.store.now c.args.out.now in
-    let after : Moment = moment g.S.Store.held g.S.Store.read_faults g.S.Store.write_faults g.K.Sink.written g.K.Sink.faults g.K.Sink.refused c.read_network.new.store c.read_network.new.out in
-    frames-early c.args.layout.now c.args.log.now before after c.in-Err.ended c.read_network.ensures.held c.in-Err.ensures.early
+pub returns-in_err-network : goal.returns-in_err-network
+returns-in_err-network g c =
+    let end = frames-early c.args.layout.now c.args.log.now c.args.world.now c.read_network.new.world c.in_err-network.field-0.0 c.read_network.ensures.held c.in_err-network.ensures.early in
+    search rules
 
-pub returns-in-Err-plan_network : goal.returns-in-Err-plan_network
-returns-in-Err-plan_network g c =
-    let before : Moment = moment g.S.Store.held g.S.Store.read_faults g.S.Store.write_faults g.K.Sink.written g.K.Sink.faults g.K.Sink.refused c.args.store.now c.args.out.now in
-    let aimed : Moment = moment g.S.Store.held g.S.Store.read_faults g.S.Store.write_faults g.K.Sink.written g.K.Sink.faults g.K.Sink.refused c.read_network.new.store c.read_network.new.out in
-    let after : Moment = moment g.S.Store.held g.S.Store.read_faults g.S.Store.write_faults g.K.Sink.written g.K.Sink.faults g.K.Sink.refused c.plan_network.new.store c.plan_network.new.out in
-    let first : HasOnlyRead before aimed = record { held = c.read_network.ensures.held; reads = c.read_network.ensures.reads; writes = c.read_network.ensures.writes; written = c.in-Ok.ensures.silent; faults = c.in-Ok.ensures.faults; refused = c.in-Ok.ensures.refused } in
-    frames-unqueued c.args.layout.now c.args.log.now c.in-Ok.network before aimed after c.in-Err-plan_network.ended first c.in-Ok.ensures.judged c.plan_network.ensures.held c.in-Err-plan_network.ensures.unloaded
+pub returns-in_err-plan : goal.returns-in_err-plan
+returns-in_err-plan g c =
+    let end = frames-unqueued c.args.layout.now c.args.log.now c.in_ok-network.network c.args.world.now c.read_network.new.world c.plan_network.new.world c.in_err-plan.field-0.0 c.in_ok-network.ensures.read c.in_ok-network.ensures.judged
+    c.plan_network.ensures.held c.in_err-plan.ensures.unloaded in
+    search rules
 
-pub returns-in-Err-read_lines : goal.returns-in-Err-read_lines
-returns-in-Err-read_lines g c =
-    let before : Moment = moment g.S.Store.held g.S.Store.read_faults g.S.Store.write_faults g.K.Sink.written g.K.Sink.faults g.K.Sink.refused c.args.store.now c.args.out.now in
-    let aimed : Moment = moment g.S.Store.held g.S.Store.read_faults g.S.Store.write_faults g.K.Sink.written g.K.Sink.faults g.K.Sink.refused c.read_network.new.store c.read_network.new.out in
-    let queued : Moment = moment g.S.Store.held g.S.Store.read_faults g.S.Store.write_faults g.K.Sink.written g.K.Sink.faults g.K.Sink.refused c.plan_network.new.store c.plan_network.new.out in
-    let after : Moment = moment g.S.Store.held g.S.Store.read_faults g.S.Store.write_faults g.K.Sink.written g.K.Sink.faults g.K.Sink.refused c.read_lines.new.store c.read_lines.new.out in
-    let first : HasOnlyRead before aimed = record { held = c.read_network.ensures.held; reads = c.read_network.ensures.reads; writes = c.read_network.ensures.writes; written = c.in-Ok.ensures.silent; faults = c.in-Ok.ensures.faults; refused = c.in-Ok.ensures.refused } in
-    let second : HasOnlyRead before queued = read-twice before aimed queued first c.in-Ok-plan_network.ensures.read in
-    let planned : IsPlanned c.args.layout.now before.held c.in-Ok-plan_network.plan = record { network = c.in-Ok.network; judged = c.in-Ok.ensures.judged; is = plan-before before.held aimed.held c.in-Ok.network c.in-Ok-plan_network.plan c.read_network.ensures.held c.in-Ok-plan_network.ensures.planned } in
-    frames-untabled c.args.layout.now c.args.log.now c.in-Ok-plan_network.plan before queued after c.in-Err-read_lines.ended second planned c.read_lines.ensures.held c.in-Err-read_lines.ensures.unmetered
+pub returns-in_err-lines : goal.returns-in_err-lines
+returns-in_err-lines g c =
+    let planned : IsPlanned c.args.layout.now c.args.world.now.held c.in_ok-plan.plan = record { network = c.in_ok-network.network; judged = c.in_ok-network.ensures.judged; is = plan-before c.args.world.now.held c.read_network.new.world.held c.in_ok-network.network c.in_ok-plan.plan c.read_network.ensures.held c.in_ok-plan.ensures.planned } in
+    let end = frames-untabled c.args.layout.now c.args.log.now c.in_ok-plan.plan c.args.world.now c.plan_network.new.world c.read_lines.new.world c.in_err-lines.field-0.0
+    (read-twice c.args.world.now c.read_network.new.world c.plan_network.new.world c.in_ok-network.ensures.read c.in_ok-plan.ensures.read) planned c.read_lines.ensures.held c.in_err-lines.ensures.unmetered in
+    search rules
 
 pub returns : goal.returns
 returns g c =
-    let before : Moment = moment g.S.Store.held g.S.Store.read_faults g.S.Store.write_faults g.K.Sink.written g.K.Sink.faults g.K.Sink.refused c.args.store.now c.args.out.now in
-    let aimed : Moment = moment g.S.Store.held g.S.Store.read_faults g.S.Store.write_faults g.K.Sink.written g.K.Sink.faults g.K.Sink.refused c.read_network.new.store c.read_network.new.out in
-    let queued : Moment = moment g.S.Store.held g.S.Store.read_faults g.S.Store.write_faults g.K.Sink.written g.K.Sink.faults g.K.Sink.refused c.plan_network.new.store c.plan_network.new.out in
-    let mid : Moment = moment g.S.Store.held g.S.Store.read_faults g.S.Store.write_faults g.K.Sink.written g.K.Sink.faults g.K.Sink.refused c.read_lines.new.store c.read_lines.new.out in
-    let after : Moment = moment g.S.Store.held g.S.Store.read_faults g.S.Store.write_faults g.K.Sink.written g.K.Sink.faults g.K.Sink.refused c.read_lines.new.store c.tabulate.new.out in
-    let first : HasOnlyRead before aimed = record { held = c.read_network.ensures.held; reads = c.read_network.ensures.reads; writes = c.read_network.ensures.writes; written = c.in-Ok.ensures.silent; faults = c.in-Ok.ensures.faults; refused = c.in-Ok.ensures.refused } in
-    let second : HasOnlyRead before queued = read-twice before aimed queued first c.in-Ok-plan_network.ensures.read in
-    let planned : IsPlanned c.args.layout.now before.held c.in-Ok-plan_network.plan = record { network = c.in-Ok.network; judged = c.in-Ok.ensures.judged; is = plan-before before.held aimed.held c.in-Ok.network c.in-Ok-plan_network.plan c.read_network.ensures.held c.in-Ok-plan_network.ensures.planned } in
-    frames-tabled c.args.layout.now c.args.log.now c.in-Ok-plan_network.plan c.in-Ok-read_lines.lines before queued mid after c.tabulate.result second (read-twice before queued mid second c.in-Ok-read_lines.ensures.read) planned
-    c.in-Ok-read_lines.ensures.lines refl c.tabulate.ensures
+    let planned : IsPlanned c.args.layout.now c.args.world.now.held c.in_ok-plan.plan = record { network = c.in_ok-network.network; judged = c.in_ok-network.ensures.judged; is = plan-before c.args.world.now.held c.read_network.new.world.held c.in_ok-network.network c.in_ok-plan.plan c.read_network.ensures.held c.in_ok-plan.ensures.planned } in
+    let first = read-twice c.args.world.now c.read_network.new.world c.plan_network.new.world c.in_ok-network.ensures.read c.in_ok-plan.ensures.read in
+    frames-tabled c.args.layout.now c.args.log.now c.in_ok-plan.plan c.in_ok-lines.lines c.args.world.now c.plan_network.new.world c.read_lines.new.world c.tabulate.new.world _ first
+    (read-twice c.args.world.now c.plan_network.new.world c.read_lines.new.world first c.in_ok-lines.ensures.read) planned c.in_ok-lines.ensures.lines c.tabulate.ensures.held c.tabulate.ensures.told
 
 pub tabulate-requires : goal.tabulate-requires
-tabulate-requires g c = c.in-Ok-read_lines.ensures.lines.log_of.log
+tabulate-requires g c = c.in_ok-lines.ensures.lines.log_of.log

@@ -9,4 +9,4 @@ pub returns-clause-err : goal.returns-clause-err
 returns-clause-err g c =
     let name : c.as_str-2.result.now ≡ name_of_capture c.args.prefix.now c.args.station.now.name = search rules in
     let text : c.bytes.result.now ≡ pcap_of_taken c.args.taken.now = search rules in
-    broken-same Ending c.file.result _ (name_of_capture c.args.prefix.now c.args.station.now.name) _ (pcap_of_taken c.args.taken.now) (g.S.Store.held c.args.store.now) (g.S.Store.held c.file.new.store) name text c.file.ensures.err
+    broken-same Ending c.file.result _ (name_of_capture c.args.prefix.now c.args.station.now.name) _ (pcap_of_taken c.args.taken.now) c.args.world.now.held c.file.new.self.held name text c.file.ensures.err

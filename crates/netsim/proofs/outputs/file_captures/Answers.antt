@@ -10,9 +10,9 @@ returns-in_err-file_capture-clause-err g c =
     let two : c.loop-k.k < length c.args.captures.now = search rules in
     let next = captures-next c.args.prefix.now c.args.stations.now c.args.captures.now c.loop-k.k c.index-stations-k.result c.index-captures-k.result one two c.index-stations-k.is c.index-captures-k.is in
     on-err Ending c.from_residual.result _
-    (left-broken (capture_files c.args.prefix.now c.args.stations.now c.args.captures.now) _ _ _ (g.S.Store.held c.args.store.now) (g.S.Store.held c.loop-k.store) _ next c.loop-k.invariant.0 c.in_err-file_capture.ensures.err)
+    (left-broken (capture_files c.args.prefix.now c.args.stations.now c.args.captures.now) _ _ _ c.args.world.now.held c.loop-k.world.held _ next c.loop-k.invariant.0 c.in_err-file_capture.ensures.err)
 
 pub returns-clause-ok : goal.returns-clause-ok
 returns-clause-ok g c =
-    left-none (capture_files c.args.prefix.now c.args.stations.now c.args.captures.now) _ (g.S.Store.held c.args.store.now) (g.S.Store.held c.loop-k.store)
+    left-none (capture_files c.args.prefix.now c.args.stations.now c.args.captures.now) _ c.args.world.now.held c.loop-k.world.held
     (captures-end c.args.prefix.now c.args.stations.now c.args.captures.now c.loop-k.k (search rules)) c.loop-k.invariant.0

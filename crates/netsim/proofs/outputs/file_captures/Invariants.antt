@@ -1,9 +1,10 @@
 use Rattle.std.proofs.Common.{◌≤◌, drop}
+use Rattle.program_endings.specs.Endings.{HasOnlyFiled}
 use Rattle.program_endings.specs.Runs.{capture_files}
 use Rattle.netsim.proofs.FilesInTurn.{IsLeft}
 use Rattle.netsim.proofs.outputs.file_captures.Given as goal
 
 abbrev pub invariant-loop-k : goal.invariant-loop-k
 invariant-loop-k g l =
-    IsLeft (capture_files l.prefix l.stations l.captures) (capture_files l.prefix (drop l.k l.stations) (drop l.k l.captures)) (g.S.Store.held l.fn.store) (g.S.Store.held l.store)
-    × (g.S.Store.write_faults l.fn.store ≤ g.S.Store.write_faults l.store)
+    IsLeft (capture_files l.prefix l.stations l.captures) (capture_files l.prefix (drop l.k l.stations) (drop l.k l.captures)) l.fn.world.held l.world.held
+    × HasOnlyFiled l.fn.world l.world

@@ -9,4 +9,4 @@ pub returns-clause-err : goal.returns-clause-err
 returns-clause-err g c =
     let name : c.as_str.result.now ≡ name_of_counters c.args.prefix.now = search rules in
     let text : c.as_slice-2.result.now ≡ counters_of_rows c.args.plan.now c.args.outputs.now.rows = search rules in
-    broken-same Ending c.file.result _ (name_of_counters c.args.prefix.now) _ (counters_of_rows c.args.plan.now c.args.outputs.now.rows) (g.S.Store.held c.args.store.now) (g.S.Store.held c.file.new.store) name text c.file.ensures.err
+    broken-same Ending c.file.result _ (name_of_counters c.args.prefix.now) _ (counters_of_rows c.args.plan.now c.args.outputs.now.rows) c.args.world.now.held c.file.new.self.held name text c.file.ensures.err

@@ -1,41 +1,30 @@
-use Rattle.std.proofs.Common.{◌∙◌, refl}
+use Rattle.std.proofs.Common.{rules, subst, sym}
 use Rattle.netsim.specs.WrittenBy.{written_by}
-use Rattle.program_endings.specs.Endings.{HasOnlyRead}
-use Rattle.program_endings.specs.Moments.{Moment, moment}
-use Rattle.netsim.proofs.RunEnds.{free-of, plan-taken, planned-of, read-through, unplanned-of}
+use Rattle.program_endings.specs.WrittenNames.{AreNamesFree}
+use Rattle.netsim.proofs.RunEnds.{plan-before, plan-taken, plan-unloaded, read-twice}
 use Rattle.netsim.proofs.plans.read_plan.Goals as goal
 
-pub returns-in-Ok-judge_names-clause-planned : goal.returns-in-Ok-judge_names-clause-planned
-returns-in-Ok-judge_names-clause-planned g c =
-    let before : Moment = moment g.S.Store.held g.S.Store.read_faults g.S.Store.write_faults g.K.Sink.written g.K.Sink.faults g.K.Sink.refused c.args.store.now c.args.out.now in
-    let mid : Moment = moment g.S.Store.held g.S.Store.read_faults g.S.Store.write_faults g.K.Sink.written g.K.Sink.faults g.K.Sink.refused c.read_network.new.store c.judge_names.new.out in
-    let read : HasOnlyRead before mid = record { held = c.read_network.ensures.held; reads = c.read_network.ensures.reads; writes = c.read_network.ensures.writes; written = c.in-Ok-judge_names.ensures.silent ∙ c.in-Ok.ensures.silent; faults = c.in-Ok-judge_names.ensures.faults ∙ c.in-Ok.ensures.faults; refused = c.in-Ok-judge_names.ensures.refused ∙ c.in-Ok.ensures.refused } in
-    planned-of c.args.layout.now c.in-Ok.network before mid c.plan_network.result read c.in-Ok.ensures.judged c.plan_network.ensures.planned
+pub returns-clause-planned : goal.returns-clause-planned
+returns-clause-planned g c =
+    let judged = read-twice c.args.world.now c.read_network.new.world c.judge_names.new.world c.in_ok-network.ensures.read c.in_ok-judge_names.ensures.read in
+    record { network = c.in_ok-network.network; judged = c.in_ok-network.ensures.judged; is = plan-before c.args.world.now.held c.judge_names.new.world.held c.in_ok-network.network c.in_ok-plan.plan judged.held c.in_ok-plan.ensures.planned }
 
-pub returns-in-Ok-judge_names-clause-free : goal.returns-in-Ok-judge_names-clause-free
-returns-in-Ok-judge_names-clause-free g c =
-    free-of c.args.layout.now (written_by c.args.written c.args.prefix.now) (g.S.Store.held c.read_network.new.store) c.in-Ok.network c.plan_network.result c.in-Ok-judge_names.ensures.free c.plan_network.ensures.planned
+pub returns-clause-free : goal.returns-clause-free
+returns-clause-free g c = subst (λ n. AreNamesFree c.args.layout.now (written_by c.args.written c.args.prefix.now) n) (sym c.in_ok-plan.ensures.planned.layout) c.in_ok-judge_names.ensures.free
 
-pub returns-in-Ok-judge_names-clause-read : goal.returns-in-Ok-judge_names-clause-read
-returns-in-Ok-judge_names-clause-read g c =
-    let before : Moment = moment g.S.Store.held g.S.Store.read_faults g.S.Store.write_faults g.K.Sink.written g.K.Sink.faults g.K.Sink.refused c.args.store.now c.args.out.now in
-    let mid : Moment = moment g.S.Store.held g.S.Store.read_faults g.S.Store.write_faults g.K.Sink.written g.K.Sink.faults g.K.Sink.refused c.read_network.new.store c.judge_names.new.out in
-    let after : Moment = moment g.S.Store.held g.S.Store.read_faults g.S.Store.write_faults g.K.Sink.written g.K.Sink.faults g.K.Sink.refused c.plan_network.new.store c.plan_network.new.out in
-    let read : HasOnlyRead before mid = record { held = c.read_network.ensures.held; reads = c.read_network.ensures.reads; writes = c.read_network.ensures.writes; written = c.in-Ok-judge_names.ensures.silent ∙ c.in-Ok.ensures.silent; faults = c.in-Ok-judge_names.ensures.faults ∙ c.in-Ok.ensures.faults; refused = c.in-Ok-judge_names.ensures.refused ∙ c.in-Ok.ensures.refused } in
-    read-through before mid after c.plan_network.result read c.plan_network.ensures.read
+pub returns-clause-read : goal.returns-clause-read
+returns-clause-read g c =
+    read-twice c.args.world.now c.judge_names.new.world c.plan_network.new.world (read-twice c.args.world.now c.read_network.new.world c.judge_names.new.world c.in_ok-network.ensures.read c.in_ok-judge_names.ensures.read) c.in_ok-plan.ensures.read
 
-pub returns-in-Ok-judge_names-clause-unplanned : goal.returns-in-Ok-judge_names-clause-unplanned
-returns-in-Ok-judge_names-clause-unplanned g c =
-    let before : Moment = moment g.S.Store.held g.S.Store.read_faults g.S.Store.write_faults g.K.Sink.written g.K.Sink.faults g.K.Sink.refused c.args.store.now c.args.out.now in
-    let mid : Moment = moment g.S.Store.held g.S.Store.read_faults g.S.Store.write_faults g.K.Sink.written g.K.Sink.faults g.K.Sink.refused c.read_network.new.store c.judge_names.new.out in
-    let after : Moment = moment g.S.Store.held g.S.Store.read_faults g.S.Store.write_faults g.K.Sink.written g.K.Sink.faults g.K.Sink.refused c.plan_network.new.store c.plan_network.new.out in
-    let read : HasOnlyRead before mid = record { held = c.read_network.ensures.held; reads = c.read_network.ensures.reads; writes = c.read_network.ensures.writes; written = c.in-Ok-judge_names.ensures.silent ∙ c.in-Ok.ensures.silent; faults = c.in-Ok-judge_names.ensures.faults ∙ c.in-Ok.ensures.faults; refused = c.in-Ok-judge_names.ensures.refused ∙ c.in-Ok.ensures.refused } in
-    unplanned-of c.args.layout.now (written_by c.args.written c.args.prefix.now) c.in-Ok.network before mid after c.plan_network.result read c.in-Ok.ensures.judged c.in-Ok-judge_names.ensures.free c.plan_network.ensures.held c.plan_network.ensures.unloaded
+pub returns-in_err-judge_names-clause-unplanned : goal.returns-in_err-judge_names-clause-unplanned
+returns-in_err-judge_names-clause-unplanned g c =
+    let end = plan-taken c.args.layout.now (written_by c.args.written c.args.prefix.now) c.in_ok-network.network c.args.world.now c.read_network.new.world c.judge_names.new.world c.in_err-judge_names.field-0.0 c.in_ok-network.ensures.read
+    c.in_ok-network.ensures.judged c.judge_names.ensures.held c.in_err-judge_names.ensures.taken in
+    search rules
 
-pub returns-in-Err-judge_names-clause-unplanned : goal.returns-in-Err-judge_names-clause-unplanned
-returns-in-Err-judge_names-clause-unplanned g c =
-    let before : Moment = moment g.S.Store.held g.S.Store.read_faults g.S.Store.write_faults g.K.Sink.written g.K.Sink.faults g.K.Sink.refused c.args.store.now c.args.out.now in
-    let mid : Moment = moment g.S.Store.held g.S.Store.read_faults g.S.Store.write_faults g.K.Sink.written g.K.Sink.faults g.K.Sink.refused c.read_network.new.store c.read_network.new.out in
-    let after : Moment = moment g.S.Store.held g.S.Store.read_faults g.S.Store.write_faults g.K.Sink.written g.K.Sink.faults g.K.Sink.refused c.read_network.new.store c.judge_names.new.out in
-    let read : HasOnlyRead before mid = record { held = c.read_network.ensures.held; reads = c.read_network.ensures.reads; writes = c.read_network.ensures.writes; written = c.in-Ok.ensures.silent; faults = c.in-Ok.ensures.faults; refused = c.in-Ok.ensures.refused } in
-    plan-taken c.args.layout.now (written_by c.args.written c.args.prefix.now) c.in-Ok.network before mid after c.in-Err-judge_names.ended read c.in-Ok.ensures.judged refl c.in-Err-judge_names.ensures.taken
+pub returns-in_err-plan-clause-unplanned : goal.returns-in_err-plan-clause-unplanned
+returns-in_err-plan-clause-unplanned g c =
+    let judged = read-twice c.args.world.now c.read_network.new.world c.judge_names.new.world c.in_ok-network.ensures.read c.in_ok-judge_names.ensures.read in
+    let end = plan-unloaded c.args.layout.now (written_by c.args.written c.args.prefix.now) c.in_ok-network.network c.args.world.now c.judge_names.new.world c.plan_network.new.world c.in_err-plan.field-0.0 judged
+    c.in_ok-network.ensures.judged c.in_ok-judge_names.ensures.free c.plan_network.ensures.held c.in_err-plan.ensures.unloaded in
+    search rules

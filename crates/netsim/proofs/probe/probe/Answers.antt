@@ -1,56 +1,48 @@
-use Rattle.std.proofs.Common.{All, List, length, ap, sym, subst, ◌≤◌, ◌∙◌, refl, arith}
+use Rattle.std.proofs.Common.{All, List, length, ap, sym, subst, ◌≤◌, ◌∙◌, arith, rules}
 use Rattle.layout.specs.declared.lines.Layout.{Layout}
 use Rattle.line_probe.specs.Taps.{HasTap}
 use Rattle.line_probe.specs.declared.tap.Tap.{Tap}
-use Rattle.program_endings.specs.Endings.{HasOnlyRead}
-use Rattle.program_endings.specs.Moments.{Moment, moment}
 use Rattle.program_endings.specs.Probes.{AreTapsOf, half_bits_of}
 use Rattle.netsim.proofs.ProbeEnds.{probe-early, probe-missed, probe-told, probe-unloaded}
 use Rattle.netsim.proofs.RunEnds.{plan-before, read-twice}
 use Rattle.netsim.proofs.TapsOfWords.{named_many}
 use Rattle.netsim.proofs.probe.probe.Goals as goal
 
-pub returns-in-Err : goal.returns-in-Err
-returns-in-Err g c =
-    let before : Moment = moment g.S.Store.held g.S.Store.read_faults g.S.Store.write_faults g.K.Sink.written g.K.Sink.faults g.K.Sink.refused c.args.store.now c.args.out.now in
-    let after : Moment = moment g.S.Store.held g.S.Store.read_faults g.S.Store.write_faults g.K.Sink.written g.K.Sink.faults g.K.Sink.refused c.read_network.new.store c.read_network.new.out in
-    probe-early c.args.report c.args.layout.now c.args.from c.args.to c.args.words.now before after c.in-Err.ended c.read_network.ensures.held c.in-Err.ensures.early
+pub returns-in_err-network : goal.returns-in_err-network
+returns-in_err-network g c =
+    let end = probe-early c.args.report c.args.layout.now c.args.from c.args.to c.args.words.now c.args.world.now c.read_network.new.world c.in_err-network.field-0.0 c.read_network.ensures.held c.in_err-network.ensures.early in
+    search rules
 
-pub returns-in-Err-aim : goal.returns-in-Err-aim
-returns-in-Err-aim g c =
-    let before : Moment = moment g.S.Store.held g.S.Store.read_faults g.S.Store.write_faults g.K.Sink.written g.K.Sink.faults g.K.Sink.refused c.args.store.now c.args.out.now in
-    let mid : Moment = moment g.S.Store.held g.S.Store.read_faults g.S.Store.write_faults g.K.Sink.written g.K.Sink.faults g.K.Sink.refused c.read_network.new.store c.read_network.new.out in
-    let after : Moment = moment g.S.Store.held g.S.Store.read_faults g.S.Store.write_faults g.K.Sink.written g.K.Sink.faults g.K.Sink.refused c.read_network.new.store c.aim.new.out in
-    let read : HasOnlyRead before mid = record { held = c.read_network.ensures.held; reads = c.read_network.ensures.reads; writes = c.read_network.ensures.writes; written = c.in-Ok.ensures.silent; faults = c.in-Ok.ensures.faults; refused = c.in-Ok.ensures.refused } in
-    probe-missed c.args.report c.args.layout.now c.args.from c.args.to c.args.words.now c.in-Ok.network before mid after c.in-Err-aim.ended read c.in-Ok.ensures.judged refl c.in-Err-aim.ensures.missed
+pub returns-in_err-taps : goal.returns-in_err-taps
+returns-in_err-taps g c =
+    let end = probe-missed c.args.report c.args.layout.now c.args.from c.args.to c.args.words.now c.in_ok-network.network c.args.world.now c.read_network.new.world c.aim.new.world c.in_err-taps.field-0.0 c.in_ok-network.ensures.read
+    c.in_ok-network.ensures.judged c.aim.ensures.held c.in_err-taps.ensures.missed in
+    search rules
 
-pub returns-in-Err-plan_network : goal.returns-in-Err-plan_network
-returns-in-Err-plan_network g c =
-    let before : Moment = moment g.S.Store.held g.S.Store.read_faults g.S.Store.write_faults g.K.Sink.written g.K.Sink.faults g.K.Sink.refused c.args.store.now c.args.out.now in
-    let mid : Moment = moment g.S.Store.held g.S.Store.read_faults g.S.Store.write_faults g.K.Sink.written g.K.Sink.faults g.K.Sink.refused c.read_network.new.store c.aim.new.out in
-    let after : Moment = moment g.S.Store.held g.S.Store.read_faults g.S.Store.write_faults g.K.Sink.written g.K.Sink.faults g.K.Sink.refused c.plan_network.new.store c.plan_network.new.out in
-    let read : HasOnlyRead before mid = record { held = c.read_network.ensures.held; reads = c.read_network.ensures.reads; writes = c.read_network.ensures.writes; written = c.in-Ok-aim.ensures.silent ∙ c.in-Ok.ensures.silent; faults = c.in-Ok-aim.ensures.faults ∙ c.in-Ok.ensures.faults; refused = c.in-Ok-aim.ensures.refused ∙ c.in-Ok.ensures.refused } in
-    probe-unloaded c.args.report c.args.layout.now c.args.from c.args.to c.args.words.now c.in-Ok.network c.in-Ok-aim.taps before mid after c.in-Err-plan_network.ended read c.in-Ok.ensures.judged c.in-Ok-aim.ensures.taps c.in-Ok-aim.ensures.within c.plan_network.ensures.held c.in-Err-plan_network.ensures.unloaded
+pub returns-in_err-plan : goal.returns-in_err-plan
+returns-in_err-plan g c =
+    let aimed = read-twice c.args.world.now c.read_network.new.world c.aim.new.world c.in_ok-network.ensures.read c.in_ok-taps.ensures.read in
+    let end = probe-unloaded c.args.report c.args.layout.now c.args.from c.args.to c.args.words.now c.in_ok-network.network c.in_ok-taps.taps c.args.world.now c.aim.new.world c.plan_network.new.world c.in_err-plan.field-0.0 aimed
+    c.in_ok-network.ensures.judged c.in_ok-taps.ensures.taps c.in_ok-taps.ensures.within c.plan_network.ensures.held c.in_err-plan.ensures.unloaded in
+    search rules
 
 pub tell_taps-requires-clause-taps : goal.tell_taps-requires-clause-taps
 tell_taps-requires-clause-taps g c =
-    subst (λ (n : Layout). All (HasTap n) c.as_slice.result.now) (sym c.in-Ok-plan_network.ensures.planned.layout) (subst (λ (ts : List Tap). All (HasTap c.in-Ok.network) ts) (sym c.as_slice.ensures) c.in-Ok-aim.ensures.there)
+    subst (λ (n : Layout). All (HasTap n) c.as_slice.result.now) (sym c.in_ok-plan.ensures.planned.layout) (subst (λ (ts : List Tap). All (HasTap c.in_ok-network.network) ts) (sym c.as_slice.ensures) c.in_ok-taps.ensures.there)
 
 pub tell_taps-requires-clause-named : goal.tell_taps-requires-clause-named
-tell_taps-requires-clause-named g c = omega (arith, ap (λ (ts : List Tap). length ts) c.as_slice.ensures, named_many c.in-Ok.network c.args.words.now c.in-Ok-aim.taps c.in-Ok-aim.ensures.taps)
+tell_taps-requires-clause-named g c = omega (arith, ap (λ (ts : List Tap). length ts) c.as_slice.ensures, named_many c.in_ok-network.network c.args.words.now c.in_ok-taps.taps c.in_ok-taps.ensures.taps)
 
 pub tell_taps-requires-clause-few : goal.tell_taps-requires-clause-few
-tell_taps-requires-clause-few g c = omega (arith, ap (λ (ts : List Tap). length ts) c.as_slice.ensures, named_many c.in-Ok.network c.args.words.now c.in-Ok-aim.taps c.in-Ok-aim.ensures.taps, c.requires.few)
+tell_taps-requires-clause-few g c = omega (arith, ap (λ (ts : List Tap). length ts) c.as_slice.ensures, named_many c.in_ok-network.network c.args.words.now c.in_ok-taps.taps c.in_ok-taps.ensures.taps, c.requires.few)
 
 pub tell_taps-requires-clause-end : goal.tell_taps-requires-clause-end
-tell_taps-requires-clause-end g c = subst (λ (n : Layout). c.args.to ≤ half_bits_of n) (sym c.in-Ok-plan_network.ensures.planned.layout) c.in-Ok-aim.ensures.within
+tell_taps-requires-clause-end g c = subst (λ (n : Layout). c.args.to ≤ half_bits_of n) (sym c.in_ok-plan.ensures.planned.layout) c.in_ok-taps.ensures.within
 
 pub returns : goal.returns
 returns g c =
-    let before : Moment = moment g.S.Store.held g.S.Store.read_faults g.S.Store.write_faults g.K.Sink.written g.K.Sink.faults g.K.Sink.refused c.args.store.now c.args.out.now in
-    let aimed : Moment = moment g.S.Store.held g.S.Store.read_faults g.S.Store.write_faults g.K.Sink.written g.K.Sink.faults g.K.Sink.refused c.read_network.new.store c.aim.new.out in
-    let mid : Moment = moment g.S.Store.held g.S.Store.read_faults g.S.Store.write_faults g.K.Sink.written g.K.Sink.faults g.K.Sink.refused c.plan_network.new.store c.plan_network.new.out in
-    let after : Moment = moment g.S.Store.held g.S.Store.read_faults g.S.Store.write_faults g.K.Sink.written g.K.Sink.faults g.K.Sink.refused c.plan_network.new.store c.tell_taps.new.out in
-    let read : HasOnlyRead before aimed = record { held = c.read_network.ensures.held; reads = c.read_network.ensures.reads; writes = c.read_network.ensures.writes; written = c.in-Ok-aim.ensures.silent ∙ c.in-Ok.ensures.silent; faults = c.in-Ok-aim.ensures.faults ∙ c.in-Ok.ensures.faults; refused = c.in-Ok-aim.ensures.refused ∙ c.in-Ok.ensures.refused } in
-    probe-told c.args.report c.args.layout.now c.args.from c.args.to c.args.words.now c.in-Ok.network c.in-Ok-plan_network.plan c.as_slice.result.now before mid after c.tell_taps.result (read-twice before aimed mid read c.in-Ok-plan_network.ensures.read) c.in-Ok.ensures.judged
-    (plan-before before.held aimed.held c.in-Ok.network c.in-Ok-plan_network.plan c.read_network.ensures.held c.in-Ok-plan_network.ensures.planned) (subst (λ (ts : List Tap). AreTapsOf c.in-Ok.network c.args.words.now ts) (sym c.as_slice.ensures) c.in-Ok-aim.ensures.taps) c.in-Ok-aim.ensures.within refl c.tell_taps.ensures
+    let aimed = read-twice c.args.world.now c.read_network.new.world c.aim.new.world c.in_ok-network.ensures.read c.in_ok-taps.ensures.read in
+    probe-told c.args.report c.args.layout.now c.args.from c.args.to c.args.words.now c.in_ok-network.network c.in_ok-plan.plan c.as_slice.result.now c.args.world.now c.plan_network.new.world c.tell_taps.new.world _
+    (read-twice c.args.world.now c.aim.new.world c.plan_network.new.world aimed c.in_ok-plan.ensures.read) c.in_ok-network.ensures.judged
+    (plan-before c.args.world.now.held c.aim.new.world.held c.in_ok-network.network c.in_ok-plan.plan aimed.held c.in_ok-plan.ensures.planned)
+    (subst (λ (ts : List Tap). AreTapsOf c.in_ok-network.network c.args.words.now ts) (sym c.as_slice.ensures) c.in_ok-taps.ensures.taps) c.in_ok-taps.ensures.within c.tell_taps.ensures.held c.tell_taps.ensures.told

@@ -8,21 +8,21 @@ write_taps-requires-clause-heard g c =
       plan = c.args.plan.now;
       all = c.args.taps.now;
       n = c.from-end.result - c.from-begin.result;
-      are = c.in-Ok.ensures;
+      are = c.in_ok-heard.ensures;
       many = c.requires.named;
       within = omega (arith, c.from-end.ensures, c.from-begin.ensures, c.requires.late, c.requires.order);
     }
 
 pub write_taps-requires-clause-short : goal.write_taps-requires-clause-short
 write_taps-requires-clause-short g c =
-    omega (arith, ap length c.in-Ok.ensures, rows_short c.args.plan.now c.args.taps.now c.from-begin.result (c.from-end.result - c.from-begin.result) c.requires.few, c.from-end.ensures, c.from-begin.ensures, c.requires.short, c.requires.late, c.requires.order)
+    omega (arith, ap length c.in_ok-heard.ensures, rows_short c.args.plan.now c.args.taps.now c.from-begin.result (c.from-end.result - c.from-begin.result) c.requires.few, c.from-end.ensures, c.from-begin.ensures, c.requires.short, c.requires.late, c.requires.order)
 
-pub returns-in-Ok : goal.returns-in-Ok
-returns-in-Ok g c =
-    let told = c.write_taps.ensures c.args.plan.now c.args.taps.now (c.from-end.result - c.from-begin.result) c.in-Ok.ensures c.requires.named in
+pub returns-in-Runs-clause-told : goal.returns-in-Runs-clause-told
+returns-in-Runs-clause-told g c =
+    let told = c.write_taps.ensures.told c.args.plan.now c.args.taps.now (c.from-end.result - c.from-begin.result) c.in_ok-heard.ensures c.requires.named in
     rw c.in-Runs.is (inr (rw (c.from-begin.ensures, c.from-end.ensures) at told))
 
-pub returns-in-Ok-text_of_waves : goal.returns-in-Ok-text_of_waves
-returns-in-Ok-text_of_waves g c =
-    let is = c.as_slice.ensures ∙ c.in-Ok-text_of_waves.ensures in
-    rw c.in-Waves.is (inr (c.as_slice.result.now, rw (c.from-begin.ensures, c.from-end.ensures) at is, c.write_line.ensures))
+pub returns-in-Waves-clause-told : goal.returns-in-Waves-clause-told
+returns-in-Waves-clause-told g c =
+    let is = c.as_slice.ensures ∙ c.in_ok-text.ensures in
+    rw c.in-Waves.is (inr (c.as_slice.result.now, rw (c.from-begin.ensures, c.from-end.ensures) at is, c.tell.ensures.told.0))

@@ -10,7 +10,7 @@ pub returns-clause-err : goal.returns-clause-err
 returns-clause-err g c =
     let name : c.as_str.result.now ≡ name_of_state c.args.prefix.now = search rules in
     let text : c.as_slice.result.now ≡ text_of_state c.args.plan.now c.args.state.now = search rules in
-    broken-same Ending c.file.result _ (name_of_state c.args.prefix.now) _ (text_of_state c.args.plan.now c.args.state.now) (g.S.Store.held c.args.store.now) (g.S.Store.held c.file.new.store) name text c.file.ensures.err
+    broken-same Ending c.file.result _ (name_of_state c.args.prefix.now) _ (text_of_state c.args.plan.now c.args.state.now) c.args.world.now.held c.file.new.self.held name text c.file.ensures.err
 
 pub state_text-requires : goal.state_text-requires
 state_text-requires g c = of-plan c.args.plan.now c.args.state.now c.requires.quiet c.requires.at
