@@ -7,7 +7,7 @@ ghost use Rattle.program_endings.specs.Endings.{IsDemoEnd};
 ghost use Rattle.program_words.specs.WordLimits.{most_workers};
 
 use crate::plans::empty_loads;
-use crate::runs::summary_of;
+use crate::runs::{summary_of, workers_at_once};
 use crate::world::World;
 use demo_layout::demo as demo_layout_of;
 use layout::Layout;
@@ -38,7 +38,8 @@ fn line_of_demo(alloc: Global, number: u32, network: &Layout) -> Result<List<u8>
     Ok(line)
 }
 
-/// That line, and the summary of the layout's run on 1 to 64 workers. It may wait.
+/// That line, and the summary of the layout's run on 1 to 64 workers, of which no more are at work than there are
+/// processors. It may wait.
 fn text_of_demo<X: Threads + Wait + Sync, G: Gate>(
     rt: &X,
     alloc: Global,
@@ -55,7 +56,7 @@ fn text_of_demo<X: Threads + Wait + Sync, G: Gate>(
     let network = demo_layout_of(alloc, number)?;
     let loads = empty_loads(alloc, network.stations.len())?;
     let plan = make_plan(alloc, network, loads)?;
-    let outputs = run_by_windows(rt, alloc, &plan, workers, gate)?;
+    let outputs = run_by_windows(rt, alloc, &plan, workers_at_once(rt, workers), gate)?;
     let mut text = line_of_demo(alloc, number, &plan.layout)?;
     text.extend(summary_of(alloc, &plan, &outputs)?.as_slice())?;
     Ok(text)

@@ -23,7 +23,7 @@ use run_texts::laws::{captures_are_short, frames_are_left};
 use run_texts::totals_of_rows;
 use std::alloc::Global;
 use std::sync::Wait;
-use std::thread::Threads;
+use std::thread::{Threads, available_parallelism};
 use turn_run::run_in_turn;
 use window_run::run_by_windows;
 
@@ -94,7 +94,7 @@ pub(crate) fn plain<G: Gate, S: Store, K: Sink>(
     file_whole_run(alloc, &plan, &outputs, prefix, world)
 }
 
-/// The same on 1 to 64 workers. It may wait.
+/// The same on 1 to 64 workers, of which no more are at work than there are processors. It may wait.
 pub(crate) fn run<X: Threads + Wait + Sync, G: Gate, S: Store, K: Sink>(
     rt: &X,
     alloc: Global,
@@ -109,6 +109,18 @@ pub(crate) fn run<X: Threads + Wait + Sync, G: Gate, S: Store, K: Sink>(
     ensures { IsPlainEnd layout.now prefix.now world.old world.new (ending_of result) }
 {
     let plan = read_plan(alloc, layout, Written::Run, prefix, world)?;
-    let outputs = run_by_windows(rt, alloc, &plan, workers, gate)?;
+    let outputs = run_by_windows(rt, alloc, &plan, workers_at_once(rt, workers), gate)?;
     file_whole_run(alloc, &plan, &outputs, prefix, world)
+}
+
+/// So many workers, or as many as there are processors where these are fewer and the system says how many there are.
+pub(crate) fn workers_at_once<X: Threads>(rt: &X, workers: u32) -> u32
+    requires { 1 ≤ workers }
+    ensures least { 1 ≤ result }
+    ensures most { result ≤ workers }
+{
+    match available_parallelism(rt) {
+        Ok(processors) => workers.min(u32::try_from(processors.get()).unwrap_or(workers)),
+        Err(_) => workers,
+    }
 }
