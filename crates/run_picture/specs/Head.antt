@@ -14,7 +14,7 @@ style_of_words =
 unfoldable pub style_of_sendings : List ℕ
 style_of_sendings =
     codes ".lane{stroke:#999999;stroke-width:60}.line{stroke:#dddddd;stroke-width:60}"
-    ++ codes ".wave{fill:none;stroke:#555555;stroke-width:90;clip-path:url(#plot)}"
+    ++ codes ".wave,.front{fill:none;stroke:#555555;stroke-width:90}.wave{clip-path:url(#plot)}"
     ++ codes ".sent{fill:url(#sent);stroke:#1b5e9b;stroke-width:80}"
     ++ codes ".collided{fill:url(#collided);stroke:#a02020;stroke-width:80}"
     ++ codes ".given_up{fill:url(#given_up);stroke:#4a2070;stroke-width:80}"

@@ -13,10 +13,10 @@ use Rattle.run_picture.specs.declared.signs.Sign.{Sign}
 use Rattle.run_picture.specs.declared.signs.Sign.TheVariants as the_sign
 use Rattle.run_picture.specs.declared.window.Window.{Window}
 
--- the word by which the style names a kind
+-- the word by which the style names a kind; waves are cut at the plot's edge, and a front of the legend isn't
 abbrev pub kind_word : Kind → List ℕ
 kind_word (Bar ending) = sending_word ending
-kind_word Front = codes "wave"
+kind_word Front = codes "front"
 kind_word (Point mark) = sign_word mark
 
 -- what a legend says of how a sending ended

@@ -26,7 +26,9 @@ fn add_style_of_sendings(text: &mut List<u8>) -> Result<(), OutOfMemory>
     ensures { OnOk result (text.new ≡ text.old ++ style_of_sendings) }
 {
     text.extend(b".lane{stroke:#999999;stroke-width:60}.line{stroke:#dddddd;stroke-width:60}")?;
-    text.extend(b".wave{fill:none;stroke:#555555;stroke-width:90;clip-path:url(#plot)}")?;
+    text.extend(
+        b".wave,.front{fill:none;stroke:#555555;stroke-width:90}.wave{clip-path:url(#plot)}",
+    )?;
     text.extend(b".sent{fill:url(#sent);stroke:#1b5e9b;stroke-width:80}")?;
     text.extend(b".collided{fill:url(#collided);stroke:#a02020;stroke-width:80}")?;
     text.extend(b".given_up{fill:url(#given_up);stroke:#4a2070;stroke-width:80}")?;

@@ -18,7 +18,7 @@ fn kind_word(kind: Kind) -> &'static [u8]
 {
     match kind {
         Kind::Bar(outcome) => sending_word(outcome),
-        Kind::Front => b"wave",
+        Kind::Front => b"front",
         Kind::Point(sign) => sign_word(sign),
     }
 }
