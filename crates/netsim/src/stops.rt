@@ -71,7 +71,8 @@ pub(crate) fn stop<S: Store, K: Sink>(
     ensures { IsStopEnd layout.now prefix.now from world.old world.new (ending_of result) }
 {
     let plan = read_plan(alloc, layout, Written::State, prefix, world)?;
-    let Some(state) = stop_run(alloc, &plan, u64::from(from))? else {
+    let found = stop_run(alloc, &plan, u64::from(from))?;
+    let Some(state) = found else {
         world.say(NO_QUIET.as_bytes());
         return Err(Ending::Unquiet);
     };

@@ -33,7 +33,7 @@ fn serve<X: Threads + Wait + Sync, S: Store, K: Sink, G: Gate>(
     gate: &G,
 ) -> Result<(), Ending>
     requires { HasNumbersInRange request }
-    ensures { IsEndOf (Some (asked_of request)) world.old world.new (ending_of result) }
+    ensures { IsEndOf (Some (asked_of request.entry)) world.old world.new (ending_of result) }
 {
     match request {
         Request::Check { layout } => tell(alloc, Telling::Verdict, layout, world),
@@ -120,8 +120,7 @@ pub fn netsim<X: Threads + Wait + Sync, S: Store, K: Sink, G: Gate>(
 ) -> u8
     // The status is that of an ending which the words allow between entry and exit. Module `laws` says what else each
     // tells.
-    ensures ended { IsAnswer words.now world.old world.new
-        result }
+    ensures ended { IsAnswer words.now world.old world.new result }
 
     // Status 1 exactly where the words are none of the forms.
     ensures words { (result ≡ 1) ↔ (asked words.now ≡ None) }
@@ -134,7 +133,8 @@ pub fn netsim<X: Threads + Wait + Sync, S: Store, K: Sink, G: Gate>(
     // Of `plain` and `run`, where the sink got the verdict within: of two attempts of different stations that overlap
     // over an open path each that ends within the run has a whole line in PREFIX.log as the store holds it, with a hit
     // before the 512th bit.
-    ensures detected { result ≡ 0 → IfFiles (asked words.now) (λ layout prefix. AreCollisionsLogged layout prefix world.old world.new) }
+    ensures detected { result ≡ 0 → IfFiles (asked words.now) (λ layout prefix.
+        AreCollisionsLogged layout prefix world.old world.new) }
 
     // With the statuses 1 to 4 and 7 to 12 every file is as at entry.
     ensures refused { IsRefusal result → world.new.held ≡ world.old.held }
@@ -146,15 +146,16 @@ pub fn netsim<X: Threads + Wait + Sync, S: Store, K: Sink, G: Gate>(
     // After a failed write the files of `plain` or `run` before one of them are whole, that one is as it was or a front
     // of its text, later ones are as at entry, and the sink got nothing; or all are whole, and the sink got a front of
     // the summary.
-    ensures broken { result ≡ 5 → IfFiles (asked words.now) (λ layout prefix. IsRunBroken layout prefix world.old world.new) }
+    ensures broken { result ≡ 5 → IfFiles (asked words.now) (λ layout prefix.
+        IsRunBroken layout prefix world.old world.new) }
 
     // So too where memory was wanting, or nothing was begun.
-    ensures memory { result ≡ 6 → IfFiles (asked words.now) (λ layout prefix. IsRunRefused layout prefix world.old world.new) }
+    ensures memory { result ≡ 6 → IfFiles (asked words.now) (λ layout prefix.
+        IsRunRefused layout prefix world.old world.new) }
 
     // Complete: for `plain` and `run` a layout and loads that are held without fault, none of whose names is that of a
     // file to be written, and no count that rose, give status 0 or 6.
-    ensures complete { IsUnhindered words.now world.old world.new
-        → IsDoneOrMemory result }
+    ensures complete { IsUnhindered words.now world.old world.new → IsDoneOrMemory result }
 {
     run_words(rt, alloc, words, world, gate).status()
 }

@@ -1,4 +1,4 @@
-use Rattle.std.proofs.Common.{rules}
+use Rattle.std.proofs.Common.{rules, ◌≡◌, Err}
 use Rattle.program_endings.specs.Endings.{IsPlanned}
 use Rattle.netsim.proofs.FrameEnds.{frames-early, frames-tabled, frames-unqueued, frames-untabled}
 use Rattle.netsim.proofs.RunEnds.{plan-before, read-twice}
@@ -20,7 +20,8 @@ returns-in_err-lines g c =
     let planned : IsPlanned c.args.layout.now c.args.world.now.held c.in_ok-plan.plan = record { network = c.in_ok-network.network; judged = c.in_ok-network.ensures.judged; is = plan-before c.args.world.now.held c.read_network.new.world.held c.in_ok-network.network c.in_ok-plan.plan c.read_network.ensures.held c.in_ok-plan.ensures.planned } in
     let end = frames-untabled c.args.layout.now c.args.log.now c.in_ok-plan.plan c.args.world.now c.plan_network.new.world c.read_lines.new.world c.in_err-lines.field-0.0
     (read-twice c.args.world.now c.read_network.new.world c.plan_network.new.world c.in_ok-network.ensures.read c.in_ok-plan.ensures.read) planned c.read_lines.ensures.held c.in_err-lines.ensures.unmetered in
-    search rules
+    let stopped : c.from_residual-in_err-lines.result ≡ Err c.in_err-lines.field-0.0 = search rules in
+    rw stopped end
 
 pub returns : goal.returns
 returns g c =

@@ -1,4 +1,4 @@
-use Rattle.std.proofs.Common.{rules}
+use Rattle.std.proofs.Common.{rules, ◌≡◌, Err}
 use Rattle.netsim.proofs.PictureEnds.{lines_few, picture-drawn, picture-early, picture-unlogged}
 use Rattle.netsim.proofs.RunEnds.{read-twice}
 use Rattle.netsim.proofs.picture.picture.Goals as goal
@@ -12,7 +12,8 @@ pub returns-in_err-lines : goal.returns-in_err-lines
 returns-in_err-lines g c =
     let end = picture-unlogged c.args.layout.now c.args.log.now c.args.from c.args.to c.in_ok-network.network c.args.world.now c.read_network.new.world c.read_lines.new.world c.in_err-lines.field-0.0 c.in_ok-network.ensures.read
     c.in_ok-network.ensures.judged c.read_lines.ensures.held c.in_err-lines.ensures.unmetered in
-    search rules
+    let stopped : c.from_residual-in_err-lines.result ≡ Err c.in_err-lines.field-0.0 = search rules in
+    rw stopped end
 
 pub returns : goal.returns
 returns g c =

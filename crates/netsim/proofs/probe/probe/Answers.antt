@@ -1,4 +1,4 @@
-use Rattle.std.proofs.Common.{All, List, length, ap, sym, subst, ◌≤◌, ◌∙◌, arith, rules}
+use Rattle.std.proofs.Common.{All, List, length, ap, sym, subst, ◌≤◌, ◌∙◌, arith, rules, ◌≡◌, Err}
 use Rattle.layout.specs.declared.lines.Layout.{Layout}
 use Rattle.line_probe.specs.Taps.{HasTap}
 use Rattle.line_probe.specs.declared.tap.Tap.{Tap}
@@ -17,14 +17,16 @@ pub returns-in_err-taps : goal.returns-in_err-taps
 returns-in_err-taps g c =
     let end = probe-missed c.args.report c.args.layout.now c.args.from c.args.to c.args.words.now c.in_ok-network.network c.args.world.now c.read_network.new.world c.aim.new.world c.in_err-taps.field-0.0 c.in_ok-network.ensures.read
     c.in_ok-network.ensures.judged c.aim.ensures.held c.in_err-taps.ensures.missed in
-    search rules
+    let stopped : c.from_residual-in_err-taps.result ≡ Err c.in_err-taps.field-0.0 = search rules in
+    rw stopped end
 
 pub returns-in_err-plan : goal.returns-in_err-plan
 returns-in_err-plan g c =
     let aimed = read-twice c.args.world.now c.read_network.new.world c.aim.new.world c.in_ok-network.ensures.read c.in_ok-taps.ensures.read in
     let end = probe-unloaded c.args.report c.args.layout.now c.args.from c.args.to c.args.words.now c.in_ok-network.network c.in_ok-taps.taps c.args.world.now c.aim.new.world c.plan_network.new.world c.in_err-plan.field-0.0 aimed
     c.in_ok-network.ensures.judged c.in_ok-taps.ensures.taps c.in_ok-taps.ensures.within c.plan_network.ensures.held c.in_err-plan.ensures.unloaded in
-    search rules
+    let stopped : c.from_residual-in_err-plan.result ≡ Err c.in_err-plan.field-0.0 = search rules in
+    rw stopped end
 
 pub tell_taps-requires-clause-taps : goal.tell_taps-requires-clause-taps
 tell_taps-requires-clause-taps g c =

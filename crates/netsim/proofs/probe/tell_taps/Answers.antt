@@ -8,21 +8,21 @@ write_taps-requires-clause-heard g c =
       plan = c.args.plan.now;
       all = c.args.taps.now;
       n = c.from-end.result - c.from-begin.result;
-      are = c.in_ok-heard.ensures;
+      are = c.in_ok-heard-in-Runs.ensures;
       many = c.requires.named;
       within = omega (arith, c.from-end.ensures, c.from-begin.ensures, c.requires.late, c.requires.order);
     }
 
 pub write_taps-requires-clause-short : goal.write_taps-requires-clause-short
 write_taps-requires-clause-short g c =
-    omega (arith, ap length c.in_ok-heard.ensures, rows_short c.args.plan.now c.args.taps.now c.from-begin.result (c.from-end.result - c.from-begin.result) c.requires.few, c.from-end.ensures, c.from-begin.ensures, c.requires.short, c.requires.late, c.requires.order)
+    omega (arith, ap length c.in_ok-heard-in-Runs.ensures, rows_short c.args.plan.now c.args.taps.now c.from-begin.result (c.from-end.result - c.from-begin.result) c.requires.few, c.from-end.ensures, c.from-begin.ensures, c.requires.short, c.requires.late, c.requires.order)
 
-pub returns-in-Runs-clause-told : goal.returns-in-Runs-clause-told
-returns-in-Runs-clause-told g c =
-    let told = c.write_taps.ensures.told c.args.plan.now c.args.taps.now (c.from-end.result - c.from-begin.result) c.in_ok-heard.ensures c.requires.named in
+pub returns-in_ok-heard-in-Runs-clause-told : goal.returns-in_ok-heard-in-Runs-clause-told
+returns-in_ok-heard-in-Runs-clause-told g c =
+    let told = c.write_taps.ensures.told c.args.plan.now c.args.taps.now (c.from-end.result - c.from-begin.result) c.in_ok-heard-in-Runs.ensures c.requires.named in
     rw c.in-Runs.is (inr (rw (c.from-begin.ensures, c.from-end.ensures) at told))
 
-pub returns-in-Waves-clause-told : goal.returns-in-Waves-clause-told
-returns-in-Waves-clause-told g c =
-    let is = c.as_slice.ensures ∙ c.in_ok-text.ensures in
+pub returns-in_ok-text-in-Waves-clause-told : goal.returns-in_ok-text-in-Waves-clause-told
+returns-in_ok-text-in-Waves-clause-told g c =
+    let is = c.as_slice.ensures ∙ c.in_ok-text-in-Waves.ensures in
     rw c.in-Waves.is (inr (c.as_slice.result.now, rw (c.from-begin.ensures, c.from-end.ensures) at is, c.tell.ensures.told.0))

@@ -27,7 +27,7 @@ returns-in_err-text-clause-told g c plan taps n is many =
 pub returns-in_err-tell-clause-told : goal.returns-in_err-tell-clause-told
 returns-in_err-tell-clause-told g c plan taps n is many =
     let e = c.in_err-tell.field-0.0 in
-    let stopped : c.from_residual-2.result ≡ Err e = search rules in
+    let stopped : c.from_residual-in_err-tell.result ≡ Err e = search rules in
     let cut = told_cut plan c.args.from n c.loop-k.k c.args.words.now taps no_tap c.index-words-k.result c.as_slice.result.now c.args.world.now.written c.loop-k.world.written c.tell.new.self.written
     c.loop-k-test.true many (c.loop-k.invariant.told plan taps n is many) (next_text g (goal.at.returns-in_err-tell-clause-told g c).After-tell plan taps n is many) (cut_by c.as_slice.result.now c.loop-k.world c.tell.new.self e c.in_err-tell.ensures.told.0 c.in_err-tell.ensures.failed) in
     rw stopped (cut.0, cut.1, cut_with cut.0 c.as_slice.result.now c.args.world.now c.loop-k.world c.tell.new.self e cut.2 c.loop-k.invariant.faults c.in_err-tell.ensures.told.0 c.in_err-tell.ensures.failed)

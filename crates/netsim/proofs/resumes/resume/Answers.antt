@@ -1,4 +1,4 @@
-use Rattle.std.proofs.Common.{◌≡◌, rules}
+use Rattle.std.proofs.Common.{◌≡◌, rules, Err}
 use Rattle.program_texts.specs.Texts.{name_of_state}
 use Rattle.netsim.proofs.RunEnds.{read-twice}
 use Rattle.netsim.proofs.StopEnds.{resume-ran, resume-unstated}
@@ -9,7 +9,8 @@ returns-in_err-state g c =
     let name : c.as_str.result.now ≡ name_of_state c.args.prefix.now = search rules in
     let end = resume-unstated c.args.layout.now c.args.prefix.now c.as_str.result.now c.in_ok-plan.plan c.args.world.now c.read_plan.new.world c.load_state.new.world c.in_err-state.field-0.0 c.in_ok-plan.ensures.read c.in_ok-plan.ensures.planned
     c.in_ok-plan.ensures.free name c.load_state.ensures.held c.in_err-state.ensures.unstated in
-    search rules
+    let stopped : c.from_residual-in_err-state.result ≡ Err c.in_err-state.field-0.0 = search rules in
+    rw stopped end
 
 pub returns : goal.returns
 returns g c =

@@ -1,4 +1,4 @@
-use Rattle.std.proofs.Common.{rules}
+use Rattle.std.proofs.Common.{rules, ◌≡◌, Err}
 use Rattle.program_endings.specs.Runs.{IsSummaryOver, output_files}
 use Rattle.netsim.proofs.RunEnds.{run-filed, run-unfiled}
 use Rattle.netsim.proofs.runs.file_run.Goals as goal
@@ -12,4 +12,5 @@ pub returns-in_err-file_outputs : goal.returns-in_err-file_outputs
 returns-in_err-file_outputs g c =
     let end = run-unfiled (output_files c.args.prefix.now c.args.plan.now c.args.outputs.now.rows c.args.outputs.now.captures) (IsSummaryOver c.args.plan.now c.args.outputs.now.rows) c.args.world.now c.file_outputs.new.world c.in_err-file_outputs.field-0.0
     c.in_err-file_outputs.ensures.err c.in_err-file_outputs.ensures.ended c.file_outputs.ensures.only in
-    search rules
+    let stopped : c.from_residual-in_err-file_outputs.result ≡ Err c.in_err-file_outputs.field-0.0 = search rules in
+    rw stopped end
