@@ -65,7 +65,10 @@ fn long_files(rt: HostRuntime) -> Result<(), OutOfMemory> {
         world.out.bytes(),
         b"within 212 a b\nhalf_bits 1200000\nsent 45 collided 0 late 0 given_up 0 cut 0 left 0 received 45 dropped 0 clash 0 closed 0 opened 0\n".as_slice()
     );
-    assert_eq!(rt; held_length(&world.store, "out.b.pcap"), 24 + 45 * (16 + 1_514));
+    assert_eq!(rt;
+        held_length(&world.store, "out.b.pcap"),
+        24 + 45 * (16 + 1_514)
+    );
     assert_eq!(rt; world.store.largest(), BLOCK);
     Ok(())
 }

@@ -125,9 +125,11 @@ pub fn is_right<R: Threads + Wait + Sync + AllocGlobal>(
 ) -> Result<bool, OutOfMemory> {
     let words = words_of(rt, case.words)?;
     let status = netsim(rt, rt.alloc(), &words, world, &OpenGate);
-    Ok(status == case.status
-        && world.out.bytes() == case.said.as_bytes()
-        && world.store.largest() <= BLOCK)
+    Ok(
+        status == case.status
+            && world.out.bytes() == case.said.as_bytes()
+            && world.store.largest() <= BLOCK,
+    )
 }
 
 /// Whether a call gives what it must and begins no file of a run, nor a state over that one.

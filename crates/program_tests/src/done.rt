@@ -90,7 +90,8 @@ fn a_page(rt: HostRuntime) -> Result<(), OutOfMemory> {
     let status = netsim(&rt, rt.alloc(), &words, &mut world, &OpenGate);
     assert_eq!(rt; status, 0);
     assert!(rt;
-        world.out.bytes().starts_with(b"<!DOCTYPE html>\n") && world.out.bytes().ends_with(b"</html>\n")
+        world.out.bytes().starts_with(b"<!DOCTYPE html>\n")
+            && world.out.bytes().ends_with(b"</html>\n")
     );
     Ok(())
 }
