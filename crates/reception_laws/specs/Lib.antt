@@ -1,2 +1,3 @@
 pub mod WholeReceptions
 pub mod NetworkReceptions
+pub mod LateReceptions

@@ -5,6 +5,7 @@ ghost use Rattle.mac_parameters.specs.Parameters.{IsMost, most_half_bits};
 ghost use Rattle.collision_log.specs.declared.row.Body.TheVariants.{Received};
 ghost use Rattle.mac_receive.specs.KeptReceiver.{Hears};
 ghost use Rattle.mac_receive.specs.Receiver.{Receiving, receiver_after};
+ghost use Rattle.reception_laws.specs.LateReceptions.{IsVerdictFor};
 ghost use Rattle.reception_laws.specs.WholeReceptions.{AwaitsReception, IsAllSignal, spoiled_row, verdict_of_text};
 
 use collision_log::{Body, Why};
@@ -22,6 +23,7 @@ pub struct ReceptionVerdict {
 
 impl Model for ReceptionVerdict {
     ghost use Rattle.mac_receive.specs.KeptReceiver.{kept_octets};
+    ghost use Rattle.reception_laws.specs.LateReceptions.{IsVerdictFor};
     ghost use Rattle.reception_laws.specs.WholeReceptions.{TextVerdict, octets_with};
 
     ghost Value = { TextVerdict };
@@ -78,6 +80,7 @@ pub fn tell(lose: u32, most: u32, text: &[Sym]) -> ReceptionVerdict
     requires few { length text.now < most_half_bits }
     ensures told { result ≡ verdict_of_text lose most text.now }
     ensures count { (n : ℕ) → result.event ≡ Some (Received n) → length result.octets ≡ n }
+    ensures each { IsVerdictFor lose most text.now result }
 {
     let mut receiver = hear(lose, most, text);
     let event = receiver.step(Sym::Idle, false);

@@ -143,6 +143,7 @@ impl SegmentPart {
             t,
             senders,
             receivers: _,
+            teller: _,
             lines: _,
             far: _,
             loud: _,

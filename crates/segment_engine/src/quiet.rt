@@ -14,12 +14,12 @@ ghost use Rattle.window_room.specs.NeededRoom.{Covers, stations_demand};
 
 use crate::running::Running;
 use crate::segment::Segment;
-use mac_receive::Receiver;
 use mac_transmit::{Phase, Transmitter};
+use reception_laws::LateReceiver;
 use tap_lines::{are_idle_from, pass_all, rest_all};
 
 /// Whether no reception is under way.
-fn are_at_rest(receivers: &[Receiver]) -> bool
+fn are_at_rest(receivers: &[LateReceiver]) -> bool
     ensures { result ≡ true → AreAtRest receivers.now }
 {
     for k in 0..receivers.len() {
@@ -88,7 +88,7 @@ fn leap_senders(t: u64, count: u32, senders: &mut [Transmitter])
 }
 
 /// So many half bits from `t` on of receivers that are at rest and hear Idle.
-fn leap_receivers(t: u64, count: u32, receivers: &mut [Receiver])
+fn leap_receivers(t: u64, count: u32, receivers: &mut [LateReceiver])
     requires steps { All (λ r. r.steps ≡ t) receivers.old }
     requires in_time { t + count ≤ most_half_bits }
     requires rest { AreAtRest receivers.old }

@@ -5,10 +5,10 @@ ghost use Rattle.window_room.specs.NeededRoom.{Covers, stations_demand};
 use crate::parcels::fill;
 use crate::segment::Segment;
 use crate::stations::step_stations;
-use mac_receive::Receiver;
 use mac_transmit::Transmitter;
 use manchester_line::Sym;
 use net_parts::Parcel;
+use reception_laws::{LateReceiver, Teller};
 use tap_lines::{Line, LoudTaps, hear_all, tell};
 use window_room::RowRoom;
 
@@ -19,7 +19,8 @@ use window_room::RowRoom;
 pub struct Running {
     pub t: u64,
     pub senders: Vec<Transmitter>,
-    pub receivers: Vec<Receiver>,
+    pub receivers: Vec<LateReceiver>,
+    pub teller: Teller,
     pub lines: Vec<Line>,
     pub far: u64,
     pub loud: LoudTaps,
@@ -44,6 +45,7 @@ pub fn half_bit(of: &Segment, window: u64, k: u32, state: &mut Running, parcels:
         heard,
         &mut state.senders,
         &mut state.receivers,
+        &mut state.teller,
         &mut state.emitted,
         &mut state.room,
     );

@@ -14,9 +14,9 @@ use kept_devices::taps_of;
 use lists::OutOfMemory;
 use load_plan::Plan;
 use mac_parameters::most_octets;
-use mac_receive::Receiver;
 use mac_transmit::Transmitter;
 use manchester_line::Sym;
+use reception_laws::{LateReceiver, Teller};
 use std::alloc::Global;
 use tap_lines::{Line, LoudTaps, farthest};
 use window_room::RowRoom;
@@ -40,7 +40,11 @@ fn senders_of(alloc: Global, plan: &Plan, stations: &[u32]) -> Result<Vec<Transm
 }
 
 /// The receivers of these stations.
-fn receivers_of(alloc: Global, plan: &Plan, stations: &[u32]) -> Result<Vec<Receiver>, OutOfMemory>
+fn receivers_of(
+    alloc: Global,
+    plan: &Plan,
+    stations: &[u32],
+) -> Result<Vec<LateReceiver>, OutOfMemory>
     requires { All (λ k. k < length plan.now.layout.stations) stations.now }
     ensures receivers { IfOk result (λ receivers. AllHear (map (λ k. receiver_at plan.now k 0) stations.now) receivers.items) }
     ensures steps { IfOk result (λ receivers. All (λ r. r.steps ≡ 0) receivers.items) }
@@ -49,7 +53,7 @@ fn receivers_of(alloc: Global, plan: &Plan, stations: &[u32]) -> Result<Vec<Rece
     let most = most_octets(plan.layout.format == 2);
     let mut receivers = Vec::new(alloc);
     for i in 0..stations.len() {
-        receivers.push(Receiver::new_for(lines[stations[i] as usize].lose, most))?;
+        receivers.push(LateReceiver::new_for(alloc, lines[stations[i] as usize].lose, most)?)?;
     }
     Ok(receivers)
 }
@@ -117,12 +121,14 @@ pub fn start(alloc: Global, of: &Segment, plan: &Plan) -> Result<Running, OutOfM
     let edges = of.edges.as_slice();
     let senders = senders_of(alloc, plan, &of.stations)?;
     let receivers = receivers_of(alloc, plan, &of.stations)?;
+    let teller = Teller::new(alloc)?;
     let lines = lines_of(alloc, &places, stations, of.lookahead, edges, &delays)?;
     let far = farthest(&lines, of.lookahead);
     Ok(Running {
         t: 0,
         senders,
         receivers,
+        teller,
         lines,
         far,
         loud: LoudTaps::new(alloc, places.len())?,

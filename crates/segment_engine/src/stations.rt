@@ -13,10 +13,10 @@ ghost use Rattle.segment_engine.specs.StationPasses.{receptions_by, rows_heard, 
 ghost use Rattle.window_room.specs.NeededRoom.{Covers, Demand, both_demands, sender_demand, receiver_demand, stations_demand};
 ghost use Rattle.window_room.specs.Rooms.{captures_with};
 
-use mac_receive::Receiver;
 use mac_transmit::Transmitter;
 use manchester_line::{Sym, is_signal};
-use window_room::{RowRoom, log_event, receive_one};
+use reception_laws::{LateReceiver, Teller};
+use window_room::{RowRoom, log_event};
 
 /// Half bit `t` of a station, in which it hears this symbol: of its sender, then of its receiver, which is told whether
 /// the station emits something. The station is counted among those of the room, the device among all. It answers what
@@ -27,7 +27,8 @@ fn step_station(
     device: u32,
     heard: Sym,
     sender: &mut Transmitter,
-    receiver: &mut Receiver,
+    receiver: &mut LateReceiver,
+    teller: &mut Teller,
     room: &mut RowRoom,
 ) -> Sym
     requires time { sender.old.t ≡ t }
@@ -53,7 +54,7 @@ fn step_station(
     let step = sender.step(t, heard);
     log_event(room, t, device, step.event);
     let sending = is_signal(step.emitted);
-    receive_one(receiver, room, station, t, device, heard, sending);
+    receiver.receive(teller, room, station, t, device, heard, sending);
     step.emitted
 }
 
@@ -64,7 +65,8 @@ pub fn step_stations(
     devices: &[u32],
     heard: &[Sym],
     senders: &mut [Transmitter],
-    receivers: &mut [Receiver],
+    receivers: &mut [LateReceiver],
+    teller: &mut Teller,
     emitted: &mut [Sym],
     room: &mut RowRoom,
 )
@@ -94,6 +96,6 @@ pub fn step_stations(
     for k in 0..senders.len() {
         let sender = &mut senders[k];
         let receiver = &mut receivers[k];
-        emitted[k] = step_station(t, k, devices[k], heard[k], sender, receiver, room);
+        emitted[k] = step_station(t, k, devices[k], heard[k], sender, receiver, teller, room);
     }
 }

@@ -22,12 +22,12 @@ use crate::ahead::emit_ahead;
 use crate::quiet::is_sending;
 use crate::running::Running;
 use crate::segment::Segment;
-use mac_receive::Receiver;
 use mac_transmit::Transmitter;
 use manchester_line::{Sym, is_signal};
 use net_parts::Parcel;
+use reception_laws::{LateReceiver, Teller};
 use tap_lines::{Line, LoudTaps, classes_ahead, cut_all, hear_listed, piece_of};
-use window_room::{RowRoom, receive_one};
+use window_room::RowRoom;
 
 /// For how many half bits from `t` on, at most `most`, nothing happens at the stations' senders, where each station
 /// hears a signal in all of them, if it does so now, and else Idle.
@@ -55,7 +55,8 @@ fn take_idle(
     count: u64,
     station: usize,
     device: u32,
-    receiver: &mut Receiver,
+    receiver: &mut LateReceiver,
+    teller: &mut Teller,
     room: &mut RowRoom,
 )
     requires steps { receiver.old.steps ≡ t }
@@ -71,7 +72,7 @@ fn take_idle(
         return;
     }
     if receiver.is_receiving() {
-        receive_one(receiver, room, station, t, device, Sym::Idle, false);
+        receiver.receive(teller, room, station, t, device, Sym::Idle, false);
         receiver.leap_quiet(count - 1);
     } else {
         receiver.leap_quiet(count);
@@ -91,7 +92,8 @@ fn take_one(
     sending: bool,
     carrier: bool,
     device: u32,
-    receiver: &mut Receiver,
+    receiver: &mut LateReceiver,
+    teller: &mut Teller,
     room: &mut RowRoom,
     piece: &mut [Sym],
 )
@@ -112,7 +114,7 @@ fn take_one(
     if sending {
         receiver.leap_sending(count);
     } else if !carrier {
-        take_idle(t, count, p, device, receiver, room);
+        take_idle(t, count, p, device, receiver, teller, room);
     } else if receiver.is_deaf() {
         receiver.leap_deaf(count);
     } else if let Some(heard) = piece_of(lines, loud.only(), p, lookahead, far, t, piece.len()) {
@@ -134,7 +136,8 @@ fn take_all(
     heard: &[Sym],
     senders: &[Transmitter],
     devices: &[u32],
-    receivers: &mut [Receiver],
+    receivers: &mut [LateReceiver],
+    teller: &mut Teller,
     room: &mut RowRoom,
     piece: &mut [Sym],
 )
@@ -176,7 +179,8 @@ fn take_all(
         let carrier = is_signal(heard[k]);
         let receiver = &mut receivers[k];
         take_one(
-            t, lines, loud, k, lookahead, far, sending, carrier, devices[k], receiver, room, piece,
+            t, lines, loud, k, lookahead, far, sending, carrier, devices[k], receiver, teller,
+            room, piece,
         );
     }
 }
@@ -265,7 +269,7 @@ pub fn leap_steady(
     let most = ahead as usize;
     let steady = classes_ahead(lines, stations, loud, lookahead, far, t, heard, most);
     let senders: &[Transmitter] = &state.senders;
-    let receivers: &mut [Receiver] = &mut state.receivers;
+    let receivers: &mut [LateReceiver] = &mut state.receivers;
     let part = &mut piece[..steady];
     take_all(
         t,
@@ -277,6 +281,7 @@ pub fn leap_steady(
         senders,
         &of.stations,
         receivers,
+        &mut state.teller,
         &mut state.room,
         part,
     );

@@ -18,9 +18,9 @@ loop-i-preserved c =
     let d = c.index-lines-stations.result in
     let same : receiver_at plan k 0 ≡ new_receiving (get_or c.as_slice-lines.result.now k d).lose c.most_octets-most.result =
     receiver_new plan k d in_it ∙ ap₂ new_receiving (sym (ap (λ xs. (get_or xs k d).lose) c.as_slice-lines.ensures)) (sym c.most_octets-most.ensures.value) in
-    let y = c.new_for.result in
+    let y = c.in_ok-new_for.field-0 in
     let more = c.in_ok-push.ensures.items in
     record {
-      steps = subst (All (λ (r : Kept). r.steps ≡ 0)) (sym more) (All-append (λ (r : Kept). r.steps ≡ 0) _ _ c.loop-i.invariant.steps (All-one y c.new_for.ensures.steps));
-      receivers = hear_more (λ j. receiver_at plan j 0) ks i c.loop-i.receivers.items c.push.new.self.items y h c.loop-i.invariant.receivers (subst (λ (r : Receiving). Hears r y) (sym same) c.new_for.ensures.hears) more;
+      steps = subst (All (λ (r : Kept). r.steps ≡ 0)) (sym more) (All-append (λ (r : Kept). r.steps ≡ 0) _ _ c.loop-i.invariant.steps (All-one y c.in_ok-new_for.ensures.steps));
+      receivers = hear_more (λ j. receiver_at plan j 0) ks i c.loop-i.receivers.items c.push.new.self.items y h c.loop-i.invariant.receivers (subst (λ (r : Receiving). Hears r y) (sym same) c.in_ok-new_for.ensures.hears) more;
     }

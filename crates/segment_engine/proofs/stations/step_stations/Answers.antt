@@ -11,7 +11,7 @@ use Rattle.network.specs.Rows.{row_of}
 use Rattle.network.specs.Net.{sendings, receptions}
 use Rattle.kept_devices.specs.KeptReceivers.{AllHear}
 use Rattle.window_room.specs.NeededRoom.{both_demands, stations_demand}
-use Rattle.kept_devices.proofs.ChangedElements.{All-take-set, All-drop-set, get_or-rest, rest-set}
+use Rattle.kept_devices.proofs.ChangedElements.{All-take-set, All-drop-first, All-drop-set, get_or-rest, rest-set}
 use Rattle.kept_devices.proofs.Receivers.{length-AllHear, AllHear-at}
 use Rattle.segment_engine.proofs.StationRoom.{room_for_one, room_for_next, room_after_next, room_at_end}
 use Rattle.segment_engine.proofs.StationsStep.{pass_next, pass_end, rows_next, rows_end, captures_next, captures_end, receivers_next}
@@ -116,3 +116,14 @@ pub returns-clause-left : goal.returns-clause-left
 returns-clause-left c = λ n h.
     let end = c.loop-k-test.false in
     room_at_end c.loop-k.k n c.loop-k.senders c.loop-k.receivers c.loop-k.room (omega (arith, end, c.loop-k.auto.senders)) (omega (arith, end, c.loop-k.auto.receivers, c.requires.receivers_len)) (c.loop-k.invariant.left n h)
+
+pub step_station-requires-clause-time : goal.step_station-requires-clause-time
+step_station-requires-clause-time c =
+    let test = c.loop-k-test.true in
+    All-drop-first (λ (s : Sender). s.t ≡ c.args.t) c.loop-k.senders c.loop-k.k c.index-senders-k.result (omega (arith, test, c.loop-k.auto.senders)) c.loop-k.invariant.waiting
+
+pub step_station-requires-clause-steps : goal.step_station-requires-clause-steps
+step_station-requires-clause-steps c =
+    let test = c.loop-k-test.true in
+    All-drop-first (λ (r : Kept). r.steps ≡ c.args.t) c.loop-k.receivers c.loop-k.k c.index-receivers-k.result
+    (omega (arith, test, c.loop-k.auto.receivers, c.requires.receivers_len)) c.loop-k.invariant.unreceived
