@@ -25,7 +25,7 @@ use Rattle.net_step.specs.declared.places.Place.{Place}
 use Rattle.network.specs.Hearing.{heard_of, heard_by}
 use Rattle.layout.specs.Taps.{taps_of, tap_of}
 use Rattle.network.specs.Net.{Net, next, emitted_before, heard_in, stations_hear, ports_hear, sendings, sendings_in, emitted_in, decided_in, receptions, each_repeater}
-use Rattle.mac_parameters.specs.Parameters.{greatest_place}
+use Rattle.mac_parameters.specs.Parameters.{greatest_place, most_ports}
 use Rattle.network.specs.Captures.{captured}
 use Rattle.network.specs.Rows.{repeater_rows, repeater_bodies, rows_of}
 use Rattle.network.specs.Runnable.{IsRunnable}
@@ -345,5 +345,5 @@ few_flat f n (r ∷ rs) h =
 
 pub few_taps : (l : Layout) → IsRunnable l → length (taps_of l) ≤ 5120
 few_taps l r =
-    let ports = few_flat (λ (x : RepeaterLine). x.ports) 32 l.repeaters r.few_ports in
+    let ports = few_flat (λ (x : RepeaterLine). x.ports) most_ports l.repeaters r.few_ports in
     omega (arith, ports, r.few_stations, r.few_repeaters, length-append (map tap_of l.stations) (flat_map (λ (x : RepeaterLine). x.ports) l.repeaters), length-map l.stations tap_of)

@@ -7,7 +7,6 @@ pub mod PageTexts
 pub mod PictureEnds
 pub mod FrameEnds
 pub mod StopEnds
-pub mod EndsOfRequests
 pub mod TapsOfWords
 pub mod TapTexts
 pub mod DemoTexts

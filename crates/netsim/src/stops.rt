@@ -1,5 +1,5 @@
 //! The form that stops the run of a layout file in a quiet half bit.
-ghost use Rattle.std.specs.Prelude.{◌≡◌, ◌≤◌, OnOk, OnErr, IfErr};
+ghost use Rattle.std.specs.Prelude.{◌≡◌, OnOk, OnErr, IfErr};
 ghost use Rattle.quiet_state.specs.Quiet.{IsQuiet};
 ghost use Rattle.quiet_state.specs.Resumed.{state_at};
 ghost use Rattle.run_checkpoint.specs.States.{text_of_state};

@@ -84,6 +84,25 @@ fn two_loads<R: AllocGlobal>(rt: &R) -> Result<String, OutOfMemory> {
     Ok(text)
 }
 
+/// Puts the files of all forms into a store: layouts, loads, a log and a state.
+fn put_sound<R: AllocGlobal>(rt: &R, store: &mut MemoryStore) -> Result<(), OutOfMemory> {
+    store.put("l.toml", layout(rt, "b.pcap")?.as_bytes())?;
+    store.put("two.toml", two_loads(rt)?.as_bytes())?;
+    store.put("b.pcap", &CAPTURE)?;
+    store.put("c.pcap", &CAPTURE)?;
+    store.put("m.log", LOG.as_bytes())?;
+    store.put("out.state", STATE.as_bytes())
+}
+
+/// Puts a layout, a load, a log and a state that are refused into a store.
+fn put_refused<R: AllocGlobal>(rt: &R, store: &mut MemoryStore) -> Result<(), OutOfMemory> {
+    store.put("none", b"")?;
+    store.put("in.log", layout(rt, "b.pcap")?.as_bytes())?;
+    store.put("load.toml", layout(rt, "none")?.as_bytes())?;
+    store.put("other.log", b"1162 station c received octets 64\n")?;
+    store.put("none.state", b"")
+}
+
 /// A store with the files of all forms, and with a layout, a load, a log and a state that are refused.
 fn store_of<R: AllocGlobal>(rt: &R, case: &Case<'_>) -> Result<MemoryStore, OutOfMemory> {
     let mut store = MemoryStore::with_failing(
@@ -92,17 +111,8 @@ fn store_of<R: AllocGlobal>(rt: &R, case: &Case<'_>) -> Result<MemoryStore, OutO
         &[case.start],
         &[case.append],
     )?;
-    store.put("l.toml", layout(rt, "b.pcap")?.as_bytes())?;
-    store.put("two.toml", two_loads(rt)?.as_bytes())?;
-    store.put("b.pcap", &CAPTURE)?;
-    store.put("c.pcap", &CAPTURE)?;
-    store.put("m.log", LOG.as_bytes())?;
-    store.put("out.state", STATE.as_bytes())?;
-    store.put("none", b"")?;
-    store.put("in.log", layout(rt, "b.pcap")?.as_bytes())?;
-    store.put("load.toml", layout(rt, "none")?.as_bytes())?;
-    store.put("other.log", b"1162 station c received octets 64\n")?;
-    store.put("none.state", b"")?;
+    put_sound(rt, &mut store)?;
+    put_refused(rt, &mut store)?;
     Ok(store)
 }
 

@@ -145,6 +145,7 @@ impl LateReceiver {
         self.unread = 0;
         self.receiver.take(piece);
     }
+
     /// Half bit `t` of its station, in which this symbol is heard and the station sends or doesn't. With the room
     /// that one half bit can need it takes no memory, and leaves what the later ones can need, beside any other
     /// demand. The station is counted among those of the room, the device among all.

@@ -1,5 +1,5 @@
 //! The text that was told last, for all who hear the same one.
-ghost use Rattle.std.specs.Prelude.{◌≡◌, ◌+◌, ◌<◌, ◌≤◌, ◌++◌, ℕ, suc, true, false, length, take};
+ghost use Rattle.std.specs.Prelude.{◌≡◌, ◌+◌, ◌<◌, ◌≤◌, ◌++◌, ℕ, suc, true, false, length, take, IfOk};
 ghost use Rattle.manchester_line.specs.declared.Sym.TheVariants.{Idle};
 ghost use Rattle.mac_parameters.specs.Parameters.{IsMost};
 ghost use Rattle.mac_receive.specs.KeptReceiver.{Hears};
@@ -67,7 +67,9 @@ fn are_same(text: &[Sym], other: &[Sym]) -> bool
 
 impl Teller {
     /// One that was told nothing yet.
-    pub fn new(alloc: Global) -> Result<Teller, OutOfMemory> {
+    pub fn new(alloc: Global) -> Result<Teller, OutOfMemory>
+        ensures { IfOk result (λ teller. teller.count ≡ 0) }
+    {
         Ok(Teller {
             lose: 0,
             most: MOST_OCTETS_UNTAGGED,

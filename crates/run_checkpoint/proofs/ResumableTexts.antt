@@ -18,7 +18,7 @@ use Rattle.load_plan.proofs.PlansAreSound.{sound_of_plan}
 use Rattle.log_meter.specs.Lines.{IsInRange}
 use Rattle.log_meter.specs.LoggedRows.{IsLoggable}
 use Rattle.log_meter.proofs.PlannedRows.{planned_rows}
-use Rattle.mac_parameters.specs.Parameters.{jabber_rest}
+use Rattle.mac_parameters.specs.Parameters.{jabber_rest, most_ports}
 use Rattle.mac_transmit.specs.declared.deference.Defer.TheVariants.{Watch}
 use Rattle.mac_transmit.specs.declared.phase.Phase.TheVariants.{Rest}
 use Rattle.mac_transmit.specs.declared.state.SenderState.{SenderState}
@@ -272,10 +272,10 @@ quiet_states plan t quiet =
 
 -- ---- how many ports there are
 
-few_ports_of : (rs : List RepeaterLine) → ((k : ℕ) (d : RepeaterLine) → k < length rs → length (get_or rs k d).ports ≤ 32) → length (ports_of_repeaters rs) ≤ 32 * length rs
+few_ports_of : (rs : List RepeaterLine) → ((k : ℕ) (d : RepeaterLine) → k < length rs → length (get_or rs k d).ports ≤ most_ports) → length (ports_of_repeaters rs) ≤ most_ports * length rs
 few_ports_of [] all = omega arith
 few_ports_of (r ∷ rs) all =
-    let first : length r.ports ≤ 32 = all 0 r (omega arith) in
+    let first : length r.ports ≤ most_ports = all 0 r (omega arith) in
     omega (
       arith,
       length-append (ports_named r.name (length r.ports)) (ports_of_repeaters rs),

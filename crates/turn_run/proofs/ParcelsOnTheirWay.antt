@@ -19,6 +19,7 @@ use Rattle.net_parts.specs.Windows.{edge_ports}
 use Rattle.net_parts.proofs.EdgeNumbers.{one_more_before, edges_in_it}
 use Rattle.turn_run.specs.ParcelsInTurn.{edges, all_parcels, segment_of_edge, AreHalfway, EachStandsOnce, AreExchanged}
 use Rattle.turn_run.proofs.PartsOneByOne.{span_both}
+use Rattle.mac_parameters.specs.Parameters.{most_ports}
 
 pub length-span : (k n : ℕ) → length (span (λ (e : ℕ). e) k n) ≡ n
 length-span k zero = refl
@@ -276,7 +277,7 @@ before_all (r ∷ rs) = let size = length-append r.ports (flat_map (λ (q : Repe
 abbrev pub back_to : Plan → ℕ → ℕ → List Parcel
 back_to plan w first = map (true_parcel plan false (w + 1)) (span (λ e. e) 0 first) ++ map (true_parcel plan true w) (span (λ e. e) first (edges plan - first))
 
-few_ports : (rs : List RepeaterLine) → All (λ r. length r.ports ≤ 32) rs → length (flat_map (λ (r : RepeaterLine). r.ports) rs) ≤ 32 * length rs
+few_ports : (rs : List RepeaterLine) → All (λ r. length r.ports ≤ most_ports) rs → length (flat_map (λ (r : RepeaterLine). r.ports) rs) ≤ most_ports * length rs
 few_ports [] all = omega arith
 few_ports (r ∷ rs) all =
     let size = length-append r.ports (flat_map (λ (q : RepeaterLine). q.ports) rs) in

@@ -1,7 +1,7 @@
 -- Room that is enough stays so.
 use Rattle.std.proofs.Common.{◌≡◌, ℕ, suc, ◌+◌, ◌*◌, ◌/◌, ◌<◌, ◌≤◌, Bool, Option, Some, None, List, [], ◌∷◌, length, refl, ◌∙◌, arith, suc-mul, All}
 use Rattle.std.specs.Prelude.{min}
-use Rattle.mac_parameters.specs.Parameters.{check_sequence, half_bits_an_octet}
+use Rattle.mac_parameters.specs.Parameters.{check_sequence, half_bits_an_octet, least_frame}
 use Rattle.window_room.specs.Receptions.{least_reception}
 use Rattle.std.proofs.Math.Nat.{min-le_left}
 use Rattle.manchester_line.specs.declared.Sym.{Sym}
@@ -28,8 +28,8 @@ goes_on k h after l = grind (arith, l)
 
 pays_frame : (most h after k : ℕ) → after ≡ 0 → step.FrameFits h most k → Pays most h after (Some (Received k))
 pays_frame most h after k none f =
-    let least : 64 ≤ k = f.least in
-    let few : k ≤ most + 4 = f.few in
+    let least : least_frame ≤ k = f.least in
+    let few : k ≤ most + check_sequence = f.few in
     let halves : 16 * k + 4 ≤ h = f.halves in
     record { rows = grind (arith, least, halves, none); frames = grind (arith, least, halves, none); octets = grind (arith, few, halves, none) }
 

@@ -94,7 +94,7 @@ rows_are : (bodies : List Body) → weigh (λ _. 2) bodies ≡ 2 * length bodies
 rows_are [] = refl
 rows_are (body ∷ bodies) = let ih : weigh (λ _. 2) bodies ≡ 2 * length bodies = rows_are bodies in omega (arith, ih)
 
-octets_fit : (h most : ℕ) (body : Body) → RowFits h most body → frame_octets body ≤ most + 4
+octets_fit : (h most : ℕ) (body : Body) → RowFits h most body → frame_octets body ≤ most + check_sequence
 octets_fit h most (Sent f s a) fits = omega arith
 octets_fit h most (Collided f s a h' d) fits = omega arith
 octets_fit h most (GivenUp f s h') fits = omega arith
@@ -131,11 +131,11 @@ rows r hs =
     weights (λ _. 2) 1 r.most r hs refl (λ h body some fits. (omega (arith, some), omega arith)) in
     omega (arith, f.of_cap, rows_are (reception_bodies r hs))
 
-each_with : (most h after : ℕ) (e : Option Body) (bodies : List Body) → Steps h most after e → All (λ body. frame_octets body ≤ most + 4) bodies → All (λ body. frame_octets body ≤ most + 4) (with_event e bodies)
+each_with : (most h after : ℕ) (e : Option Body) (bodies : List Body) → Steps h most after e → All (λ body. frame_octets body ≤ most + check_sequence) bodies → All (λ body. frame_octets body ≤ most + check_sequence) (with_event e bodies)
 each_with most h after None bodies s all = all
-each_with most h after (Some body) bodies s all = All-cons (λ body. frame_octets body ≤ most + 4) body bodies (octets_fit h most body s.fits) all
+each_with most h after (Some body) bodies s all = All-cons (λ body. frame_octets body ≤ most + check_sequence) body bodies (octets_fit h most body s.fits) all
 
-each_of : (most : ℕ) (r : Receiving) (hs : List HeardHalf) → r.most ≡ most → All (λ body. frame_octets body ≤ most + 4) (reception_bodies r hs)
+each_of : (most : ℕ) (r : Receiving) (hs : List HeardHalf) → r.most ≡ most → All (λ body. frame_octets body ≤ most + check_sequence) (reception_bodies r hs)
 each_of most r [] e = λ k d p. absurd (omega (arith, p))
 each_of most r (h ∷ hs) e =
     let P : ℕ → Type 0 = λ m. Steps (length r.halves) m (length (receiver_step r h.heard h.sending).state.halves) (receiver_step r h.heard h.sending).event in
@@ -143,7 +143,7 @@ each_of most r (h ∷ hs) e =
     (subst P e (steps r h.heard h.sending).1)
     (each_of most (receiver_step r h.heard h.sending).state hs ((steps r h.heard h.sending).0 ∙ e))
 
-pub each : (r : Receiving) (hs : List HeardHalf) → All (λ body. frame_octets body ≤ r.most + 4) (reception_bodies r hs)
+pub each : (r : Receiving) (hs : List HeardHalf) → All (λ body. frame_octets body ≤ r.most + check_sequence) (reception_bodies r hs)
 each r hs = each_of r.most r hs refl
 
 pub leaps : (r : Receiving) (heard : List Sym) (sending : Bool) → receiver_bodies r heard sending ≡ reception_bodies r (map (heard_half sending) heard)

@@ -16,8 +16,8 @@ use Rattle.window_room.proofs.OctetsOfReadings.{Needs, reading_needs}
 
 -- the row of a reception of h half bits: the octets of a frame that is received fit
 pub record FrameFits (h most octets : ℕ) : Type 0 where
-  pub least : 64 ≤ octets
-  pub few : octets ≤ most + 4
+  pub least : least_frame ≤ octets
+  pub few : octets ≤ most + check_sequence
   pub halves : 16 * octets + 4 ≤ h
 
 abbrev pub RowFits : ℕ → ℕ → Body → Type 0
@@ -26,15 +26,15 @@ RowFits h most _ = Unit {0}
 
 -- a verdict of a frame of so many octets
 abbrev Sizes : ℕ → ℕ → Verdict → Type 0
-Sizes octets most Good = (64 ≤ octets) × (octets ≤ most + 4)
+Sizes octets most Good = (least_frame ≤ octets) × (octets ≤ most + check_sequence)
 Sizes octets most _ = Unit {0}
 
-sizes_rest : (t u : Bool) (octets most : ℕ) → 64 ≤ octets → octets ≤ most + 4 → Sizes octets most (if t then Good else if u then AlignError else FcsError)
+sizes_rest : (t u : Bool) (octets most : ℕ) → least_frame ≤ octets → octets ≤ most + check_sequence → Sizes octets most (if t then Good else if u then AlignError else FcsError)
 sizes_rest true u octets most a b = (a, b)
 sizes_rest false true octets most a b = tt
 sizes_rest false false octets most a b = tt
 
-sizes_if : (s l t u : Bool) (octets most : ℕ) → (s ≡ false → 64 ≤ octets) → (l ≡ false → octets ≤ most + 4) → Sizes octets most (if s then Fragment else if l then TooLong else if t then Good else if u then AlignError else FcsError)
+sizes_if : (s l t u : Bool) (octets most : ℕ) → (s ≡ false → least_frame ≤ octets) → (l ≡ false → octets ≤ most + check_sequence) → Sizes octets most (if s then Fragment else if l then TooLong else if t then Good else if u then AlignError else FcsError)
 sizes_if true l t u octets most a b = tt
 sizes_if false true t u octets most a b = tt
 sizes_if false false t u octets most a b = sizes_rest t u octets most (a refl) (b refl)

@@ -6,6 +6,7 @@ use Rattle.layout.specs.Taps.{tap_of}
 use Rattle.net_parts.specs.Windows.{nearest}
 use Rattle.net_parts.proofs.NearestTaps.{nearest_two}
 use Rattle.net_parts.proofs.timing.nearest.Goals as goal
+use Rattle.mac_parameters.specs.Parameters.{most_ports}
 
 pub loop-k-init : goal.loop-k-init
 loop-k-init c =
@@ -36,6 +37,6 @@ loop-k-preserved c =
     let most = c.loop-k.invariant.most in
     let in_it : k < length l.repeaters = omega (arith, c.loop-k-test.true, ap length c.as_slice-repeaters.ensures) in
     let row = c.requires.sound.repeaters k d in_it in
-    let few : length ports ≤ 32 = let f = row.ports_most in let e = ap length (c.as_slice-ports.ensures ∙ ap (λ xs. (get_or xs k d).ports) c.as_slice-repeaters.ensures) in omega (arith, f, e) in
+    let few : length ports ≤ most_ports = let f = row.ports_most in let e = ap length (c.as_slice-ports.ensures ∙ ap (λ xs. (get_or xs k d).ports) c.as_slice-repeaters.ensures) in omega (arith, f, e) in
     let first = c.loop-k.invariant.few in
     record { so_far = omega (arith, two, split, this, before, way, least); most = omega (arith, most, least); few = omega (arith, few, first) }
