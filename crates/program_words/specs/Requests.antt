@@ -50,28 +50,43 @@ abbrev pub are_tap_words : List (List ℕ) → Bool
 are_tap_words [] = true
 are_tap_words (word ∷ words) = is_tap_word word && are_tap_words words
 
--- what one word asks for: --help or --version
-abbrev pub asked_text : List ℕ → Option Asked
-asked_text word =
-    if bytes_eq word (codes "--help") then Some Help
-    else if bytes_eq word (codes "--version") then Some Version
-    else None
+-- what the words after check ask for: LAYOUT
+abbrev pub asked_check : List (List ℕ) → Option Asked
+asked_check (layout ∷ []) = if is_file_name layout then Some (Check layout) else None
+asked_check _ = None
 
--- what two words ask for: check LAYOUT, slack LAYOUT or meter LOG
-abbrev pub asked_file : List ℕ → List ℕ → Option Asked
-asked_file word file =
-    if bytes_eq word (codes "check") && is_file_name file then Some (Check file)
-    else if bytes_eq word (codes "slack") && is_file_name file then Some (Slack file)
-    else if bytes_eq word (codes "meter") && is_file_name file then Some (Meter file)
-    else None
+-- what the words after slack ask for: LAYOUT
+abbrev pub asked_slack : List (List ℕ) → Option Asked
+asked_slack (layout ∷ []) = if is_file_name layout then Some (Slack layout) else None
+asked_slack _ = None
 
 -- what the words after plain ask for: LAYOUT PREFIX
-abbrev pub asked_plain : List ℕ → List ℕ → Option Asked
-asked_plain layout prefix = if is_file_name layout && is_prefix prefix then Some (Plain layout prefix) else None
+abbrev pub asked_plain : List (List ℕ) → Option Asked
+asked_plain (layout ∷ prefix ∷ []) =
+    if is_file_name layout && is_prefix prefix then Some (Plain layout prefix) else None
+asked_plain _ = None
+
+-- what the words after run ask for: LAYOUT PREFIX WORKERS
+abbrev pub asked_run : List (List ℕ) → Option Asked
+asked_run (layout ∷ prefix ∷ workers ∷ []) =
+    if is_file_name layout && is_prefix prefix
+    then option_map (Run layout prefix) (number_between 1 most_workers workers)
+    else None
+asked_run _ = None
+
+-- what the words after stop ask for: LAYOUT PREFIX FROM, with a half bit of the longest run
+abbrev pub asked_stop : List (List ℕ) → Option Asked
+asked_stop (layout ∷ prefix ∷ from ∷ []) =
+    if is_file_name layout && is_prefix prefix
+    then option_map (Stop layout prefix) (number_between 0 most_half_bits from)
+    else None
+asked_stop _ = None
 
 -- what the words after resume ask for: LAYOUT PREFIX
-abbrev pub asked_resume : List ℕ → List ℕ → Option Asked
-asked_resume layout prefix = if is_file_name layout && is_prefix prefix then Some (Resume layout prefix) else None
+abbrev pub asked_resume : List (List ℕ) → Option Asked
+asked_resume (layout ∷ prefix ∷ []) =
+    if is_file_name layout && is_prefix prefix then Some (Resume layout prefix) else None
+asked_resume _ = None
 
 -- what is asked for by these two numbers, if they are there
 abbrev pub asked_numbers : Option ℕ → Option ℕ → Option Asked
@@ -80,36 +95,10 @@ asked_numbers (Some number) None = None
 asked_numbers None workers = None
 
 -- what the words after demo ask for: NUMBER WORKERS
-abbrev pub asked_demo : List ℕ → List ℕ → Option Asked
-asked_demo number workers =
+abbrev pub asked_demo : List (List ℕ) → Option Asked
+asked_demo (number ∷ workers ∷ []) =
     asked_numbers (number_between 1 most_repeaters number) (number_between 1 most_workers workers)
-
--- what the words after frames ask for: LAYOUT LOG
-abbrev pub asked_frames : List ℕ → List ℕ → Option Asked
-asked_frames layout log = if is_file_name layout && is_file_name log then Some (Frames layout log) else None
-
--- what three words ask for: plain LAYOUT PREFIX, resume LAYOUT PREFIX, demo NUMBER WORKERS or frames LAYOUT LOG
-abbrev pub asked_three : List ℕ → List ℕ → List ℕ → Option Asked
-asked_three word first second =
-    if bytes_eq word (codes "plain") then asked_plain first second
-    else if bytes_eq word (codes "resume") then asked_resume first second
-    else if bytes_eq word (codes "demo") then asked_demo first second
-    else if bytes_eq word (codes "frames") then asked_frames first second
-    else None
-
--- what the words after run ask for: LAYOUT PREFIX WORKERS
-abbrev pub asked_run : List ℕ → List ℕ → List ℕ → Option Asked
-asked_run layout prefix workers =
-    if is_file_name layout && is_prefix prefix
-    then option_map (Run layout prefix) (number_between 1 most_workers workers)
-    else None
-
--- what the words after stop ask for: LAYOUT PREFIX FROM, with a half bit of the longest run
-abbrev pub asked_stop : List ℕ → List ℕ → List ℕ → Option Asked
-asked_stop layout prefix from =
-    if is_file_name layout && is_prefix prefix
-    then option_map (Stop layout prefix) (number_between 0 most_half_bits from)
-    else None
+asked_demo _ = None
 
 -- one half bit comes before another, and at most a million lie between them
 abbrev pub is_stretch : ℕ → ℕ → Bool
@@ -125,53 +114,79 @@ stretch_between None to = None
 abbrev pub stretch_of : List ℕ → List ℕ → Option (ℕ × ℕ)
 stretch_of from to = stretch_between (number_between 0 most_half_bits from) (number_between 0 most_half_bits to)
 
+-- there are 1 to 16 words
+abbrev pub are_few : List (List ℕ) → Bool
+are_few words = nat_le 1 (length words) && nat_le (length words) most_taps
+
+-- what the words after probe or waves ask for: LAYOUT FROM TO TAP .. with 1 to 16 taps
+abbrev pub asked_probe : Report → List (List ℕ) → Option Asked
+asked_probe told (layout ∷ from ∷ to ∷ taps) =
+    if is_file_name layout && are_few taps && are_tap_words taps
+    then option_map (λ s. Probe told layout s.0 s.1 taps) (stretch_of from to)
+    else None
+asked_probe told _ = None
+
 -- what the words after page ask for: LAYOUT FROM TO
-abbrev pub asked_page : List ℕ → List ℕ → List ℕ → Option Asked
-asked_page layout from to =
+abbrev pub asked_page : List (List ℕ) → Option Asked
+asked_page (layout ∷ from ∷ to ∷ []) =
     if is_file_name layout
     then option_map (λ s. Probe report.Page layout s.0 s.1 []) (stretch_of from to)
     else None
+asked_page _ = None
 
--- what four words ask for: run LAYOUT PREFIX WORKERS, stop LAYOUT PREFIX FROM or page LAYOUT FROM TO
-abbrev pub asked_four : List ℕ → List ℕ → List ℕ → List ℕ → Option Asked
-asked_four word layout second third =
-    if bytes_eq word (codes "run") then asked_run layout second third
-    else if bytes_eq word (codes "stop") then asked_stop layout second third
-    else if bytes_eq word (codes "page") then asked_page layout second third
-    else None
-
--- what the words after probe or waves ask for: LAYOUT FROM TO TAP .. with at most 16 taps
-abbrev pub asked_probe : Report → List ℕ → List ℕ → List ℕ → List (List ℕ) → Option Asked
-asked_probe told layout from to taps =
-    if is_file_name layout && nat_le (length taps) most_taps && are_tap_words taps
-    then option_map (λ s. Probe told layout s.0 s.1 taps) (stretch_of from to)
-    else None
+-- what the words after meter ask for: LOG
+abbrev pub asked_meter : List (List ℕ) → Option Asked
+asked_meter (log ∷ []) = if is_file_name log then Some (Meter log) else None
+asked_meter _ = None
 
 -- what the words after picture ask for: LAYOUT LOG FROM TO
-abbrev pub asked_picture : List ℕ → List ℕ → List ℕ → List (List ℕ) → Option Asked
-asked_picture layout log from (to ∷ []) =
+abbrev pub asked_picture : List (List ℕ) → Option Asked
+asked_picture (layout ∷ log ∷ from ∷ to ∷ []) =
     if is_file_name layout && is_file_name log
     then option_map (λ s. Picture layout log s.0 s.1) (stretch_of from to)
     else None
-asked_picture layout log from _ = None
+asked_picture _ = None
 
--- what five words and more ask for: probe LAYOUT FROM TO TAP .., waves LAYOUT FROM TO TAP .. or picture LAYOUT LOG
--- FROM TO
-abbrev pub asked_long : List ℕ → List ℕ → List ℕ → List ℕ → List (List ℕ) → Option Asked
-asked_long word layout second third rest =
-    if bytes_eq word (codes "probe") then asked_probe report.Runs layout second third rest
-    else if bytes_eq word (codes "waves") then asked_probe report.Waves layout second third rest
-    else if bytes_eq word (codes "picture") then asked_picture layout second third rest
+-- what the words after frames ask for: LAYOUT LOG
+abbrev pub asked_frames : List (List ℕ) → Option Asked
+asked_frames (layout ∷ log ∷ []) =
+    if is_file_name layout && is_file_name log then Some (Frames layout log) else None
+asked_frames _ = None
+
+-- what the words after --help ask for: none are there
+abbrev pub asked_help : List (List ℕ) → Option Asked
+asked_help [] = Some Help
+asked_help _ = None
+
+-- what the words after --version ask for: none are there
+abbrev pub asked_version : List (List ℕ) → Option Asked
+asked_version [] = Some Version
+asked_version _ = None
+
+-- what a form's first word and the words after it ask for: a row for each form
+abbrev pub asked_form : List ℕ → List (List ℕ) → Option Asked
+asked_form form words =
+    if bytes_eq form (codes "check") then asked_check words
+    else if bytes_eq form (codes "slack") then asked_slack words
+    else if bytes_eq form (codes "plain") then asked_plain words
+    else if bytes_eq form (codes "run") then asked_run words
+    else if bytes_eq form (codes "stop") then asked_stop words
+    else if bytes_eq form (codes "resume") then asked_resume words
+    else if bytes_eq form (codes "demo") then asked_demo words
+    else if bytes_eq form (codes "probe") then asked_probe report.Runs words
+    else if bytes_eq form (codes "waves") then asked_probe report.Waves words
+    else if bytes_eq form (codes "page") then asked_page words
+    else if bytes_eq form (codes "meter") then asked_meter words
+    else if bytes_eq form (codes "picture") then asked_picture words
+    else if bytes_eq form (codes "frames") then asked_frames words
+    else if bytes_eq form (codes "--help") then asked_help words
+    else if bytes_eq form (codes "--version") then asked_version words
     else None
 
 -- what the words of the command line ask for, without the program's own name
 abbrev pub asked : List (List ℕ) → Option Asked
-asked (word ∷ layout ∷ second ∷ third ∷ fourth ∷ rest) = asked_long word layout second third (fourth ∷ rest)
-asked (word ∷ layout ∷ second ∷ third ∷ []) = asked_four word layout second third
-asked (word ∷ first ∷ second ∷ []) = asked_three word first second
-asked (word ∷ file ∷ []) = asked_file word file
-asked (word ∷ []) = asked_text word
-asked words = None
+asked (form ∷ words) = asked_form form words
+asked [] = None
 
 -- what a request of the program asks for
 abbrev pub asked_of : Request → Asked

@@ -1,8 +1,8 @@
 //! The words of the command line.
-ghost use Rattle.std.specs.Prelude.{◌≡◌, ◌≤◌, ◌<◌, ◌+◌, ◌^◌, IfSome, length, option_map};
+ghost use Rattle.std.specs.Prelude.{◌≡◌, ◌≤◌, ◌<◌, ◌+◌, ◌^◌, IfSome, option_map};
 ghost use Rattle.mac_parameters.specs.Parameters.{most_half_bits};
 ghost use Rattle.program_words.specs.WordLimits.{most_probed, most_taps};
-ghost use Rattle.program_words.specs.Requests.{HasNumbersInRange, are_tap_words, asked, asked_demo, asked_file, asked_frames, asked_long, asked_of, asked_four, asked_page, asked_picture, asked_plain, asked_probe, asked_resume, asked_run, asked_stop, asked_text, asked_three, is_file_name, is_prefix, is_tap_word, number_between, stretch_between};
+ghost use Rattle.program_words.specs.Requests.{HasNumbersInRange, are_tap_words, asked, asked_check, asked_demo, asked_form, asked_frames, asked_help, asked_meter, asked_of, asked_page, asked_picture, asked_plain, asked_probe, asked_resume, asked_run, asked_slack, asked_stop, asked_version, is_file_name, is_prefix, is_tap_word, number_between, stretch_between};
 
 use layout::MOST_REPEATERS;
 use lists::{List, Text};
@@ -16,9 +16,6 @@ const MOST_NAME: usize = 200;
 
 /// The most workers of a run (profile).
 const MOST_WORKERS: u32 = 64;
-
-/// How many words come before the taps of a probe.
-const WORDS_BEFORE_TAPS: usize = 4;
 
 /// The most taps of a probe (profile).
 const MOST_TAPS: usize = 16;
@@ -151,99 +148,75 @@ pub fn read_words(words: &Words) -> Option<Request<'_>>
     ensures asked { option_map asked_of result ≡ asked words.now }
     ensures range { IfSome result HasNumbersInRange }
 {
-    let words = words.as_slice();
-    if words.len() > WORDS_BEFORE_TAPS {
-        return read_long(words);
-    }
-    match words {
-        [word] => read_text(word.as_str()),
-        [word, file] => read_file_form(word.as_str(), file.as_str()),
-        [word, first, second] => read_three(word.as_str(), first.as_str(), second.as_str()),
-        [word, layout, second, third] => read_four(
-            word.as_str(),
-            layout.as_str(),
-            second.as_str(),
-            third.as_str(),
-        ),
+    let [form, rest @ ..] = words.as_slice() else {
+        return None;
+    };
+    read_form(form.as_str(), rest)
+}
+
+/// A row for each form: its first word, and how the words after it are read.
+fn read_form<'a>(form: &str, words: &'a [Text]) -> Option<Request<'a>>
+    ensures asked { option_map asked_of result ≡ asked_form form.now words.now }
+    ensures range { IfSome result HasNumbersInRange }
+{
+    match form {
+        "check" => read_check(words),
+        "slack" => read_slack(words),
+        "plain" => read_plain(words),
+        "run" => read_run(words),
+        "stop" => read_stop(words),
+        "resume" => read_resume(words),
+        "demo" => read_demo(words),
+        "probe" => read_probe(Report::Runs, words),
+        "waves" => read_probe(Report::Waves, words),
+        "page" => read_page(words),
+        "meter" => read_meter(words),
+        "picture" => read_picture(words),
+        "frames" => read_frames(words),
+        "--help" => read_help(words),
+        "--version" => read_version(words),
         _ => None,
     }
 }
 
-fn read_long(words: &[Text]) -> Option<Request<'_>>
-    requires { 4 < length words.now }
-    ensures asked { option_map asked_of result ≡ asked words.now }
+fn read_check(words: &[Text]) -> Option<Request<'_>>
+    ensures asked { option_map asked_of result ≡ asked_check words.now }
     ensures range { IfSome result HasNumbersInRange }
 {
-    read_many(
-        words[0].as_str(),
-        words[1].as_str(),
-        words[2].as_str(),
-        words[3].as_str(),
-        &words[WORDS_BEFORE_TAPS..],
-    )
-}
-
-fn read_many<'a>(
-    word: &str,
-    layout: &'a str,
-    second: &'a str,
-    third: &str,
-    rest: &'a [Text],
-) -> Option<Request<'a>>
-    ensures asked { option_map asked_of result ≡ asked_long word.now layout.now second.now third.now rest.now }
-    ensures range { IfSome result HasNumbersInRange }
-{
-    match word {
-        "probe" => read_probe(Report::Runs, layout, second, third, rest),
-        "waves" => read_probe(Report::Waves, layout, second, third, rest),
-        "picture" => read_picture(layout, second, third, rest),
-        _ => None,
-    }
-}
-
-fn read_text(word: &str) -> Option<Request<'static>>
-    ensures asked { option_map asked_of result ≡ asked_text word.now }
-    ensures range { IfSome result HasNumbersInRange }
-{
-    match word {
-        "--help" => Some(Request::Help),
-        "--version" => Some(Request::Version),
-        _ => None,
-    }
-}
-
-fn read_file_form<'a>(word: &str, file: &'a str) -> Option<Request<'a>>
-    ensures asked { option_map asked_of result ≡ asked_file word.now file.now }
-    ensures range { IfSome result HasNumbersInRange }
-{
-    if word == "check" && is_file_name(file) {
-        Some(Request::Check { layout: file })
-    } else if word == "slack" && is_file_name(file) {
-        Some(Request::Slack { layout: file })
-    } else if word == "meter" && is_file_name(file) {
-        Some(Request::Meter { log: file })
+    let [layout] = words else {
+        return None;
+    };
+    let layout = layout.as_str();
+    if is_file_name(layout) {
+        Some(Request::Check { layout })
     } else {
         None
     }
 }
 
-fn read_three<'a>(word: &str, first: &'a str, second: &'a str) -> Option<Request<'a>>
-    ensures asked { option_map asked_of result ≡ asked_three word.now first.now second.now }
+fn read_slack(words: &[Text]) -> Option<Request<'_>>
+    ensures asked { option_map asked_of result ≡ asked_slack words.now }
     ensures range { IfSome result HasNumbersInRange }
 {
-    match word {
-        "plain" => read_plain(first, second),
-        "resume" => read_resume(first, second),
-        "demo" => read_demo(first, second),
-        "frames" => read_frames(first, second),
-        _ => None,
+    let [layout] = words else {
+        return None;
+    };
+    let layout = layout.as_str();
+    if is_file_name(layout) {
+        Some(Request::Slack { layout })
+    } else {
+        None
     }
 }
 
-fn read_plain<'a>(layout: &'a str, prefix: &'a str) -> Option<Request<'a>>
-    ensures asked { option_map asked_of result ≡ asked_plain layout.now prefix.now }
+fn read_plain(words: &[Text]) -> Option<Request<'_>>
+    ensures asked { option_map asked_of result ≡ asked_plain words.now }
     ensures range { IfSome result HasNumbersInRange }
 {
+    let [layout, prefix] = words else {
+        return None;
+    };
+    let (layout, prefix) = (layout.as_str(), prefix.as_str());
     if is_file_name(layout) && is_prefix(prefix) {
         Some(Request::Plain { layout, prefix })
     } else {
@@ -251,55 +224,16 @@ fn read_plain<'a>(layout: &'a str, prefix: &'a str) -> Option<Request<'a>>
     }
 }
 
-fn read_resume<'a>(layout: &'a str, prefix: &'a str) -> Option<Request<'a>>
-    ensures asked { option_map asked_of result ≡ asked_resume layout.now prefix.now }
+fn read_run(words: &[Text]) -> Option<Request<'_>>
+    ensures asked { option_map asked_of result ≡ asked_run words.now }
     ensures range { IfSome result HasNumbersInRange }
 {
+    let [layout, prefix, workers] = words else {
+        return None;
+    };
+    let (layout, prefix) = (layout.as_str(), prefix.as_str());
     if is_file_name(layout) && is_prefix(prefix) {
-        Some(Request::Resume { layout, prefix })
-    } else {
-        None
-    }
-}
-
-fn read_demo(number: &str, workers: &str) -> Option<Request<'static>>
-    ensures asked { option_map asked_of result ≡ asked_demo number.now workers.now }
-    ensures range { IfSome result HasNumbersInRange }
-{
-    let number = read_number(number, 1, MOST_REPEATERS as u32)?;
-    let workers = read_number(workers, 1, MOST_WORKERS)?;
-    Some(Request::Demo { number, workers })
-}
-
-fn read_frames<'a>(layout: &'a str, log: &'a str) -> Option<Request<'a>>
-    ensures asked { option_map asked_of result ≡ asked_frames layout.now log.now }
-    ensures range { IfSome result HasNumbersInRange }
-{
-    if is_file_name(layout) && is_file_name(log) {
-        Some(Request::Frames { layout, log })
-    } else {
-        None
-    }
-}
-
-fn read_four<'a>(word: &str, layout: &'a str, second: &'a str, third: &str) -> Option<Request<'a>>
-    ensures asked { option_map asked_of result ≡ asked_four word.now layout.now second.now third.now }
-    ensures range { IfSome result HasNumbersInRange }
-{
-    match word {
-        "run" => read_run(layout, second, third),
-        "stop" => read_stop(layout, second, third),
-        "page" => read_page(layout, second, third),
-        _ => None,
-    }
-}
-
-fn read_run<'a>(layout: &'a str, prefix: &'a str, workers: &str) -> Option<Request<'a>>
-    ensures asked { option_map asked_of result ≡ asked_run layout.now prefix.now workers.now }
-    ensures range { IfSome result HasNumbersInRange }
-{
-    if is_file_name(layout) && is_prefix(prefix) {
-        let workers = read_number(workers, 1, MOST_WORKERS)?;
+        let workers = read_number(workers.as_str(), 1, MOST_WORKERS)?;
         Some(Request::Run {
             layout,
             prefix,
@@ -310,12 +244,16 @@ fn read_run<'a>(layout: &'a str, prefix: &'a str, workers: &str) -> Option<Reque
     }
 }
 
-fn read_stop<'a>(layout: &'a str, prefix: &'a str, from: &str) -> Option<Request<'a>>
-    ensures asked { option_map asked_of result ≡ asked_stop layout.now prefix.now from.now }
+fn read_stop(words: &[Text]) -> Option<Request<'_>>
+    ensures asked { option_map asked_of result ≡ asked_stop words.now }
     ensures range { IfSome result HasNumbersInRange }
 {
+    let [layout, prefix, from] = words else {
+        return None;
+    };
+    let (layout, prefix) = (layout.as_str(), prefix.as_str());
     if is_file_name(layout) && is_prefix(prefix) {
-        let from = read_number(from, 0, MOST_HALF_BITS as u32)?;
+        let from = read_number(from.as_str(), 0, MOST_HALF_BITS as u32)?;
         Some(Request::Stop {
             layout,
             prefix,
@@ -326,22 +264,31 @@ fn read_stop<'a>(layout: &'a str, prefix: &'a str, from: &str) -> Option<Request
     }
 }
 
-fn read_page<'a>(layout: &'a str, from: &str, to: &str) -> Option<Request<'a>>
-    ensures asked { option_map asked_of result ≡ asked_page layout.now from.now to.now }
+fn read_resume(words: &[Text]) -> Option<Request<'_>>
+    ensures asked { option_map asked_of result ≡ asked_resume words.now }
     ensures range { IfSome result HasNumbersInRange }
 {
-    if is_file_name(layout) {
-        let (from, to) = read_stretch(from, to)?;
-        Some(Request::Probe {
-            report: Report::Page,
-            layout,
-            from,
-            to,
-            taps: &[],
-        })
+    let [layout, prefix] = words else {
+        return None;
+    };
+    let (layout, prefix) = (layout.as_str(), prefix.as_str());
+    if is_file_name(layout) && is_prefix(prefix) {
+        Some(Request::Resume { layout, prefix })
     } else {
         None
     }
+}
+
+fn read_demo(words: &[Text]) -> Option<Request<'_>>
+    ensures asked { option_map asked_of result ≡ asked_demo words.now }
+    ensures range { IfSome result HasNumbersInRange }
+{
+    let [number, workers] = words else {
+        return None;
+    };
+    let number = read_number(number.as_str(), 1, MOST_REPEATERS as u32)?;
+    let workers = read_number(workers.as_str(), 1, MOST_WORKERS)?;
+    Some(Request::Demo { number, workers })
 }
 
 fn is_tap_word(word: &str) -> bool
@@ -378,18 +325,17 @@ fn read_stretch(from: &str, to: &str) -> Option<(u32, u32)>
     }
 }
 
-fn read_probe<'a>(
-    report: Report,
-    layout: &'a str,
-    from: &str,
-    to: &str,
-    taps: &'a [Text],
-) -> Option<Request<'a>>
-    ensures asked { option_map asked_of result ≡ asked_probe report layout.now from.now to.now taps.now }
+fn read_probe(report: Report, words: &[Text]) -> Option<Request<'_>>
+    ensures asked { option_map asked_of result ≡ asked_probe report words.now }
     ensures range { IfSome result HasNumbersInRange }
 {
-    if is_file_name(layout) && taps.len() <= MOST_TAPS && are_tap_words(taps) {
-        let (from, to) = read_stretch(from, to)?;
+    let [layout, from, to, taps @ ..] = words else {
+        return None;
+    };
+    let layout = layout.as_str();
+    let are_few = !taps.is_empty() && taps.len() <= MOST_TAPS;
+    if is_file_name(layout) && are_few && are_tap_words(taps) {
+        let (from, to) = read_stretch(from.as_str(), to.as_str())?;
         Some(Request::Probe {
             report,
             layout,
@@ -402,21 +348,96 @@ fn read_probe<'a>(
     }
 }
 
-fn read_picture<'a>(layout: &'a str, log: &'a str, from: &str, rest: &[Text]) -> Option<Request<'a>>
-    ensures asked { option_map asked_of result ≡ asked_picture layout.now log.now from.now rest.now }
+fn read_page(words: &[Text]) -> Option<Request<'_>>
+    ensures asked { option_map asked_of result ≡ asked_page words.now }
     ensures range { IfSome result HasNumbersInRange }
 {
-    let [to] = rest else {
+    let [layout, from, to] = words else {
         return None;
     };
+    let layout = layout.as_str();
+    if is_file_name(layout) {
+        let (from, to) = read_stretch(from.as_str(), to.as_str())?;
+        Some(Request::Probe {
+            report: Report::Page,
+            layout,
+            from,
+            to,
+            taps: &[],
+        })
+    } else {
+        None
+    }
+}
+
+fn read_meter(words: &[Text]) -> Option<Request<'_>>
+    ensures asked { option_map asked_of result ≡ asked_meter words.now }
+    ensures range { IfSome result HasNumbersInRange }
+{
+    let [log] = words else {
+        return None;
+    };
+    let log = log.as_str();
+    if is_file_name(log) {
+        Some(Request::Meter { log })
+    } else {
+        None
+    }
+}
+
+fn read_picture(words: &[Text]) -> Option<Request<'_>>
+    ensures asked { option_map asked_of result ≡ asked_picture words.now }
+    ensures range { IfSome result HasNumbersInRange }
+{
+    let [layout, log, from, to] = words else {
+        return None;
+    };
+    let (layout, log) = (layout.as_str(), log.as_str());
     if is_file_name(layout) && is_file_name(log) {
-        let (from, to) = read_stretch(from, to.as_str())?;
+        let (from, to) = read_stretch(from.as_str(), to.as_str())?;
         Some(Request::Picture {
             layout,
             log,
             from,
             to,
         })
+    } else {
+        None
+    }
+}
+
+fn read_frames(words: &[Text]) -> Option<Request<'_>>
+    ensures asked { option_map asked_of result ≡ asked_frames words.now }
+    ensures range { IfSome result HasNumbersInRange }
+{
+    let [layout, log] = words else {
+        return None;
+    };
+    let (layout, log) = (layout.as_str(), log.as_str());
+    if is_file_name(layout) && is_file_name(log) {
+        Some(Request::Frames { layout, log })
+    } else {
+        None
+    }
+}
+
+fn read_help(words: &[Text]) -> Option<Request<'_>>
+    ensures asked { option_map asked_of result ≡ asked_help words.now }
+    ensures range { IfSome result HasNumbersInRange }
+{
+    if words.is_empty() {
+        Some(Request::Help)
+    } else {
+        None
+    }
+}
+
+fn read_version(words: &[Text]) -> Option<Request<'_>>
+    ensures asked { option_map asked_of result ≡ asked_version words.now }
+    ensures range { IfSome result HasNumbersInRange }
+{
+    if words.is_empty() {
+        Some(Request::Version)
     } else {
         None
     }
