@@ -8,17 +8,9 @@ use Rattle.std.proofs.lemmas.Str.Parse.{digit_from_value}
 use Rattle.layout.specs.NameOctets.{is_name_octet}
 use Rattle.layout.specs.Sound.{IsName}
 
-pub letter_g : is_name_octet 103 ≡ true
+letter_passes : (c : ℕ) → 97 ≤ c → c ≤ 122 → is_name_octet c ≡ true
 unfolding is_name_octet
-letter_g = refl
-
-pub letter_r : is_name_octet 114 ≡ true
-unfolding is_name_octet
-letter_r = refl
-
-pub letter_s : is_name_octet 115 ≡ true
-unfolding is_name_octet
-letter_s = refl
+letter_passes c low high = rw (le-leb 97 c low, le-leb c 122 high) refl
 
 digit_passes : (c : ℕ) → 48 ≤ c → c ≤ 57 → is_name_octet c ≡ true
 unfolding is_name_octet
@@ -31,11 +23,11 @@ digits_pass (c ∷ cs) h =
     All-cons (λ x. is_name_octet x ≡ true) c cs (digit_passes c range.0 range.1) (digits_pass cs h.1)
 
 -- a letter and a number are a name
-pub name_with : (letter n : ℕ) → is_name_octet letter ≡ true → n < 1000 → IsName (letter ∷ decimal n)
-name_with letter n passes low = record {
+pub name_with : (letter n : ℕ) → 97 ≤ letter → letter ≤ 122 → n < 1000 → IsName (letter ∷ decimal n)
+name_with letter n first last low = record {
   least = omega arith;
   most = omega (arith, length-decimal-le 3 n (omega arith) (omega arith) (omega arith));
-  octets = All-cons (λ x. is_name_octet x ≡ true) letter (decimal n) passes (digits_pass (decimal n) (decimal_is_IsNumeral n (omega arith)).0.1);
+  octets = All-cons (λ x. is_name_octet x ≡ true) letter (decimal n) (letter_passes letter first last) (digits_pass (decimal n) (decimal_is_IsNumeral n (omega arith)).0.1);
 }
 
 -- and another number is another name

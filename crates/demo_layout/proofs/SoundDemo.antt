@@ -15,7 +15,7 @@ use Rattle.layout.specs.Limits.{most_repeaters, most_sends}
 use Rattle.layout.specs.Sound.{IsName, IsSoundPort, IsSoundRepeater, IsSoundSend, IsSoundStation, IsSound, AreDifferent}
 use Rattle.demo_layout.specs.Demo.{demo_of, demo_segment, demo_station, demo_port_in, demo_port_out, demo_repeater, demo_length, demo_octets, demo_send, demo_sends_of, demo_sends}
 use Rattle.demo_layout.proofs.DifferentItems.{all_in_range, all_mapped, all_of_pieces, different_by, different_both}
-use Rattle.demo_layout.proofs.NamesOfDemo.{letter_g, letter_r, letter_s, name_with, names_differ, letters_differ}
+use Rattle.demo_layout.proofs.NamesOfDemo.{name_with, names_differ, letters_differ}
 use Rattle.demo_layout.proofs.TapsOfDemo.{station_at, port_in_at, different_taps}
 use Rattle.demo_layout.proofs.TreeOfDemo.{demo_loops, demo_joined}
 
@@ -56,7 +56,7 @@ few_sends n few =
 -- rows, where there are n + 1 segments
 sound_station : (n count s : ℕ) → n ≤ most_repeaters → count ≡ n + 1 → s < 4 * (n + 1) → IsSoundStation 1 count (demo_station s)
 sound_station n count s few many low = record {
-  name = name_with 115 s letter_s (omega arith);
+  name = name_with 115 s (omega arith) (omega arith) (omega arith);
   segment = omega arith;
   at = omega (arith, station_at s);
   load = tt;
@@ -66,7 +66,7 @@ sound_station n count s few many low = record {
 
 sound_repeater : (n count k : ℕ) → n ≤ most_repeaters → count ≡ n + 1 → k ≤ n → IsSoundRepeater count (demo_repeater k)
 sound_repeater n count k few many low = record {
-  name = name_with 114 k letter_r (omega arith);
+  name = name_with 114 k (omega arith) (omega arith) (omega arith);
   delay_least = omega arith;
   delay_most = omega arith;
   ports_least = omega arith;
@@ -111,7 +111,7 @@ sound_demo n few =
       sends_most = few_sends n few;
       segments =
           All-map (λ (s : SegmentLine). IsName s.name) demo_segment (range_with_len 0 (n + 1)) (all_in_range (λ k. IsName (demo_segment k).name) 0 (n + 1) (λ k _ low.
-          name_with 103 k letter_g (omega (arith, few, low))));
+          name_with 103 k (omega arith) (omega arith) (omega (arith, few, low))));
       stations =
           All-map (IsSoundStation 1 _) demo_station (range_with_len 0 (4 * (n + 1))) (all_in_range (λ s. IsSoundStation 1 _ (demo_station s)) 0 (4 * (n + 1)) (λ s _ low.
           sound_station n _ s few segments (omega (arith, low))));

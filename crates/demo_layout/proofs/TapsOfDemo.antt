@@ -32,27 +32,6 @@ port_in_at k = place_of_in (k % 2) (omega arith)
 apart : (p q : PortLine) → (p.segment ≡ q.segment → p.at ≡ q.at → ⊥) → p ≢ q
 apart p q h e = h (ap (λ (t : PortLine). t.segment) e) (ap (λ (t : PortLine). t.at) e)
 
-pub stations_apart : (j k : ℕ) → j < k → tap_of (demo_station j) ≢ tap_of (demo_station k)
-stations_apart j k less = apart (tap_of (demo_station j)) (tap_of (demo_station k)) (λ same at. omega (arith, less, same, at, station_at j, station_at k))
-
-station_port_in : (s k : ℕ) → tap_of (demo_station s) ≢ demo_port_in k
-station_port_in s k = apart (tap_of (demo_station s)) (demo_port_in k) (λ same at. omega (arith, at, station_at s, port_in_at k))
-
-station_port_out : (s k : ℕ) → tap_of (demo_station s) ≢ demo_port_out k
-station_port_out s k = apart (tap_of (demo_station s)) (demo_port_out k) (λ same at. omega (arith, at, station_at s))
-
-in_in : (j k : ℕ) → 1 ≤ j → j < k → demo_port_in j ≢ demo_port_in k
-in_in j k some less = apart (demo_port_in j) (demo_port_in k) (λ same at. omega (arith, some, less, same, at, port_in_at j, port_in_at k))
-
-in_out : (j k : ℕ) → demo_port_in j ≢ demo_port_out k
-in_out j k = apart (demo_port_in j) (demo_port_out k) (λ same at. omega (arith, at, port_in_at j))
-
-out_in : (j k : ℕ) → demo_port_out j ≢ demo_port_in k
-out_in j k = apart (demo_port_out j) (demo_port_in k) (λ same at. omega (arith, at, port_in_at k))
-
-out_out : (j k : ℕ) → j < k → demo_port_out j ≢ demo_port_out k
-out_out j k less = apart (demo_port_out j) (demo_port_out k) (λ same at. omega (arith, less, same))
-
 abbrev pub ports_of : ℕ → ℕ → List PortLine
 ports_of a n = flat_map (λ (r : RepeaterLine). r.ports) (map demo_repeater (range_with_len a n))
 
@@ -69,17 +48,27 @@ ports_apart a zero some = λ i j d less within. absurd (omega arith)
 ports_apart a (suc n) some =
     let next : List PortLine = ports_of (a + 1) n in
     AllPairs-cons (λ p q. p ≢ q) (demo_port_in a) (demo_port_out a ∷ next)
-    (All-cons (λ q. demo_port_in a ≢ q) (demo_port_out a) next (in_out a a)
-    (all_ports (λ q. demo_port_in a ≢ q) (a + 1) n (λ k low high. (in_in a k some (omega arith), in_out a k))))
+    (All-cons (λ q. demo_port_in a ≢ q) (demo_port_out a) next (apart (demo_port_in a) (demo_port_out a) (λ _ at. omega (arith, at, port_in_at a)))
+    (all_ports (λ q. demo_port_in a ≢ q) (a + 1) n (λ k low _. (
+      apart (demo_port_in a) (demo_port_in k) (λ same at. omega (arith, some, low, same, at, port_in_at a, port_in_at k)),
+      apart (demo_port_in a) (demo_port_out k) (λ _ at. omega (arith, at, port_in_at a)),
+    ))))
     (AllPairs-cons (λ p q. p ≢ q) (demo_port_out a) next
-    (all_ports (λ q. demo_port_out a ≢ q) (a + 1) n (λ k low high. (out_in a k, out_out a k (omega arith))))
+    (all_ports (λ q. demo_port_out a ≢ q) (a + 1) n (λ k low _. (
+      apart (demo_port_out a) (demo_port_in k) (λ _ at. omega (arith, at, port_in_at k)),
+      apart (demo_port_out a) (demo_port_out k) (λ same _. omega (arith, low, same)),
+    )))
     (ports_apart (a + 1) n (omega arith)))
 
 -- the taps of the stations and the ports
 pub different_taps : (n count : ℕ) → AreDifferent (map tap_of (map demo_station (range_with_len 0 count)) ++ ports_of 1 n)
 different_taps n count =
     different_both (map tap_of (map demo_station (range_with_len 0 count))) (ports_of 1 n)
-    (different_by tap_of demo_station 0 count (λ j k less _. stations_apart j k less))
+    (different_by tap_of demo_station 0 count (λ j k less _.
+    apart (tap_of (demo_station j)) (tap_of (demo_station k)) (λ same at. omega (arith, less, same, at, station_at j, station_at k))))
     (ports_apart 1 n (omega arith))
     (all_mapped (λ p. All (λ q. p ≢ q) (ports_of 1 n)) tap_of demo_station 0 count (λ s _ _.
-    all_ports (λ q. tap_of (demo_station s) ≢ q) 1 n (λ k _ _. (station_port_in s k, station_port_out s k))))
+    all_ports (λ q. tap_of (demo_station s) ≢ q) 1 n (λ k _ _. (
+      apart (tap_of (demo_station s)) (demo_port_in k) (λ _ at. omega (arith, at, station_at s, port_in_at k)),
+      apart (tap_of (demo_station s)) (demo_port_out k) (λ _ at. omega (arith, at, station_at s)),
+    ))))

@@ -9,18 +9,18 @@ use Rattle.layout.specs.Networks.{edge_at, edges_from, CloseNoLoop}
 use Rattle.layout.proofs.Joins.{length-counted, counted-at}
 use Rattle.demo_layout.specs.Demo.{demo_port_in, demo_port_out, demo_repeater}
 
--- an edge whose ends have two colours, the first of which it paints over
-record Edges (cs : List ℕ) (e : Edge) (old new : ℕ) : Type 0 where
+-- an edge that paints one colour over by another: its ends have them
+record Paints (cs : List ℕ) (e : Edge) (old new : ℕ) : Type 0 where
   pub from : get_or cs e.from 0 ≡ old
   pub to : get_or cs e.to 0 ≡ new
 
 -- what has another colour keeps it
-kept : (cs : List ℕ) (e : Edge) (old new c i : ℕ) → Edges cs e old new → i < length cs → get_or cs i 0 ≡ c → c ≢ old → get_or (painted cs e) i 0 ≡ c
+kept : (cs : List ℕ) (e : Edge) (old new c i : ℕ) → Paints cs e old new → i < length cs → get_or cs i 0 ≡ c → c ≢ old → get_or (painted cs e) i 0 ≡ c
 kept cs e old new c i ends inside is other =
     get_or-map (repaint (get_or cs e.from 0) (get_or cs e.to 0)) cs i 0 0 inside ∙ rw (ends.from, is, ne_eqb c old other) refl
 
 -- what has that colour changes it
-changed : (cs : List ℕ) (e : Edge) (old new i : ℕ) → Edges cs e old new → i < length cs → get_or cs i 0 ≡ old → get_or (painted cs e) i 0 ≡ new
+changed : (cs : List ℕ) (e : Edge) (old new i : ℕ) → Paints cs e old new → i < length cs → get_or cs i 0 ≡ old → get_or (painted cs e) i 0 ≡ new
 changed cs e old new i ends inside is =
     get_or-map (repaint (get_or cs e.from 0) (get_or cs e.to 0)) cs i 0 0 inside ∙ rw (ends.from, ends.to, is, eq-eqb old old refl) refl
 
@@ -33,7 +33,7 @@ record Reached (n k : ℕ) (cs : List ℕ) : Type 0 where
 
 -- the next repeater's two ports
 module _ (n k part row : ℕ) (cs : List ℕ) (room : k < n) (of_part : part ≡ n + 1 + k) (of_row : row ≡ k + 1) (so_far : Reached n k cs) where
-  first_edge : Edges cs (edge_at part (demo_port_in row)) part k
+  first_edge : Paints cs (edge_at part (demo_port_in row)) part k
   first_edge = record {
     from = so_far.ahead part (omega arith) (omega arith);
     to =
@@ -47,7 +47,7 @@ module _ (n k part row : ℕ) (cs : List ℕ) (room : k < n) (of_part : part ≡
   kept_between : (c i : ℕ) → i < n + 1 + n → get_or cs i 0 ≡ c → c ≢ part → get_or between i 0 ≡ c
   kept_between c i inside is other = kept cs (edge_at part (demo_port_in row)) part k c i first_edge (omega (arith, so_far.many)) is other
 
-  second_edge : Edges between (edge_at part (demo_port_out row)) k (k + 1)
+  second_edge : Paints between (edge_at part (demo_port_out row)) k (k + 1)
   second_edge = record {
     from = changed cs (edge_at part (demo_port_in row)) part k part first_edge (omega (arith, so_far.many)) first_edge.from;
     to =
@@ -79,13 +79,6 @@ module _ (n k part row : ℕ) (cs : List ℕ) (room : k < n) (of_part : part ≡
         (kept_between i i inside (so_far.ahead i (omega arith) inside) (λ e. omega (arith, e))) (λ e. omega (arith, e));
   }
 
--- the repeaters that are left
-all_painted : (n k m part row : ℕ) (cs : List ℕ) → k + m ≡ n → part ≡ n + 1 + k → row ≡ k + 1 → Reached n k cs → Reached n n (painted_all cs (edges_from part (map demo_repeater (range_with_len row m))))
-all_painted n k zero part row cs all of_part of_row so_far = let e : k ≡ n = omega arith in subst (λ j. Reached n j cs) e so_far
-all_painted n k (suc m) part row cs all of_part of_row so_far =
-    all_painted n (k + 1) m (suc part) (row + 1) _ (omega arith) (omega arith) (omega arith)
-    (one_more n k part row cs (omega arith) of_part of_row so_far)
-
 painted_last : (cs : List ℕ) (es : List Edge) (e : Edge) → painted_all cs (es ++ e ∷ []) ≡ painted (painted_all cs es) e
 painted_last cs [] e = refl
 painted_last cs (x ∷ es) e = painted_last (painted cs x) es e
@@ -95,29 +88,33 @@ unfolding colours
 colours_last parts es e = painted_last (counted_up parts) es e
 
 -- ends of two colours are not joined
-apart : (parts : ℕ) (es : List Edge) (cs : List ℕ) (e : Edge) (old new : ℕ) → colours parts es ≡ cs → Edges cs e old new → old ≢ new → is_joined parts es e.from e.to ≡ false
+apart : (parts : ℕ) (es : List Edge) (cs : List ℕ) (e : Edge) (old new : ℕ) → colours parts es ≡ cs → Paints cs e old new → old ≢ new → is_joined parts es e.from e.to ≡ false
 unfolding is_joined
 apart parts es cs e old new are ends differ = rw (are, ends.from, ends.to) (ne_eqb old new differ)
 
-no_loop : (n k m parts part row : ℕ) (before : List Edge) → k + m ≡ n → part ≡ n + 1 + k → row ≡ k + 1 → Reached n k (colours parts before) → CloseNoLoop parts before (edges_from part (map demo_repeater (range_with_len row m)))
-no_loop n k zero parts part row before all of_part of_row so_far = tt
-no_loop n k (suc m) parts part row before all of_part of_row so_far =
+-- the repeaters that are left
+later_repeaters : (n k m parts part row : ℕ) (before : List Edge) → k + m ≡ n → part ≡ n + 1 + k → row ≡ k + 1 → Reached n k (colours parts before)
+    → CloseNoLoop parts before (edges_from part (map demo_repeater (range_with_len row m))) × Reached n n (painted_all (colours parts before) (edges_from part (map demo_repeater (range_with_len row m))))
+later_repeaters n k zero parts part row before all of_part of_row so_far = let e : k ≡ n = omega arith in (tt, subst (λ j. Reached n j (colours parts before)) e so_far)
+later_repeaters n k (suc m) parts part row before all of_part of_row so_far =
     let first : Edge = edge_at part (demo_port_in row) in
     let second : Edge = edge_at part (demo_port_out row) in
     let cs : List ℕ = colours parts before in
     let room : k < n = omega arith in
     let after : colours parts (before ++ first ∷ []) ≡ painted cs first = colours_last parts before first in
     let after_both : colours parts ((before ++ first ∷ []) ++ second ∷ []) ≡ painted (painted cs first) second =
-    colours_last parts (before ++ first ∷ []) second ∙ ap (λ xs. painted xs second) after in (
-      apart parts before cs first part k refl (first_edge n k part row cs room of_part of_row so_far) (λ e. omega (arith, e)),
+    colours_last parts (before ++ first ∷ []) second ∙ ap (λ xs. painted xs second) after in
+    let later = later_repeaters n (k + 1) m parts (suc part) (row + 1) ((before ++ first ∷ []) ++ second ∷ []) (omega arith) (omega arith) (omega arith)
+    (subst (Reached n (k + 1)) (sym after_both) (one_more n k part row cs room of_part of_row so_far)) in (
       (
-        apart parts (before ++ first ∷ []) (painted cs first) second k (k + 1) after (second_edge n k part row cs room of_part of_row so_far) (λ e. omega (arith, e)),
-        no_loop n (k + 1) m parts (suc part) (row + 1) ((before ++ first ∷ []) ++ second ∷ []) (omega arith) (omega arith) (omega arith)
-            (subst (Reached n (k + 1)) (sym after_both) (one_more n k part row cs room of_part of_row so_far)),
+        apart parts before cs first part k refl (first_edge n k part row cs room of_part of_row so_far) (λ e. omega (arith, e)),
+        (apart parts (before ++ first ∷ []) (painted cs first) second k (k + 1) after (second_edge n k part row cs room of_part of_row so_far) (λ e. omega (arith, e)), later.0),
       ),
+      subst (λ xs. Reached n n (painted_all xs (edges_from (suc part) (map demo_repeater (range_with_len (row + 1) m))))) after_both later.1,
     )
 
-none_reached : (n parts : ℕ) → parts ≡ n + 1 + n → Reached n 0 (counted_up parts)
+none_reached : (n parts : ℕ) → parts ≡ n + 1 + n → Reached n 0 (colours parts [])
+unfolding colours
 none_reached n parts all = record {
   many = length-counted parts ∙ all;
   segments = λ i low. let own : i ≡ i + (0 - i) = omega arith in counted-at parts i 0 (omega arith) ∙ own;
@@ -125,12 +122,10 @@ none_reached n parts all = record {
 }
 
 pub demo_loops : (n parts part : ℕ) → parts ≡ n + 1 + n → part ≡ n + 1 → CloseNoLoop parts [] (edges_from part (map demo_repeater (range_with_len 1 n)))
-unfolding colours
-demo_loops n parts part all of_part = no_loop n 0 n parts part 1 [] (omega arith) (omega arith) refl (none_reached n parts all)
+demo_loops n parts part all of_part = (later_repeaters n 0 n parts part 1 [] (omega arith) (omega arith) refl (none_reached n parts all)).0
 
 pub demo_joined : (n parts part s : ℕ) → parts ≡ n + 1 + n → part ≡ n + 1 → s ≤ n → is_joined parts (edges_from part (map demo_repeater (range_with_len 1 n))) 0 s ≡ true
 unfolding is_joined colours
 demo_joined n parts part s all of_part low =
-    let last : Reached n n (painted_all (counted_up parts) (edges_from part (map demo_repeater (range_with_len 1 n)))) =
-    all_painted n 0 n part 1 (counted_up parts) (omega arith) (omega arith) refl (none_reached n parts all) in
+    let last = (later_repeaters n 0 n parts part 1 [] (omega arith) (omega arith) refl (none_reached n parts all)).1 in
     eq-eqb _ _ (omega (arith, last.segments 0 (omega arith), last.segments s low))

@@ -83,6 +83,7 @@ fn repeater(alloc: Global, number: u32) -> Result<RepeaterLine, OutOfMemory>
 }
 
 /// The segments of demo of that number.
+#[tactic(auto, using(crate::proofs::RowsInOrder::one_more))]
 pub fn segments(alloc: Global, number: u32) -> Result<SegmentLines, OutOfMemory>
     requires { number ≤ most_repeaters }
     ensures { IfOk result (λ rows. rows ≡ map demo_segment (range_with_len 0 (number + 1))) }
@@ -95,6 +96,7 @@ pub fn segments(alloc: Global, number: u32) -> Result<SegmentLines, OutOfMemory>
 }
 
 /// The stations of demo of that number.
+#[tactic(auto, using(crate::proofs::RowsInOrder::one_more))]
 pub fn stations(alloc: Global, number: u32) -> Result<StationLines, OutOfMemory>
     requires { number ≤ most_repeaters }
     ensures { IfOk result (λ rows. rows ≡ map demo_station (range_with_len 0 (4 * (number + 1)))) }
@@ -107,6 +109,7 @@ pub fn stations(alloc: Global, number: u32) -> Result<StationLines, OutOfMemory>
 }
 
 /// The repeaters of demo of that number, which count from 1.
+#[tactic(auto, using(crate::proofs::RowsInOrder::one_more_from_1))]
 pub fn repeaters(alloc: Global, number: u32) -> Result<RepeaterLines, OutOfMemory>
     requires { number ≤ most_repeaters }
     ensures { IfOk result (λ rows. rows ≡ map demo_repeater (range_with_len 1 number)) }
