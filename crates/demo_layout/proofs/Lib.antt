@@ -1,3 +1,6 @@
 mod RowsInOrder
+mod DifferentItems
+mod NamesOfDemo
+mod TapsOfDemo
+mod TreeOfDemo
 mod SoundDemo
-mod PiecesJoined

@@ -1,24 +1,19 @@
 -- Lists whose items are those of a function of their numbers grow by one item after the other.
-use Rattle.std.proofs.Common.{◌≡◌, ℕ, zero, suc, ◌+◌, Some, List, [], ◌∷◌, ◌++◌, map, take, slice_get, append_assoc, sym, ap, ap₂, ◌∙◌, arith}
+use Rattle.std.proofs.Common.{◌≡◌, ℕ, zero, suc, ◌+◌, List, [], ◌∷◌, ◌++◌, map, append_assoc, sym, ap, ap₂, ◌∙◌, arith}
 use Rattle.std.specs.List.{range_with_len, flat_map}
-use Rattle.std.proofs.Math.Seq.{take-suc}
 use Rattle.std.proofs.lemmas.List.{flat_map_more}
-use Rattle.std.proofs.lemmas.Option.{get_or_from_slice_get, slice_get_within}
 use Rattle.std.proofs.lemmas.List.FromFn.{map-range_with_len_more}
 
 range_more : (a n j : ℕ) → a + n ≡ j → range_with_len a (suc n) ≡ range_with_len a n ++ j ∷ []
 range_more a zero j e = let same : a ≡ j = omega arith in ap (λ k. k ∷ []) same
 range_more a (suc n) j e = ap (λ l. a ∷ l) (range_more (a + 1) n j (omega arith))
 
--- with the next row there is one more
-pub one_row_more : {X : Type 0} (f : ℕ → X) (a j : ℕ) (xs : List X) (k : ℕ) (x : X)
-    → a + k ≡ j → take k xs ≡ map f (range_with_len a k) → slice_get xs k ≡ Some x → x ≡ f j → take (k + 1) xs ≡ map f (range_with_len a (k + 1))
-one_row_more f a j xs k x place front here is =
-    let next : k + 1 ≡ suc k = omega arith in
-    ap (λ n. take n xs) next
-    ∙ take-suc xs k x (slice_get_within xs k x here)
-    ∙ ap₂ (λ ys y. ys ++ y ∷ []) front (get_or_from_slice_get xs k x x here ∙ is)
-    ∙ sym (map-range_with_len_more f a k j place)
+-- with the next number, from 0 or from 1, there is one more
+pub one_more : {X : Type 0} (f : ℕ → X) (k : ℕ) → map f (range_with_len 0 (k + 1)) ≡ map f (range_with_len 0 k) ++ f k ∷ []
+one_more f k = map-range_with_len_more f 0 k k (omega arith)
+
+pub one_more_from_1 : {X : Type 0} (f : ℕ → X) (k : ℕ) → map f (range_with_len 1 (k + 1)) ≡ map f (range_with_len 1 k) ++ f (k + 1) ∷ []
+one_more_from_1 f k = map-range_with_len_more f 1 k (k + 1) (omega arith)
 
 -- with the next item after the head there is one more
 pub one_item_more : {X : Type 0} (head : List X) (f : ℕ → X) (a k j : ℕ) (old new : List X) (x : X)
@@ -29,14 +24,8 @@ one_item_more head f a k j old new x place pushed is before =
     ∙ append_assoc head (map f (range_with_len a k)) (f j ∷ [])
     ∙ ap (λ ys. head ++ ys) (sym (map-range_with_len_more f a k j place))
 
--- with the next piece after the head there is one more
-pub one_piece_more : {X : Type 0} (head : List X) (f : ℕ → List X) (a k j : ℕ) (old new : List X)
-    → a + k ≡ j → new ≡ old ++ f j → old ≡ head ++ flat_map f (range_with_len a k) → new ≡ head ++ flat_map f (range_with_len a (k + 1))
-one_piece_more head f a k j old new place pushed before =
-    let next : suc k ≡ k + 1 = omega arith in
-    pushed
-    ∙ ap (λ ys. ys ++ f j) before
-    ∙ append_assoc head (flat_map f (range_with_len a k)) (f j)
-    ∙ ap (λ ys. head ++ ys) (flat_map_more f [] (range_with_len a k) j
-    ∙ ap (flat_map f) (sym (range_more a k j place))
-    ∙ ap (λ n. flat_map f (range_with_len a n)) next)
+-- with the next number, from 0, there is one piece more
+pub one_piece_more : {X : Type 0} (f : ℕ → List X) (k : ℕ) → flat_map f (range_with_len 0 (k + 1)) ≡ flat_map f (range_with_len 0 k) ++ f k
+one_piece_more f k =
+    let next : k + 1 ≡ suc k = omega arith in
+    ap (λ n. flat_map f (range_with_len 0 n)) next ∙ ap (flat_map f) (range_more 0 k k (omega arith)) ∙ sym (flat_map_more f [] (range_with_len 0 k) k)

@@ -1,2 +1,1 @@
 pub mod Demo
-pub mod Spelling

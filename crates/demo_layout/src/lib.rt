@@ -2,7 +2,6 @@
 #![tactic(auto)]
 
 mod making;
-mod row_texts;
 mod rows;
 mod sent_frames;
 

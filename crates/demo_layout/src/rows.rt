@@ -1,5 +1,5 @@
-//! Compares the rows of a layout with those of demo. A difference is answered as want of memory.
-ghost use Rattle.std.specs.Prelude.{◌≡◌, ◌≤◌, ◌<◌, ◌+◌, ◌*◌, ◌^◌, ◌++◌, true, decimal, map, length, OnOk};
+//! The rows of segments, stations and repeaters.
+ghost use Rattle.std.specs.Prelude.{◌≡◌, ◌≤◌, ◌+◌, ◌*◌, ◌++◌, decimal, map, IfOk};
 ghost use Rattle.std.specs.List.{range_with_len};
 ghost use Rattle.layout.specs.Limits.{most_repeaters};
 ghost use Rattle.demo_layout.specs.Demo.{demo_segment, demo_station, demo_port_in, demo_port_out, demo_repeater};
@@ -7,50 +7,47 @@ ghost use Rattle.demo_layout.specs.Demo.{demo_segment, demo_station, demo_port_i
 use layout::{
     PortLine, RepeaterLine, RepeaterLines, SegmentLine, SegmentLines, StationLine, StationLines,
 };
-use lists::{OutOfMemory, Text};
+use lists::{List, OutOfMemory, Text};
 use std::alloc::Global;
 
 /// Where a segment's four stations are, in half bits from the cable's end (profile).
-pub const STATION_PLACES: [u32; 4] = [10, 20, 30, 50];
+const STATION_PLACES: [u32; 4] = [10, 20, 30, 50];
 
 /// The half bits of each repeater (profile).
-pub const DELAY: u32 = 28;
+const DELAY: u32 = 28;
 
-/// Nothing where the fact holds.
-pub fn expect(holds: bool) -> Result<(), OutOfMemory>
-    ensures { OnOk result (holds ≡ true) }
+/// That letter and the number.
+fn name(alloc: Global, letter: &str, number: u32) -> Result<Text, OutOfMemory>
+    ensures { IfOk result (λ name. name ≡ letter.now ++ decimal number) }
 {
-    if holds { Ok(()) } else { Err(OutOfMemory) }
+    let text = format!(in alloc; "{letter}{number}")?;
+    Text::new(alloc, text.as_str())
 }
 
-/// The name is that letter and the number.
-fn expect_name(alloc: Global, letter: &str, number: u32, name: &Text) -> Result<(), OutOfMemory>
-    ensures { OnOk result (name.now ≡ letter.now ++ decimal number) }
+/// The segment of that number.
+fn segment(alloc: Global, number: u32) -> Result<SegmentLine, OutOfMemory>
+    ensures { IfOk result (λ row. row ≡ demo_segment number) }
 {
-    let wanted = format!(in alloc; "{letter}{number}")?;
-    expect(name.as_str() == wanted.as_str())
+    Ok(SegmentLine {
+        name: name(alloc, "g", number)?,
+    })
 }
 
-/// The row is the segment of that number.
-fn expect_segment(alloc: Global, segment: u32, row: &SegmentLine) -> Result<(), OutOfMemory>
-    ensures { OnOk result (row.now ≡ demo_segment segment) }
+/// The station of that number.
+fn station(alloc: Global, number: u32) -> Result<StationLine, OutOfMemory>
+    ensures { IfOk result (λ row. row ≡ demo_station number) }
 {
-    expect_name(alloc, "g", segment, &row.name)
-}
-
-/// The row is the station of that number.
-fn expect_station(alloc: Global, station: u32, row: &StationLine) -> Result<(), OutOfMemory>
-    ensures { OnOk result (row.now ≡ demo_station station) }
-{
-    expect_name(alloc, "s", station, &row.name)?;
-    expect(row.segment == station / 4)?;
-    expect(row.at == STATION_PLACES[(station % 4) as usize])?;
-    expect(row.load.is_none())?;
-    expect(row.lose == 0)
+    Ok(StationLine {
+        name: name(alloc, "s", number)?,
+        segment: number / 4,
+        at: STATION_PLACES[(number % 4) as usize],
+        load: None,
+        lose: 0,
+    })
 }
 
 /// The port of a repeater on its earlier segment.
-pub fn port_in(repeater: u32) -> PortLine
+fn port_in(repeater: u32) -> PortLine
     requires { 1 ≤ repeater }
     ensures { result ≡ demo_port_in repeater }
 {
@@ -61,7 +58,7 @@ pub fn port_in(repeater: u32) -> PortLine
 }
 
 /// The port of a repeater on its own segment.
-pub fn port_out(repeater: u32) -> PortLine
+fn port_out(repeater: u32) -> PortLine
     ensures { result ≡ demo_port_out repeater }
 {
     PortLine {
@@ -70,56 +67,56 @@ pub fn port_out(repeater: u32) -> PortLine
     }
 }
 
-/// The row is the repeater of that number.
-fn expect_repeater(alloc: Global, repeater: u32, row: &RepeaterLine) -> Result<(), OutOfMemory>
-    requires { 1 ≤ repeater }
-    ensures { OnOk result (row.now ≡ demo_repeater repeater) }
+/// The repeater of that number.
+fn repeater(alloc: Global, number: u32) -> Result<RepeaterLine, OutOfMemory>
+    requires { 1 ≤ number }
+    ensures { IfOk result (λ row. row ≡ demo_repeater number) }
 {
-    expect_name(alloc, "r", repeater, &row.name)?;
-    expect(row.delay == DELAY)?;
-    match row.ports.as_slice() {
-        [first, second] => {
-            expect(*first == port_in(repeater))?;
-            expect(*second == port_out(repeater))
-        }
-        _ => Err(OutOfMemory),
-    }
+    let mut ports = List::new(alloc);
+    ports.push(port_in(number))?;
+    ports.push(port_out(number))?;
+    Ok(RepeaterLine {
+        name: name(alloc, "r", number)?,
+        delay: DELAY,
+        ports,
+    })
 }
 
-/// The rows are the segments of demo of that number.
-pub fn expect_segments(alloc: Global, number: u32, rows: &SegmentLines) -> Result<(), OutOfMemory>
+/// The segments of demo of that number.
+#[tactic(auto, using(crate::proofs::RowsInOrder::one_more))]
+pub fn segments(alloc: Global, number: u32) -> Result<SegmentLines, OutOfMemory>
     requires { number ≤ most_repeaters }
-    ensures { OnOk result (rows.now ≡ map demo_segment (range_with_len 0 (number + 1))) }
+    ensures { IfOk result (λ rows. rows ≡ map demo_segment (range_with_len 0 (number + 1))) }
 {
-    let count = number + 1;
-    expect(rows.len() == count as usize)?;
-    for segment in 0..count {
-        expect_segment(alloc, segment, rows.get(segment as usize))?;
+    let mut rows = List::new(alloc);
+    for place in 0..number + 1 {
+        rows.push(segment(alloc, place)?)?;
     }
-    Ok(())
+    Ok(rows)
 }
 
-/// The rows are the stations of demo of that number.
-pub fn expect_stations(alloc: Global, number: u32, rows: &StationLines) -> Result<(), OutOfMemory>
+/// The stations of demo of that number.
+#[tactic(auto, using(crate::proofs::RowsInOrder::one_more))]
+pub fn stations(alloc: Global, number: u32) -> Result<StationLines, OutOfMemory>
     requires { number ≤ most_repeaters }
-    ensures { OnOk result (rows.now ≡ map demo_station (range_with_len 0 (4 * (number + 1)))) }
+    ensures { IfOk result (λ rows. rows ≡ map demo_station (range_with_len 0 (4 * (number + 1)))) }
 {
-    let count = 4 * (number + 1);
-    expect(rows.len() == count as usize)?;
-    for station in 0..count {
-        expect_station(alloc, station, rows.get(station as usize))?;
+    let mut rows = List::new(alloc);
+    for place in 0..4 * (number + 1) {
+        rows.push(station(alloc, place)?)?;
     }
-    Ok(())
+    Ok(rows)
 }
 
-/// The rows are the repeaters of demo of that number, which count from 1.
-pub fn expect_repeaters(alloc: Global, number: u32, rows: &RepeaterLines) -> Result<(), OutOfMemory>
+/// The repeaters of demo of that number, which count from 1.
+#[tactic(auto, using(crate::proofs::RowsInOrder::one_more_from_1))]
+pub fn repeaters(alloc: Global, number: u32) -> Result<RepeaterLines, OutOfMemory>
     requires { number ≤ most_repeaters }
-    ensures { OnOk result (rows.now ≡ map demo_repeater (range_with_len 1 number)) }
+    ensures { IfOk result (λ rows. rows ≡ map demo_repeater (range_with_len 1 number)) }
 {
-    expect(rows.len() == number as usize)?;
+    let mut rows = List::new(alloc);
     for place in 0..number {
-        expect_repeater(alloc, place + 1, rows.get(place as usize))?;
+        rows.push(repeater(alloc, place + 1)?)?;
     }
-    Ok(())
+    Ok(rows)
 }

@@ -44,6 +44,7 @@ fn send(alloc: Global, station: u32, j: u32) -> Result<SendLine, OutOfMemory>
 }
 
 /// Puts the sends of a station at the end.
+#[tactic(auto, using(crate::proofs::RowsInOrder::one_more, std::proofs::lemmas::List::append_assoc))]
 fn add_sends(alloc: Global, sends: &mut SendLines, station: u32) -> Result<(), OutOfMemory>
     requires { station < 2 ^ 16 }
     ensures { OnOk result (sends.new ≡ sends.old ++ demo_sends_of station) }
@@ -55,6 +56,7 @@ fn add_sends(alloc: Global, sends: &mut SendLines, station: u32) -> Result<(), O
 }
 
 /// The sends of demo of that number.
+#[tactic(auto, using(crate::proofs::RowsInOrder::one_piece_more))]
 pub fn sends(alloc: Global, number: u32) -> Result<SendLines, OutOfMemory>
     requires { number ≤ most_repeaters }
     ensures { IfOk result (λ sends. sends ≡ demo_sends number) }

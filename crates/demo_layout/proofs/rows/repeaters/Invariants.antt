@@ -1,0 +1,7 @@
+use Rattle.std.proofs.Common.{◌≡◌, map}
+use Rattle.std.specs.List.{range_with_len}
+use Rattle.demo_layout.specs.Demo.{demo_repeater}
+use Rattle.demo_layout.proofs.rows.repeaters.Given as goal
+
+abbrev pub invariant-loop-place : goal.invariant-loop-place
+invariant-loop-place l = l.rows ≡ map demo_repeater (range_with_len 1 l.place)
