@@ -4,7 +4,7 @@ use Rattle.std.proofs.lemmas.List.{take-take, drop-set-add}
 use Rattle.std.proofs.lemmas.Nat.{mul-add-lt}
 use Rattle.std.proofs.Math.Seq.{take-set-lt}
 use Rattle.manchester_line.specs.declared.Sym.{Sym}
-use Rattle.cable_segment.specs.Cable.{Told}
+use Rattle.cable_segment.specs.Cable.{CableHistory}
 
 pub take-append-take : {X : Type 0} → (n m : ℕ) (xs ys : List X) → n ≤ m → take n (xs ++ take m ys) ≡ take n (xs ++ ys)
 take-append-take n m [] ys h = take-take n m ys h
@@ -27,8 +27,8 @@ pub length-window : {X : Type 0} → (xs : List X) (start span : ℕ) → start 
 length-window xs start span h = length-take-le span _ (omega (arith, length-drop start xs))
 
 -- two records of what a cable was told
-pub same_told : (ps : List ℕ) (a : ℕ) (m n : ℕ) (xs ys : List Sym) → m ≡ n → xs ≡ ys → ◌≡◌ {A = Told} (record { positions = ps; ahead = a; past = m; rows = xs }) (record { positions = ps; ahead = a; past = n; rows = ys })
-same_told ps a m n xs ys e f = ap₂ (λ (k : ℕ) (zs : List Sym). let r : Told = record { positions = ps; ahead = a; past = k; rows = zs } in r) e f
+pub same_told : (ps : List ℕ) (a : ℕ) (m n : ℕ) (xs ys : List Sym) → m ≡ n → xs ≡ ys → ◌≡◌ {A = CableHistory} (record { positions = ps; ahead = a; past = m; rows = xs }) (record { positions = ps; ahead = a; past = n; rows = ys })
+same_told ps a m n xs ys e f = ap₂ (λ (k : ℕ) (zs : List Sym). let r : CableHistory = record { positions = ps; ahead = a; past = k; rows = zs } in r) e f
 
-pub same_places : {ps qs : List ℕ} {a m : ℕ} {xs ys : List Sym} → ps ≡ qs → xs ≡ ys → ◌≡◌ {A = Told} (record { positions = ps; ahead = a; past = m; rows = xs }) (record { positions = qs; ahead = a; past = m; rows = ys })
-same_places {a = a} {m = m} e f = ap₂ (λ (qs : List ℕ) (zs : List Sym). let r : Told = record { positions = qs; ahead = a; past = m; rows = zs } in r) e f
+pub same_places : {ps qs : List ℕ} {a m : ℕ} {xs ys : List Sym} → ps ≡ qs → xs ≡ ys → ◌≡◌ {A = CableHistory} (record { positions = ps; ahead = a; past = m; rows = xs }) (record { positions = qs; ahead = a; past = m; rows = ys })
+same_places {a = a} {m = m} e f = ap₂ (λ (qs : List ℕ) (zs : List Sym). let r : CableHistory = record { positions = qs; ahead = a; past = m; rows = zs } in r) e f

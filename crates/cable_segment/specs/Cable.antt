@@ -13,7 +13,7 @@ abbrev pub rows_back : ℕ
 rows_back = greatest_place + 1
 
 -- what a cable was told
-pub record Told : Type 0 where
+pub record CableHistory : Type 0 where
   -- where each tap is, in half bits from the cable's end
   pub positions : List ℕ
   -- how many half bits to come have a row
@@ -24,15 +24,15 @@ pub record Told : Type 0 where
   pub rows : List Sym
 
 -- the place among all rows of a tap, from 0, in a row, from 0
-abbrev pub symbol_place : Told → ℕ → ℕ → ℕ
+abbrev pub symbol_place : CableHistory → ℕ → ℕ → ℕ
 symbol_place c row tap = row * length c.positions + tap
 
 -- what a tap was told for the half bit `back` before the present one
-abbrev pub told_at : Told → ℕ → ℕ → Sym
+abbrev pub told_at : CableHistory → ℕ → ℕ → Sym
 told_at c back tap = slice_index_or c.rows (symbol_place c (c.ahead + back) tap) Idle
 
 -- a cable at time 0, when every tap has emitted Idle
-abbrev pub silent : List ℕ → ℕ → Told
+abbrev pub silent : List ℕ → ℕ → CableHistory
 silent positions ahead =
     record {
       positions = positions;
@@ -42,7 +42,7 @@ silent positions ahead =
     }
 
 -- the symbol of a tap in one row is set
-abbrev pub told : Told → ℕ → ℕ → Sym → Told
+abbrev pub told : CableHistory → ℕ → ℕ → Sym → CableHistory
 told c row tap s =
     record {
       positions = c.positions;
@@ -52,7 +52,7 @@ told c row tap s =
     }
 
 -- one half bit on: a row of Idle comes first, and the last row goes
-abbrev pub advanced : Told → Told
+abbrev pub advanced : CableHistory → CableHistory
 advanced c =
     record {
       positions = c.positions;

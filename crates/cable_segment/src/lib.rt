@@ -36,10 +36,10 @@ pub struct Cable {
 impl Model for Cable {
     ghost use Rattle.std.specs.Prelude.{◌≡◌, ◌≤◌, ◌<◌, ◌+◌, ◌*◌, length, take, drop, All, ℕ};
     ghost use Rattle.mac_parameters.specs.Parameters.{greatest_place};
-    ghost use Rattle.cable_segment.specs.Cable.{Told, most_ahead, rows_back};
+    ghost use Rattle.cable_segment.specs.Cable.{CableHistory, most_ahead, rows_back};
     ghost use Rattle.cable_segment.specs.Skips.{Skips};
 
-    ghost Value = { Told };
+    ghost Value = { CableHistory };
 
     ghost view = { λ c. record { positions = c.positions.items; ahead = c.ahead; past = c.past; rows = take c.span (drop c.start c.slots.items) } };
 

@@ -4,7 +4,7 @@ ghost use Rattle.std.specs.Prelude.{◌≡◌, ◌++◌, ◌≤◌, IfOk, OnOk, 
 use lists::List;
 
 /// Octets, such as those of a frame.
-pub type Octets = List<u8>;
+pub type FrameOctets = List<u8>;
 
 /// A frame that was captured.
 #[derive(Debug, Drop)]
@@ -14,7 +14,7 @@ pub struct Record {
     /// How many octets it had on the line.
     pub original: u32,
     /// The octets that were kept.
-    pub octets: Octets,
+    pub octets: FrameOctets,
 }
 
 /// The records of a capture, in the file's order.

@@ -3,7 +3,7 @@ ghost use Rattle.std.specs.Prelude.{◌≡◌, ◌+◌, ◌≤◌, IfOk, length}
 ghost use Rattle.std.specs.Bool.{OnTrue};
 ghost use Rattle.capture_file.specs.Captures.{captured_length, field, form_of, header, is_overlong, is_whole, nanos_at, record_at};
 
-use crate::{CaptureFault, Octets, Record};
+use crate::{CaptureFault, FrameOctets, Record};
 use byteorder::{BigEndian, ByteOrder, LittleEndian};
 use lists::OutOfMemory;
 use std::alloc::Global;
@@ -143,7 +143,7 @@ pub fn record_at(alloc: Global, form: Form, octets: &[u8]) -> Result<Record, Out
     requires { RECORD_OCTETS + captured_length form octets.now ≤ length octets.now }
     ensures { IfOk result (λ r. r ≡ record_at form octets.now) }
 {
-    let mut kept = Octets::new(alloc);
+    let mut kept = FrameOctets::new(alloc);
     kept.extend(&octets[RECORD_OCTETS..RECORD_OCTETS + captured(form, octets)])?;
     Ok(Record {
         nanos: nanos_at(form, octets),

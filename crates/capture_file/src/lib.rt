@@ -9,7 +9,7 @@ mod reader;
 mod reading;
 mod writer;
 
-pub use entries::{Octets, Record, Records};
+pub use entries::{FrameOctets, Record, Records};
 pub use fault::CaptureFault;
 pub use lists::OutOfMemory;
 pub use reader::{CaptureReader, read_capture};

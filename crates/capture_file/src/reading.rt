@@ -7,7 +7,7 @@ use crate::entries::{Records, shorten};
 use crate::form::{
     Form, HEADER_OCTETS, RECORD_OCTETS, captured, header, is_long, is_whole, record_at,
 };
-use crate::{CaptureFault, Octets, OutOfMemory};
+use crate::{CaptureFault, FrameOctets, OutOfMemory};
 use std::alloc::Global;
 
 /// How far a capture has come.
@@ -28,7 +28,7 @@ pub struct Reading {
     /// The whole records.
     pub records: Records,
     /// The octets after them, or all of them before the header is whole.
-    pub rest: Octets,
+    pub rest: FrameOctets,
 }
 
 /// Puts the whole records that stand in front at the end, and answers what is left after them. On refusal
@@ -104,12 +104,12 @@ fn read_on(
 }
 
 /// The last octets of some, so many of them.
-fn last_of(alloc: Global, octets: &[u8], count: usize) -> Result<Octets, OutOfMemory>
+fn last_of(alloc: Global, octets: &[u8], count: usize) -> Result<FrameOctets, OutOfMemory>
     requires { count ≤ length octets.now }
     ensures last { IfOk result (λ last. last ≡ drop (length octets.now - count) octets.now) }
     ensures none { count ≡ 0 → IsOk result }
 {
-    let mut last = Octets::new(alloc);
+    let mut last = FrameOctets::new(alloc);
     if count > 0 {
         last.extend(&octets[octets.len() - count..])?;
     }
@@ -124,7 +124,7 @@ impl Reading {
         Reading {
             stage: Stage::Header,
             records: Records::new(alloc),
-            rest: Octets::new(alloc),
+            rest: FrameOctets::new(alloc),
         }
     }
 
@@ -135,7 +135,7 @@ impl Reading {
         Reading {
             stage: Stage::Faulty(fault),
             records: Records::new(alloc),
-            rest: Octets::new(alloc),
+            rest: FrameOctets::new(alloc),
         }
     }
 

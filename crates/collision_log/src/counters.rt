@@ -2,7 +2,7 @@
 ghost use Rattle.std.specs.Prelude.{◌≡◌, ◌≤◌, ◌+◌, ◌-◌, ◌^◌, ◌++◌, ℕ, length, take, drop};
 ghost use Rattle.collision_log.specs.Counters.{RowsAtMost, counters_line, counters_words, late_count, no_counts, queue_words, receiving_words, repeating_words, sending_words, with_dropped, with_row};
 
-use crate::line::Line;
+use crate::line::LineText;
 use crate::texts::write_device;
 use crate::{Body, Why};
 use mac_parameters::SLOT_TIME;
@@ -121,14 +121,14 @@ pub fn counters_text(counters: &Counters, repeater: bool, name: &str, out: &mut 
     ensures fits { result ≤ 800 }
     ensures rest { drop result out.new ≡ drop result out.old }
 {
-    let mut line = Line::new();
+    let mut line = LineText::new();
     write_device(&mut line, repeater, name);
     write_words(&mut line, counters, repeater);
     line.text(b"\n");
     line.copy_to(out)
 }
 
-fn write_words(line: &mut Line, counters: &Counters, repeater: bool)
+fn write_words(line: &mut LineText, counters: &Counters, repeater: bool)
     requires left { counters.now.sent + counters.now.given_up ≤ counters.now.queued }
     requires room { length line.old ≤ 100 }
     ensures text { line.new ≡ line.old ++ counters_words counters.now repeater }
@@ -143,7 +143,7 @@ fn write_words(line: &mut Line, counters: &Counters, repeater: bool)
     }
 }
 
-fn write_queue(line: &mut Line, counters: &Counters)
+fn write_queue(line: &mut LineText, counters: &Counters)
     requires { length line.old ≤ 100 }
     ensures text { line.new ≡ line.old ++ queue_words counters.now }
     ensures short { length line.new ≤ length line.old + 110 }
@@ -154,7 +154,7 @@ fn write_queue(line: &mut Line, counters: &Counters)
     line.field(b" snapped ", counters.snapped);
 }
 
-fn write_sending(line: &mut Line, counters: &Counters)
+fn write_sending(line: &mut LineText, counters: &Counters)
     requires left { counters.now.sent + counters.now.given_up ≤ counters.now.queued }
     requires room { length line.old ≤ 300 }
     ensures text { line.new ≡ line.old ++ sending_words counters.now }
@@ -169,7 +169,7 @@ fn write_sending(line: &mut Line, counters: &Counters)
     line.field(b" left ", left);
 }
 
-fn write_receiving(line: &mut Line, counters: &Counters)
+fn write_receiving(line: &mut LineText, counters: &Counters)
     requires { length line.old ≤ 500 }
     ensures text { line.new ≡ line.old ++ receiving_words counters.now }
     ensures short { length line.new ≤ length line.old + 171 }
@@ -182,7 +182,7 @@ fn write_receiving(line: &mut Line, counters: &Counters)
     line.field(b" damaged ", counters.damaged);
 }
 
-fn write_repeating(line: &mut Line, counters: &Counters)
+fn write_repeating(line: &mut LineText, counters: &Counters)
     requires { length line.old ≤ 100 }
     ensures text { line.new ≡ line.old ++ repeating_words counters.now }
     ensures short { length line.new ≤ length line.old + 114 }

@@ -9,12 +9,12 @@ const ROOM: usize = 800;
 
 /// A line under way, which a contract sees as its octets.
 #[derive(Drop)]
-pub struct Line {
+pub struct LineText {
     octets: [u8; ROOM],
     len: usize,
 }
 
-impl Model for Line {
+impl Model for LineText {
     ghost use Rattle.std.specs.Prelude.{List, ℕ, take, ◌≤◌};
 
     ghost Value = { List ℕ };
@@ -24,12 +24,12 @@ impl Model for Line {
     ghost invariant = { λ l. l.len ≤ 800 };
 }
 
-impl Line {
+impl LineText {
     /// The empty line.
-    pub fn new() -> Line
+    pub fn new() -> LineText
         ensures { result ≡ [] }
     {
-        Line {
+        LineText {
             octets: [0; ROOM],
             len: 0,
         }

@@ -3,7 +3,7 @@ ghost use Rattle.std.specs.Prelude.{◌≡◌, ◌≤◌, ◌+◌, ◌++◌, len
 ghost use Rattle.collision_log.specs.declared.row.Body.TheVariants.{Collided, Cut, Dropped};
 ghost use Rattle.collision_log.specs.Rows.{body_text, device_word, hit_text, row_line, why_text};
 
-use crate::line::Line;
+use crate::line::LineText;
 use crate::{Body, Row, Why};
 
 /// Writes the line of a row of a repeater or a station with this name, of at most 32 octets, at the front
@@ -15,7 +15,7 @@ pub fn row_text(row: &Row, repeater: bool, name: &str, out: &mut [u8]) -> usize
     ensures fits { result ≤ 200 }
     ensures rest { drop result out.new ≡ drop result out.old }
 {
-    let mut line = Line::new();
+    let mut line = LineText::new();
     line.number(row.t);
     line.text(b" ");
     write_device(&mut line, repeater, name);
@@ -26,7 +26,7 @@ pub fn row_text(row: &Row, repeater: bool, name: &str, out: &mut [u8]) -> usize
 }
 
 /// Writes what a device is, and its name.
-pub fn write_device(line: &mut Line, repeater: bool, name: &str)
+pub fn write_device(line: &mut LineText, repeater: bool, name: &str)
     requires name { length name.now ≤ 32 }
     requires room { length line.old ≤ 100 }
     ensures text { line.new ≡ line.old ++ device_word repeater ++ name.now }
@@ -36,7 +36,7 @@ pub fn write_device(line: &mut Line, repeater: bool, name: &str)
     line.text(name.as_bytes());
 }
 
-fn write_body(line: &mut Line, body: &Body)
+fn write_body(line: &mut LineText, body: &Body)
     requires { length line.old ≤ 100 }
     ensures text { line.new ≡ line.old ++ body_text body.now }
     ensures short { length line.new ≤ length line.old + 102 }
@@ -78,7 +78,7 @@ fn write_body(line: &mut Line, body: &Body)
     }
 }
 
-fn write_collided(line: &mut Line, frame: u32, start: u64, attempt: u32, hit: u32, drawn: u32)
+fn write_collided(line: &mut LineText, frame: u32, start: u64, attempt: u32, hit: u32, drawn: u32)
     requires { length line.old ≤ 100 }
     ensures text { line.new ≡ line.old ++ body_text (Collided frame start attempt hit drawn) }
     ensures short { length line.new ≤ length line.old + 102 }
@@ -90,7 +90,7 @@ fn write_collided(line: &mut Line, frame: u32, start: u64, attempt: u32, hit: u3
     line.field(b" draw ", u64::from(drawn));
 }
 
-fn write_cut(line: &mut Line, frame: u32, start: u64, attempt: u32, hit: Option<u32>)
+fn write_cut(line: &mut LineText, frame: u32, start: u64, attempt: u32, hit: Option<u32>)
     requires { length line.old ≤ 100 }
     ensures text { line.new ≡ line.old ++ body_text (Cut frame start attempt hit) }
     ensures short { length line.new ≤ length line.old + 102 }
@@ -102,7 +102,7 @@ fn write_cut(line: &mut Line, frame: u32, start: u64, attempt: u32, hit: Option<
     write_hit(line, hit);
 }
 
-fn write_dropped(line: &mut Line, why: Why, halves: u32)
+fn write_dropped(line: &mut LineText, why: Why, halves: u32)
     requires { length line.old ≤ 100 }
     ensures text { line.new ≡ line.old ++ body_text (Dropped why halves) }
     ensures short { length line.new ≤ length line.old + 102 }
@@ -112,7 +112,7 @@ fn write_dropped(line: &mut Line, why: Why, halves: u32)
     line.field(b" halves ", u64::from(halves));
 }
 
-fn write_hit(line: &mut Line, hit: Option<u32>)
+fn write_hit(line: &mut LineText, hit: Option<u32>)
     requires { length line.old ≤ 700 }
     ensures text { line.new ≡ line.old ++ hit_text hit }
     ensures short { length line.new ≤ length line.old + 10 }

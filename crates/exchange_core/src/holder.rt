@@ -8,7 +8,7 @@ ghost use Rattle.net_parts.specs.Boards.{place_in, has_edge};
 ghost use Rattle.exchange_core.specs.Holdings.{Holding, IsHoldingReady, IsHoldingClean, IsSoundHolding, IsOnWay, edges_of_parcels, place_of_edge, new_holding, absent_parcel, emptied_parcel, parcel_of_edge, added_segment, added_repeater, reserved_holding, refused_holding, run_holding, spoil_holding, vacate_holding, take_holding};
 ghost use Rattle.exchange_core.specs.Shares.{AreParcelsFor, part_on, has_place, leaves, received_on};
 
-use crate::lane::Lane;
+use crate::lane::PartsOfKind;
 use lists::OutOfMemory;
 use net_parts::{Parcel, ParcelList, Part, Symbols};
 use std::alloc::Global;
@@ -225,7 +225,7 @@ impl<P: Part> Holder<P> {
         &mut self,
         edge: u32,
         hint: u32,
-        to: &mut Lane<Q>,
+        to: &mut PartsOfKind<Q>,
         part: u32,
         there: u32,
     ) -> bool
@@ -308,7 +308,7 @@ impl<P: Part> Holder<P> {
         &mut self,
         here: usize,
         edge: u32,
-        to: &mut Lane<Q>,
+        to: &mut PartsOfKind<Q>,
         part: u32,
         there: u32,
     )

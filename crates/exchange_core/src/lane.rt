@@ -14,13 +14,13 @@ use std::marker::Model;
 
 /// Parts of one kind, each at the place of its number, and room to hand them out in the order in which they were added.
 #[derive(Drop)]
-pub struct Lane<P: Part> {
+pub struct PartsOfKind<P: Part> {
     places: Vec<Option<Holder<P>>>,
     order: Vec<u32>,
     spare: Vec<P>,
 }
 
-impl<P: Part> Model for Lane<P> {
+impl<P: Part> Model for PartsOfKind<P> {
     ghost use Rattle.std.specs.Prelude.{◌≡◌, ◌≤◌, [], vec_len, vec_capacity};
     ghost use Rattle.exchange_core.specs.Shares.{Rack, rack};
 
@@ -31,13 +31,13 @@ impl<P: Part> Model for Lane<P> {
     ghost invariant = { λ s. (s.spare.items ≡ []) × (vec_len s.order ≤ vec_capacity s.spare) };
 }
 
-impl<P: Part> Lane<P> {
+impl<P: Part> PartsOfKind<P> {
     /// No parts, which takes no memory.
-    pub fn new(alloc: Global) -> Lane<P>
+    pub fn new(alloc: Global) -> PartsOfKind<P>
         ensures places { result.places ≡ [] }
         ensures order { result.order ≡ [] }
     {
-        Lane {
+        PartsOfKind {
             places: Vec::new(alloc),
             order: Vec::new(alloc),
             spare: Vec::new(alloc),
@@ -170,7 +170,13 @@ impl<P: Part> Lane<P> {
     /// Brings the parcel of an edge to a part of the other kind, if it is at this part, which has the edge, and goes
     /// there, and says whether it is so. Where that part isn't there, the parcel is emptied, and its memory stays here.
     /// It is looked for at the places that are given.
-    pub fn bring<Q: Part>(&mut self, from: Spot, edge: u32, to: &mut Lane<Q>, at: Spot) -> bool
+    pub fn bring<Q: Part>(
+        &mut self,
+        from: Spot,
+        edge: u32,
+        to: &mut PartsOfKind<Q>,
+        at: Spot,
+    ) -> bool
         requires { leaves edge (part_on from.part self.old) ≡ true → IfSome (part_on at.part to.old) (λ h. IsTrueParcel h.plan (parcel_in edge (part_on from.part self.old))) }
         ensures value { result ≡ leaves edge (part_on from.part self.old) }
         ensures left { self.new ≡ (if leaves edge (part_on from.part self.old) then change_on (vacate_holding edge) from.part self.old else self.old) }
@@ -201,7 +207,7 @@ impl<P: Part> Lane<P> {
         requires { IsAddedInOrder self }
         ensures { map (λ p. handed_as (P.plan p) (P.number p) (P.at p)) result.items ≡ handed_out self }
     {
-        let Lane {
+        let PartsOfKind {
             places,
             order,
             spare,
@@ -334,7 +340,7 @@ fn bring_at<P: Part, Q: Part>(
     place: &mut Option<Holder<P>>,
     edge: u32,
     hint: u32,
-    to: &mut Lane<Q>,
+    to: &mut PartsOfKind<Q>,
     at: Spot,
 ) -> bool
     requires { leaves edge place.old ≡ true → IfSome (part_on at.part to.old) (λ h. IsTrueParcel h.plan (parcel_in edge place.old)) }

@@ -8,7 +8,7 @@ ghost use Rattle.exchange_core.specs.Holdings.{IsHoldingReady, IsHoldingClean, M
 ghost use Rattle.exchange_core.specs.Shares.{Held, nothing_held, part_of, owns, change, is_refilled, posted_parcel, post_held, has_place_for, take_held, may_post, first_with_edge, carry_held, with_segment, with_repeater, handed_as, handed_out, IsOfPlan, HasNoneOf, AreParcelsFor, IsSoundShare};
 
 use crate::holder::{Holder, absent_parcel};
-use crate::lane::Lane;
+use crate::lane::PartsOfKind;
 use crate::spots::Spots;
 use lists::OutOfMemory;
 use net_parts::{Parcel, ParcelList, Part};
@@ -23,8 +23,8 @@ pub type PartList<T> = Vec<T>;
 #[derive(Drop)]
 pub struct Share<S: Part, R: Part> {
     alloc: Global,
-    segments: Lane<S>,
-    repeaters: Lane<R>,
+    segments: PartsOfKind<S>,
+    repeaters: PartsOfKind<R>,
     segment_spots: Spots,
     repeater_spots: Spots,
 }
@@ -46,8 +46,8 @@ impl<S: Part, R: Part> Share<S, R> {
     {
         Share {
             alloc,
-            segments: Lane::new(alloc),
-            repeaters: Lane::new(alloc),
+            segments: PartsOfKind::new(alloc),
+            repeaters: PartsOfKind::new(alloc),
             segment_spots: Spots::new(alloc),
             repeater_spots: Spots::new(alloc),
         }

@@ -2,7 +2,7 @@
 
 use crate::lines::{first_word, row_fault, shape_fault};
 use crate::states::{form_fault, order_fault, tell_value};
-use input_hints::{Ended, Line, after, read_line, show, show_front, word_at};
+use input_hints::{Ended, LineFront, after, read_line, show, show_front, word_at};
 use lists::OutOfMemory;
 use outside::Store;
 use std::alloc::Global;
@@ -13,7 +13,7 @@ fn tell_line(
     file: &str,
     line: u64,
     what: &str,
-    found: &Option<Line>,
+    found: &Option<LineFront>,
 ) -> Result<(), OutOfMemory> {
     out.push_str("netsim: ")?;
     show(out, file)?;
@@ -33,7 +33,7 @@ fn tell_line(
     Ok(())
 }
 
-fn text_of(line: &Option<Line>) -> &str {
+fn text_of(line: &Option<LineFront>) -> &str {
     match line {
         Some(line) => str::from_utf8(line.front.as_slice()).unwrap_or(""),
         None => "",
@@ -41,7 +41,7 @@ fn text_of(line: &Option<Line>) -> &str {
 }
 
 /// What is wrong with a line that is none of a log.
-fn log_fault(found: &Option<Line>) -> &'static str {
+fn log_fault(found: &Option<LineFront>) -> &'static str {
     let text = text_of(found);
     match found {
         Some(line) => shape_fault(text, line.ends_file)

@@ -12,19 +12,12 @@ const NANOSECONDS: [u8; 94] = [
     0x02, 0x00, 0x00, 0x00, 0x00, 0x02, 0x08, 0x06, 0x00, 0x01, 0x08, 0x00, 0x06, 0x04,
 ];
 
-/// A header in microseconds with the lowest octet of a number first.
-const LITTLE: [u8; 24] = [
-    0xd4, 0xc3, 0xb2, 0xa1, 2, 0, 4, 0, 0, 0, 0, 0, 0, 0, 0, 0, 0xff, 0xff, 0, 0, 1, 0, 0, 0,
+/// A header in microseconds with the lowest octet of a number first, and that of a record which says it has 262,145
+/// octets.
+const LONG: [u8; 40] = [
+    0xd4, 0xc3, 0xb2, 0xa1, 2, 0, 4, 0, 0, 0, 0, 0, 0, 0, 0, 0, 0xff, 0xff, 0, 0, 1, 0, 0, 0, 0, 0,
+    0, 0, 0, 0, 0, 0, 1, 0, 4, 0, 1, 0, 4, 0,
 ];
-
-/// `LITTLE` and the header of a record that says it has so many octets, lowest octet first.
-fn with_record(captured: [u8; 4]) -> [u8; 40] {
-    let mut file = [0; 40];
-    file[..24].copy_from_slice(&LITTLE);
-    file[32..36].copy_from_slice(&captured);
-    file[36..].copy_from_slice(&captured);
-    file
-}
 
 /// The first `n` octets, or all of them where there are fewer.
 fn front(octets: &[u8], n: usize) -> &[u8] {
@@ -43,24 +36,32 @@ fn told(answer: Result<Records, CaptureFault>) -> Result<usize, CaptureFault> {
     }
 }
 
+/// Puts a record of octets, of which a frame has no more than 1,518, at the end of a capture.
+fn add(writer: &mut CaptureWriter, nanos: u64, octets: &[u8]) -> Result<(), CaptureFault> {
+    if nanos > 2_000_000_000_000_000_000 || octets.len() > 1_518 {
+        return Err(CaptureFault::Short);
+    }
+    writer.add(nanos, octets)
+}
+
 #[test]
 fn what_is_written_is_what_another_tool_writes(rt: HostRuntime) -> Result<(), CaptureFault> {
     let mut writer = CaptureWriter::new(rt.alloc())?;
-    writer.add(1_795_752_306_123_456_789, &NANOSECONDS[40..58])?;
-    writer.add(1_795_752_307_000_000_001, &NANOSECONDS[74..])?;
-    assert_eq!(rt; writer.bytes(), NANOSECONDS.as_slice());
+    add(&mut writer, 1_795_752_306_123_456_789, &NANOSECONDS[40..58])?;
+    add(&mut writer, 1_795_752_307_000_000_001, &NANOSECONDS[74..])?;
+    assert!(rt; writer.bytes() == NANOSECONDS.as_slice());
     writer.clear();
-    assert_eq!(rt; writer.bytes(), [].as_slice());
-    writer.add(1_795_752_307_000_000_001, &NANOSECONDS[74..])?;
-    assert_eq!(rt; writer.bytes(), &NANOSECONDS[58..]);
+    assert_eq!(rt; writer.bytes().len(), 0);
+    add(&mut writer, 1_795_752_307_000_000_001, &NANOSECONDS[74..])?;
+    assert!(rt; writer.bytes() == &NANOSECONDS[58..]);
     Ok(())
 }
 
 /// A capture of two records of 60 octets.
 fn two_records(alloc: Global) -> Result<CaptureWriter, CaptureFault> {
     let mut writer = CaptureWriter::new(alloc)?;
-    writer.add(0, &[0xa5; 60])?;
-    writer.add(50, &[0x5a; 60])?;
+    add(&mut writer, 0, &[0xa5; 60])?;
+    add(&mut writer, 50, &[0x5a; 60])?;
     Ok(writer)
 }
 
@@ -94,8 +95,7 @@ fn pieces_of_any_size_are_read_alike(rt: HostRuntime) -> Result<(), CaptureFault
             "at {size}"
         );
         let long = Err(CaptureFault::Length { number: 1 });
-        let file = with_record([1, 0, 4, 0]);
-        assert_eq!(rt; in_pieces(rt.alloc(), &file, size)?, (long, 0), "at {size}");
+        assert_eq!(rt; in_pieces(rt.alloc(), &LONG, size)?, (long, 0), "at {size}");
     }
     Ok(())
 }

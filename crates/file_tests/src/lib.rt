@@ -1,5 +1,5 @@
-//! Tests of what no command shows: captures and files by pieces, stores, merged logs, the layouts of demo, layouts that
-//! are lengthened, and states that are read back.
+//! Tests of what no command shows: captures and files by pieces, stores, merged logs, the layouts of demo, and layouts
+//! that are lengthened.
 #![tactic(auto)]
 
 #[cfg(test)]
@@ -13,8 +13,4 @@ mod pieces;
 #[cfg(test)]
 mod slacks;
 #[cfg(test)]
-mod states;
-#[cfg(test)]
 mod stores;
-#[cfg(test)]
-mod tables;

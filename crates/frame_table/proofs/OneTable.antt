@@ -7,7 +7,7 @@ use Rattle.layout.specs.Paths.{HasOnePath, IsPath, IsTap, Path}
 use Rattle.layout.specs.Taps.{tap_of}
 use Rattle.layout.specs.declared.lines.Layout.{Layout}
 use Rattle.layout.specs.declared.lines.StationLine.{StationLine}
-use Rattle.layout.specs.declared.ways.Tap.TheVariants.{Station}
+use Rattle.layout.specs.declared.ways.Attachment.TheVariants.{Station}
 use Rattle.layout.specs.declared.ways.Way.TheVariants as way
 use Rattle.layout.proofs.SoundTaps.{sound_one_path}
 use Rattle.load_plan.proofs.PlansAreSound.{sound_of_plan}

@@ -7,8 +7,8 @@ use Rattle.layout.specs.Joined.{counted_up}
 use Rattle.layout.specs.Paths.{IsPath, IsWalk, Path, length_of, place, step_length}
 use Rattle.layout.specs.declared.lines.Layout.{Layout}
 use Rattle.layout.specs.declared.lines.PortLine.{PortLine}
-use Rattle.layout.specs.declared.ways.Tap.{Tap}
-use Rattle.layout.specs.declared.ways.Tap.TheVariants.{Station, Port}
+use Rattle.layout.specs.declared.ways.Attachment.{Attachment}
+use Rattle.layout.specs.declared.ways.Attachment.TheVariants.{Station, Port}
 use Rattle.layout.specs.declared.ways.Way.{Way}
 use Rattle.layout.specs.declared.ways.Way.TheVariants as way
 use Rattle.layout.proofs.Cuts.{mapped}
@@ -23,7 +23,7 @@ use Rattle.frame_table.specs.Ways.{entries_on_path, entries_on}
 use Rattle.frame_table.specs.declared.history.End.{End}
 use Rattle.frame_table.specs.declared.reach.Reach.{Reach}
 use Rattle.frame_table.specs.declared.routes.Led.{Led}
-use Rattle.frame_table.specs.declared.told.Told.{Told}
+use Rattle.frame_table.specs.declared.told.ToldByLog.{ToldByLog}
 use Rattle.frame_table.proofs.FoundLast.{count_push_yes, count_push_no}
 use Rattle.frame_table.proofs.ReceptionsFound.{among_permuted}
 
@@ -46,7 +46,7 @@ others_more a b other =
 
 -- ---- what is kept of a way and of a port is what the log tells
 
-entered_same : (l : Layout) (lines : List LogLine) (told : Told) (t : ℕ) (w : Way) (a : Tap) (ts : List Tap) (b : Tap) (n : ℕ) → IsToldByLines l lines told → IsWalk l w a ts b
+entered_same : (l : Layout) (lines : List LogLine) (told : ToldByLog) (t : ℕ) (w : Way) (a : Attachment) (ts : List Attachment) (b : Attachment) (n : ℕ) → IsToldByLines l lines told → IsWalk l w a ts b
     → list_all (is_entered_by told t) (entries_on l w a ts n) ≡ list_all (is_entered l lines t) (entries_on l w a ts n)
 entered_same l lines told t w a [] b n h walk = refl
 entered_same l lines told t way.Cable a (s ∷ ss) b n h walk = entered_same l lines told t way.Repeater s ss b (n + step_length l way.Cable a s) h walk.1
@@ -55,11 +55,11 @@ entered_same l lines told t way.Repeater (Port r p) (s ∷ ss) b n h walk =
     let placed : (line : PortLine) × (place l (Port r p) ≡ Some line) = mapped (λ _. r) (place l (Port r p)) walk.0.part walk.0.from in
     ap₂ (λ x y. x && y) (ap (is_open (t + n)) (h.ports r p placed.0 placed.1)) (entered_same l lines told t way.Cable s ss b (n + step_length l way.Repeater (Port r p) s) h walk.1)
 
-module _ (l : Layout) (lines : List LogLine) (paths : ℕ → ℕ → Path) (told : Told) (a : ℕ) (routes : List (Option Led)) (known : AreKnown l lines paths told a routes) where
+module _ (l : Layout) (lines : List LogLine) (paths : ℕ → ℕ → Path) (told : ToldByLog) (a : ℕ) (routes : List (Option Led)) (known : AreKnown l lines paths told a routes) where
   path_same : (b : ℕ) (route : Led) (far : IsRoute l a b route) → b < length l.stations → (a ≡ b → ⊥) → ◌≡◌ {A = Path} (record { begins = way.Cable; taps = far.is.taps }) (paths a b)
   path_same b route far low differ =
       let taps_differ : Station a ≢ Station b = λ e. let same : a ≡ b = cc in differ same in
-      let leads : IsPath l (Station a) (record { begins = way.Cable; taps = far.is.taps }) (Station b) = subst (λ (x : Tap). IsWalk l way.Cable (Station a) far.is.taps x) far.to far.is.leads in
+      let leads : IsPath l (Station a) (record { begins = way.Cable; taps = far.is.taps }) (Station b) = subst (λ (x : Attachment). IsWalk l way.Cable (Station a) far.is.taps x) far.to far.is.leads in
       known.one.same (Station a) (Station b) taps_differ (record { begins = way.Cable; taps = far.is.taps }) (paths a b) leads (known.leads a b known.station low differ)
 
   pub length_same : (b : ℕ) (route : Led) → IsRoute l a b route → b < length l.stations → (a ≡ b → ⊥) → route.length ≡ length_of l (Station a) (paths a b)
@@ -96,7 +96,7 @@ reach_skips half_bits l paths lines octets t a b same =
     same_reach _ _ _ _ (ap (count_by (λ x. is_reached l lines octets t a x (paths a x))) e) (ap (count_by (λ x. is_missed half_bits l lines octets t a x (paths a x))) e)
 
 -- another one counts, by whether it was reached and whether the frame's end came to it in time
-counts_more : (half_bits : ℕ) (l : Layout) (paths : ℕ → ℕ → Path) (lines : List LogLine) (told : Told) (octets t a b : ℕ) (route : Led) → (b == a) ≡ false
+counts_more : (half_bits : ℕ) (l : Layout) (paths : ℕ → ℕ → Path) (lines : List LogLine) (told : ToldByLog) (octets t a b : ℕ) (route : Led) → (b == a) ≡ false
     → is_reached_by told octets t b route ≡ is_reached l lines octets t a b (paths a b) → route.length ≡ length_of l (Station a) (paths a b)
     → with_station told half_bits octets t b route (reach_among half_bits l paths lines octets t a b) ≡ reach_among half_bits l paths lines octets t a (b + 1)
 counts_more half_bits l paths lines told octets t a b route apart reached long =
@@ -122,7 +122,7 @@ counts_more half_bits l paths lines told octets t a b route apart reached long =
 apart_of : (a b : ℕ) → (b ≡ a → ⊥) → (b == a) ≡ false
 apart_of a b differ = elim (cases_Bool (b == a)) [ inl same ↦ absurd (differ (eqb-true b a same)) | inr other ↦ other ]
 
-pub reach_more : (half_bits : ℕ) (l : Layout) (lines : List LogLine) (paths : ℕ → ℕ → Path) (told : Told) (a : ℕ) (routes : List (Option Led)) (octets t b : ℕ) (route : Led) (before : Reach) → AreKnown l lines paths told a routes
+pub reach_more : (half_bits : ℕ) (l : Layout) (lines : List LogLine) (paths : ℕ → ℕ → Path) (told : ToldByLog) (a : ℕ) (routes : List (Option Led)) (octets t b : ℕ) (route : Led) (before : Reach) → AreKnown l lines paths told a routes
     → b < length routes → (b ≡ a → ⊥) → IsRoute l a b route → before ≡ reach_among half_bits l paths lines octets t a b
     → with_station told half_bits octets t b route before ≡ reach_among half_bits l paths lines octets t a (b + 1)
 reach_more half_bits l lines paths told a routes octets t b route before known low differ far before_is =

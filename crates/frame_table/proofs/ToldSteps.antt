@@ -15,7 +15,7 @@ use Rattle.frame_table.specs.Receptions.{AreReceptions, reception_cmp}
 use Rattle.frame_table.specs.Told.{AreChanges, AreOrdered, IsToldByLines, changes_at, items_of, receptions_at}
 use Rattle.frame_table.specs.declared.events.Event.{Event}
 use Rattle.frame_table.specs.declared.ports.Change.{Change}
-use Rattle.frame_table.specs.declared.told.Told.{Told}
+use Rattle.frame_table.specs.declared.told.ToldByLog.{ToldByLog}
 use Rattle.frame_table.proofs.PortChanges.{changes_rise}
 
 get_old : {X : Type 0} (xs ys : List X) (k : ℕ) → k < length xs → slice_get (xs ++ ys) k ≡ slice_get xs k
@@ -97,7 +97,7 @@ all_changes l events n ports all h = record {
 
 -- ---- what is told
 
-pub told_lines : (l : Layout) (lines : List LogLine) (events : List (List Event)) (told : Told) → ((k : ℕ) → k < length l.stations → AreReceptions (get_or events k []) (receptions_at told.receptions.items k)) → AreChanges l events told.ports
+pub told_lines : (l : Layout) (lines : List LogLine) (events : List (List Event)) (told : ToldByLog) → ((k : ℕ) → k < length l.stations → AreReceptions (get_or events k []) (receptions_at told.receptions.items k)) → AreChanges l events told.ports
     → ((k : ℕ) → k < length l.stations + length l.repeaters → get_or events k [] ≡ events_of l k lines) → IsToldByLines l lines told
 told_lines l lines events told received changes same = record {
   receptions = λ k low. subst (λ es. AreReceptions es (receptions_at told.receptions.items k)) (same k (omega arith)) (received k low);
@@ -107,7 +107,7 @@ told_lines l lines events told received changes same = record {
       changes.each r p line placed ∙ ap (changes_of (p + 1)) (same (length l.stations + r) (omega arith));
 }
 
-pub told_ordered : (l : Layout) (events : List (List Event)) (told : Told) → length told.receptions.items ≡ length l.stations
+pub told_ordered : (l : Layout) (events : List (List Event)) (told : ToldByLog) → length told.receptions.items ≡ length l.stations
     → ((k : ℕ) → k < length l.stations → AreReceptions (get_or events k []) (receptions_at told.receptions.items k)) → AreChanges l events told.ports
     → ((k : ℕ) → RisesFrom (λ e. e.t) 0 (get_or events k [])) → AreOrdered told
 told_ordered l events told count received changes rise = record {

@@ -2,8 +2,8 @@
 use Rattle.std.proofs.Common.{◌≡◌, ℕ, ◌+◌, ◌<◌, ◌==◌, cond, refl, sym, ap, ap₂, ◌∙◌, subst, inl, inr, List, [], ◌∷◌, ◌++◌, length, get_or, set, Option, Some, IfSome, arith, append_assoc, append-nil, eqb-true, length-set}
 use Rattle.std.proofs.lemmas.Bool.{cases_Bool}
 use Rattle.layout.specs.declared.lines.Layout.{Layout}
-use Rattle.layout.specs.declared.ways.Tap.{Tap}
-use Rattle.layout.specs.declared.ways.Tap.TheVariants.{Station}
+use Rattle.layout.specs.declared.ways.Attachment.{Attachment}
+use Rattle.layout.specs.declared.ways.Attachment.TheVariants.{Station}
 use Rattle.layout.specs.declared.ways.Way.{Way}
 use Rattle.layout.specs.declared.ways.Way.TheVariants as way
 use Rattle.layout.specs.Paths.{IsStep, IsWalk, other_way, step_length, walk_length}
@@ -11,19 +11,19 @@ use Rattle.path_checker.specs.Far.{IsStop}
 use Rattle.path_checker.specs.declared.stops.Stop.{Stop}
 use Rattle.frame_table.specs.Led.{AreLed, IsLed, IsRoute, gone_on, way_after}
 use Rattle.frame_table.specs.Ways.{entries_on, entry_by}
-use Rattle.frame_table.specs.declared.routes.Entry.{Entry}
+use Rattle.frame_table.specs.declared.routes.WayIn.{WayIn}
 use Rattle.frame_table.specs.declared.routes.Led.{Led}
 use Rattle.frame_table.proofs.FoundLast.{set_at_either}
 
-walk_on : (l : Layout) (w : Way) (a : Tap) (ts : List Tap) (b t : Tap) → IsWalk l w a ts b → IsStep l (way_after w ts) b t → IsWalk l w a (ts ++ t ∷ []) t
-walk_on l w a [] b t walk step = (subst (λ (x : Tap). IsStep l w x t) (sym walk) step, refl)
+walk_on : (l : Layout) (w : Way) (a : Attachment) (ts : List Attachment) (b t : Attachment) → IsWalk l w a ts b → IsStep l (way_after w ts) b t → IsWalk l w a (ts ++ t ∷ []) t
+walk_on l w a [] b t walk step = (subst (λ (x : Attachment). IsStep l w x t) (sym walk) step, refl)
 walk_on l w a (s ∷ ss) b t walk step = (walk.0, walk_on l (other_way w) s ss b t walk.1 step)
 
-way_on : (w : Way) (ts : List Tap) (t : Tap) → way_after w (ts ++ t ∷ []) ≡ other_way (way_after w ts)
+way_on : (w : Way) (ts : List Attachment) (t : Attachment) → way_after w (ts ++ t ∷ []) ≡ other_way (way_after w ts)
 way_on w [] t = refl
 way_on w (s ∷ ss) t = way_on (other_way w) ss t
 
-length_on : (l : Layout) (w : Way) (a : Tap) (ts : List Tap) (b t : Tap) → IsWalk l w a ts b → walk_length l w a (ts ++ t ∷ []) ≡ walk_length l w a ts + step_length l (way_after w ts) b t
+length_on : (l : Layout) (w : Way) (a : Attachment) (ts : List Attachment) (b t : Attachment) → IsWalk l w a ts b → walk_length l w a (ts ++ t ∷ []) ≡ walk_length l w a ts + step_length l (way_after w ts) b t
 length_on l w a [] b t walk =
     let same : step_length l w a t ≡ step_length l w b t = ap (λ x. step_length l w x t) walk in
     omega (arith, same)
@@ -31,7 +31,7 @@ length_on l w a (s ∷ ss) b t walk =
     let more : walk_length l (other_way w) s (ss ++ t ∷ []) ≡ walk_length l (other_way w) s ss + step_length l (way_after (other_way w) ss) b t = length_on l (other_way w) s ss b t walk.1 in
     omega (arith, more)
 
-entries_step : (l : Layout) (w : Way) (a : Tap) (ts : List Tap) (b t : Tap) (n : ℕ) → IsWalk l w a ts b
+entries_step : (l : Layout) (w : Way) (a : Attachment) (ts : List Attachment) (b t : Attachment) (n : ℕ) → IsWalk l w a ts b
     → entries_on l w a (ts ++ t ∷ []) n ≡ entries_on l w a ts n ++ entry_by (way_after w ts) b (n + walk_length l w a ts)
 entries_step l w a [] b t n walk =
     let none : n + 0 ≡ n = omega arith in
@@ -45,7 +45,7 @@ entries_step l w a (s ∷ ss) b t n walk =
 -- a way goes on by a step
 pub led_on : (l : Layout) (a : ℕ) (w : Way) (from : Led) (to : Stop) → IsLed l a w from → IsStop l to → IsStep l w from.stop.tap to.tap → IsLed l a (other_way w) (gone_on l w from to)
 led_on l a w from to h stands step =
-    let b : Tap = from.stop.tap in
+    let b : Attachment = from.stop.tap in
     let next : IsStep l (way_after way.Cable h.taps) b to.tap = subst (λ (v : Way). IsStep l v b to.tap) (sym h.next) step in
     let long : walk_length l way.Cable (Station a) (h.taps ++ to.tap ∷ []) ≡ from.length + step_length l w b to.tap =
     length_on l way.Cable (Station a) h.taps b to.tap h.leads ∙ ap₂ (λ n v. n + step_length l v b to.tap) h.long h.next in
@@ -62,7 +62,7 @@ led_on l a w from to h stands step =
     }
 
 -- a way begins where its station is
-pub led_first : (l : Layout) (a : ℕ) (stop : Stop) (entries : List Entry) → stop.tap ≡ Station a → IsStop l stop → entries ≡ [] → IsLed l a way.Cable (record { stop = stop; length = 0; entries = entries })
+pub led_first : (l : Layout) (a : ℕ) (stop : Stop) (entries : List WayIn) → stop.tap ≡ Station a → IsStop l stop → entries ≡ [] → IsLed l a way.Cable (record { stop = stop; length = 0; entries = entries })
 led_first l a stop entries is stands none = record { stands = stands; taps = []; leads = sym is; next = refl; long = refl; met = sym none }
 
 -- one more way is found

@@ -2,8 +2,8 @@
 use Rattle.std.specs.Prelude.{◌≡◌, ℕ, ◌+◌, ◌<◌, List, [], ◌∷◌, ◌++◌, length, true, is_some, IfSome, None, Option, slice_index_or}
 use Rattle.layout.specs.Among.{IsAmong}
 use Rattle.layout.specs.declared.lines.Layout.{Layout}
-use Rattle.layout.specs.declared.ways.Tap.{Tap}
-use Rattle.layout.specs.declared.ways.Tap.TheVariants.{Station}
+use Rattle.layout.specs.declared.ways.Attachment.{Attachment}
+use Rattle.layout.specs.declared.ways.Attachment.TheVariants.{Station}
 use Rattle.layout.specs.declared.ways.Way.{Way}
 use Rattle.layout.specs.declared.ways.Way.TheVariants as way
 use Rattle.layout.specs.Paths.{IsStep, IsWalk, other_way, step_length, walk_length}
@@ -13,7 +13,7 @@ use Rattle.frame_table.specs.Ways.{entries_on, entry_by}
 use Rattle.frame_table.specs.declared.routes.Led.{Led}
 
 -- the way of the step after a walk over these taps that begins by this way
-abbrev pub way_after : Way → List Tap → Way
+abbrev pub way_after : Way → List Attachment → Way
 way_after w [] = w
 way_after w (t ∷ ts) = way_after (other_way w) ts
 
@@ -24,7 +24,7 @@ StandsThere l led = IsStop l led.stop
 -- a walk from station a leads there, is so long and enters repeaters so, and its next step is by this way
 pub record IsLed (l : Layout) (a : ℕ) (w : Way) (led : Led) : Type 0 where
   pub stands : IsStop l led.stop
-  pub taps : List Tap
+  pub taps : List Attachment
   pub leads : IsWalk l way.Cable (Station a) taps led.stop.tap
   pub next : way_after way.Cable taps ≡ w
   pub long : walk_length l way.Cable (Station a) taps ≡ led.length
@@ -54,13 +54,15 @@ abbrev pub IsFound : List (Option Led) → ℕ → Type 0
 IsFound routes b = is_some (slice_index_or routes b None) ≡ true
 
 -- one of these ways leads to tap q
-pub record HasCome (ways : List Led) (q : Tap) : Type 0 where
+pub record HasCome (ways : List Led) (q : Attachment) : Type 0 where
   pub led : Led
   pub among : IsAmong led ways
   pub to : led.stop.tap ≡ q
 
 -- nothing is left out where a step along a cable has come to tap p: the way to the station that stands there is found,
 -- if it is one of the first so many, and one of these ways leads to each tap that a repeater joins to p
-pub record IsSearched (l : Layout) (count : ℕ) (routes : List (Option Led)) (ways : List Led) (p : Tap) : Type 0 where
+pub record IsSearched
+    (l : Layout) (count : ℕ) (routes : List (Option Led)) (ways : List Led) (p : Attachment) :
+    Type 0 where
   pub station : (b : ℕ) → p ≡ Station b → b < count → IsFound routes b
-  pub behind : (q : Tap) → IsStep l way.Repeater p q → HasCome ways q
+  pub behind : (q : Attachment) → IsStep l way.Repeater p q → HasCome ways q

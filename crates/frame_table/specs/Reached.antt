@@ -5,7 +5,7 @@ use Rattle.mac_parameters.specs.Parameters.{half_bits_a_bit}
 use Rattle.layout.specs.Joined.{counted_up}
 use Rattle.layout.specs.Paths.{Path, length_of}
 use Rattle.layout.specs.declared.lines.Layout.{Layout}
-use Rattle.layout.specs.declared.ways.Tap.TheVariants.{Station}
+use Rattle.layout.specs.declared.ways.Attachment.TheVariants.{Station}
 use Rattle.load_plan.specs.declared.plan.Plan.{Plan}
 use Rattle.log_meter.specs.declared.line.LogLine.{LogLine}
 use Rattle.frame_table.specs.Devices.{events_of}
@@ -16,10 +16,10 @@ use Rattle.frame_table.specs.declared.history.End.{End}
 use Rattle.frame_table.specs.declared.history.Outcome.{Outcome}
 use Rattle.frame_table.specs.declared.history.Outcome.TheVariants.{Sent, GivenUp, Cut}
 use Rattle.frame_table.specs.declared.reach.Reach.{Reach}
-use Rattle.frame_table.specs.declared.routes.Entry.{Entry}
+use Rattle.frame_table.specs.declared.routes.WayIn.{WayIn}
 
 -- whether a port is open when the end of a frame comes to it that ended in half bit t where the way began
-abbrev pub is_entered : Layout → List LogLine → ℕ → Entry → Bool
+abbrev pub is_entered : Layout → List LogLine → ℕ → WayIn → Bool
 is_entered l lines t e =
     is_open (t + e.at) (changes_of (e.port + 1) (events_of l (length l.stations + e.repeater) lines))
 

@@ -10,8 +10,8 @@ ghost use Rattle.frame_table.specs.Told.{AreKnown, AreOrdered, is_entered_by, is
 use crate::history::{End, Outcome};
 use crate::ports::is_open;
 use crate::receptions::has_received;
-use crate::routes::{Entry, Led};
-use crate::told::Told;
+use crate::routes::{Led, WayIn};
+use crate::told::ToldByLog;
 use lists::OutOfMemory;
 
 /// How many stations a frame reached, and how many it missed.
@@ -29,7 +29,7 @@ fn sum(a: u64, b: u64) -> Result<u64, OutOfMemory>
 }
 
 /// Whether a port is open when the end of a frame comes to it that ended in half bit `t` where the way began.
-fn is_entered(told: &Told, t: u64, entry: &Entry) -> Result<bool, OutOfMemory>
+fn is_entered(told: &ToldByLog, t: u64, entry: &WayIn) -> Result<bool, OutOfMemory>
     requires { AreOrdered told.now }
     ensures { IfOk result (λ yes. yes ≡ is_entered_by told.now t entry.now) }
 {
@@ -38,7 +38,7 @@ fn is_entered(told: &Told, t: u64, entry: &Entry) -> Result<bool, OutOfMemory>
 }
 
 /// Whether all these ports are.
-fn are_entered(told: &Told, t: u64, entries: &[Entry]) -> Result<bool, OutOfMemory>
+fn are_entered(told: &ToldByLog, t: u64, entries: &[WayIn]) -> Result<bool, OutOfMemory>
     requires { AreOrdered told.now }
     ensures { IfOk result (λ yes. yes ≡ list_all (is_entered_by told.now t) entries.now) }
 {
@@ -51,7 +51,13 @@ fn are_entered(told: &Told, t: u64, entries: &[Entry]) -> Result<bool, OutOfMemo
 }
 
 /// Whether a frame of so many octets that ended in half bit `t` reached station `b` by this way.
-fn is_reached(told: &Told, octets: u32, t: u64, b: usize, route: &Led) -> Result<bool, OutOfMemory>
+fn is_reached(
+    told: &ToldByLog,
+    octets: u32,
+    t: u64,
+    b: usize,
+    route: &Led,
+) -> Result<bool, OutOfMemory>
     requires { AreOrdered told.now }
     ensures { IfOk result (λ yes. yes ≡ is_reached_by told.now octets t b route.now) }
 {
@@ -64,7 +70,7 @@ fn is_reached(told: &Told, octets: u32, t: u64, b: usize, route: &Led) -> Result
 
 /// One more station: it was reached or, if the frame's end came to it within the run, missed.
 fn with_station(
-    told: &Told,
+    told: &ToldByLog,
     half_bits: u64,
     octets: u32,
     t: u64,
@@ -88,7 +94,7 @@ fn with_station(
 
 /// How many other stations a frame of station `a` reached and missed, by the ways from there.
 fn reach_among(
-    told: &Told,
+    told: &ToldByLog,
     half_bits: u64,
     octets: u32,
     t: u64,
@@ -124,7 +130,7 @@ fn was_sent(outcome: Outcome) -> bool
 
 /// Whom a frame of station `a` reached and missed, by its end.
 pub fn reach_of(
-    told: &Told,
+    told: &ToldByLog,
     half_bits: u64,
     octets: u32,
     a: usize,

@@ -4,8 +4,8 @@ ghost use Rattle.layout.specs.Among.{IsAmong};
 ghost use Rattle.layout.specs.Paths.{IsStep, IsWalk, step_length};
 ghost use Rattle.layout.specs.Sound.{IsSound};
 ghost use Rattle.layout.specs.declared.lines.Layout.{Layout};
-ghost use Rattle.layout.specs.declared.ways.Tap.{Tap};
-ghost use Rattle.layout.specs.declared.ways.Tap.TheVariants.{Station};
+ghost use Rattle.layout.specs.declared.ways.Attachment.{Attachment};
+ghost use Rattle.layout.specs.declared.ways.Attachment.TheVariants.{Station};
 ghost use Rattle.layout.specs.declared.ways.Way.TheVariants as way;
 ghost use Rattle.path_checker.specs.Far.{IsStop, is_same_tap};
 ghost use Rattle.path_checker.specs.Stops.{IsNetworkOf};
@@ -13,14 +13,14 @@ ghost use Rattle.frame_table.specs.Led.{AreLed, HasCome, IsSearched, IsFound, Is
 ghost use Rattle.frame_table.specs.Ways.{entry_by};
 ghost use Rattle.frame_table.specs.declared.routes.Led.{Led};
 
-use layout::{Layout, Tap, Way};
+use layout::{Attachment, Layout, Way};
 use lists::{List, OutOfMemory};
 use path_checker::{MOST_TAPS, Network, Stop};
 use std::alloc::Global;
 
 /// The port by which a way enters a repeater, both from 0, and how many half bits the way has come before.
 #[derive(Clone, Copy, Debug, PartialEq, Eq)]
-pub struct Entry {
+pub struct WayIn {
     pub repeater: u32,
     pub port: u32,
     pub at: u32,
@@ -31,21 +31,21 @@ pub struct Entry {
 pub struct Led {
     pub stop: Stop,
     pub length: u32,
-    pub entries: List<Entry>,
+    pub entries: List<WayIn>,
 }
 
 /// `==` of taps.
-fn is_same_tap(a: Tap, b: Tap) -> bool
+fn is_same_tap(a: Attachment, b: Attachment) -> bool
     ensures { result ≡ is_same_tap a b }
 {
     match (a, b) {
-        (Tap::Station(k), Tap::Station(j)) => k == j,
+        (Attachment::Station(k), Attachment::Station(j)) => k == j,
         (
-            Tap::Port {
+            Attachment::Port {
                 repeater: r,
                 port: p,
             },
-            Tap::Port {
+            Attachment::Port {
                 repeater: s,
                 port: q,
             },
@@ -64,8 +64,8 @@ fn step_length(layout: &Layout, way: Way, from: &Stop, to: &Stop) -> u32
         return from.at.abs_diff(to.at);
     }
     match from.tap {
-        Tap::Station(_) => 0,
-        Tap::Port { repeater, .. } => {
+        Attachment::Station(_) => 0,
+        Attachment::Port { repeater, .. } => {
             if (repeater as usize) < layout.repeaters.len() {
                 layout.repeaters.get(repeater as usize).delay
             } else {
@@ -76,15 +76,15 @@ fn step_length(layout: &Layout, way: Way, from: &Stop, to: &Stop) -> u32
 }
 
 /// The entries of a way after a further step from its last tap.
-fn entries_after(alloc: Global, way: Way, from: &Led) -> Result<List<Entry>, OutOfMemory>
+fn entries_after(alloc: Global, way: Way, from: &Led) -> Result<List<WayIn>, OutOfMemory>
     ensures { IfOk result (λ es. es ≡ from.now.entries ++ entry_by way from.now.stop.tap from.now.length) }
 {
     let mut entries = List::new(alloc);
     for entry in from.entries.as_slice() {
         entries.push(*entry)?;
     }
-    if let (Way::Repeater, Tap::Port { repeater, port }) = (way, from.stop.tap) {
-        entries.push(Entry {
+    if let (Way::Repeater, Attachment::Port { repeater, port }) = (way, from.stop.tap) {
+        entries.push(WayIn {
             repeater,
             port,
             at: from.length,
@@ -127,8 +127,8 @@ fn pass(
     ensures led { OnOk result ((a : ℕ) → IsLed layout.now a way.Repeater led.now →
         All (IsLed layout.now a way.Cable) next.old.items → All (IsLed layout.now a way.Cable) next.new.items) }
     ensures stand { OnOk result (All (StandsThere layout.now) next.old.items → All (StandsThere layout.now) next.new.items) }
-    ensures kept { OnOk result ((q : Tap) → HasCome next.old.items q → HasCome next.new.items q) }
-    ensures come { OnOk result ((q : Tap) → IsStep layout.now way.Repeater led.now.stop.tap q →
+    ensures kept { OnOk result ((q : Attachment) → HasCome next.old.items q → HasCome next.new.items q) }
+    ensures come { OnOk result ((q : Attachment) → IsStep layout.now way.Repeater led.now.stop.tap q →
         HasCome next.new.items q) }
 {
     let near = network.beside(Way::Repeater, &led.stop);
@@ -170,8 +170,8 @@ fn spread(
         All (IsLed layout.now a way.Cable) next.old.items → All (IsLed layout.now a way.Cable) next.new.items) }
     ensures stand { OnOk result (All (StandsThere layout.now) next.old.items → All (StandsThere layout.now) next.new.items) }
     ensures kept { OnOk result ((b : ℕ) → IsFound routes.old b → IsFound routes.new b) }
-    ensures come { OnOk result ((q : Tap) → HasCome next.old.items q → HasCome next.new.items q) }
-    ensures done { OnOk result ((p : Tap) → IsStep layout.now way.Cable head.now.stop.tap p →
+    ensures come { OnOk result ((q : Attachment) → HasCome next.old.items q → HasCome next.new.items q) }
+    ensures done { OnOk result ((p : Attachment) → IsStep layout.now way.Cable head.now.stop.tap p →
         IsSearched layout.now (length routes.old) routes.new next.new.items p) }
 {
     let near = network.beside(Way::Cable, &head.stop);
@@ -181,7 +181,7 @@ fn spread(
             continue;
         }
         let led = gone_on(alloc, layout, Way::Cable, head, &stop)?;
-        if let Tap::Station(station) = stop.tap {
+        if let Attachment::Station(station) = stop.tap {
             put(routes, station, led);
             continue;
         }
@@ -207,7 +207,7 @@ fn spread_all(
         All (IsLed layout.now a way.Cable) next.items) }
     ensures stand { IfOk result (λ next. All (StandsThere layout.now) next.items) }
     ensures kept { OnOk result ((b : ℕ) → IsFound routes.old b → IsFound routes.new b) }
-    ensures done { IfOk result (λ next. (h : Led) (p : Tap) → IsAmong h heads.now →
+    ensures done { IfOk result (λ next. (h : Led) (p : Attachment) → IsAmong h heads.now →
         IsStep layout.now way.Cable h.stop.tap p → IsSearched layout.now (length routes.old) routes.new next.items p) }
 {
     let mut next = Vec::new(alloc);
@@ -242,7 +242,7 @@ fn spread_on(
     requires first { IsStop layout.now first.stop }
     ensures led { OnOk result ((a : ℕ) → IsLed layout.now a way.Cable first →
         AreLed layout.now a routes.old → AreLed layout.now a routes.new) }
-    ensures found { OnOk result ((b : ℕ) (taps : List Tap) → b < length routes.old →
+    ensures found { OnOk result ((b : ℕ) (taps : List Attachment) → b < length routes.old →
         IsWalk layout.now way.Cable first.stop.tap taps (Station b) → first.stop.tap ≢ Station b →
         IsFound routes.new b) }
 {
@@ -274,7 +274,7 @@ pub fn routes_from(
 {
     let line = layout.stations.get(station as usize);
     let stop = Stop {
-        tap: Tap::Station(station),
+        tap: Attachment::Station(station),
         segment: line.segment,
         at: line.at,
     };

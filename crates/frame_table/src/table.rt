@@ -20,7 +20,7 @@ use crate::history::{History, histories};
 use crate::lines::add_line;
 use crate::reach::reach_of;
 use crate::routes::{Led, routes_from};
-use crate::told::{Told, told_by};
+use crate::told::{ToldByLog, told_by};
 use lists::{List, OutOfMemory};
 use load_plan::Plan;
 use log_meter::LogLines;
@@ -36,7 +36,7 @@ const HEADER: &[u8] =
 fn add_frame(
     text: &mut List<u8>,
     plan: &Plan,
-    told: &Told,
+    told: &ToldByLog,
     a: usize,
     n: u32,
     past: &History,
@@ -64,7 +64,7 @@ fn add_frame(
 fn add_frames(
     text: &mut List<u8>,
     plan: &Plan,
-    told: &Told,
+    told: &ToldByLog,
     a: usize,
     histories: &[History],
     routes: &[Option<Led>],
@@ -92,7 +92,7 @@ fn add_station(
     text: &mut List<u8>,
     plan: &Plan,
     network: &Network,
-    told: &Told,
+    told: &ToldByLog,
     a: usize,
     events: &[Event],
 ) -> Result<(), OutOfMemory>

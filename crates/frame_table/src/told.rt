@@ -16,7 +16,7 @@ use std::alloc::Global;
 
 /// The receptions of each station in order, and the changes of each port of each repeater.
 #[derive(Debug, Drop)]
-pub struct Told {
+pub struct ToldByLog {
     pub receptions: Vec<Vec<Reception>>,
     pub ports: Vec<List<Changes>>,
 }
@@ -71,7 +71,7 @@ fn all_ports(
 }
 
 /// What the events of all devices tell of receptions and of ports.
-pub fn told_by(alloc: Global, layout: &Layout, events: &[Events]) -> Result<Told, OutOfMemory>
+pub fn told_by(alloc: Global, layout: &Layout, events: &[Events]) -> Result<ToldByLog, OutOfMemory>
     requires sound { IsSound layout.now }
     requires events { length layout.now.stations + length layout.now.repeaters ≤ length events.now }
     requires order { (k : ℕ) → RisesFrom (λ e. e.t) 0 (slice_index_or events.now k []) }
@@ -80,13 +80,13 @@ pub fn told_by(alloc: Global, layout: &Layout, events: &[Events]) -> Result<Told
         IsToldByLines layout.now lines told) }
     ensures order { IfOk result AreOrdered }
 {
-    Ok(Told {
+    Ok(ToldByLog {
         receptions: all_receptions(alloc, layout.stations.len(), events)?,
         ports: all_ports(alloc, layout, events)?,
     })
 }
 
-impl Told {
+impl ToldByLog {
     ghost use Rattle.std.specs.Prelude.{◌≡◌};
     ghost use Rattle.frame_table.specs.Told.{changes_at, receptions_at};
 

@@ -36,7 +36,7 @@ pub fn read_file<S: Store>(
 
 /// The front of a line, and whether the file ends before its line feed.
 #[derive(Drop)]
-pub struct Line {
+pub struct LineFront {
     pub front: List<u8>,
     pub ends_file: bool,
 }
@@ -74,7 +74,7 @@ pub fn read_line<S: Store>(
     store: &mut S,
     name: &str,
     number: u64,
-) -> Result<Option<Line>, OutOfMemory> {
+) -> Result<Option<LineFront>, OutOfMemory> {
     let mut found = LineAt {
         line: List::new(alloc),
         before: number.saturating_sub(1),
@@ -97,7 +97,7 @@ pub fn read_line<S: Store>(
     if found.before > 0 {
         return Ok(None);
     }
-    Ok(Some(Line {
+    Ok(Some(LineFront {
         front: found.line,
         ends_file: found.ends_file,
     }))

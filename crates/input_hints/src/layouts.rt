@@ -5,7 +5,7 @@ use crate::digits::tell_digits;
 use crate::files::read_file;
 use crate::message::Message;
 use crate::near::{Nearest, nearest_in, take_names, tell_nearest};
-use crate::places::{Place, Spot, place_in, spot_of};
+use crate::places::{NamedPlace, Spot, place_in, spot_of};
 use crate::rows::{row_named, rows_of};
 use crate::said::{EARLIER, LIMITS, NAMES, WANTED, keys_of, said_in};
 use crate::tables::{is_table, tell_no_table};
@@ -28,7 +28,7 @@ fn row_of<'a>(document: &'a Table, table: &str, row: usize) -> Option<&'a Table>
 }
 
 /// The table of a place: the file's own, a row's, or a port's.
-fn table_of<'a>(document: &'a Table, place: &Place<'_>) -> Option<&'a Table> {
+fn table_of<'a>(document: &'a Table, place: &NamedPlace<'_>) -> Option<&'a Table> {
     if place.row == 0 {
         return Some(document);
     }
@@ -54,7 +54,7 @@ pub fn number_at(table: &Table, key: &str) -> Option<i64> {
 }
 
 /// The text of a key of a place.
-pub fn text_of<'a>(document: &'a Table, place: &Place<'_>, key: &str) -> Option<&'a str> {
+pub fn text_of<'a>(document: &'a Table, place: &NamedPlace<'_>, key: &str) -> Option<&'a str> {
     text_at(table_of(document, place)?, key)
 }
 
@@ -64,7 +64,7 @@ pub fn name_at<'a>(document: &'a Table, table: &str, row: usize) -> Option<&'a s
 }
 
 /// Shows where a place is: the row with its name, or the file's head.
-pub fn show_row(out: &mut Message, document: &Table, place: &Place<'_>) {
+pub fn show_row(out: &mut Message, document: &Table, place: &NamedPlace<'_>) {
     if place.row == 0 {
         out.add("the head of the file");
         return;
@@ -164,7 +164,7 @@ fn tell_no_such(out: &mut Message, document: &Table, table: &str, name: &str) {
 }
 
 /// Tells that a place lacks its key.
-fn tell_lack(out: &mut Message, document: &Table, place: &Place<'_>) {
+fn tell_lack(out: &mut Message, document: &Table, place: &NamedPlace<'_>) {
     if place.row == 0 && place.key == "segment" {
         out.add("the file has no [[segment]]");
         return;
@@ -177,7 +177,7 @@ fn tell_lack(out: &mut Message, document: &Table, place: &Place<'_>) {
 }
 
 /// The sentence of a fault, after its place.
-fn tell_fault(out: &mut Message, document: &Table, place: &Place<'_>) {
+fn tell_fault(out: &mut Message, document: &Table, place: &NamedPlace<'_>) {
     let text = or_empty(text_of(document, place, place.key));
     match place.code {
         3 => tell_lack(out, document, place),
@@ -205,7 +205,7 @@ fn tell_stranger_key(
     file: &str,
     text: &str,
     document: &Table,
-    place: &Place<'_>,
+    place: &NamedPlace<'_>,
 ) {
     let keys = keys_of(place, number_at(document, "format").unwrap_or(0));
     let key = match table_of(document, place) {
@@ -224,7 +224,7 @@ fn tell_stranger_key(
 }
 
 /// Tells of a layout's fault, by its text.
-fn tell_in(out: &mut Message, file: &str, text: &str, place: &Place<'_>) {
+fn tell_in(out: &mut Message, file: &str, text: &str, place: &NamedPlace<'_>) {
     match toml::table_from_str(out.alloc, text) {
         Ok(document) => {
             if place.code == 2 {
@@ -240,7 +240,7 @@ fn tell_in(out: &mut Message, file: &str, text: &str, place: &Place<'_>) {
 }
 
 /// Tells of a layout's fault, by the octets of the file.
-fn tell_octets(out: &mut Message, file: &str, octets: &[u8], place: &Place<'_>) {
+fn tell_octets(out: &mut Message, file: &str, octets: &[u8], place: &NamedPlace<'_>) {
     if octets.len() > LONGEST_FILE {
         begin(out, file);
         out.add(": a layout file has at most 1048576 octets\n");

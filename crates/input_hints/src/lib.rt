@@ -19,7 +19,7 @@ mod tomls;
 mod ways;
 
 pub use asked::{Ended, after, or_empty, word_at};
-pub use files::{Line, read_file, read_line};
+pub use files::{LineFront, read_file, read_line};
 pub use layouts::{begin, document_of, number_at, tell_layout, tell_unread, text_at};
 pub use message::Message;
 pub use near::Nearest;

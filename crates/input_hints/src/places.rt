@@ -4,7 +4,7 @@ use crate::asked::after;
 
 /// A place as the program's line of a layout's fault names it.
 #[derive(Clone, Copy)]
-pub struct Place<'a> {
+pub struct NamedPlace<'a> {
     pub code: usize,
     pub table: &'a str,
     pub row: usize,
@@ -20,8 +20,8 @@ fn count_after(said: &str, word: &str) -> Option<usize> {
 }
 
 /// The place that a line `layout fault ..` names.
-pub fn place_in(said: &str) -> Option<Place<'_>> {
-    Some(Place {
+pub fn place_in(said: &str) -> Option<NamedPlace<'_>> {
+    Some(NamedPlace {
         code: count_after(said, "fault")?,
         table: after(said, "table")?,
         row: count_after(said, "row")?,
@@ -66,7 +66,7 @@ impl<'a> Seen<'a> {
         }
     }
 
-    fn is_at(&self, place: &Place<'_>) -> bool {
+    fn is_at(&self, place: &NamedPlace<'_>) -> bool {
         match self.header {
             None => place.row == 0,
             Some(_) if place.row == 0 || self.rows != place.row => false,
@@ -95,7 +95,7 @@ fn spot_in_entry(number: usize, line: &str, key: &str) -> Option<Spot> {
 }
 
 /// Where the value of a key of a place stands, or the header of its row where the key isn't there.
-pub fn spot_of(text: &str, place: &Place<'_>, key: &str) -> Option<Spot> {
+pub fn spot_of(text: &str, place: &NamedPlace<'_>, key: &str) -> Option<Spot> {
     let mut seen = Seen {
         header: None,
         rows: 0,

@@ -43,7 +43,7 @@ const MOST_AT: i64 = 4_294_967_295;
 
 /// A tap: its row, its port or 0 for a station's, its segment's row, each from 1, and its place there.
 #[derive(Clone, Copy)]
-pub struct Tap {
+pub struct TapRow {
     pub row: usize,
     pub port: usize,
     pub segment: usize,
@@ -57,12 +57,12 @@ fn place_of(line: &Table) -> Option<u64> {
     }
 }
 
-fn tap_of(document: &Table, line: &Value, row: usize, port: usize) -> Option<Tap> {
+fn tap_of(document: &Table, line: &Value, row: usize, port: usize) -> Option<TapRow> {
     let line = line.as_table()?;
     let segment = text_at(line, "segment")?;
     let segment = row_named(rows_of(document, "segment"), segment)?;
     let at = place_of(line)?;
-    Some(Tap {
+    Some(TapRow {
         row,
         port,
         segment,
@@ -73,7 +73,7 @@ fn tap_of(document: &Table, line: &Value, row: usize, port: usize) -> Option<Tap
 /// Takes the taps of lines: of stations, or of the ports of a repeater in a row.
 fn take_taps(
     out: &mut Message,
-    taps: &mut List<Tap>,
+    taps: &mut List<TapRow>,
     document: &Table,
     lines: &[Value],
     repeater: usize,
@@ -94,7 +94,7 @@ fn take_taps(
 }
 
 /// All taps: those of stations, then those of ports, as the file has them.
-pub fn taps_of(out: &mut Message, document: &Table) -> List<Tap> {
+pub fn taps_of(out: &mut Message, document: &Table) -> List<TapRow> {
     let mut taps = List::new(out.alloc);
     take_taps(out, &mut taps, document, rows_of(document, "station"), 0);
     let mut number = 0usize;

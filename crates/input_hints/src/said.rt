@@ -1,7 +1,7 @@
 //! What is said of the keys of a layout file. A rule is a line: the table, the key and the sentence. `-` stands for any
 //! table or key, and the first rule that fits counts.
 
-use crate::places::Place;
+use crate::places::NamedPlace;
 
 /// The keys that a table may have, one blank between them.
 const KEYS: &str = "segment - name
@@ -64,7 +64,7 @@ pub fn said_in<'a>(rules: &'a str, table: &str, key: &str) -> &'a str {
 }
 
 /// The keys that the table of a place may have, one blank between them.
-pub fn keys_of(place: &Place<'_>, format: i64) -> &'static str {
+pub fn keys_of(place: &NamedPlace<'_>, format: i64) -> &'static str {
     if place.port > 0 && place.table == "repeater" {
         return "segment at";
     }

@@ -3,13 +3,13 @@
 use crate::asked::or_empty;
 use crate::layouts::{show_row, text_of};
 use crate::message::Message;
-use crate::places::Place;
-use crate::rows::{Tap, taps_of};
+use crate::places::NamedPlace;
+use crate::rows::{TapRow, taps_of};
 use mac_parameters::GREATEST_PLACE;
 use toml::Table;
 
 /// The first tap at a place of a segment.
-fn tap_at(taps: &[Tap], segment: usize, at: u64) -> Option<Tap> {
+fn tap_at(taps: &[TapRow], segment: usize, at: u64) -> Option<TapRow> {
     for tap in taps {
         if tap.segment == segment && tap.at == at {
             return Some(*tap);
@@ -19,7 +19,7 @@ fn tap_at(taps: &[Tap], segment: usize, at: u64) -> Option<Tap> {
 }
 
 /// The first tap that stands where that of a place does.
-fn earlier_tap(taps: &[Tap], place: &Place<'_>) -> Option<Tap> {
+fn earlier_tap(taps: &[TapRow], place: &NamedPlace<'_>) -> Option<TapRow> {
     for tap in taps {
         if tap.row == place.row && tap.port == place.port {
             return tap_at(taps, tap.segment, tap.at);
@@ -29,7 +29,7 @@ fn earlier_tap(taps: &[Tap], place: &Place<'_>) -> Option<Tap> {
 }
 
 /// The least free place of a segment above one, else the greatest below.
-fn next_free(taps: &[Tap], segment: usize, at: u64) -> Option<u64> {
+fn next_free(taps: &[TapRow], segment: usize, at: u64) -> Option<u64> {
     let greatest = u64::from(GREATEST_PLACE);
     let at = at.min(greatest);
     for place in at..=greatest {
@@ -47,7 +47,7 @@ fn next_free(taps: &[Tap], segment: usize, at: u64) -> Option<u64> {
 }
 
 /// Tells of a tap's place that is taken: by which tap, and which place is free.
-pub fn tell_taken(out: &mut Message, document: &Table, place: &Place<'_>) {
+pub fn tell_taken(out: &mut Message, document: &Table, place: &NamedPlace<'_>) {
     show_row(out, document, place);
     let taps = taps_of(out, document);
     match earlier_tap(taps.as_slice(), place) {
@@ -57,7 +57,7 @@ pub fn tell_taken(out: &mut Message, document: &Table, place: &Place<'_>) {
             out.add(" of segment ");
             out.show_word(or_empty(text_of(document, place, "segment")));
             out.add(", where ");
-            let stands = Place {
+            let stands = NamedPlace {
                 code: 0,
                 table: if earlier.port == 0 {
                     "station"

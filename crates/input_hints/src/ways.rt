@@ -3,8 +3,8 @@
 use crate::asked::or_empty;
 use crate::layouts::{name_at, show_row};
 use crate::message::Message;
-use crate::places::Place;
-use crate::rows::{Tap, row_named, rows_of, taps_of};
+use crate::places::NamedPlace;
+use crate::rows::{TapRow, row_named, rows_of, taps_of};
 use lists::List;
 use toml::Table;
 
@@ -16,7 +16,7 @@ const FIRST_TOLD: usize = 4;
 /// More segments and repeaters than a network has.
 const DEVICES: usize = 512;
 
-fn at_segment(ports: &[Tap], segment: usize) -> Option<Tap> {
+fn at_segment(ports: &[TapRow], segment: usize) -> Option<TapRow> {
     for port in ports {
         if port.segment == segment {
             return Some(*port);
@@ -25,7 +25,7 @@ fn at_segment(ports: &[Tap], segment: usize) -> Option<Tap> {
     None
 }
 
-fn at_repeater(ports: &[Tap], repeater: usize) -> Option<Tap> {
+fn at_repeater(ports: &[TapRow], repeater: usize) -> Option<TapRow> {
     for port in ports {
         if port.row == repeater {
             return Some(*port);
@@ -35,7 +35,7 @@ fn at_repeater(ports: &[Tap], repeater: usize) -> Option<Tap> {
 }
 
 /// Whether a port before a place joins what was reached to what wasn't.
-fn leads_on(reached: &[Tap], port: &Tap, place: &Place<'_>) -> bool {
+fn leads_on(reached: &[TapRow], port: &TapRow, place: &NamedPlace<'_>) -> bool {
     let is_own = port.row == place.row;
     if port.port == 0 || port.row > place.row || (is_own && port.port >= place.port) {
         return false;
@@ -46,7 +46,7 @@ fn leads_on(reached: &[Tap], port: &Tap, place: &Place<'_>) -> bool {
 
 /// The ports before a place over which its repeater is reached, in an order in which each is joined to one before it.
 /// So the first one of a segment or of another repeater leads to it. They make no loop yet.
-fn reached_before(out: &mut Message, taps: &[Tap], place: &Place<'_>) -> List<Tap> {
+fn reached_before(out: &mut Message, taps: &[TapRow], place: &NamedPlace<'_>) -> List<TapRow> {
     let mut reached = List::new(out.alloc);
     for _round in 0..DEVICES {
         let before = reached.len();
@@ -64,7 +64,12 @@ fn reached_before(out: &mut Message, taps: &[Tap], place: &Place<'_>) -> List<Ta
 }
 
 /// The way from a segment to the repeater of a place: a port for each segment of it, with the repeater after it.
-fn way_of(out: &mut Message, reached: &[Tap], from: usize, place: &Place<'_>) -> List<Tap> {
+fn way_of(
+    out: &mut Message,
+    reached: &[TapRow],
+    from: usize,
+    place: &NamedPlace<'_>,
+) -> List<TapRow> {
     let mut way = List::new(out.alloc);
     let mut segment = from;
     for _step in 0..DEVICES {
@@ -88,7 +93,7 @@ fn show_named(out: &mut Message, document: &Table, table: &str, row: usize) {
 }
 
 /// Tells a way: all of a short one and its first segment again, or how many segments there are and the first ones.
-fn tell_way(out: &mut Message, document: &Table, way: &[Tap]) {
+fn tell_way(out: &mut Message, document: &Table, way: &[TapRow]) {
     let is_long = way.len() > MOST_TOLD;
     if is_long {
         out.add(" of ");
@@ -110,7 +115,7 @@ fn tell_way(out: &mut Message, document: &Table, way: &[Tap]) {
 }
 
 /// Tells of a port that closes a loop: the loop from its segment on.
-pub fn tell_loop(out: &mut Message, document: &Table, place: &Place<'_>, segment: &str) {
+pub fn tell_loop(out: &mut Message, document: &Table, place: &NamedPlace<'_>, segment: &str) {
     show_row(out, document, place);
     let taps = taps_of(out, document);
     let reached = reached_before(out, taps.as_slice(), place);

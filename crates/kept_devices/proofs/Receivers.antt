@@ -3,18 +3,18 @@ use Rattle.std.proofs.Common.{◌≡◌, ℕ, zero, suc, ◌+◌, ◌<◌, All, 
 use Rattle.manchester_line.specs.declared.Sym.{Sym}
 use Rattle.manchester_line.specs.Line.{is_signal}
 use Rattle.mac_receive.specs.Receiver.{Receiving, receiver_step}
-use Rattle.mac_receive.specs.KeptReceiver.{Kept, Hears}
+use Rattle.mac_receive.specs.KeptReceiver.{KeptReception, Hears}
 use Rattle.network.specs.Net.{receptions}
 use Rattle.kept_devices.specs.KeptReceivers.{AllHear}
 
-pub length-AllHear : (rs : List Receiving) (ks : List Kept) → AllHear rs ks → length rs ≡ length ks
+pub length-AllHear : (rs : List Receiving) (ks : List KeptReception) → AllHear rs ks → length rs ≡ length ks
 length-AllHear [] [] h = refl
 length-AllHear [] (k ∷ ks) h = absurd h
 length-AllHear (r ∷ rs) [] h = absurd h
 length-AllHear (r ∷ rs) (k ∷ ks) h = ap suc (length-AllHear rs ks h.1)
 
 -- the receiver at a place
-pub AllHear-at : (rs : List Receiving) (ks : List Kept) (i : ℕ) (d : Receiving) (e : Kept) → AllHear rs ks → i < length ks → Hears (get_or rs i d) (get_or ks i e)
+pub AllHear-at : (rs : List Receiving) (ks : List KeptReception) (i : ℕ) (d : Receiving) (e : KeptReception) → AllHear rs ks → i < length ks → Hears (get_or rs i d) (get_or ks i e)
 AllHear-at [] [] i d e h l = absurd (omega arith)
 AllHear-at [] (k ∷ ks) i d e h l = absurd h
 AllHear-at (r ∷ rs) [] i d e h l = absurd h
@@ -35,13 +35,13 @@ pub receptions-more : (hs es : List Sym) (rs : List Receiving) (i : ℕ) (a b : 
 receptions-more hs es rs i a b d lh le lr = let e : i + 1 ≡ suc i = omega arith in rw e (receptions-suc hs es rs i a b d lh le lr)
 
 -- one receiver more that stands for one
-pub AllHear-more : (rs : List Receiving) (ks : List Kept) (r : Receiving) (k : Kept) → AllHear rs ks → Hears r k → AllHear (rs ++ r ∷ []) (ks ++ k ∷ [])
+pub AllHear-more : (rs : List Receiving) (ks : List KeptReception) (r : Receiving) (k : KeptReception) → AllHear rs ks → Hears r k → AllHear (rs ++ r ∷ []) (ks ++ k ∷ [])
 AllHear-more [] [] r k h g = (g, tt)
 AllHear-more [] (y ∷ ks) r k h g = absurd h
 AllHear-more (z ∷ rs) [] r k h g = absurd h
 AllHear-more (z ∷ rs) (y ∷ ks) r k h g = (h.0, AllHear-more rs ks r k h.1 g)
 
 -- one receiver that has made no step
-pub All-one : (k : Kept) → k.steps ≡ 0 → All (λ (r : Kept). r.steps ≡ 0) (k ∷ [])
+pub All-one : (k : KeptReception) → k.steps ≡ 0 → All (λ (r : KeptReception). r.steps ≡ 0) (k ∷ [])
 All-one k h zero d l = h
 All-one k h (suc i) d l = absurd (omega arith)

@@ -7,8 +7,8 @@ use Rattle.layout.specs.declared.edge.Edge.{Edge}
 use Rattle.layout.specs.declared.lines.Layout.{Layout}
 use Rattle.layout.specs.declared.lines.PortLine.{PortLine}
 use Rattle.layout.specs.declared.lines.RepeaterLine.{RepeaterLine}
-use Rattle.layout.specs.declared.ways.Tap.{Tap}
-use Rattle.layout.specs.declared.ways.Tap.TheVariants.{Port}
+use Rattle.layout.specs.declared.ways.Attachment.{Attachment}
+use Rattle.layout.specs.declared.ways.Attachment.TheVariants.{Port}
 use Rattle.layout.specs.declared.ways.Way.{Way}
 use Rattle.layout.specs.declared.ways.Way.TheVariants as way
 use Rattle.layout.specs.Joined.{colours, is_joined}
@@ -26,7 +26,7 @@ part_number l way.Cable k = k
 part_number l way.Repeater k = length l.segments + k
 
 -- by this way the tap is one of the part's
-pub record IsOn (l : Layout) (w : Way) (t : Tap) (part : ℕ) : Type 0 where
+pub record IsOn (l : Layout) (w : Way) (t : Attachment) (part : ℕ) : Type 0 where
   pub number : ℕ
   pub of_tap : part_by l w t ≡ Some number
   pub is_part : part_number l w number ≡ part
@@ -35,7 +35,7 @@ segment_of : (o : Option PortLine) (n : ℕ) → option_map (λ (x : PortLine). 
 segment_of None n h = absurd (cc)
 segment_of (Some x) n h = (x, refl, same_Some x.segment n h)
 
-segment_low : (l : Layout) → StandsOnSegments l → (t : Tap) (n : ℕ) → part_by l way.Cable t ≡ Some n → n < length l.segments
+segment_low : (l : Layout) → StandsOnSegments l → (t : Attachment) (n : ℕ) → part_by l way.Cable t ≡ Some n → n < length l.segments
 segment_low l stands t n h =
     let found : (x : PortLine) × (place l t ≡ Some x) × (x.segment ≡ n) = segment_of (place l t) n h in
     subst (λ (m : ℕ). m < length l.segments) found.2 (stands t found.0 found.1)
@@ -45,7 +45,7 @@ one_number l way.Cable m n h = h
 one_number l way.Repeater m n h = omega arith
 
 -- a part's taps are its by one way
-one_kind : (l : Layout) → StandsOnSegments l → (v w : Way) (a b : Tap) (part : ℕ) → IsOn l v a part → IsOn l w b part → v ≡ w
+one_kind : (l : Layout) → StandsOnSegments l → (v w : Way) (a b : Attachment) (part : ℕ) → IsOn l v a part → IsOn l w b part → v ≡ w
 one_kind l stands way.Cable way.Cable a b part on too = refl
 one_kind l stands way.Repeater way.Repeater a b part on too = refl
 one_kind l stands way.Cable way.Repeater a b part on too =
@@ -59,19 +59,19 @@ one_kind l stands way.Repeater way.Cable a b part on too =
     let f : length l.segments + on.number ≡ part = on.is_part in
     absurd (omega arith)
 
-step_on : (l : Layout) (w : Way) (a b : Tap) (part : ℕ) → IsOn l w a part → IsOn l w b part → a ≢ b → IsStep l w a b
+step_on : (l : Layout) (w : Way) (a b : Attachment) (part : ℕ) → IsOn l w a part → IsOn l w b part → a ≢ b → IsStep l w a b
 step_on l w a b part on too ne =
     let same : too.number ≡ on.number = one_number l w too.number on.number (too.is_part ∙ sym on.is_part) in
     record { different = ne; part = on.number; from = on.of_tap; to = subst (λ (n : ℕ). part_by l w b ≡ Some n) same too.of_tap }
 
 -- from each tap of the part a path leads to b
-abbrev Leads : Layout → ℕ → Tap → Type 0
-Leads l part b = (a : Tap) (w : Way) → IsOn l w a part → a ≢ b → (p : Path) × IsPath l a p b
+abbrev Leads : Layout → ℕ → Attachment → Type 0
+Leads l part b = (a : Attachment) (w : Way) → IsOn l w a part → a ≢ b → (p : Path) × IsPath l a p b
 
-direct : (l : Layout) (w : Way) (a b : Tap) → IsStep l w a b → (p : Path) × IsPath l a p b
+direct : (l : Layout) (w : Way) (a b : Attachment) → IsStep l w a b → (p : Path) × IsPath l a p b
 direct l w a b s = (record { begins = w; taps = b ∷ [] }, (s, refl))
 
-lead_here : (l : Layout) → StandsOnSegments l → (w : Way) (b : Tap) (part : ℕ) → IsOn l w b part → Leads l part b
+lead_here : (l : Layout) → StandsOnSegments l → (w : Way) (b : Attachment) (part : ℕ) → IsOn l w b part → Leads l part b
 lead_here l stands w b part on a v too ne =
     let on_a : IsOn l w a part = subst (λ (u : Way). IsOn l u a part) (one_kind l stands v w a b part too on) too in
     direct l w a b (step_on l w a b part on_a on ne)
@@ -81,7 +81,7 @@ other-other way.Cable = refl
 other-other way.Repeater = refl
 
 -- a path that comes from port f, begun at another tap of the port's part
-begun_before : (l : Layout) (w : Way) (a f b : Tap) (part : ℕ) → IsOn l w a part → IsOn l w f part → a ≢ b → a ≢ f → f ≢ b → (v : Way) (ts : List Tap) → (v ≡ w) ⊎ (v ≡ other_way w) → IsWalk l v f ts b → (p : Path) × IsPath l a p b
+begun_before : (l : Layout) (w : Way) (a f b : Attachment) (part : ℕ) → IsOn l w a part → IsOn l w f part → a ≢ b → a ≢ f → f ≢ b → (v : Way) (ts : List Attachment) → (v ≡ w) ⊎ (v ≡ other_way w) → IsWalk l v f ts b → (p : Path) × IsPath l a p b
 begun_before l w a f b part on too ne apart far v ts (inr turned) walk =
     (record { begins = w; taps = f ∷ ts }, (step_on l w a f part on too apart, subst (λ (u : Way). IsWalk l u f ts b) turned walk))
 begun_before l w a f b part on too ne apart far v [] (inl same) walk = absurd (far walk)
@@ -89,29 +89,29 @@ begun_before l w a f b part on too ne apart far v (t ∷ ts) (inl same) walk =
     let first : IsStep l w f t = subst (λ (u : Way). IsStep l u f t) same walk.0 in
     let after : IsWalk l (other_way w) t ts b = subst (λ (u : Way). IsWalk l (other_way u) t ts b) same walk.1 in
     elim (same_tap a t) [
-      | inl e ↦ (record { begins = other_way w; taps = ts }, subst (λ (x : Tap). IsWalk l (other_way w) x ts b) (sym e) after)
+      | inl e ↦ (record { begins = other_way w; taps = ts }, subst (λ (x : Attachment). IsWalk l (other_way w) x ts b) (sym e) after)
       | inr unlike ↦
           let from_a : part_by l w a ≡ Some first.part = on.of_tap ∙ ap (λ (n : ℕ). Some n) (one_number l w on.number too.number (on.is_part ∙ sym too.is_part)) ∙ sym too.of_tap ∙ first.from in
           let s : IsStep l w a t = record { different = unlike; part = first.part; from = from_a; to = first.to } in
           (record { begins = w; taps = t ∷ ts }, (s, after))
     ]
 
-lead_over : (l : Layout) → StandsOnSegments l → (w : Way) (f b : Tap) (part beyond : ℕ) → IsOn l w f part → IsOn l (other_way w) f beyond → Leads l beyond b → Leads l part b
+lead_over : (l : Layout) → StandsOnSegments l → (w : Way) (f b : Attachment) (part beyond : ℕ) → IsOn l w f part → IsOn l (other_way w) f beyond → Leads l beyond b → Leads l part b
 lead_over l stands w f b part beyond on over leads a v at ne =
     let on_a : IsOn l w a part = subst (λ (u : Way). IsOn l u a part) (one_kind l stands v w a f part at on) at in
     elim (same_tap f b) [
-      | inl e ↦ direct l w a b (step_on l w a b part on_a (subst (λ (x : Tap). IsOn l w x part) e on) ne)
+      | inl e ↦ direct l w a b (step_on l w a b part on_a (subst (λ (x : Attachment). IsOn l w x part) e on) ne)
       | inr far ↦
           let path : (p : Path) × IsPath l f p b = leads f (other_way w) over far in
           elim (same_tap a f) [
-            | inl e ↦ (path.0, subst (λ (x : Tap). IsPath l x path.0 b) (sym e) path.1)
+            | inl e ↦ (path.0, subst (λ (x : Attachment). IsPath l x path.0 b) (sym e) path.1)
             | inr apart ↦ begun_before l w a f b part on_a on ne apart far path.0.begins path.0.taps (same_way path.0.begins w) path.1
           ]
     ]
 
 -- where an edge of the network touches two parts a port stands on both
 pub record IsPortBetween (l : Layout) (u v : ℕ) : Type 0 where
-  pub port : Tap
+  pub port : Attachment
   pub by : Way
   pub on : IsOn l by port u
   pub over : IsOn l (other_way by) port v
@@ -169,7 +169,7 @@ port_between l u v h =
       }
     ]
 
-lead_along : (l : Layout) → StandsOnSegments l → (w : Way) (b : Tap) {u v : ℕ} → EdgePath (network_edges l) u v → IsOn l w b v → Leads l u b
+lead_along : (l : Layout) → StandsOnSegments l → (w : Way) (b : Attachment) {u v : ℕ} → EdgePath (network_edges l) u v → IsOn l w b v → Leads l u b
 lead_along l stands w b {u} {v} stay on = lead_here l stands w b u on
 lead_along l stands w b {u} {v} (go_on {b = m} touch rest) on =
     let port : IsPortBetween l u m = port_between l u m touch in
@@ -183,13 +183,13 @@ joined_by n edges a b c h k =
     (Decides-eqb (get_or (colours n edges) a 0) (get_or (colours n edges) b 0)).1 (sym ca ∙ cb)
 
 -- a path of edges between the segments of two taps leads from tap to tap
-pub path_over_edges : (l : Layout) → StandsOnSegments l → (a b : Tap) (p q : PortLine) → place l a ≡ Some p → place l b ≡ Some q → a ≢ b → EdgePath (network_edges l) p.segment q.segment → (path : Path) × IsPath l a path b
+pub path_over_edges : (l : Layout) → StandsOnSegments l → (a b : Attachment) (p q : PortLine) → place l a ≡ Some p → place l b ≡ Some q → a ≢ b → EdgePath (network_edges l) p.segment q.segment → (path : Path) × IsPath l a path b
 path_over_edges l stands a b p q pa qb ne joins =
     let on_a : IsOn l way.Cable a p.segment = record { number = p.segment; of_tap = rw pa refl; is_part = refl } in
     let on_b : IsOn l way.Cable b q.segment = record { number = q.segment; of_tap = rw qb refl; is_part = refl } in
     lead_along l stands way.Cable b joins on_b a way.Cable on_a ne
 
-pub some_path : (l : Layout) → StandsOnSegments l → IsTree l → (a b : Tap) → IsTap l a → IsTap l b → a ≢ b → (p : Path) × IsPath l a p b
+pub some_path : (l : Layout) → StandsOnSegments l → IsTree l → (a b : Attachment) → IsTap l a → IsTap l b → a ≢ b → (p : Path) × IsPath l a p b
 some_path l stands tree a b (p, pa) (q, qb) ne =
     let low_p : p.segment < length l.segments = stands a p pa in
     let low_q : q.segment < length l.segments = stands b q qb in

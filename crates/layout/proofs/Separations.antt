@@ -5,8 +5,8 @@ use Rattle.std.proofs.lemmas.Bool.Decides.{Decides-eqb}
 use Rattle.layout.specs.declared.edge.Edge.{Edge}
 use Rattle.layout.specs.declared.lines.PortLine.{PortLine}
 use Rattle.layout.specs.declared.lines.RepeaterLine.{RepeaterLine}
-use Rattle.layout.specs.declared.ways.Tap.{Tap}
-use Rattle.layout.specs.declared.ways.Tap.TheVariants.{Port}
+use Rattle.layout.specs.declared.ways.Attachment.{Attachment}
+use Rattle.layout.specs.declared.ways.Attachment.TheVariants.{Port}
 use Rattle.layout.specs.Joined.{colours, is_joined}
 use Rattle.layout.specs.Networks.{edge_at, edges_from, CloseNoLoop}
 use Rattle.layout.specs.Among.{IsAmong}
@@ -16,7 +16,7 @@ use Rattle.layout.proofs.Joins.{Tell, told}
 
 -- a port and its edge
 pub record PortEdge : Type 0 where
-  pub tap : Tap
+  pub tap : Attachment
   pub edge : Edge
 
 abbrev pub edges_named : List PortEdge → List Edge

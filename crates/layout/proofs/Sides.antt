@@ -7,8 +7,8 @@ use Rattle.layout.specs.declared.edge.Edge.{Edge}
 use Rattle.layout.specs.declared.lines.Layout.{Layout}
 use Rattle.layout.specs.declared.lines.PortLine.{PortLine}
 use Rattle.layout.specs.declared.lines.RepeaterLine.{RepeaterLine}
-use Rattle.layout.specs.declared.ways.Tap.{Tap}
-use Rattle.layout.specs.declared.ways.Tap.TheVariants.{Station, Port}
+use Rattle.layout.specs.declared.ways.Attachment.{Attachment}
+use Rattle.layout.specs.declared.ways.Attachment.TheVariants.{Station, Port}
 use Rattle.layout.specs.declared.ways.Way.{Way}
 use Rattle.layout.specs.declared.ways.Way.TheVariants as way
 use Rattle.layout.specs.Networks.{edge_at, edges_from, network_edges, parts_of, IsTree}
@@ -50,16 +50,16 @@ network_within l stands =
     omega arith)
 
 -- the colours for a station: it alone stands behind its tap
-abbrev alone : ℕ → Way → Tap → Bool
+abbrev alone : ℕ → Way → Attachment → Bool
 alone k way.Cable g = false
 alone k way.Repeater (Station j) = j == k
 alone k way.Repeater (Port r p) = false
 
-alone_others : (k : ℕ) (g : Tap) → g ≢ Station k → alone k way.Cable g ≡ alone k way.Repeater g
+alone_others : (k : ℕ) (g : Attachment) → g ≢ Station k → alone k way.Cable g ≡ alone k way.Repeater g
 alone_others k (Station j) ne = sym (ne_eqb j k (λ e. ne (ap (λ n. Station n) e)))
 alone_others k (Port r p) ne = refl
 
-alone_along : (l : Layout) (k : ℕ) (w : Way) (a b : Tap) (part : ℕ) → part_by l w a ≡ Some part → part_by l w b ≡ Some part → alone k w a ≡ alone k w b
+alone_along : (l : Layout) (k : ℕ) (w : Way) (a b : Attachment) (part : ℕ) → part_by l w a ≡ Some part → part_by l w b ≡ Some part → alone k w a ≡ alone k w b
 alone_along l k way.Cable a b part from to = refl
 alone_along l k way.Repeater (Station i) b part from to = absurd (cc)
 alone_along l k way.Repeater (Port r p) (Station j) part from to = absurd (cc)
@@ -73,11 +73,11 @@ station_cut l k = record {
 }
 
 -- a tap's segment by its number, 0 where there is no tap
-abbrev segment_number : Layout → Tap → ℕ
+abbrev segment_number : Layout → Attachment → ℕ
 segment_number l t = unwrap_or (part_by l way.Cable t) 0
 
 -- the colours for a port, from those of the parts
-abbrev by_parts : Layout → (ℕ → Bool) → Way → Tap → Bool
+abbrev by_parts : Layout → (ℕ → Bool) → Way → Attachment → Bool
 by_parts l d way.Cable g = d (segment_number l g)
 by_parts l d way.Repeater (Station k) = d (segment_number l (Station k))
 by_parts l d way.Repeater (Port r p) = d (length l.segments + r)
@@ -89,7 +89,7 @@ constant r part (Some x) h = cc
 pub repeater_number : (l : Layout) (r p part : ℕ) → part_by l way.Repeater (Port r p) ≡ Some part → r ≡ part
 repeater_number l r p part h = constant r part (place l (Port r p)) h
 
-by_parts_along : (l : Layout) (d : ℕ → Bool) (w : Way) (a b : Tap) (part : ℕ) → part_by l w a ≡ Some part → part_by l w b ≡ Some part → by_parts l d w a ≡ by_parts l d w b
+by_parts_along : (l : Layout) (d : ℕ → Bool) (w : Way) (a b : Attachment) (part : ℕ) → part_by l w a ≡ Some part → part_by l w b ≡ Some part → by_parts l d w a ≡ by_parts l d w b
 by_parts_along l d way.Cable a b part from to = rw (from, to) refl
 by_parts_along l d way.Repeater (Station i) b part from to = absurd (cc)
 by_parts_along l d way.Repeater (Port r p) (Station j) part from to = absurd (cc)
@@ -113,15 +113,15 @@ port_edge_among l r p line h =
     let is : IsPortOf l.repeaters r p line = port_of l r p line h in
     edge_among (length l.segments) 0 (length l.segments + r) r r p l.repeaters is.row line is.of_row is.of_port (omega arith) refl
 
-segment_number_is : (l : Layout) (t : Tap) (line : PortLine) → place l t ≡ Some line → segment_number l t ≡ line.segment
+segment_number_is : (l : Layout) (t : Attachment) (line : PortLine) → place l t ≡ Some line → segment_number l t ≡ line.segment
 segment_number_is l t line h = rw h refl
 
-by_parts_others : (l : Layout) (d : ℕ → Bool) (r p : ℕ) (line : PortLine) → Separates (port_edges l) (port_edge l r p line) d → (g : Tap) → IsTap l g → g ≢ Port r p → by_parts l d way.Cable g ≡ by_parts l d way.Repeater g
+by_parts_others : (l : Layout) (d : ℕ → Bool) (r p : ℕ) (line : PortLine) → Separates (port_edges l) (port_edge l r p line) d → (g : Attachment) → IsTap l g → g ≢ Port r p → by_parts l d way.Cable g ≡ by_parts l d way.Repeater g
 by_parts_others l d r p line parts (Station k) is ne = refl
 by_parts_others l d r p line parts (Port s q) (other, h) ne =
     ap d (segment_number_is l (Port s q) other h) ∙ sym (parts.others (port_edge l s q other) (port_edge_among l s q other h) ne)
 
-port_cut : (l : Layout) → StandsOnSegments l → IsTree l → (r p : ℕ) (line : PortLine) → place l (Port r p) ≡ Some line → (c : Way → Tap → Bool) × IsCut l (Port r p) c
+port_cut : (l : Layout) → StandsOnSegments l → IsTree l → (r p : ℕ) (line : PortLine) → place l (Port r p) ≡ Some line → (c : Way → Attachment → Bool) × IsCut l (Port r p) c
 port_cut l stands tree r p line h =
     let all : AllSeparate (port_edges l) = network_separates l stands tree in
     let found : (d : ℕ → Bool) × Separates (port_edges l) (port_edge l r p line) d = all (port_edge l r p line) (port_edge_among l r p line h) in (

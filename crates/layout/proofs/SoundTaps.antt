@@ -6,8 +6,8 @@ use Rattle.layout.specs.declared.lines.Layout.{Layout}
 use Rattle.layout.specs.declared.lines.PortLine.{PortLine}
 use Rattle.layout.specs.declared.lines.RepeaterLine.{RepeaterLine}
 use Rattle.layout.specs.declared.lines.StationLine.{StationLine}
-use Rattle.layout.specs.declared.ways.Tap.{Tap}
-use Rattle.layout.specs.declared.ways.Tap.TheVariants.{Station, Port}
+use Rattle.layout.specs.declared.ways.Attachment.{Attachment}
+use Rattle.layout.specs.declared.ways.Attachment.TheVariants.{Station, Port}
 use Rattle.layout.specs.declared.ways.Way.{Way}
 use Rattle.layout.specs.declared.ways.Way.TheVariants as way
 use Rattle.layout.specs.Paths.{place, at_of, delay_of, step_length, other_way, walk_length, HasOnePath, HasOneDistance}
@@ -28,7 +28,7 @@ pub sound_repeater : (l : Layout) → IsSound l → (r : ℕ) (row : RepeaterLin
 sound_repeater l sound r row h = at_all (IsSoundRepeater (length l.segments)) l.repeaters r row sound.repeaters h
 
 -- the place of a tap is that of a port
-pub sound_place : (l : Layout) → IsSound l → (t : Tap) (p : PortLine) → place l t ≡ Some p → IsSoundPort (length l.segments) p
+pub sound_place : (l : Layout) → IsSound l → (t : Attachment) (p : PortLine) → place l t ≡ Some p → IsSoundPort (length l.segments) p
 sound_place l sound (Station k) p h =
     let found : (s : StationLine) × (slice_get l.stations k ≡ Some s) = mapped tap_of (slice_get l.stations k) p h in
     let is : IsSoundStation l.format (length l.segments) found.0 = at_all (IsSoundStation l.format (length l.segments)) l.stations k found.0 sound.stations found.1 in
@@ -45,25 +45,25 @@ place_at : (o : Option PortLine) → ((p : PortLine) → o ≡ Some p → p.at �
 place_at None low = omega arith
 place_at (Some p) low = low p refl
 
-pub at_low : (l : Layout) → IsSound l → (t : Tap) → at_of l t ≤ greatest_place
+pub at_low : (l : Layout) → IsSound l → (t : Attachment) → at_of l t ≤ greatest_place
 at_low l sound t = place_at (place l t) (λ p h. (sound_place l sound t p h).at)
 
 row_delay : (o : Option RepeaterLine) → ((r : RepeaterLine) → o ≡ Some r → r.delay ≤ greatest_delay) → unwrap_or (option_map (λ (r : RepeaterLine). r.delay) o) 0 ≤ greatest_delay
 row_delay None low = omega arith
 row_delay (Some r) low = low r refl
 
-pub delay_low : (l : Layout) → IsSound l → (t : Tap) → delay_of l t ≤ greatest_delay
+pub delay_low : (l : Layout) → IsSound l → (t : Attachment) → delay_of l t ≤ greatest_delay
 delay_low l sound (Station k) = omega arith
 delay_low l sound (Port r p) = row_delay (slice_get l.repeaters r) (λ row h. (sound_repeater l sound r row h).delay_most)
 
 apart_low : (x y : ℕ) → x ≤ greatest_place → y ≤ greatest_place → distance x y ≤ greatest_place
 apart_low x y h k = omega arith
 
-pub step_low : (l : Layout) → IsSound l → (w : Way) (a b : Tap) → step_length l w a b ≤ greatest_place
+pub step_low : (l : Layout) → IsSound l → (w : Way) (a b : Attachment) → step_length l w a b ≤ greatest_place
 step_low l sound way.Cable a b = apart_low (at_of l a) (at_of l b) (at_low l sound a) (at_low l sound b)
 step_low l sound way.Repeater a b = omega (arith, delay_low l sound a)
 
-pub walk_low : (l : Layout) → IsSound l → (w : Way) (a : Tap) (ts : List Tap) → walk_length l w a ts ≤ greatest_place * length ts
+pub walk_low : (l : Layout) → IsSound l → (w : Way) (a : Attachment) (ts : List Attachment) → walk_length l w a ts ≤ greatest_place * length ts
 walk_low l sound w a [] = omega arith
 walk_low l sound w a (t ∷ ts) = omega (arith, step_low l sound w a t, walk_low l sound (other_way w) t ts)
 

@@ -5,8 +5,8 @@ use Rattle.std.proofs.lemmas.Option.{same_Some}
 use Rattle.layout.specs.declared.edge.Edge.{Edge}
 use Rattle.layout.specs.declared.lines.Layout.{Layout}
 use Rattle.layout.specs.declared.lines.PortLine.{PortLine}
-use Rattle.layout.specs.declared.ways.Tap.{Tap}
-use Rattle.layout.specs.declared.ways.Tap.TheVariants.{Station, Port}
+use Rattle.layout.specs.declared.ways.Attachment.{Attachment}
+use Rattle.layout.specs.declared.ways.Attachment.TheVariants.{Station, Port}
 use Rattle.layout.specs.declared.ways.Way.{Way}
 use Rattle.layout.specs.declared.ways.Way.TheVariants as way
 use Rattle.layout.specs.EdgePaths.{AreNeighbours, EdgePath, stay, go_on}
@@ -32,10 +32,10 @@ port_neighbours l r p line h =
 stay_at : (edges : List Edge) (a b : ℕ) → a ≡ b → EdgePath edges a b
 stay_at edges a b e = rw e stay
 
-on_cable : (l : Layout) (t : Tap) (p : PortLine) (part : ℕ) → place l t ≡ Some p → part_by l way.Cable t ≡ Some part → p.segment ≡ part
+on_cable : (l : Layout) (t : Attachment) (p : PortLine) (part : ℕ) → place l t ≡ Some p → part_by l way.Cable t ≡ Some part → p.segment ≡ part
 on_cable l t p part at of = same_Some p.segment part (sym (ap (option_map (λ (x : PortLine). x.segment)) at) ∙ of)
 
-step_over_edges : (l : Layout) (w : Way) (a b : Tap) (p q : PortLine) (part : ℕ) → place l a ≡ Some p → place l b ≡ Some q → part_by l w a ≡ Some part → part_by l w b ≡ Some part → EdgePath (network_edges l) p.segment q.segment
+step_over_edges : (l : Layout) (w : Way) (a b : Attachment) (p q : PortLine) (part : ℕ) → place l a ≡ Some p → place l b ≡ Some q → part_by l w a ≡ Some part → part_by l w b ≡ Some part → EdgePath (network_edges l) p.segment q.segment
 step_over_edges l way.Cable a b p q part pa qb from to =
     stay_at (network_edges l) p.segment q.segment (on_cable l a p part pa from ∙ sym (on_cable l b q part qb to))
 step_over_edges l way.Repeater (Station i) b p q part pa qb from to = absurd (cc)
@@ -47,7 +47,7 @@ step_over_edges l way.Repeater (Port r i) (Port s j) p q part pa qb from to =
     go_on (neighbours_back (network_edges l) (length l.segments + r) p.segment in_front)
     (go_on (subst (λ (n : ℕ). AreNeighbours (network_edges l) (length l.segments + n) q.segment) same beyond) stay)
 
-walk_over_edges : (l : Layout) (w : Way) (a : Tap) (ts : List Tap) (b : Tap) (p q : PortLine) → place l a ≡ Some p → place l b ≡ Some q → IsWalk l w a ts b → EdgePath (network_edges l) p.segment q.segment
+walk_over_edges : (l : Layout) (w : Way) (a : Attachment) (ts : List Attachment) (b : Attachment) (p q : PortLine) → place l a ≡ Some p → place l b ≡ Some q → IsWalk l w a ts b → EdgePath (network_edges l) p.segment q.segment
 walk_over_edges l w a [] b p q pa qb walk =
     let same : p ≡ q = same_Some p q (sym pa ∙ ap (place l) walk ∙ qb) in
     stay_at (network_edges l) p.segment q.segment (ap (λ (x : PortLine). x.segment) same)

@@ -2,7 +2,7 @@
 ghost use Rattle.std.specs.Prelude.{ℕ, List};
 ghost use Rattle.layout.specs.declared.edge.Edge.{Edge};
 ghost use Rattle.layout.specs.declared.lines.Layout.{Layout};
-ghost use Rattle.layout.specs.declared.ways.Tap.{Tap};
+ghost use Rattle.layout.specs.declared.ways.Attachment.{Attachment};
 ghost use Rattle.layout.specs.EdgePaths.{ColoursTellPaths, HaveEndsBelow};
 ghost use Rattle.layout.specs.Paths.{HasOneDistance, HasOnePath, IsDistance, PathsFollowEdges, StandsOnSegments};
 ghost use Rattle.layout.specs.Sound.{IsSound};
@@ -31,5 +31,5 @@ pub fn one_distance()
 
 /// A distance is the same both ways.
 pub fn distance_back()
-    ensures { (l : Layout) (a b : Tap) (n : ℕ) → IsDistance l a b n → IsDistance l b a n }
+    ensures { (l : Layout) (a b : Attachment) (n : ℕ) → IsDistance l a b n → IsDistance l b a n }
 {}

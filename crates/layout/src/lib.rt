@@ -17,4 +17,4 @@ pub use lines::{
     Layout, Octets, PortLine, PortLines, RepeaterLine, RepeaterLines, SegmentLine, SegmentLines,
     SendLine, SendLines, StationLine, StationLines,
 };
-pub use ways::{Tap, Way};
+pub use ways::{Attachment, Way};

@@ -2,7 +2,7 @@
 
 /// A station's tap, or that of a port of a repeater.
 #[derive(Clone, Copy, Debug, PartialEq, Eq)]
-pub enum Tap {
+pub enum Attachment {
     Station(u32),
     Port { repeater: u32, port: u32 },
 }

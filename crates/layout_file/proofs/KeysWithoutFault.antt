@@ -9,7 +9,7 @@ use Rattle.layout.specs.Limits.{longest_name, longest_load}
 use Rattle.layout_file.specs.declared.fault.Key.{Key}
 use Rattle.layout_file.specs.declared.rows.RowTest.{RowTest}
 use Rattle.layout_file.specs.declared.rows.RowTest.TheVariants as test
-use Rattle.layout_file.specs.declared.rules.Kind.TheVariants as kind
+use Rattle.layout_file.specs.declared.rules.ValueKind.TheVariants as kind
 use Rattle.layout_file.specs.declared.rules.Rule.{Rule}
 use Rattle.layout_file.specs.declared.rules.Shape.{Shape}
 use Rattle.layout_file.specs.RowFaults.{Around, is_among, is_enough, is_unknown_key, fails, failing_key}

@@ -8,8 +8,8 @@ use Rattle.layout_file.specs.declared.fault.LayoutCode.TheVariants as code
 use Rattle.layout_file.specs.declared.fault.LayoutFault.{LayoutFault}
 use Rattle.layout_file.specs.declared.rows.RowTest.{RowTest}
 use Rattle.layout_file.specs.declared.rows.RowTest.TheVariants as test
-use Rattle.layout_file.specs.declared.rules.Kind.{Kind}
-use Rattle.layout_file.specs.declared.rules.Kind.TheVariants as kind
+use Rattle.layout_file.specs.declared.rules.ValueKind.{ValueKind}
+use Rattle.layout_file.specs.declared.rules.ValueKind.TheVariants as kind
 use Rattle.layout_file.specs.declared.rules.Rule.{Rule}
 use Rattle.layout_file.specs.Rules.{rules_of}
 use Rattle.layout_file.specs.Spots.{Spot, fault}
@@ -40,7 +40,7 @@ is_among x [] = false
 is_among x (y ∷ ys) = bytes_eq y x || is_among x ys
 
 -- the value is of the type that its key asks for
-abbrev pub is_of_kind : Kind → Data → Bool
+abbrev pub is_of_kind : ValueKind → Data → Bool
 is_of_kind (kind.Whole least most) (integer z) = true
 is_of_kind kind.Name (string s) = true
 is_of_kind kind.Load (string s) = true
@@ -51,7 +51,7 @@ is_of_kind (kind.Rows least) (array ds) = is_some (tables ds)
 is_of_kind k d = false
 
 -- a name is a name, and a load keeps its rule
-abbrev pub is_well_named : Kind → Data → Bool
+abbrev pub is_well_named : ValueKind → Data → Bool
 is_well_named kind.Name (string s) = is_name s
 is_well_named kind.Load (string s) = is_load s
 is_well_named k d = true
@@ -67,28 +67,28 @@ is_enough least None = true
 is_enough least (Some n) = nat_le least n
 
 -- a number is within its bounds, and an array has rows enough
-abbrev pub is_in_range : Kind → Data → Bool
+abbrev pub is_in_range : ValueKind → Data → Bool
 is_in_range (kind.Whole least most) (integer z) = is_within least most (natural (integer z))
 is_in_range (kind.Rows least) (array ds) = is_enough least (option_map length (tables ds))
 is_in_range k d = true
 
 -- a text that names a segment names one of these
-abbrev pub names_segment : List (List ℕ) → Kind → Data → Bool
+abbrev pub names_segment : List (List ℕ) → ValueKind → Data → Bool
 names_segment segments kind.SegmentName (string s) = is_among s segments
 names_segment segments k d = true
 
 -- a text that names a station names one of these
-abbrev pub names_station : List (List ℕ) → Kind → Data → Bool
+abbrev pub names_station : List (List ℕ) → ValueKind → Data → Bool
 names_station stations kind.StationName (string s) = is_among s stations
 names_station stations k d = true
 
 -- a send's octets are digits of octets enough and not too many
-abbrev pub is_well_framed : Kind → Data → Bool
+abbrev pub is_well_framed : ValueKind → Data → Bool
 is_well_framed (kind.Frame most) (string s) = is_frame most s
 is_well_framed k d = true
 
 -- the value passes the test
-abbrev pub passes : Around → RowTest → Kind → Data → Bool
+abbrev pub passes : Around → RowTest → ValueKind → Data → Bool
 passes around test.UnknownKey k d = true
 passes around test.Missing k d = true
 passes around test.WrongType k d = is_of_kind k d

@@ -4,8 +4,8 @@ use Rattle.layout_file.specs.declared.fault.Key.{Key}
 use Rattle.layout_file.specs.declared.fault.Key.TheVariants as key
 use Rattle.layout_file.specs.declared.fault.Table.{Table}
 use Rattle.layout_file.specs.declared.fault.Table.TheVariants as table
-use Rattle.layout_file.specs.declared.rules.Kind.{Kind}
-use Rattle.layout_file.specs.declared.rules.Kind.TheVariants as kind
+use Rattle.layout_file.specs.declared.rules.ValueKind.{ValueKind}
+use Rattle.layout_file.specs.declared.rules.ValueKind.TheVariants as kind
 use Rattle.layout_file.specs.declared.rules.Rule.{Rule}
 use Rattle.layout_file.specs.declared.rules.Shape.{Shape}
 use Rattle.layout_file.specs.declared.rules.Shape.TheVariants as shape
@@ -25,11 +25,11 @@ table_of shape.Port = table.Repeater
 table_of shape.Send = table.Send
 
 -- a key that has to be there
-abbrev pub required : Key → Kind → Rule
+abbrev pub required : Key → ValueKind → Rule
 required k holds = record { key = k; required = true; kind = holds }
 
 -- a key that may be absent
-abbrev pub optional : Key → Kind → Rule
+abbrev pub optional : Key → ValueKind → Rule
 optional k holds = record { key = k; required = false; kind = holds }
 
 -- the bits that a receiver loses are a key of format 2 alone

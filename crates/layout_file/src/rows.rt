@@ -6,14 +6,14 @@ ghost use Rattle.layout_file.specs.RowFaults.{is_among, is_of_kind, is_well_name
 ghost use Rattle.layout_file.specs.Sites.{seen};
 
 use crate::fault::{Key, LayoutCode, LayoutFault};
-use crate::rules::{Kind, Rule, rules};
+use crate::rules::{Rule, ValueKind, rules};
 use crate::sites::Site;
 use crate::texts::{is_frame, is_load, is_name};
 use crate::tree::{count_tables, has_stranger, natural, value};
 use toml::{Table as TomlTable, Value};
 
 /// A test of one row.
-#[derive(Clone, Copy, Debug, PartialEq, Eq)]
+#[derive(Clone, Copy)]
 pub enum RowTest {
     UnknownKey,
     Missing,
@@ -67,28 +67,28 @@ pub fn is_among(name: &str, names: &[&str]) -> bool
 }
 
 /// The value is of the type that its key asks for.
-fn is_of_kind(kind: Kind, value: &Value) -> bool
+fn is_of_kind(kind: ValueKind, value: &Value) -> bool
     ensures { result ≡ is_of_kind kind (view value.now) }
 {
     match (kind, value) {
-        (Kind::Whole(_, _), Value::Integer(_)) => true,
-        (Kind::Name, Value::String(_)) => true,
-        (Kind::Load, Value::String(_)) => true,
-        (Kind::SegmentName, Value::String(_)) => true,
-        (Kind::StationName, Value::String(_)) => true,
-        (Kind::Frame(_), Value::String(_)) => true,
-        (Kind::Rows(_), Value::Array(items)) => count_tables(items.as_slice()).is_some(),
+        (ValueKind::Whole(_, _), Value::Integer(_)) => true,
+        (ValueKind::Name, Value::String(_)) => true,
+        (ValueKind::Load, Value::String(_)) => true,
+        (ValueKind::SegmentName, Value::String(_)) => true,
+        (ValueKind::StationName, Value::String(_)) => true,
+        (ValueKind::Frame(_), Value::String(_)) => true,
+        (ValueKind::Rows(_), Value::Array(items)) => count_tables(items.as_slice()).is_some(),
         _ => false,
     }
 }
 
 /// A name is a name, and a load keeps its rule.
-fn is_well_named(kind: Kind, value: &Value) -> bool
+fn is_well_named(kind: ValueKind, value: &Value) -> bool
     ensures { result ≡ is_well_named kind (view value.now) }
 {
     match (kind, value) {
-        (Kind::Name, Value::String(text)) => is_name(text.as_str()),
-        (Kind::Load, Value::String(text)) => is_load(text.as_str()),
+        (ValueKind::Name, Value::String(text)) => is_name(text.as_str()),
+        (ValueKind::Load, Value::String(text)) => is_load(text.as_str()),
         _ => true,
     }
 }
@@ -112,12 +112,16 @@ fn is_enough(least: u64, rows: Option<u64>) -> bool
 }
 
 /// A number is within its bounds, and an array has rows enough.
-fn is_in_range(kind: Kind, value: &Value) -> bool
+fn is_in_range(kind: ValueKind, value: &Value) -> bool
     ensures { result ≡ is_in_range kind (view value.now) }
 {
     match (kind, value) {
-        (Kind::Whole(least, most), Value::Integer(_)) => is_within(least, most, natural(value)),
-        (Kind::Rows(least), Value::Array(items)) => {
+        (ValueKind::Whole(least, most), Value::Integer(_)) => is_within(
+            least,
+            most,
+            natural(value),
+        ),
+        (ValueKind::Rows(least), Value::Array(items)) => {
             is_enough(least, count_tables(items.as_slice()))
         }
         _ => true,
@@ -125,36 +129,36 @@ fn is_in_range(kind: Kind, value: &Value) -> bool
 }
 
 /// A text that names a segment names one of these.
-fn names_segment(segments: &[&str], kind: Kind, value: &Value) -> bool
+fn names_segment(segments: &[&str], kind: ValueKind, value: &Value) -> bool
     ensures { result ≡ names_segment (map (λ s. s.now) segments.now) kind (view value.now) }
 {
     match (kind, value) {
-        (Kind::SegmentName, Value::String(text)) => is_among(text.as_str(), segments),
+        (ValueKind::SegmentName, Value::String(text)) => is_among(text.as_str(), segments),
         _ => true,
     }
 }
 
 /// A text that names a station names one of these.
-fn names_station(stations: &[&str], kind: Kind, value: &Value) -> bool
+fn names_station(stations: &[&str], kind: ValueKind, value: &Value) -> bool
     ensures { result ≡ names_station (map (λ s. s.now) stations.now) kind (view value.now) }
 {
     match (kind, value) {
-        (Kind::StationName, Value::String(text)) => is_among(text.as_str(), stations),
+        (ValueKind::StationName, Value::String(text)) => is_among(text.as_str(), stations),
         _ => true,
     }
 }
 
 /// A send's octets are digits of octets enough and not too many.
-fn is_well_framed(kind: Kind, value: &Value) -> bool
+fn is_well_framed(kind: ValueKind, value: &Value) -> bool
     ensures { result ≡ is_well_framed kind (view value.now) }
 {
     match (kind, value) {
-        (Kind::Frame(most), Value::String(text)) => is_frame(most, text.as_str()),
+        (ValueKind::Frame(most), Value::String(text)) => is_frame(most, text.as_str()),
         _ => true,
     }
 }
 
-fn passes(surroundings: &Surroundings, test: RowTest, kind: Kind, value: &Value) -> bool
+fn passes(surroundings: &Surroundings, test: RowTest, kind: ValueKind, value: &Value) -> bool
     ensures { result ≡ passes (around surroundings.now) test kind (view value.now) }
 {
     match test {

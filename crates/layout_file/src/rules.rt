@@ -10,7 +10,7 @@ use mac_parameters::{
 };
 
 /// Which keys a table of the document may have.
-#[derive(Clone, Copy, Debug, PartialEq, Eq)]
+#[derive(Clone, Copy)]
 pub enum Shape {
     File,
     Segment,
@@ -37,8 +37,8 @@ impl Shape {
 }
 
 /// What a key holds.
-#[derive(Clone, Copy, Debug, PartialEq, Eq)]
-pub enum Kind {
+#[derive(Clone, Copy)]
+pub enum ValueKind {
     /// A whole number from the first bound to the second.
     Whole(u64, u64),
     /// The name of the row itself.
@@ -56,74 +56,74 @@ pub enum Kind {
 }
 
 /// A key that a table may have.
-#[derive(Clone, Copy, Debug, PartialEq, Eq)]
+#[derive(Clone, Copy)]
 pub struct Rule {
     pub key: Key,
     pub required: bool,
-    pub kind: Kind,
+    pub kind: ValueKind,
 }
 
 const FILE_RULES: [Rule; 7] = [
     Rule {
         key: Key::Format,
         required: true,
-        kind: Kind::Whole(1, 2),
+        kind: ValueKind::Whole(1, 2),
     },
     Rule {
         key: Key::Seed,
         required: true,
-        kind: Kind::Whole(0, GREATEST_SEED),
+        kind: ValueKind::Whole(0, GREATEST_SEED),
     },
     Rule {
         key: Key::UntilBits,
         required: true,
-        kind: Kind::Whole(1, MOST_BITS),
+        kind: ValueKind::Whole(1, MOST_BITS),
     },
     Rule {
         key: Key::Segment,
         required: true,
-        kind: Kind::Rows(1),
+        kind: ValueKind::Rows(1),
     },
     Rule {
         key: Key::Station,
         required: false,
-        kind: Kind::Rows(0),
+        kind: ValueKind::Rows(0),
     },
     Rule {
         key: Key::Repeater,
         required: false,
-        kind: Kind::Rows(0),
+        kind: ValueKind::Rows(0),
     },
     Rule {
         key: Key::Send,
         required: false,
-        kind: Kind::Rows(0),
+        kind: ValueKind::Rows(0),
     },
 ];
 
 const NAME_RULE: Rule = Rule {
     key: Key::Name,
     required: true,
-    kind: Kind::Name,
+    kind: ValueKind::Name,
 };
 
 const SEGMENT_NAME_RULE: Rule = Rule {
     key: Key::Segment,
     required: true,
-    kind: Kind::SegmentName,
+    kind: ValueKind::SegmentName,
 };
 
 /// The place of a tap, in half bits.
 const AT_RULE: Rule = Rule {
     key: Key::At,
     required: true,
-    kind: Kind::Whole(0, GREATEST_PLACE as u64),
+    kind: ValueKind::Whole(0, GREATEST_PLACE as u64),
 };
 
 const LOAD_RULE: Rule = Rule {
     key: Key::Load,
     required: false,
-    kind: Kind::Load,
+    kind: ValueKind::Load,
 };
 
 const SEGMENT_RULES: [Rule; 1] = [NAME_RULE];
@@ -138,7 +138,7 @@ const STATION_RULES_OF_TWO: [Rule; 5] = [
     Rule {
         key: Key::LoseBits,
         required: false,
-        kind: Kind::Whole(0, MOST_LOST_BITS),
+        kind: ValueKind::Whole(0, MOST_LOST_BITS),
     },
 ];
 
@@ -147,12 +147,12 @@ const REPEATER_RULES: [Rule; 3] = [
     Rule {
         key: Key::Delay,
         required: true,
-        kind: Kind::Whole(LEAST_DELAY, GREATEST_DELAY),
+        kind: ValueKind::Whole(LEAST_DELAY, GREATEST_DELAY),
     },
     Rule {
         key: Key::Port,
         required: true,
-        kind: Kind::Rows(LEAST_PORTS),
+        kind: ValueKind::Rows(LEAST_PORTS),
     },
 ];
 
@@ -161,14 +161,14 @@ const PORT_RULES: [Rule; 2] = [SEGMENT_NAME_RULE, AT_RULE];
 const STATION_NAME_RULE: Rule = Rule {
     key: Key::Station,
     required: true,
-    kind: Kind::StationName,
+    kind: ValueKind::StationName,
 };
 
 /// When a frame becomes ready, in half bits.
 const READY_RULE: Rule = Rule {
     key: Key::At,
     required: true,
-    kind: Kind::Whole(0, MOST_HALF_BITS),
+    kind: ValueKind::Whole(0, MOST_HALF_BITS),
 };
 
 const SEND_RULES: [Rule; 3] = [
@@ -177,7 +177,7 @@ const SEND_RULES: [Rule; 3] = [
     Rule {
         key: Key::Octets,
         required: true,
-        kind: Kind::Frame(MOST_OCTETS_UNTAGGED as u64),
+        kind: ValueKind::Frame(MOST_OCTETS_UNTAGGED as u64),
     },
 ];
 
@@ -187,7 +187,7 @@ const SEND_RULES_OF_TWO: [Rule; 3] = [
     Rule {
         key: Key::Octets,
         required: true,
-        kind: Kind::Frame(MOST_OCTETS_TAGGED as u64),
+        kind: ValueKind::Frame(MOST_OCTETS_TAGGED as u64),
     },
 ];
 

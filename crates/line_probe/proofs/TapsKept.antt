@@ -6,7 +6,7 @@ use Rattle.manchester_line.specs.declared.Sym.{Sym}
 use Rattle.manchester_line.specs.declared.Sym.TheVariants.{Idle}
 use Rattle.layout.specs.declared.lines.RepeaterLine.{RepeaterLine}
 use Rattle.load_plan.specs.declared.plan.Plan.{Plan}
-use Rattle.repeater_core.specs.Step.{State, new_state}
+use Rattle.repeater_core.specs.Step.{RepeaterDevice, new_state}
 use Rattle.network.specs.Attempts.{port_number}
 use Rattle.network.specs.Net.{Net, heard_in, net, ports_of}
 use Rattle.network.proofs.DelayLines.{LinesUp}
@@ -16,14 +16,14 @@ use Rattle.line_probe.specs.Heard.{tap_heard}
 use Rattle.line_probe.specs.Taps.{HasTap, no_repeater, tap_number_of}
 use Rattle.line_probe.specs.declared.tap.Tap.{Tap}
 
-lined_many : (ls : List RepeaterLine) (rs : List State) (h : List (List Sym)) → LinesUp ls rs h → length rs ≡ length ls
+lined_many : (ls : List RepeaterLine) (rs : List RepeaterDevice) (h : List (List Sym)) → LinesUp ls rs h → length rs ≡ length ls
 lined_many [] [] h up = refl
 lined_many [] (r ∷ rs) h up = absurd up
 lined_many (l ∷ ls) [] h up = absurd up
 lined_many (l ∷ ls) (r ∷ rs) h up = ap suc (lined_many ls rs (map (drop (length l.ports)) h) up.1)
 
 -- a repeater has as many guards as its row of the layout has ports
-lined_ports : (ls : List RepeaterLine) (rs : List State) (h : List (List Sym)) (k : ℕ) → LinesUp ls rs h → k < length ls →
+lined_ports : (ls : List RepeaterLine) (rs : List RepeaterDevice) (h : List (List Sym)) (k : ℕ) → LinesUp ls rs h → k < length ls →
     length (get_or rs k (new_state 0 0)).guards ≡ length (get_or ls k no_repeater).ports
 lined_ports [] rs h k up lt = absurd (omega arith)
 lined_ports (l ∷ ls) [] h k up lt = absurd up
@@ -31,12 +31,12 @@ lined_ports (l ∷ ls) (r ∷ rs) h zero up lt = up.0.guards
 lined_ports (l ∷ ls) (r ∷ rs) h (suc k) up lt = lined_ports ls rs (map (drop (length l.ports)) h) k up.1 (omega arith)
 
 -- the number of a port among all ports
-lined_number : (ls : List RepeaterLine) (rs : List State) (h : List (List Sym)) (k p : ℕ) → LinesUp ls rs h → k < length ls → ports_of (take k rs) + p ≡ port_number ls k p
+lined_number : (ls : List RepeaterLine) (rs : List RepeaterDevice) (h : List (List Sym)) (k p : ℕ) → LinesUp ls rs h → k < length ls → ports_of (take k rs) + p ≡ port_number ls k p
 lined_number [] rs h k p up lt = absurd (omega arith)
 lined_number (l ∷ ls) [] h k p up lt = absurd up
 lined_number (l ∷ ls) (r ∷ rs) h zero p up lt = omega arith
 lined_number (l ∷ ls) (r ∷ rs) h (suc k) p up lt =
-    let more : ports_of (r ∷ take k rs) ≡ length r.guards + ports_of (take k rs) = sum_by-cons (λ (x : State). length x.guards) r (take k rs) in
+    let more : ports_of (r ∷ take k rs) ≡ length r.guards + ports_of (take k rs) = sum_by-cons (λ (x : RepeaterDevice). length x.guards) r (take k rs) in
     let rest = lined_number ls rs (map (drop (length l.ports)) h) k p up.1 (omega arith) in
     omega (arith, more, rest, up.0.guards)
 
@@ -53,7 +53,7 @@ tap_is_kept plan t k tap stands has =
           let same : tap.device - length k.senders ≡ tap.device - length plan.layout.stations = ap (λ m. tap.device - m) senders in
           let guards : length (get_or k.repeaters (tap.device - length k.senders) (new_state 0 0)).guards ≡ length (get_or plan.layout.repeaters (tap.device - length plan.layout.stations) no_repeater).ports =
           ap (λ i. length (get_or k.repeaters i (new_state 0 0)).guards) same
-          ∙ ap (λ (rs : List State). length (get_or rs (tap.device - length plan.layout.stations) (new_state 0 0)).guards) stands.repeaters
+          ∙ ap (λ (rs : List RepeaterDevice). length (get_or rs (tap.device - length plan.layout.stations) (new_state 0 0)).guards) stands.repeaters
           ∙ lined_ports plan.layout.repeaters n.repeaters n.decided (tap.device - length plan.layout.stations) shape.lines port.1 in
           inr (omega (arith, port.0, senders), omega (arith, port.1, same, many), omega (arith, port.2, guards))
     ]

@@ -20,7 +20,7 @@ use Rattle.load_plan.proofs.PlansAreSound.{sound_of_plan}
 use Rattle.mac_transmit.specs.Sender.{SendOutcome, Sender, cut_of}
 use Rattle.mac_receive.specs.Receiver.{Receiving, Reception}
 use Rattle.port_partition.specs.Guard.{new_guard}
-use Rattle.repeater_core.specs.Step.{State, after}
+use Rattle.repeater_core.specs.Step.{RepeaterDevice, after}
 use Rattle.network.specs.Net.{Net, each_repeater, net, new_receiver, new_repeater, new_senders, ports_hear, receptions, receptions_in, rows_in, sendings, sendings_in, stations_emit, stations_hear}
 use Rattle.network.specs.Outputs.{cut_rows, half_bits, rows}
 use Rattle.network.specs.Rows.{repeater_bodies, repeater_rows, row_of, rows_of, rows_of_bodies}
@@ -62,11 +62,11 @@ receivers_go_on t (s ∷ hs) [] rs late h = tt
 receivers_go_on t (s ∷ hs) (e ∷ es) [] late h = tt
 receivers_go_on t (s ∷ hs) (e ∷ es) (r ∷ rs) late h = ((receiver_goes_on t r s (is_signal e) late h.0).0, receivers_go_on t hs es rs late h.1)
 
-repeaters_go_on : (hears : List Sym) (rs : List State) → AllByRecursion HasFewPorts rs → AllByRecursion HasFewPorts (each_repeater after hears rs)
+repeaters_go_on : (hears : List Sym) (rs : List RepeaterDevice) → AllByRecursion HasFewPorts rs → AllByRecursion HasFewPorts (each_repeater after hears rs)
 repeaters_go_on hears [] h = tt
 repeaters_go_on hears (r ∷ rs) h = (repeater_goes_on (take (length r.guards) hears) r h.0, repeaters_go_on (drop (length r.guards) hears) rs h.1)
 
-as_many : {X : Type 0} (f : List Sym → State → X) (hears : List Sym) (rs : List State) → length (each_repeater f hears rs) ≡ length rs
+as_many : {X : Type 0} (f : List Sym → RepeaterDevice → X) (hears : List Sym) (rs : List RepeaterDevice) → length (each_repeater f hears rs) ≡ length rs
 as_many f hears [] = refl
 as_many f hears (r ∷ rs) = ap suc (as_many f (drop (length r.guards) hears) rs)
 
@@ -122,7 +122,7 @@ rows_of_one : (l : Layout) (t k : ℕ) (bodies : List Body) → t ≤ most_half_
 rows_of_one l t k [] late after_stations within h = tt
 rows_of_one l t k (body ∷ bodies) late after_stations within h = (of_repeater l t k body late after_stations within h.0, rows_of_one l t k bodies late after_stations within h.1)
 
-rows_of_repeaters : (l : Layout) (t k : ℕ) (hears : List Sym) (rs : List State) → t ≤ most_half_bits → length l.stations ≤ k → k + length rs ≤ length l.stations + length l.repeaters → AllByRecursion HasFewPorts rs
+rows_of_repeaters : (l : Layout) (t k : ℕ) (hears : List Sym) (rs : List RepeaterDevice) → t ≤ most_half_bits → length l.stations ≤ k → k + length rs ≤ length l.stations + length l.repeaters → AllByRecursion HasFewPorts rs
     → AllByRecursion (IsRowAt l t) (repeater_rows t k (each_repeater repeater_bodies hears rs))
 rows_of_repeaters l t k hears [] late after_stations within h = tt
 rows_of_repeaters l t k hears (r ∷ rs) late after_stations within h =

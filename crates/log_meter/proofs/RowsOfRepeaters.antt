@@ -8,7 +8,7 @@ use Rattle.port_partition.specs.declared.guard.GuardEvent.TheVariants as event
 use Rattle.port_partition.specs.Guard.{Guard}
 use Rattle.collision_log.specs.declared.row.Body.{Body}
 use Rattle.collision_log.specs.declared.row.Body.TheVariants.{Clash, Halted}
-use Rattle.repeater_core.specs.Step.{State, after, chosen, clash_begins, emitted_by, guard_events, guards_after}
+use Rattle.repeater_core.specs.Step.{RepeaterDevice, after, chosen, clash_begins, emitted_by, guard_events, guards_after}
 use Rattle.network.specs.Rows.{guard_bodies, happened, port_bodies, repeater_bodies}
 use Rattle.log_meter.specs.Lines.{IsInRange, is_of_repeater}
 
@@ -18,7 +18,7 @@ pub record IsRepeaterBody (t : ℕ) (body : Body) : Type 0 where
   pub numbers : IsInRange t body
 
 -- a repeater with no more ports than there may be
-abbrev pub HasFewPorts : State → Type 0
+abbrev pub HasFewPorts : RepeaterDevice → Type 0
 HasFewPorts r = length r.guards ≤ most_ports
 
 guards_stay : (gs : List Guard) (hs es : List Sym) → length (guards_after gs hs es) ≤ length gs
@@ -27,7 +27,7 @@ guards_stay (g ∷ gs) [] es = omega arith
 guards_stay (g ∷ gs) (h ∷ hs) [] = omega arith
 guards_stay (g ∷ gs) (h ∷ hs) (e ∷ es) = omega (arith, guards_stay gs hs es)
 
-pub repeater_goes_on : (hears : List Sym) (r : State) → HasFewPorts r → HasFewPorts (after hears r)
+pub repeater_goes_on : (hears : List Sym) (r : RepeaterDevice) → HasFewPorts r → HasFewPorts (after hears r)
 repeater_goes_on hears r h = omega (arith, h, guards_stay r.guards hears (emitted_by r))
 
 few_events : (gs : List Guard) (hs es : List Sym) → length (guard_events gs hs es) ≤ length gs
@@ -60,7 +60,7 @@ ports_in_range t port (h ∷ hs) (e ∷ es) few =
     (all_append (IsRepeaterBody t) (guard_bodies port e) (port_bodies (port + 1) hs es)
     (guard_in_range t port e small) (ports_in_range t (port + 1) hs es (omega (arith, few))))
 
-pub repeater_in_range : (t : ℕ) (hears : List Sym) (r : State) → HasFewPorts r → AllByRecursion (IsRepeaterBody t) (repeater_bodies hears r)
+pub repeater_in_range : (t : ℕ) (hears : List Sym) (r : RepeaterDevice) → HasFewPorts r → AllByRecursion (IsRepeaterBody t) (repeater_bodies hears r)
 repeater_in_range t hears r h =
     let es = guard_events r.guards hears (emitted_by r) in
     let hs : List Bool = map (λ c. c.halted) (chosen hears r) in

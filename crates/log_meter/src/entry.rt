@@ -10,7 +10,7 @@ use text_fields::{after_word, half_bit, name};
 
 /// A line whose name stands in the octets that were read.
 #[derive(Clone, Copy)]
-pub struct Entry<'a> {
+pub struct NamedLine<'a> {
     pub t: u64,
     pub repeater: bool,
     pub name: &'a str,
@@ -31,7 +31,7 @@ fn device(octets: &[u8]) -> Option<(bool, &[u8])>
 
 /// The line in front, without its line feed, and the octets after it.
 #[tactic(auto, unfolding(crate::specs::Reading::log_line_at))]
-pub fn entry_at(octets: &[u8]) -> Option<(Entry<'_>, &[u8])>
+pub fn entry_at(octets: &[u8]) -> Option<(NamedLine<'_>, &[u8])>
     ensures { IsReading (λ e. (line_of e.0, e.1.now)) result (log_line_at octets.now) }
 {
     let (t, rest) = half_bit(MOST_HALF_BITS, b"", octets)?;
@@ -39,7 +39,7 @@ pub fn entry_at(octets: &[u8]) -> Option<(Entry<'_>, &[u8])>
     let (name, rest) = name(rest)?;
     let rest = after_word(b" ", rest)?;
     let (body, rest) = body(t, repeater, rest)?;
-    let entry = Entry {
+    let entry = NamedLine {
         t,
         repeater,
         name,

@@ -5,7 +5,7 @@ ghost use Rattle.log_meter.specs.Lines.{IsLogLine, entry_text};
 ghost use Rattle.log_meter.specs.declared.fault.LineFault.TheVariants.{Bad};
 
 use crate::LineFault;
-use crate::entry::{Entry, entry_at};
+use crate::entry::{NamedLine, entry_at};
 use collision_log::Body;
 use lists::{List, OutOfMemory, Text};
 use std::alloc::Global;
@@ -23,7 +23,7 @@ pub struct LogLine {
 pub type LogLines = List<LogLine>;
 
 /// The line with its name kept.
-pub fn kept(alloc: Global, entry: Entry<'_>) -> Result<LogLine, OutOfMemory>
+pub fn kept(alloc: Global, entry: NamedLine<'_>) -> Result<LogLine, OutOfMemory>
     ensures { IfOk result (λ line. line ≡ line_of entry.entry) }
 {
     Ok(LogLine {

@@ -14,7 +14,7 @@ ghost use Rattle.load_plan.specs.declared.plan.Plan.{Plan};
 ghost use Rattle.network.specs.Outputs.{rows};
 ghost use Rattle.run_texts.specs.Texts.{log_of_rows};
 
-use crate::entry::{Entry, entry_at};
+use crate::entry::{NamedLine, entry_at};
 use crate::line::kept;
 use crate::{LogFault, LogLines};
 use std::alloc::Global;
@@ -24,7 +24,7 @@ use text_fields::after_word;
 pub const MOST_LOG_OCTETS: usize = 268_435_456;
 
 /// The line in front, with its line feed, and the octets after it.
-fn line_with_feed(octets: &[u8]) -> Option<(Entry<'_>, &[u8])>
+fn line_with_feed(octets: &[u8]) -> Option<(NamedLine<'_>, &[u8])>
     ensures grammar { IfSome result (λ e. IsLogLine (line_of e.0)) }
     ensures text { IfSome result (λ e. octets.now ≡ entry_text (line_of e.0) ++ e.1.now) }
     ensures shorter { IfSome result (λ e. length e.1.now < length octets.now) }

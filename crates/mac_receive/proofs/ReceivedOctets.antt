@@ -17,7 +17,7 @@ use Rattle.collision_log.specs.declared.row.Body.{Body}
 use Rattle.collision_log.specs.declared.row.Body.TheVariants.{Received, Dropped}
 use Rattle.collision_log.specs.declared.row.Why.TheVariants as why
 use Rattle.mac_receive.specs.Receiver.{Receiving, receiver_step, left_halves, quiet, reception_ended, extended, judged_row, judged_octets, reading_row, reading_octets}
-use Rattle.mac_receive.specs.KeptReceiver.{Kept, Hears, kept_octets, stepped}
+use Rattle.mac_receive.specs.KeptReceiver.{KeptReception, Hears, kept_octets, stepped}
 use Rattle.mac_receive.proofs.RowsOfReceptions.{too_long}
 
 is_received : Body → Bool
@@ -57,7 +57,7 @@ octets_good (Some bits) most halves n kept m k h =
     ∙ take_all 1523 (octets_of_bits bits) (good_fits (octets_of_bits bits) (spare_of_bits bits) most m good)
     ∙ sym (ap (λ v. judged_octets v (octets_of_bits bits)) good)
 
-idle_octets : (r : Receiving) (k : Kept) (n : ℕ) (d : Bool) (hs : List Sym) → r.halves ≡ hs → Hears r k → r.most ≤ most_octets_tagged → (if d then quiet (record r { deaf = false; halves = [] }) else reception_ended r hs).event ≡ Some (Received n) →
+idle_octets : (r : Receiving) (k : KeptReception) (n : ℕ) (d : Bool) (hs : List Sym) → r.halves ≡ hs → Hears r k → r.most ≤ most_octets_tagged → (if d then quiet (record r { deaf = false; halves = [] }) else reception_ended r hs).event ≡ Some (Received n) →
     kept_octets k ≡ (if d then quiet (record r { deaf = false; halves = [] }) else reception_ended r hs).octets
 idle_octets r k n true hs e h m is = absurd (none-some (Received n) is)
 idle_octets r k n false [] e h m is = absurd (none-some (Received n) is)
@@ -73,7 +73,7 @@ heard_no r s true n is = none-some (Received n) is
 heard_no r s false n is = none-some (Received n) is
 
 -- the octets of a frame that was received are kept
-pub octets_kept : (r : Receiving) (k : Kept) (heard : Sym) (sending : Bool) (n : ℕ) → Hears r k → k.most ≤ most_octets_tagged → (receiver_step r heard sending).event ≡ Some (Received n) → kept_octets (stepped k heard sending) ≡ (receiver_step r heard sending).octets
+pub octets_kept : (r : Receiving) (k : KeptReception) (heard : Sym) (sending : Bool) (n : ℕ) → Hears r k → k.most ≤ most_octets_tagged → (receiver_step r heard sending).event ≡ Some (Received n) → kept_octets (stepped k heard sending) ≡ (receiver_step r heard sending).octets
 octets_kept r k heard true n h m is = absurd (none-some (Received n) is)
 octets_kept r k Idle false n h m is = idle_octets r k n r.deaf r.halves refl h (omega (arith, m, h.same_most)) is
 octets_kept r k Hi false n h m is = absurd (heard_no r Hi r.deaf n is)

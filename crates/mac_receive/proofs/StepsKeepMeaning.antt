@@ -11,7 +11,7 @@ use Rattle.manchester_line.specs.declared.Sym.TheVariants.{Idle, Hi, Lo, Clash}
 use Rattle.manchester_line.specs.Decoding.{Decoding, Decodes, new_decoding, pushed, all_pushed}
 use Rattle.manchester_line.proofs.PushedMore.{decodes_next}
 use Rattle.mac_receive.specs.Receiver.{Receiving, receiver_step, left_halves, quiet, reception_ended, extended}
-use Rattle.mac_receive.specs.KeptReceiver.{Kept, Hears, IsReceiver, fresh, decoder_fed, kept_more, stepped}
+use Rattle.mac_receive.specs.KeptReceiver.{KeptReception, Hears, IsReceiver, fresh, decoder_fed, kept_more, stepped}
 
 -- the decoder that goes on was given what is left so far
 fresh_decodes : (lose : ℕ) (halves : List Sym) (d : Decoding) → (0 < length halves → Decodes (left_halves lose halves) d) → fresh (length halves) d ≡ all_pushed new_decoding (left_halves lose halves)
@@ -40,7 +40,7 @@ idle_state r true hs ed eh = refl
 idle_state r false [] ed eh = same_receiving r.lose r.most r.deaf false r.halves [] ed eh
 idle_state r false (s ∷ ss) ed eh = same_receiving r.lose r.most r.deaf false [] [] ed refl
 
-heard_next : (r : Receiving) (k : Kept) (s : Sym) (d e : Bool) → r.deaf ≡ d → k.deaf ≡ e → Hears r k → Hears (if d then quiet r else extended r s).state (if e then record k { steps = k.steps + 1 } else record (kept_more k s) { steps = k.steps + 1 })
+heard_next : (r : Receiving) (k : KeptReception) (s : Sym) (d e : Bool) → r.deaf ≡ d → k.deaf ≡ e → Hears r k → Hears (if d then quiet r else extended r s).state (if e then record k { steps = k.steps + 1 } else record (kept_more k s) { steps = k.steps + 1 })
 heard_next r k s true true ed ee h = record { same_lose = h.same_lose; same_most = h.same_most; same_deaf = h.same_deaf; count = h.count; decodes = h.decodes }
 heard_next r k s false false ed ee h =
     let len : length (r.halves ++ s ∷ []) ≡ length r.halves + 1 = length-append r.halves (s ∷ []) in
@@ -55,7 +55,7 @@ heard_next r k s true false ed ee h = absurd (true≢false (sym ed ∙ sym h.sam
 heard_next r k s false true ed ee h = absurd (true≢false (sym ee ∙ h.same_deaf ∙ ed))
 
 -- what is kept goes on standing for the receiver
-pub hears_next : (r : Receiving) (k : Kept) (heard : Sym) (sending : Bool) → Hears r k → Hears (receiver_step r heard sending).state (stepped k heard sending)
+pub hears_next : (r : Receiving) (k : KeptReception) (heard : Sym) (sending : Bool) → Hears r k → Hears (receiver_step r heard sending).state (stepped k heard sending)
 hears_next r k heard true h = record { same_lose = h.same_lose; same_most = h.same_most; same_deaf = refl; count = refl; decodes = λ p. absurd (omega (arith, p)) }
 hears_next r k Idle false h =
     let P : Receiving → Type 0 = λ x. Hears x (stepped k Idle false) in
@@ -70,7 +70,7 @@ pub new_receiver : (lose most : ℕ) (deaf : Bool) (d : Decoding) (m : ℕ) → 
 new_receiver lose most deaf d m = (record { lose = lose; most = most; deaf = deaf; halves = [] }, record { same_lose = refl; same_most = refl; same_deaf = refl; count = refl; decodes = λ p. absurd (omega (arith, p)) })
 
 -- and so it does after one more half bit of a reception
-pub more_receiver : (k : Kept) (s : Sym) (d : Decoding) (m : ℕ) → d ≡ decoder_fed k.lose k.halves k.decoder s → IsReceiver k → IsReceiver (record { lose = k.lose; most = k.most; deaf = k.deaf; halves = k.halves + 1; decoder = d; steps = m })
+pub more_receiver : (k : KeptReception) (s : Sym) (d : Decoding) (m : ℕ) → d ≡ decoder_fed k.lose k.halves k.decoder s → IsReceiver k → IsReceiver (record { lose = k.lose; most = k.most; deaf = k.deaf; halves = k.halves + 1; decoder = d; steps = m })
 more_receiver k s d m e h =
     let r : Receiving = h.0 in
     let len : length (r.halves ++ s ∷ []) ≡ length r.halves + 1 = length-append r.halves (s ∷ []) in (
@@ -85,5 +85,5 @@ more_receiver k s d m e h =
     )
 
 -- and whatever the number of its steps is, deaf or not
-pub same_receiver : (k : Kept) (deaf : Bool) (m : ℕ) → IsReceiver k → IsReceiver (record { lose = k.lose; most = k.most; deaf = deaf; halves = k.halves; decoder = k.decoder; steps = m })
+pub same_receiver : (k : KeptReception) (deaf : Bool) (m : ℕ) → IsReceiver k → IsReceiver (record { lose = k.lose; most = k.most; deaf = deaf; halves = k.halves; decoder = k.decoder; steps = m })
 same_receiver k deaf m h = (record h.0 { deaf = deaf }, record { same_lose = h.1.same_lose; same_most = h.1.same_most; same_deaf = refl; count = h.1.count; decodes = h.1.decodes })

@@ -8,7 +8,7 @@ use Rattle.mac_parameters.specs.Parameters.{half_bits_a_bit}
 use Rattle.mac_receive.specs.Receiver.{Receiving, left_halves}
 
 -- what a receiver keeps: a decoder and a number in place of the half bits of a reception
-pub record Kept : Type 0 where
+pub record KeptReception : Type 0 where
   -- how many bits are lost at the beginning of each reception (profile)
   pub lose : ℕ
   -- the most octets of a frame before its check sequence (3.2.7)
@@ -24,7 +24,7 @@ pub record Kept : Type 0 where
 
 -- what is kept stands for this receiver: where a reception is under way, the decoder was given its half bits without
 -- the lost ones
-pub record Hears (r : Receiving) (k : Kept) : Type 0 where
+pub record Hears (r : Receiving) (k : KeptReception) : Type 0 where
   pub same_lose : k.lose ≡ r.lose
   pub same_most : k.most ≡ r.most
   pub same_deaf : k.deaf ≡ r.deaf
@@ -32,11 +32,11 @@ pub record Hears (r : Receiving) (k : Kept) : Type 0 where
   pub decodes : 0 < length r.halves → Decodes (left_halves r.lose r.halves) k.decoder
 
 -- what is kept stands for a receiver, whatever its reception under way has heard
-abbrev pub IsReceiver : Kept → Type 0
+abbrev pub IsReceiver : KeptReception → Type 0
 IsReceiver k = (r : Receiving) × Hears r k
 
 -- the octets of the frame that was received in the last half bit, with its check sequence, where one was
-abbrev pub kept_octets : Kept → List ℕ
+abbrev pub kept_octets : KeptReception → List ℕ
 kept_octets k = k.decoder.octets
 
 -- the decoder that goes on with a reception that has had n half bits so far
@@ -48,15 +48,15 @@ abbrev pub decoder_fed : ℕ → ℕ → Decoding → Sym → Decoding
 decoder_fed lose n d s = if nat_le (half_bits_a_bit * lose) n then pushed (fresh n d) s else fresh n d
 
 -- one more half bit of a reception
-abbrev pub kept_more : Kept → Sym → Kept
+abbrev pub kept_more : KeptReception → Sym → KeptReception
 kept_more k s = record k { halves = k.halves + 1; decoder = decoder_fed k.lose k.halves k.decoder s }
 
 -- after n more half bits no reception is under way
-abbrev pub still : Kept → Bool → ℕ → Kept
+abbrev pub still : KeptReception → Bool → ℕ → KeptReception
 still k deaf n = record k { deaf = deaf; halves = 0; steps = k.steps + n }
 
 -- one half bit: the symbol that is heard, and whether the receiver's own station is sending
-abbrev pub stepped : Kept → Sym → Bool → Kept
+abbrev pub stepped : KeptReception → Sym → Bool → KeptReception
 stepped k heard true = still k true 1
 stepped k Idle false = still k false 1
 stepped k heard false =

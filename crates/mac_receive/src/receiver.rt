@@ -29,9 +29,9 @@ pub struct Receiver {
 impl Model for Receiver {
     ghost use Rattle.std.specs.Prelude.{◌≤◌};
     ghost use Rattle.mac_parameters.specs.Parameters.{IsMost, most_half_bits};
-    ghost use Rattle.mac_receive.specs.KeptReceiver.{Kept, IsReceiver};
+    ghost use Rattle.mac_receive.specs.KeptReceiver.{KeptReception, IsReceiver};
 
-    ghost Value = { Kept };
+    ghost Value = { KeptReception };
 
     ghost view = { λ s. record {
       lose = s.lose;

@@ -8,7 +8,7 @@ use Rattle.manchester_line.specs.declared.Sym.{Sym}
 use Rattle.layout.specs.declared.lines.RepeaterLine.{RepeaterLine}
 use Rattle.load_plan.specs.declared.plan.Plan.{Plan}
 use Rattle.mac_transmit.specs.Sender.{SendOutcome, sender_step}
-use Rattle.repeater_core.specs.Step.{State}
+use Rattle.repeater_core.specs.Step.{RepeaterDevice}
 use Rattle.network.specs.Net.{net, heard_in, stations_hear, ports_hear, sendings_in}
 use Rattle.network.specs.Hearing.{heard_of}
 use Rattle.network.specs.Apart.{AreApart}
@@ -52,13 +52,13 @@ delays_hold P (r ∷ rs) all e h =
           subst P (sym is) (delays_hold P rs (λ i d l. all (suc i) d (omega arith)) (e - n) (omega (arith, h, both, size, other)))
     ]
 
-lines_many : (ls : List RepeaterLine) (rs : List State) (h : List (List Sym)) → LinesUp ls rs h → length rs ≡ length ls
+lines_many : (ls : List RepeaterLine) (rs : List RepeaterDevice) (h : List (List Sym)) → LinesUp ls rs h → length rs ≡ length ls
 lines_many [] [] h up = refl
 lines_many [] (r ∷ rs) h up = absurd up
 lines_many (l ∷ ls) [] h up = absurd up
 lines_many (l ∷ ls) (r ∷ rs) h up = ap suc (lines_many ls rs (map (drop (length l.ports)) h) up.1)
 
-lines_at : (ls : List RepeaterLine) (rs : List State) (h : List (List Sym)) (i : ℕ) (d : State) → LinesUp ls rs h → i < length ls → (length (get_or rs i d).guards ≡ edges_in ls i) × (length (get_or rs i d).counts ≡ edges_in ls i)
+lines_at : (ls : List RepeaterLine) (rs : List RepeaterDevice) (h : List (List Sym)) (i : ℕ) (d : RepeaterDevice) → LinesUp ls rs h → i < length ls → (length (get_or rs i d).guards ≡ edges_in ls i) × (length (get_or rs i d).counts ≡ edges_in ls i)
 lines_at [] rs h i d up l = absurd (omega arith)
 lines_at (x ∷ ls) [] h i d up l = absurd up
 lines_at (x ∷ ls) (r ∷ rs) h zero d up l = (up.0.guards, up.0.counts)

@@ -12,7 +12,7 @@ use Rattle.load_plan.specs.declared.plan.Plan.{Plan}
 use Rattle.mac_transmit.specs.Sender.{SendOutcome}
 use Rattle.mac_receive.specs.Receiver.{Reception}
 use Rattle.repeater_core.specs.Counts.{Choice}
-use Rattle.repeater_core.specs.Step.{State, new_state, after, chosen, decided_by}
+use Rattle.repeater_core.specs.Step.{RepeaterDevice, new_state, after, chosen, decided_by}
 use Rattle.repeater_core.proofs.Lawful.{length_chosen}
 use Rattle.network.specs.Net.{net, each_repeater, heard_in, ports_hear, sendings_in, receptions_in}
 use Rattle.network.specs.Rows.{repeater_bodies, row_of, rows_of, rows_of_bodies, repeater_rows}
@@ -26,7 +26,7 @@ use Rattle.net_parts.specs.PartLaws.{RepeatersGoOn}
 use Rattle.net_parts.proofs.DeviceSteps.{time_is}
 use Rattle.net_parts.proofs.StationRows.{filter-two, append_none, of_devices, kept_rows, none_at, dropped}
 
-each_at : {X : Type 0} (f : List Sym → State → X) (hs : List Sym) (rs : List State) (ls : List RepeaterLine) (i : ℕ) (d : X) (r0 : State) → i < length rs → length rs ≡ length ls →
+each_at : {X : Type 0} (f : List Sym → RepeaterDevice → X) (hs : List Sym) (rs : List RepeaterDevice) (ls : List RepeaterLine) (i : ℕ) (d : X) (r0 : RepeaterDevice) → i < length rs → length rs ≡ length ls →
     ((j : ℕ) → j < length rs → length (get_or rs j r0).guards ≡ edges_in ls j) → get_or (each_repeater f hs rs) i d ≡ f (take (edges_in ls i) (drop (edges_before ls i) hs)) (get_or rs i r0)
 each_at f hs [] ls i d r0 h e g = absurd (omega arith)
 each_at f hs (r ∷ rs) [] i d r0 h e g = absurd (omega arith)
@@ -36,7 +36,7 @@ each_at f hs (r ∷ rs) (l ∷ ls) (suc i) d r0 h e g =
     each_at f (drop (length r.guards) hs) rs ls i d r0 (omega arith) (omega arith) (λ j l. g (suc j) (omega arith))
     ∙ ap (λ xs. f (take (edges_in ls i) xs) (get_or rs i r0)) (drop-drop (edges_before ls i) (length r.guards) hs ∙ ap (λ m. drop (m + edges_before ls i) hs) n)
 
-pub length-each : {X : Type 0} (f : List Sym → State → X) (hs : List Sym) (rs : List State) → length (each_repeater f hs rs) ≡ length rs
+pub length-each : {X : Type 0} (f : List Sym → RepeaterDevice → X) (hs : List Sym) (rs : List RepeaterDevice) → length (each_repeater f hs rs) ≡ length rs
 length-each f hs [] = refl
 length-each f hs (r ∷ rs) = ap suc (length-each f (drop (length r.guards) hs) rs)
 
@@ -45,12 +45,12 @@ edges_within [] i h = absurd (omega arith)
 edges_within (l ∷ ls) zero h = let sum = length-append l.ports (flat_map (λ (r : RepeaterLine). r.ports) ls) in omega (arith, sum)
 edges_within (l ∷ ls) (suc i) h = let sum = length-append l.ports (flat_map (λ (r : RepeaterLine). r.ports) ls) in let rest = edges_within ls i (omega arith) in omega (arith, sum, rest)
 
-length-decided : (hs : List Sym) (r : State) → length (decided_by hs r) ≡ length r.counts
+length-decided : (hs : List Sym) (r : RepeaterDevice) → length (decided_by hs r) ≡ length r.counts
 unfolding chosen
 length-decided hs r = length-map (chosen hs r) (λ (c : Choice). c.symbol) ∙ length_chosen hs r
 
 -- port p of repeater i among all
-decided_at : (hs : List Sym) (rs : List State) (ls : List RepeaterLine) (i p : ℕ) (r0 : State) → i < length rs → length rs ≡ length ls → p < edges_in ls i →
+decided_at : (hs : List Sym) (rs : List RepeaterDevice) (ls : List RepeaterLine) (i p : ℕ) (r0 : RepeaterDevice) → i < length rs → length rs ≡ length ls → p < edges_in ls i →
     ((j : ℕ) → j < length rs → length (get_or rs j r0).guards ≡ edges_in ls j) → ((j : ℕ) → j < length rs → length (get_or rs j r0).counts ≡ edges_in ls j) →
     get_or (flat_map (λ (symbols : List Sym). symbols) (each_repeater decided_by hs rs)) (edges_before ls i + p) Idle ≡ get_or (decided_by (take (edges_in ls i) (drop (edges_before ls i) hs)) (get_or rs i r0)) p Idle
 decided_at hs [] ls i p r0 h e l g c = absurd (omega arith)
@@ -127,7 +127,7 @@ its_rows k t j (suc i) (bodies ∷ all) h e =
     filter-two (λ (row : Row). is_one_of row.device (k ∷ [])) (rows_of_bodies t j bodies) (repeater_rows t (j + 1) all)
     ∙ ap₂ (λ a b. a ++ b) (none_at (k ∷ []) t j bodies other) (its_rows k t (j + 1) i all (omega arith) (omega arith))
 
-same_repeater : {t t' : ℕ} {r r' : State} {ws ws' : List Row} → t ≡ t' → r ≡ r' → ws ≡ ws' → ◌≡◌ {A = RepeaterState} (record { t = t; repeater = r; rows = ws }) (record { t = t'; repeater = r'; rows = ws' })
+same_repeater : {t t' : ℕ} {r r' : RepeaterDevice} {ws ws' : List Row} → t ≡ t' → r ≡ r' → ws ≡ ws' → ◌≡◌ {A = RepeaterState} (record { t = t; repeater = r; rows = ws }) (record { t = t'; repeater = r'; rows = ws' })
 same_repeater et er ew = λ i. record { t = et i; repeater = er i; rows = ew i }
 
 module _ (plan : Plan) (facts : StationFacts plan) (ports : RepeaterFacts plan) (i t : ℕ) (some : i < length plan.layout.repeaters) where
@@ -151,7 +151,7 @@ module _ (plan : Plan) (facts : StationFacts plan) (ports : RepeaterFacts plan) 
       piece_is hs (λ e. port_hears plan e t) (edges_before ls i) (edges_in ls i) (omega (arith, all, within))
       (λ e. get_or-drop (length (net plan t).senders) (heard_in (net plan t)) e Idle ∙ ap (λ m. get_or (heard_in (net plan t)) (m + e) Idle) senders)
 
-  each_is : {X : Type 0} (f : List Sym → State → X) (d : X) → get_or (each_repeater f hs (net plan t).repeaters) i d ≡ f (map (λ e. port_hears plan e t) (edges_at plan.layout i)) (repeater_state plan i t)
+  each_is : {X : Type 0} (f : List Sym → RepeaterDevice → X) (d : X) → get_or (each_repeater f hs (net plan t).repeaters) i d ≡ f (map (λ e. port_hears plan e t) (edges_at plan.layout i)) (repeater_state plan i t)
   each_is f d =
       let n = ports.many t in
       each_at f hs (net plan t).repeaters ls i d (new_state 0 0) (omega (arith, n, some)) n (λ j h. ports.guards j t (in_net j h)) ∙ ap (λ xs. f xs (repeater_state plan i t)) ears

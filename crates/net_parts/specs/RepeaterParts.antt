@@ -4,14 +4,14 @@ use Rattle.manchester_line.specs.declared.Sym.{Sym}
 use Rattle.collision_log.specs.declared.row.Row.{Row}
 use Rattle.layout.specs.declared.lines.Layout.{Layout}
 use Rattle.layout.specs.declared.lines.RepeaterLine.{RepeaterLine}
-use Rattle.repeater_core.specs.Step.{State, after, decided_by}
+use Rattle.repeater_core.specs.Step.{RepeaterDevice, after, decided_by}
 use Rattle.network.specs.Rows.{rows_of_bodies, repeater_bodies}
 use Rattle.net_parts.specs.Machines.{span, Machine}
 
 -- A repeater before half bit t, and its rows (profile).
 pub record RepeaterState : Type 0 where
   pub t : ℕ
-  pub repeater : State
+  pub repeater : RepeaterDevice
   pub rows : List Row
 
 -- One half bit of the repeater that is this device, in which its ports hear this row (clause 9, profile).

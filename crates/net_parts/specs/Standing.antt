@@ -7,7 +7,7 @@ use Rattle.collision_log.specs.declared.row.Row.{Row}
 use Rattle.load_plan.specs.declared.plan.Plan.{Plan}
 use Rattle.mac_receive.specs.Receiver.{Receiving, new_receiving}
 use Rattle.network.specs.declared.outputs.Taken.{Taken}
-use Rattle.repeater_core.specs.Step.{State, new_state}
+use Rattle.repeater_core.specs.Step.{RepeaterDevice, new_state}
 use Rattle.network.specs.Attempts.{sender_at}
 use Rattle.network.specs.Net.{net}
 use Rattle.network.specs.Times.{heard, emitted, decided}
@@ -54,7 +54,7 @@ segment_at plan L w t = record {
 }
 
 -- The modes, guards and counts of repeater i before half bit t (clause 9, profile).
-abbrev pub repeater_state : Plan → ℕ → ℕ → State
+abbrev pub repeater_state : Plan → ℕ → ℕ → RepeaterDevice
 repeater_state plan i t = slice_index_or (net plan t).repeaters i (new_state 0 0)
 
 -- Repeater i before half bit t, and its rows (profile).

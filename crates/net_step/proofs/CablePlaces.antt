@@ -1,9 +1,36 @@
 -- The places of a cable that a segment gets.
-use Rattle.std.proofs.Common.{◌≡◌, ℕ, ◌<◌, ◌≤◌, List, [], ◌∷◌, length, refl, arith}
+use Rattle.std.proofs.Common.{◌≡◌, ℕ, ◌+◌, ◌<◌, ◌≤◌, List, [], ◌∷◌, ◌++◌, length, get_or, drop, append_assoc, refl, sym, ap, ◌∙◌, arith}
+use Rattle.std.proofs.lemmas.List.{at_drop_more}
 use Rattle.layout.specs.declared.lines.PortLine.{PortLine}
 use Rattle.net_step.specs.Wires.{cable_places}
 use Rattle.network.specs.TapsOnSegments.{numbers_on, positions_on}
-use Rattle.network.proofs.TapsOnSegments.{few_positions, length-numbers}
+use Rattle.network.proofs.TapsOnSegments.{few_positions, length-numbers, numbers-here, numbers-there, positions-here, positions-there}
+
+-- one tap more of all taps, on the segment or not
+pub numbers_more : (s k : ℕ) (xs : List PortLine) (d : PortLine) (all before now : List ℕ) → k < length xs → (get_or xs k d).segment ≡ s → before ++ numbers_on s k (drop k xs) ≡ all → now ≡ before ++ k ∷ []
+    → now ++ numbers_on s (k + 1) (drop (k + 1) xs) ≡ all
+numbers_more s k xs d all before now l on h more =
+    let rest = numbers_on s (k + 1) (drop (k + 1) xs) in
+    let here : numbers_on s k (drop k xs) ≡ k ∷ rest = at_drop_more (numbers_on s k) xs k d l ∙ numbers-here s k (get_or xs k d) (drop (k + 1) xs) on in
+    ap (λ (ns : List ℕ). ns ++ rest) more ∙ append_assoc before (k ∷ []) rest ∙ ap (λ (ns : List ℕ). before ++ ns) (sym here) ∙ h
+
+pub numbers_same : (s k : ℕ) (xs : List PortLine) (d : PortLine) (all before : List ℕ) → k < length xs → ((get_or xs k d).segment ≡ s → ⊥) → before ++ numbers_on s k (drop k xs) ≡ all
+    → before ++ numbers_on s (k + 1) (drop (k + 1) xs) ≡ all
+numbers_same s k xs d all before l off h =
+    ap (λ (ns : List ℕ). before ++ ns) (sym (at_drop_more (numbers_on s k) xs k d l ∙ numbers-there s k (get_or xs k d) (drop (k + 1) xs) off)) ∙ h
+
+pub positions_more : (s k : ℕ) (xs : List PortLine) (d : PortLine) (all before now : List ℕ) → k < length xs → (get_or xs k d).segment ≡ s → before ++ positions_on s (drop k xs) ≡ all → now ≡ before ++ (get_or xs k d).at ∷ []
+    → now ++ positions_on s (drop (k + 1) xs) ≡ all
+positions_more s k xs d all before now l on h more =
+    let rest = positions_on s (drop (k + 1) xs) in
+    let at = (get_or xs k d).at in
+    let here : positions_on s (drop k xs) ≡ at ∷ rest = at_drop_more (positions_on s) xs k d l ∙ positions-here s (get_or xs k d) (drop (k + 1) xs) on in
+    ap (λ (ns : List ℕ). ns ++ rest) more ∙ append_assoc before (at ∷ []) rest ∙ ap (λ (ns : List ℕ). before ++ ns) (sym here) ∙ h
+
+pub positions_same : (s k : ℕ) (xs : List PortLine) (d : PortLine) (all before : List ℕ) → k < length xs → ((get_or xs k d).segment ≡ s → ⊥) → before ++ positions_on s (drop k xs) ≡ all
+    → before ++ positions_on s (drop (k + 1) xs) ≡ all
+positions_same s k xs d all before l off h =
+    ap (λ (ns : List ℕ). before ++ ns) (sym (at_drop_more (positions_on s) xs k d l ∙ positions-there s (get_or xs k d) (drop (k + 1) xs) off)) ∙ h
 
 -- a segment that has a tap has the places of its taps
 pub places_some : (ps : List ℕ) → 0 < length ps → cable_places ps ≡ ps

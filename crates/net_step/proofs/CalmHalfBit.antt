@@ -24,7 +24,7 @@ use Rattle.port_partition.specs.declared.guard.GuardEvent.{GuardEvent}
 use Rattle.port_partition.specs.declared.guard.GuardEvent.TheVariants as event
 use Rattle.repeater_core.specs.Counts.{Choice}
 use Rattle.repeater_core.specs.Calm.{silent_symbols, silent_step, IsUneventful}
-use Rattle.repeater_core.specs.Step.{State, after, chosen, decided_by, emitted_by, guards_after, guard_events, is_closing, is_opening, mask_from, clash_begins}
+use Rattle.repeater_core.specs.Step.{RepeaterDevice, after, chosen, decided_by, emitted_by, guards_after, guard_events, is_closing, is_opening, mask_from, clash_begins}
 use Rattle.network.specs.declared.outputs.Taken.{Taken}
 use Rattle.network.specs.Captures.{captured, taken_by}
 use Rattle.network.specs.Hearing.{heard_of, heard_by}
@@ -149,7 +149,7 @@ no_captures t (e ∷ es) (o ∷ os) (c ∷ cs) a le lo =
     ap₂ ◌∷◌ (ap (λ x. c ++ taken_by t x o) a.0 ∙ append-nil c) (no_captures t es os cs a.1 (omega (arith, le)) (omega (arith, lo)))
 
 -- a repeater to which nothing happens in n silent half bits, and which keeps its ports
-pub record IsSilent (n : ℕ) (r : State) : Type 0 where
+pub record IsSilent (n : ℕ) (r : RepeaterDevice) : Type 0 where
   pub uneventful : (k : ℕ) → k < n → IsUneventful (iterate silent_step k r)
   pub ports : length (iterate silent_step n r).guards ≡ length r.guards
 
@@ -159,49 +159,49 @@ fewer_guards (g ∷ gs) [] es = omega arith
 fewer_guards (g ∷ gs) (h ∷ hs) [] = omega arith
 fewer_guards (g ∷ gs) (h ∷ hs) (e ∷ es) = let rest = fewer_guards gs hs es in omega (arith, rest)
 
-silent_fewer : (r : State) → length (silent_step r).guards ≤ length r.guards
+silent_fewer : (r : RepeaterDevice) → length (silent_step r).guards ≤ length r.guards
 unfolding silent_step
 silent_fewer r = fewer_guards r.guards (silent_symbols r) (emitted_by r)
 
-later_fewer : (n : ℕ) (r : State) → length (iterate silent_step n r).guards ≤ length r.guards
+later_fewer : (n : ℕ) (r : RepeaterDevice) → length (iterate silent_step n r).guards ≤ length r.guards
 later_fewer zero r = omega arith
 later_fewer (suc n) r = let one = silent_fewer r in let rest = later_fewer n (silent_step r) in omega (arith, one, rest)
 
-same_ports : (n : ℕ) (r : State) → IsSilent (suc n) r → length (silent_step r).guards ≡ length r.guards
+same_ports : (n : ℕ) (r : RepeaterDevice) → IsSilent (suc n) r → length (silent_step r).guards ≡ length r.guards
 same_ports n r s = let one = silent_fewer r in let rest = later_fewer n (silent_step r) in let ends = s.ports in omega (arith, one, rest, ends)
 
-silent_on : (n : ℕ) (r : State) → IsSilent (suc n) r → IsSilent n (silent_step r)
+silent_on : (n : ℕ) (r : RepeaterDevice) → IsSilent (suc n) r → IsSilent n (silent_step r)
 silent_on n r s = record { uneventful = λ k l. s.uneventful (suc k) (omega (arith, l)); ports = s.ports ∙ sym (same_ports n r s) }
 
 -- all repeaters
-all_silent_on : (n : ℕ) (rs : List State) → AllByRecursion (IsSilent (suc n)) rs → AllByRecursion (IsSilent n) (map silent_step rs)
+all_silent_on : (n : ℕ) (rs : List RepeaterDevice) → AllByRecursion (IsSilent (suc n)) rs → AllByRecursion (IsSilent n) (map silent_step rs)
 all_silent_on n [] h = tt
 all_silent_on n (r ∷ rs) h = (silent_on n r h.0, all_silent_on n rs h.1)
 
-pub ports_stay : (n : ℕ) (rs : List State) → AllByRecursion (IsSilent (suc n)) rs → ports_of (map silent_step rs) ≡ ports_of rs
+pub ports_stay : (n : ℕ) (rs : List RepeaterDevice) → AllByRecursion (IsSilent (suc n)) rs → ports_of (map silent_step rs) ≡ ports_of rs
 ports_stay n [] h = refl
 ports_stay n (r ∷ rs) h =
-    sum_by-cons (λ (x : State). length x.guards) (silent_step r) (map silent_step rs)
+    sum_by-cons (λ (x : RepeaterDevice). length x.guards) (silent_step r) (map silent_step rs)
     ∙ ap₂ (λ a b. a + b) (same_ports n r h.0) (ports_stay n rs h.1)
-    ∙ sym (sum_by-cons (λ (x : State). length x.guards) r rs)
+    ∙ sym (sum_by-cons (λ (x : RepeaterDevice). length x.guards) r rs)
 
-each_silent : {X : Type 0} (f : List Sym → State → X) (k : ℕ) (rs : List State) → ports_of rs ≤ k → each_repeater f (replicate k Idle) rs ≡ map (λ r. f (silent_symbols r) r) rs
+each_silent : {X : Type 0} (f : List Sym → RepeaterDevice → X) (k : ℕ) (rs : List RepeaterDevice) → ports_of rs ≤ k → each_repeater f (replicate k Idle) rs ≡ map (λ r. f (silent_symbols r) r) rs
 each_silent f k [] l = refl
 each_silent f k (r ∷ rs) l =
-    let sum = sum_by-cons (λ (x : State). length x.guards) r rs in
+    let sum = sum_by-cons (λ (x : RepeaterDevice). length x.guards) r rs in
     ap₂ ◌∷◌ (ap (λ hs. f hs r) (take-replicate (length r.guards) k Idle (omega (arith, sum, l))))
     (ap (λ hs. each_repeater f hs rs) (drop-replicate (length r.guards) k Idle) ∙ each_silent f (k - length r.guards) rs (omega (arith, sum, l)))
 
-afters_silent : (rs : List State) → map (λ r. after (silent_symbols r) r) rs ≡ map silent_step rs
+afters_silent : (rs : List RepeaterDevice) → map (λ r. after (silent_symbols r) r) rs ≡ map silent_step rs
 unfolding silent_step
 afters_silent rs = refl
 
 -- what they emit and decide
-emitted_idle : (n : ℕ) (rs : List State) → AllByRecursion (IsSilent (suc n)) rs → IsIdleRow (flat_map emitted_by rs)
+emitted_idle : (n : ℕ) (rs : List RepeaterDevice) → AllByRecursion (IsSilent (suc n)) rs → IsIdleRow (flat_map emitted_by rs)
 emitted_idle n [] h = λ i. refl
 emitted_idle n (r ∷ rs) h = idle_append (emitted_by r) (flat_map emitted_by rs) (idle_row (emitted_by r) (h.0.uneventful 0 (omega arith)).emits) (emitted_idle n rs h.1)
 
-decided_idle : (n : ℕ) (rs : List State) → AllByRecursion (IsSilent (suc n)) rs → IsIdleRow (flat_map (λ symbols. symbols) (map (λ r. decided_by (silent_symbols r) r) rs))
+decided_idle : (n : ℕ) (rs : List RepeaterDevice) → AllByRecursion (IsSilent (suc n)) rs → IsIdleRow (flat_map (λ symbols. symbols) (map (λ r. decided_by (silent_symbols r) r) rs))
 decided_idle n [] h = λ i. refl
 decided_idle n (r ∷ rs) h =
     idle_append (decided_by (silent_symbols r) r) (flat_map (λ (symbols : List Sym). symbols) (map (λ x. decided_by (silent_symbols x) x) rs))
@@ -229,12 +229,12 @@ no_port_bodies p port (x ∷ hs) (e ∷ es) h c o =
     (no_guard_body port e (flag_off p (is_closing e) (map is_closing es) c) (flag_off p (is_opening e) (map is_opening es) o))
     ∙ no_port_bodies (p + 1) (port + 1) hs es (flags_off p x hs h) (flags_off p (is_closing e) (map is_closing es) c) (flags_off p (is_opening e) (map is_opening es) o)
 
-no_bodies : (r : State) → IsUneventful r → repeater_bodies (silent_symbols r) r ≡ []
+no_bodies : (r : RepeaterDevice) → IsUneventful r → repeater_bodies (silent_symbols r) r ≡ []
 no_bodies r u =
     ap₂ (λ (b : Bool) xs. happened b Clash ++ xs) u.no_clash
     (no_port_bodies 0 1 (map (λ (c : Choice). c.halted) (chosen (silent_symbols r) r)) (guard_events r.guards (silent_symbols r) (emitted_by r)) u.none_halted u.none_closes u.none_opens)
 
-no_repeater_rows : (t k n : ℕ) (rs : List State) → AllByRecursion (IsSilent (suc n)) rs → repeater_rows t k (map (λ r. repeater_bodies (silent_symbols r) r) rs) ≡ []
+no_repeater_rows : (t k n : ℕ) (rs : List RepeaterDevice) → AllByRecursion (IsSilent (suc n)) rs → repeater_rows t k (map (λ r. repeater_bodies (silent_symbols r) r) rs) ≡ []
 no_repeater_rows t k n [] h = refl
 no_repeater_rows t k n (r ∷ rs) h =
     ap₂ (λ bodies rows. rows_of_bodies t k bodies ++ rows) (no_bodies r (h.0.uneventful 0 (omega arith))) (no_repeater_rows t (k + 1) n rs h.1)
@@ -283,7 +283,7 @@ module _ (n : ℕ) (x : Net) (c : IsCalm (suc n) x) where
       ap₂ (λ hs es. receptions hs es x.receivers) (stations ∙ ap (λ k. replicate k Idle) (sym c.receiving)) (emits ∙ ap (λ k. replicate k Idle) (sym c.receiving))
       ∙ receptions_idle x.receivers
 
-  repeats : {X : Type 0} (f : List Sym → State → X) → each_repeater f (ports_hear x) x.repeaters ≡ map (λ r. f (silent_symbols r) r) x.repeaters
+  repeats : {X : Type 0} (f : List Sym → RepeaterDevice → X) → each_repeater f (ports_hear x) x.repeaters ≡ map (λ r. f (silent_symbols r) r) x.repeaters
   repeats f = ap (λ hs. each_repeater f hs x.repeaters) ports ∙ each_silent f (ports_of x.repeaters) x.repeaters (omega arith)
 
   rows_none : rows_in x ≡ []

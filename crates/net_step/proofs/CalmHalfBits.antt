@@ -9,7 +9,7 @@ use Rattle.mac_transmit.specs.Sender.{Sender, sender_step}
 use Rattle.mac_transmit.specs.Calm.{after_all}
 use Rattle.mac_receive.specs.Receiver.{Receiving, receiver_step, receiver_after}
 use Rattle.repeater_core.specs.Calm.{silent_step}
-use Rattle.repeater_core.specs.Step.{State}
+use Rattle.repeater_core.specs.Step.{RepeaterDevice}
 use Rattle.network.specs.Net.{Net, next, emitted_before, emitted_in, decided_in}
 use Rattle.quiet_state.specs.Resumed.{later_net}
 use Rattle.net_step.specs.CalmNets.{IsSilentHalfBit}

@@ -7,7 +7,7 @@ use Rattle.collision_log.specs.declared.row.Body.{Body}
 use Rattle.collision_log.specs.declared.row.Body.TheVariants.{Sent, Collided, GivenUp, Cut, Received, Dropped, Clash, Closed, Opened, Halted}
 use Rattle.manchester_line.specs.Line.{is_signal}
 use Rattle.mac_receive.specs.Receiver.{Receiving, Reception, receiver_step}
-use Rattle.mac_receive.specs.KeptReceiver.{Kept, Hears, kept_octets}
+use Rattle.mac_receive.specs.KeptReceiver.{KeptReception, Hears, kept_octets}
 use Rattle.network.specs.declared.outputs.Taken.{Taken}
 use Rattle.network.specs.Net.{new_receiver, receptions}
 use Rattle.network.specs.Captures.{captured, taken_by}
@@ -30,7 +30,7 @@ Lends-from (Some (Opened p)) octets kept h = tt
 Lends-from (Some (Halted p)) octets kept h = tt
 
 -- one receiver more that gave something
-pub AllGive-more : (rs : List Reception) (ks : List Kept) (os : List (Option Body)) (r : Reception) (k : Kept) (o : Option Body) → AllGive rs ks os → Gives r k o → AllGive (rs ++ r ∷ []) (ks ++ k ∷ []) (os ++ o ∷ [])
+pub AllGive-more : (rs : List Reception) (ks : List KeptReception) (os : List (Option Body)) (r : Reception) (k : KeptReception) (o : Option Body) → AllGive rs ks os → Gives r k o → AllGive (rs ++ r ∷ []) (ks ++ k ∷ []) (os ++ o ∷ [])
 AllGive-more [] [] [] r k o h g = (g, tt)
 AllGive-more [] [] (x ∷ os) r k o h g = absurd h
 AllGive-more [] (y ∷ ks) os r k o h g = absurd h
@@ -39,7 +39,7 @@ AllGive-more (z ∷ rs) (y ∷ ks) [] r k o h g = absurd h
 AllGive-more (z ∷ rs) (y ∷ ks) (x ∷ os) r k o h g = (h.0, AllGive-more rs ks os r k o h.1 g)
 
 -- one step more of the receivers
-pub AllGive-next : (hs es : List Sym) (rs : List Receiving) (ks : List Kept) (os : List (Option Body)) (i : ℕ) (a b : Sym) (d : Receiving) (k : Kept) (o : Option Body) →
+pub AllGive-next : (hs es : List Sym) (rs : List Receiving) (ks : List KeptReception) (os : List (Option Body)) (i : ℕ) (a b : Sym) (d : Receiving) (k : KeptReception) (o : Option Body) →
     i < length hs → i < length es → i < length rs → i < length ks → i < length os →
     AllGive (receptions (take i hs) (take i es) (take i rs)) (take i ks) (take i os) → Gives (receiver_step (get_or rs i d) (get_or hs i a) (is_signal (get_or es i b))) k o →
     AllGive (receptions (take (i + 1) hs) (take (i + 1) es) (take (i + 1) rs)) (take (i + 1) (set ks i k)) (take (i + 1) (set os i o))
@@ -47,7 +47,7 @@ AllGive-next hs es rs ks os i a b d k o lh le lr lk lo before now =
     rw (receptions-more hs es rs i a b d lh le lr, take_more_set ks i k lk, take_more_set os i o lo) (AllGive-more _ _ _ _ _ _ before now)
 
 -- what receivers stand for after what they gave
-pub AllHear-given : (rs : List Reception) (ks : List Kept) (os : List (Option Body)) → AllGive rs ks os → AllHear (map (λ r. r.state) rs) ks
+pub AllHear-given : (rs : List Reception) (ks : List KeptReception) (os : List (Option Body)) → AllGive rs ks os → AllHear (map (λ r. r.state) rs) ks
 AllHear-given [] [] os h = tt
 AllHear-given [] (y ∷ ks) os h = absurd h
 AllHear-given (z ∷ rs) [] os h = absurd h
@@ -55,7 +55,7 @@ AllHear-given (z ∷ rs) (y ∷ ks) [] h = absurd h
 AllHear-given (z ∷ rs) (y ∷ ks) (x ∷ os) h = (h.0.hears, AllHear-given rs ks os h.1)
 
 -- the events that they gave
-pub events-given : (rs : List Reception) (ks : List Kept) (os : List (Option Body)) → AllGive rs ks os → os ≡ map (λ r. r.event) rs
+pub events-given : (rs : List Reception) (ks : List KeptReception) (os : List (Option Body)) → AllGive rs ks os → os ≡ map (λ r. r.event) rs
 events-given [] [] [] h = refl
 events-given [] [] (x ∷ os) h = absurd h
 events-given [] (y ∷ ks) os h = absurd h
@@ -77,7 +77,7 @@ taken-lent t (Some (Opened p)) octets kept h = refl
 taken-lent t (Some (Halted p)) octets kept h = refl
 
 -- the captures get what was given
-pub captured-given : (t : ℕ) (rs : List Reception) (ks : List Kept) (os : List (Option Body)) (cs : List (List Taken)) → AllGive rs ks os →
+pub captured-given : (t : ℕ) (rs : List Reception) (ks : List KeptReception) (os : List (Option Body)) (cs : List (List Taken)) → AllGive rs ks os →
     captured t os (map kept_octets ks) cs ≡ captured t (map (λ r. r.event) rs) (map (λ r. r.octets) rs) cs
 captured-given t [] [] [] cs h = refl
 captured-given t [] [] (x ∷ os) cs h = absurd h
@@ -89,19 +89,19 @@ captured-given t (z ∷ rs) (y ∷ ks) (x ∷ os) (c ∷ cs) h =
     ap₂ (λ (one : List Taken) (rest : List (List Taken)). (c ++ one) ∷ rest) (ap (λ e. taken_by t e (kept_octets y)) h.0.event ∙ taken-lent t z.event z.octets (kept_octets y) h.0.lends) (captured-given t rs ks os cs h.1)
 
 -- one new receiver more
-pub AllHear-new : (most : ℕ) (stations : List StationLine) (ks : List Kept) (i : ℕ) (d : StationLine) (k : Kept) → i < length stations → AllHear (map (new_receiver most) (take i stations)) ks → Hears (new_receiver most (get_or stations i d)) k →
+pub AllHear-new : (most : ℕ) (stations : List StationLine) (ks : List KeptReception) (i : ℕ) (d : StationLine) (k : KeptReception) → i < length stations → AllHear (map (new_receiver most) (take i stations)) ks → Hears (new_receiver most (get_or stations i d)) k →
     AllHear (map (new_receiver most) (take (i + 1) stations)) (ks ++ k ∷ [])
 AllHear-new most stations ks i d k l h g =
     rw (take_more stations i d l, map-append (new_receiver most) (take i stations) (get_or stations i d ∷ [])) (AllHear-more _ ks _ k h g)
 
 -- the same with other names for what is heard, emitted and kept
-pub given-alike : (hs hs' es es' : List Sym) (ks ks' kn kn' : List Kept) (os : List (Option Body)) → hs ≡ hs' → es ≡ es' → ks ≡ ks' → kn ≡ kn' →
+pub given-alike : (hs hs' es es' : List Sym) (ks ks' kn kn' : List KeptReception) (os : List (Option Body)) → hs ≡ hs' → es ≡ es' → ks ≡ ks' → kn ≡ kn' →
     ((rs : List Receiving) → AllHear rs ks → AllGive (receptions hs es rs) kn os) → (rs : List Receiving) → AllHear rs ks' → AllGive (receptions hs' es' rs) kn' os
 given-alike hs hs' es es' ks ks' kn kn' os eh ee ek en given rs h =
     let first : AllHear rs ks = subst (λ xs. AllHear rs xs) (sym ek) h in
     subst (λ xs. AllGive (receptions hs' es' rs) xs os) en (subst (λ xs. AllGive (receptions hs' xs rs) kn os) ee (subst (λ xs. AllGive (receptions xs es rs) kn os) eh (given rs first)))
 
 -- one receiver that has made so many steps
-pub All-stepped : (k : Kept) (t : ℕ) → k.steps ≡ t → All (λ (r : Kept). r.steps ≡ t) (k ∷ [])
+pub All-stepped : (k : KeptReception) (t : ℕ) → k.steps ≡ t → All (λ (r : KeptReception). r.steps ≡ t) (k ∷ [])
 All-stepped k t h zero d l = h
 All-stepped k t h (suc i) d l = absurd (omega arith)

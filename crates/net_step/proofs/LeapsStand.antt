@@ -14,9 +14,9 @@ use Rattle.layout.specs.declared.lines.PortLine.{PortLine}
 use Rattle.mac_transmit.specs.Sender.{Sender, is_sending}
 use Rattle.mac_transmit.specs.Calm.{after_all, AllHeardAs, AreCalm, calm_of}
 use Rattle.mac_receive.specs.Receiver.{Receiving, receiver_after}
-use Rattle.mac_receive.specs.KeptReceiver.{Kept, Hears}
+use Rattle.mac_receive.specs.KeptReceiver.{KeptReception, Hears}
 use Rattle.repeater_core.specs.Calm.{silent_step, IsCalm}
-use Rattle.repeater_core.specs.Step.{State}
+use Rattle.repeater_core.specs.Step.{RepeaterDevice}
 use Rattle.network.specs.Net.{Net, emitted_before, ports_of}
 use Rattle.network.specs.TapsOnSegments.{count_on}
 use Rattle.kept_devices.specs.KeptReceivers.{AllHear}
@@ -62,7 +62,7 @@ waits_for n most s l rests is within exact =
       calm = (exact (replicate n Idle) (all_idle n) (omega (arith, l, within, size))).1 (omega (arith, l, size));
     }
 
-pub calm_for_fewer : (m n : ℕ) (r : State) → n ≤ m → IsCalm r m → IsCalm r n
+pub calm_for_fewer : (m n : ℕ) (r : RepeaterDevice) → n ≤ m → IsCalm r m → IsCalm r n
 calm_for_fewer m n r l c = record { at_most = (let most = c.at_most in omega (arith, most, l)); uneventful = λ k h. c.uneventful k (omega (arith, h, l)) }
 
 -- the devices of a net that stands for a network
@@ -70,18 +70,18 @@ wait : (m : ℕ) (ss : List Sender) → AllByRecursion (WaitsFor m) ss → AllBy
 wait m [] h = tt
 wait m (s ∷ ss) h = (record { not_sending = h.0.not_sending; calm = h.0.calm }, wait m ss h.1)
 
-rest : (rs : List Receiving) (ks : List Kept) → AllHear rs ks → AllByRecursion (λ k. k.halves ≡ 0) ks → AllByRecursion (λ r. r.halves ≡ []) rs
+rest : (rs : List Receiving) (ks : List KeptReception) → AllHear rs ks → AllByRecursion (λ k. k.halves ≡ 0) ks → AllByRecursion (λ r. r.halves ≡ []) rs
 rest [] [] a h = tt
 rest [] (k ∷ ks) a h = absurd a
 rest (r ∷ rs) [] a h = absurd a
 rest (r ∷ rs) (k ∷ ks) a h = (nil_from_length r.halves (sym a.0.count ∙ h.0), rest rs ks a.1 h.1)
 
-silent : (m : ℕ) (rs : List State) → AllByRecursion (λ r. IsCalm r m) rs → map (λ r. length r.guards) (map (iterate silent_step m) rs) ≡ map (λ r. length r.guards) rs → AllByRecursion (half_bit.IsSilent m) rs
+silent : (m : ℕ) (rs : List RepeaterDevice) → AllByRecursion (λ r. IsCalm r m) rs → map (λ r. length r.guards) (map (iterate silent_step m) rs) ≡ map (λ r. length r.guards) rs → AllByRecursion (half_bit.IsSilent m) rs
 silent m [] h e = tt
 silent m (r ∷ rs) h e = (record { uneventful = h.0.uneventful; ports = ap (λ (ns : List ℕ). get_or ns 0 0) e }, silent m rs h.1 (ap (λ (ns : List ℕ). drop 1 ns) e))
 
-pub hear_on : (f : Receiving → Receiving) (rs : List Receiving) (ks ks' : List Kept) → AllHear rs ks → length ks' ≡ length ks
-    → ((i : ℕ) (d : Kept) (r : Receiving) → i < length ks' → Hears r (get_or ks i d) → Hears (f r) (get_or ks' i d)) → AllHear (map f rs) ks'
+pub hear_on : (f : Receiving → Receiving) (rs : List Receiving) (ks ks' : List KeptReception) → AllHear rs ks → length ks' ≡ length ks
+    → ((i : ℕ) (d : KeptReception) (r : Receiving) → i < length ks' → Hears r (get_or ks i d) → Hears (f r) (get_or ks' i d)) → AllHear (map f rs) ks'
 hear_on f [] [] [] a e h = tt
 hear_on f [] [] (y ∷ ks') a e h = absurd (omega (arith, e))
 hear_on f [] (k ∷ ks) ks' a e h = absurd a
@@ -90,22 +90,22 @@ hear_on f (r ∷ rs) (k ∷ ks) [] a e h = absurd (omega (arith, e))
 hear_on f (r ∷ rs) (k ∷ ks) (y ∷ ks') a e h = (h 0 k r (omega arith) a.0, hear_on f rs ks ks' a.1 (omega (arith, e)) (λ i d x l. h (suc i) d x (omega (arith, l))))
 
 -- a silent half bit leaves the delay of a repeater
-same_delay : (m : ℕ) (r : State) → (iterate silent_step m r).line.delay ≡ r.line.delay
+same_delay : (m : ℕ) (r : RepeaterDevice) → (iterate silent_step m r).line.delay ≡ r.line.delay
 unfolding silent_step
 same_delay zero r = refl
 same_delay (suc m) r = same_delay m (silent_step r)
 
-pub delays_stay : (m : ℕ) (rs : List State) → map (λ r. length r.guards) (map (iterate silent_step m) rs) ≡ map (λ r. length r.guards) rs → line_delays (map (iterate silent_step m) rs) ≡ line_delays rs
+pub delays_stay : (m : ℕ) (rs : List RepeaterDevice) → map (λ r. length r.guards) (map (iterate silent_step m) rs) ≡ map (λ r. length r.guards) rs → line_delays (map (iterate silent_step m) rs) ≡ line_delays rs
 delays_stay m [] e = refl
 delays_stay m (r ∷ rs) e =
     ap₂ (λ (xs ys : List ℕ). xs ++ ys) (ap₂ (λ n (d : ℕ). replicate n d) (ap (λ (ns : List ℕ). get_or ns 0 0) e) (same_delay m r)) (delays_stay m rs (ap (λ (ns : List ℕ). drop 1 ns) e))
 
 -- what is kept, m half bits later, with these devices
-abbrev pub leapt_kept : KeptNet → ℕ → List Sender → List Kept → List State → KeptNet
+abbrev pub leapt_kept : KeptNet → ℕ → List Sender → List KeptReception → List RepeaterDevice → KeptNet
 leapt_kept k m ss ks rs = record { t = k.t + m; senders = ss; receivers = ks; repeaters = rs; wires = k.wires; places = k.places; rows = k.rows; captures = k.captures; reaches = k.reaches; delays = k.delays; settled = k.settled }
 
 -- it is whole
-pub whole_leapt : (k : KeptNet) (m : ℕ) (ss : List Sender) (ks : List Kept) (rs : List State) (h e p c r s v n : ℕ) → IsWhole k h e p c r s v n → length ss ≡ length k.senders → length ks ≡ length k.receivers →
+pub whole_leapt : (k : KeptNet) (m : ℕ) (ss : List Sender) (ks : List KeptReception) (rs : List RepeaterDevice) (h e p c r s v n : ℕ) → IsWhole k h e p c r s v n → length ss ≡ length k.senders → length ks ≡ length k.receivers →
     map (λ x. length x.guards) rs ≡ map (λ x. length x.guards) k.repeaters → All (λ x. x.t ≡ k.t + m) ss → All (λ x. x.steps ≡ k.t + m) ks → IsWhole (leapt_kept k m ss ks rs) h e p c r s v n
 whole_leapt k m ss ks rs h e p c r s v n w senders receivers guards times steps =
     let many = many_alike rs k.repeaters guards in
@@ -165,9 +165,9 @@ module _ (m : ℕ) (n : Net) (k : KeptNet) (h e p c r s v l : ℕ) (w : IsWhole 
         receiving = length-AllHear n.receivers k.receivers st.receivers ∙ w.receiving ∙ senders;
         capturing = sym (ap length st.captures) ∙ w.capturing ∙ senders;
         senders = wait m n.senders (recursion_from_All (WaitsFor m) n.senders (subst (All (WaitsFor m)) st.senders calm.senders));
-        receivers = rest n.receivers k.receivers st.receivers (recursion_from_All (λ (x : Kept). x.halves ≡ 0) k.receivers calm.receivers);
-        repeaters = silent m n.repeaters (recursion_from_All (λ (x : State). IsCalm x m) n.repeaters (subst (All (λ (x : State). IsCalm x m)) st.repeaters calm.repeaters))
-            (subst (λ (rs : List State). map (λ (x : State). length x.guards) (map (iterate silent_step m) rs) ≡ map (λ (x : State). length x.guards) rs) st.repeaters ports);
+        receivers = rest n.receivers k.receivers st.receivers (recursion_from_All (λ (x : KeptReception). x.halves ≡ 0) k.receivers calm.receivers);
+        repeaters = silent m n.repeaters (recursion_from_All (λ (x : RepeaterDevice). IsCalm x m) n.repeaters (subst (All (λ (x : RepeaterDevice). IsCalm x m)) st.repeaters calm.repeaters))
+            (subst (λ (rs : List RepeaterDevice). map (λ (x : RepeaterDevice). length x.guards) (map (iterate silent_step m) rs) ≡ map (λ (x : RepeaterDevice). length x.guards) rs) st.repeaters ports);
       }
 
   pub silent_half_bit : (i : ℕ) → i < m → IsSilentHalfBit (later_net n i)
@@ -176,8 +176,8 @@ module _ (m : ℕ) (n : Net) (k : KeptNet) (h e p c r s v l : ℕ) (w : IsWhole 
   later : IsCalmLater m n (later_net n m)
   later = calm_later m n is_calm
 
-  pub stands_leapt : (ss : List Sender) (ks : List Kept) (rs : List State) → ss ≡ map (λ x. after_all x (replicate m Idle)) k.senders → length ks ≡ length k.receivers
-      → ((i : ℕ) (d : Kept) (r : Receiving) → i < length ks → Hears r (get_or k.receivers i d) → Hears (receiver_after r (replicate m Idle) false) (get_or ks i d))
+  pub stands_leapt : (ss : List Sender) (ks : List KeptReception) (rs : List RepeaterDevice) → ss ≡ map (λ x. after_all x (replicate m Idle)) k.senders → length ks ≡ length k.receivers
+      → ((i : ℕ) (d : KeptReception) (r : Receiving) → i < length ks → Hears r (get_or k.receivers i d) → Hears (receiver_after r (replicate m Idle) false) (get_or ks i d))
       → rs ≡ map (iterate silent_step m) k.repeaters → Stands (later_net n m) (leapt_kept k m ss ks rs)
   stands_leapt ss ks rs senders many hear repeaters =
       let y = later_net n m in

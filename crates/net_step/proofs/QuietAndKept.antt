@@ -4,10 +4,10 @@ use Rattle.std.specs.Prelude.{◌↔◌, IsTrue}
 use Rattle.std.proofs.lemmas.List.{length-map, get_or-map}
 use Rattle.manchester_line.specs.declared.Sym.TheVariants.{Idle}
 use Rattle.layout.specs.declared.lines.PortLine.{PortLine}
-use Rattle.mac_receive.specs.KeptReceiver.{Kept}
+use Rattle.mac_receive.specs.KeptReceiver.{KeptReception}
 use Rattle.mac_receive.specs.Receiver.{Receiving, new_receiving, receiver_after}
 use Rattle.mac_transmit.specs.Sender.{Sender, is_sending}
-use Rattle.repeater_core.specs.Step.{State}
+use Rattle.repeater_core.specs.Step.{RepeaterDevice}
 use Rattle.repeater_core.specs.declared.modes.Mode.TheVariants as mode
 use Rattle.network.specs.Net.{Net}
 use Rattle.quiet_state.specs.LastSignals.{last_signal, reach_over, IsOverBy, IsQuietAsKept}
@@ -22,17 +22,17 @@ still_new lose most zero = refl
 still_new lose most (suc n) = still_new lose most n
 
 -- a receiver that has nothing under way, as it is kept
-abbrev pub IsStillKept : Kept → Type 0
+abbrev pub IsStillKept : KeptReception → Type 0
 IsStillKept k = (k.deaf ≡ false) × (k.halves ≡ 0)
 
-still_there : (rs : List Receiving) (ks : List Kept) → AllHear rs ks → All IsStill rs → All IsStillKept ks
+still_there : (rs : List Receiving) (ks : List KeptReception) → AllHear rs ks → All IsStill rs → All IsStillKept ks
 still_there [] [] h all i d l = absurd (omega arith)
 still_there [] (k ∷ ks) h all i d l = absurd h
 still_there (r ∷ rs) [] h all i d l = absurd h
 still_there (r ∷ rs) (k ∷ ks) h all zero d l = (still_as_kept r k h.0).0 (all 0 r (omega arith))
 still_there (r ∷ rs) (k ∷ ks) h all (suc i) d l = still_there rs ks h.1 (λ j e m. all (suc j) e (omega arith)) i d (omega arith)
 
-still_here : (rs : List Receiving) (ks : List Kept) → AllHear rs ks → All IsStillKept ks → All IsStill rs
+still_here : (rs : List Receiving) (ks : List KeptReception) → AllHear rs ks → All IsStillKept ks → All IsStill rs
 still_here [] [] h all i d l = absurd (omega arith)
 still_here [] (k ∷ ks) h all i d l = absurd h
 still_here (r ∷ rs) [] h all i d l = absurd h
@@ -59,7 +59,7 @@ quiet_told n k st q =
     record {
       senders = subst (All (λ (s : Sender). is_sending s.phase ≡ false)) st.senders q.senders;
       receivers = still_here n.receivers k.receivers st.receivers q.receivers;
-      repeaters = subst (All (λ (r : State). r.mode ≡ mode.Idle)) st.repeaters q.repeaters;
+      repeaters = subst (All (λ (r : RepeaterDevice). r.mode ≡ mode.Idle)) st.repeaters q.repeaters;
       cables = λ p d l. subst (λ m. IsOverBy n.t m (last_signal n.t n.emitted p)) (reach_at n k st p d l) (over.0 p (let many = many_reaches n k st in omega (arith, l, many)));
       delays = subst (λ (ds : List ℕ). AreOver n.t n.t ds n.decided) st.delays over.1;
     }
@@ -75,7 +75,7 @@ told_quiet n k st q =
       settled = (let now = st.time in omega (arith, settled, now));
       senders = subst (All (λ (s : Sender). is_sending s.phase ≡ false)) (sym st.senders) q.senders;
       receivers = still_there n.receivers k.receivers st.receivers q.receivers;
-      repeaters = subst (All (λ (r : State). r.mode ≡ mode.Idle)) (sym st.repeaters) q.repeaters;
+      repeaters = subst (All (λ (r : RepeaterDevice). r.mode ≡ mode.Idle)) (sym st.repeaters) q.repeaters;
     }
 
 pub quiet_as_told : (n : Net) (k : KeptNet) → Stands n k → TellsQuiet k ↔ IsQuietAsKept n

@@ -6,7 +6,7 @@ use Rattle.std.proofs.lemmas.List.{at_drop_more}
 use Rattle.manchester_line.specs.declared.Sym.{Sym}
 use Rattle.manchester_line.specs.declared.Sym.TheVariants.{Idle}
 use Rattle.manchester_line.specs.Line.{is_signal}
-use Rattle.repeater_core.specs.Step.{State, after}
+use Rattle.repeater_core.specs.Step.{RepeaterDevice, after}
 use Rattle.network.specs.Net.{each_repeater}
 use Rattle.quiet_state.specs.LastSignals.{last_signal, IsOverBy, line_delays}
 use Rattle.net_step.specs.KeptNet.{over_from, AreOver}
@@ -104,7 +104,7 @@ pub settled_first : (s u : ℕ) (reaches delays : List ℕ) → s ≡ 0 → (t :
 settled_first s u reaches delays e t = ((λ l. ((λ i m. tt), (λ i m. tt))), (λ over. omega (arith, e)))
 
 -- the delays of repeaters stay
-pub delays_after : (hs : List Sym) (rs : List State) → map (λ r. length r.guards) (each_repeater after hs rs) ≡ map (λ r. length r.guards) rs → line_delays (each_repeater after hs rs) ≡ line_delays rs
+pub delays_after : (hs : List Sym) (rs : List RepeaterDevice) → map (λ r. length r.guards) (each_repeater after hs rs) ≡ map (λ r. length r.guards) rs → line_delays (each_repeater after hs rs) ≡ line_delays rs
 delays_after hs [] e = refl
 delays_after hs (r ∷ rs) e =
     ap₂ (λ n (xs : List ℕ). replicate n r.line.delay ++ xs) (ap (λ (ns : List ℕ). get_or ns 0 0) e) (delays_after (drop (length r.guards) hs) rs (ap (drop 1) e))

@@ -9,7 +9,7 @@ use Rattle.manchester_line.specs.declared.Sym.{Sym}
 use Rattle.manchester_line.specs.declared.Sym.TheVariants.{Idle}
 use Rattle.cable_segment.specs.Bus.{heard_among, heard_at}
 use Rattle.mac_parameters.specs.Distances.{distance}
-use Rattle.cable_segment.specs.Cable.{Told, told_at, advanced}
+use Rattle.cable_segment.specs.Cable.{CableHistory, told_at, advanced}
 use Rattle.layout.specs.declared.lines.Layout.{Layout}
 use Rattle.layout.specs.declared.lines.PortLine.{PortLine}
 use Rattle.layout.specs.declared.lines.RepeaterLine.{RepeaterLine}
@@ -19,9 +19,9 @@ use Rattle.collision_log.specs.declared.row.Row.{Row}
 use Rattle.mac_transmit.specs.Sender.{Sender, SendOutcome}
 use Rattle.mac_receive.specs.Receiver.{Receiving, Reception}
 use Rattle.mac_receive.specs.KeptReceiver.{kept_octets}
-use Rattle.repeater_core.specs.Step.{State, after, decided_by, emitted_by}
+use Rattle.repeater_core.specs.Step.{RepeaterDevice, after, decided_by, emitted_by}
 use Rattle.network.specs.declared.outputs.Taken.{Taken}
-use Rattle.net_step.specs.declared.places.Place.{Place}
+use Rattle.net_step.specs.declared.places.TapOnSegment.{TapOnSegment}
 use Rattle.network.specs.Hearing.{heard_of, heard_by}
 use Rattle.layout.specs.Taps.{taps_of, tap_of}
 use Rattle.network.specs.Net.{Net, next, emitted_before, heard_in, stations_hear, ports_hear, sendings, sendings_in, emitted_in, decided_in, receptions, each_repeater}
@@ -42,7 +42,7 @@ use Rattle.net_step.proofs.SignalsSettle.{AllOver, delays_after, settled_first, 
 use Rattle.net_step.proofs.CableHistory.{told_at-told_from, told_at-told_from_earlier, told_at-advanced, told_at-advanced_now, positions-told_from, ahead-told_from, length-rows-told_from, length-rows-advanced}
 
 -- the place of a tap
-abbrev pub place_of : List PortLine → ℕ → PortLine → Place
+abbrev pub place_of : List PortLine → ℕ → PortLine → TapOnSegment
 place_of all q x = record { segment = x.segment; local = count_on x.segment (take q all) }
 
 -- a tap hears at its place what it hears in the network
@@ -100,7 +100,7 @@ sendings_alike : (n : Net) (k : KeptNet) → Stands n k → sendings_kept k ≡ 
 sendings_alike n k st = ap₂ sendings (stations_alike n k st) st.senders
 
 emitted_alike : (n : Net) (k : KeptNet) → Stands n k → emitted_kept k ≡ emitted_in n
-emitted_alike n k st = ap₂ (λ (os : List SendOutcome) (rs : List State). map (λ o. o.emitted) os ++ flat_map emitted_by rs) (sendings_alike n k st) st.repeaters
+emitted_alike n k st = ap₂ (λ (os : List SendOutcome) (rs : List RepeaterDevice). map (λ o. o.emitted) os ++ flat_map emitted_by rs) (sendings_alike n k st) st.repeaters
 
 within_rows : (a n r taps b q : ℕ) → a ≡ 0 → n ≡ taps → r ≡ (greatest_place + 1) * taps → b + 1 ≤ greatest_place → q < taps → (a + (b + 1)) * n + q < r
 within_rows a n r taps b q ea en er h l =
@@ -114,7 +114,7 @@ told_row row u (suc zero) r = get_or row r Idle
 told_row row u (suc (suc b)) r = u (suc b) r
 
 -- what the taps of a cable were told, a half bit on
-module _ (c : Told) (row : List Sym) (ahead : c.ahead ≡ 0) (window : length c.rows ≡ (greatest_place + 1) * length c.positions) (fits : length row ≤ length c.positions) where
+module _ (c : CableHistory) (row : List Sym) (ahead : c.ahead ≡ 0) (window : length c.rows ≡ (greatest_place + 1) * length c.positions) (fits : length row ≤ length c.positions) where
   within : (b q : ℕ) → b + 1 ≤ greatest_place → q < length c.positions → ((told_from c 0 row).ahead + (b + 1)) * length (told_from c 0 row).positions + q < length (told_from c 0 row).rows
   within b q h l = within_rows _ _ _ (length c.positions) b q (ahead-told_from row c 0 ∙ ahead) (ap length (positions-told_from row c 0)) (length-rows-told_from row c 0 ∙ window) h l
 
@@ -172,7 +172,7 @@ told_next n k row st back q d b h =
     ∙ told_row_is row symbols n.emitted (told_at w.cable) local q (get_or-map (λ g. get_or row g Idle) w.taps local 0 Idle (omega arith) ∙ ap (λ g. get_or row g Idle) number) (λ x y. st.told x q d y h) back b
 
 -- the rows and captures of the next state
-rows_alike : (xs ys : List Row) (m t : ℕ) (hs hs' ps ps' : List Sym) (os os' : List SendOutcome) (ss ss' : List Sender) (qs qs' : List State) (rs : List Receiving) →
+rows_alike : (xs ys : List Row) (m t : ℕ) (hs hs' ps ps' : List Sym) (os os' : List SendOutcome) (ss ss' : List Sender) (qs qs' : List RepeaterDevice) (rs : List Receiving) →
     xs ≡ ys → m ≡ t → hs ≡ hs' → ps ≡ ps' → os ≡ os' → ss ≡ ss' → qs ≡ qs' →
     xs ++ (rows_of m 0 (map (λ s. s.event) os) (map (λ r. r.event) (receptions hs (map (λ s. s.emitted) os) rs)) ++ repeater_rows m (length ss) (each_repeater repeater_bodies ps qs))
     ≡ ys ++ (rows_of t 0 (map (λ s. s.event) os') (map (λ r. r.event) (receptions hs' (map (λ s. s.emitted) os') rs)) ++ repeater_rows t (length ss') (each_repeater repeater_bodies ps' qs'))
@@ -184,12 +184,12 @@ captures_alike : (xs ys : List (List Taken)) (m t : ℕ) (hs hs' : List Sym) (os
 captures_alike xs ys m t hs hs' os os' rs ex et eh eo = cc
 
 decided_alike : (n : Net) (k : KeptNet) → Stands n k → decided_kept k ≡ decided_in n
-decided_alike n k st = ap₂ (λ (hs : List Sym) (rs : List State). flat_map (λ (symbols : List Sym). symbols) (each_repeater decided_by hs rs)) (ports_alike n k st) st.repeaters
+decided_alike n k st = ap₂ (λ (hs : List Sym) (rs : List RepeaterDevice). flat_map (λ (symbols : List Sym). symbols) (each_repeater decided_by hs rs)) (ports_alike n k st) st.repeaters
 
 -- the ports of the repeaters stay
-same_ports : (n : Net) (k kn : KeptNet) → Stands n k → IsNextKept k kn → map (λ (r : State). length r.guards) (each_repeater after (ports_hear n) n.repeaters) ≡ map (λ (r : State). length r.guards) n.repeaters
+same_ports : (n : Net) (k kn : KeptNet) → Stands n k → IsNextKept k kn → map (λ (r : RepeaterDevice). length r.guards) (each_repeater after (ports_hear n) n.repeaters) ≡ map (λ (r : RepeaterDevice). length r.guards) n.repeaters
 same_ports n k kn st g =
-    ap (map (λ (r : State). length r.guards)) (sym (g.repeaters ∙ ap₂ (each_repeater after) (ports_alike n k st) st.repeaters)) ∙ g.ports ∙ ap (map (λ (r : State). length r.guards)) st.repeaters
+    ap (map (λ (r : RepeaterDevice). length r.guards)) (sym (g.repeaters ∙ ap₂ (each_repeater after) (ports_alike n k st) st.repeaters)) ∙ g.ports ∙ ap (map (λ (r : RepeaterDevice). length r.guards)) st.repeaters
 
 -- from which half bit on all signals are over, with those of this half bit
 settled_by : (n : Net) (k kn : KeptNet) → Stands n k → IsNextKept k kn → kn.settled ≡ max (max k.settled (over_from n.t kn.reaches (emitted_in n))) (over_from n.t kn.delays (decided_in n))

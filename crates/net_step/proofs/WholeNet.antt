@@ -15,8 +15,8 @@ use Rattle.layout.specs.declared.lines.Layout.{Layout}
 use Rattle.layout.specs.declared.lines.PortLine.{PortLine}
 use Rattle.layout.specs.declared.lines.RepeaterLine.{RepeaterLine}
 use Rattle.load_plan.specs.declared.plan.Plan.{Plan}
-use Rattle.repeater_core.specs.Step.{State, new_state}
-use Rattle.net_step.specs.declared.places.Place.{Place}
+use Rattle.repeater_core.specs.Step.{RepeaterDevice, new_state}
+use Rattle.net_step.specs.declared.places.TapOnSegment.{TapOnSegment}
 use Rattle.network.specs.Runnable.{IsRunnable}
 use Rattle.layout.specs.Taps.{taps_of, tap_of}
 use Rattle.network.specs.Net.{ports_of}
@@ -28,22 +28,22 @@ use Rattle.net_step.proofs.CablePlaces.{places_some}
 use Rattle.net_step.proofs.StandsForNet.{wire_at-carried, place_of, taps_on, few_taps}
 use Rattle.net_step.proofs.CableHistory.{positions-told_from}
 
-ports_are : (rs : List State) (ns : List ℕ) → map (λ r. length r.guards) rs ≡ ns → ports_of rs ≡ sum_by (λ n. n) ns
+ports_are : (rs : List RepeaterDevice) (ns : List ℕ) → map (λ r. length r.guards) rs ≡ ns → ports_of rs ≡ sum_by (λ n. n) ns
 ports_are [] ns e = ap (sum_by (λ n. n)) e
 ports_are (r ∷ rs) ns e =
-    sum_by-cons (λ (x : State). length x.guards) r rs
-    ∙ ap (λ n. length r.guards + n) (ports_are rs (map (λ (x : State). length x.guards) rs) refl)
-    ∙ sym (sum_by-cons (λ n. n) (length r.guards) (map (λ (x : State). length x.guards) rs))
+    sum_by-cons (λ (x : RepeaterDevice). length x.guards) r rs
+    ∙ ap (λ n. length r.guards + n) (ports_are rs (map (λ (x : RepeaterDevice). length x.guards) rs) refl)
+    ∙ sym (sum_by-cons (λ n. n) (length r.guards) (map (λ (x : RepeaterDevice). length x.guards) rs))
     ∙ ap (sum_by (λ n. n)) e
 
 -- repeaters with the same ports
-pub ports_alike : (rs qs : List State) → map (λ r. length r.guards) rs ≡ map (λ r. length r.guards) qs → ports_of rs ≡ ports_of qs
+pub ports_alike : (rs qs : List RepeaterDevice) → map (λ r. length r.guards) rs ≡ map (λ r. length r.guards) qs → ports_of rs ≡ ports_of qs
 ports_alike rs qs e = ports_are rs _ e ∙ sym (ports_are qs _ refl)
 
-pub many_alike : (rs qs : List State) → map (λ r. length r.guards) rs ≡ map (λ r. length r.guards) qs → length rs ≡ length qs
-many_alike rs qs e = sym (length-map rs (λ (r : State). length r.guards)) ∙ ap length e ∙ length-map qs (λ (r : State). length r.guards)
+pub many_alike : (rs qs : List RepeaterDevice) → map (λ r. length r.guards) rs ≡ map (λ r. length r.guards) qs → length rs ≡ length qs
+many_alike rs qs e = sym (length-map rs (λ (r : RepeaterDevice). length r.guards)) ∙ ap length e ∙ length-map qs (λ (r : RepeaterDevice). length r.guards)
 
-placed_after : (row : List Sym) (wires : List Wire) (places : List Place) → All (IsPlaced wires) places → All (IsPlaced (map (carried row) wires)) places
+placed_after : (row : List Sym) (wires : List Wire) (places : List TapOnSegment) → All (IsPlaced wires) places → All (IsPlaced (map (carried row) wires)) places
 placed_after row wires places h = λ i d l.
     let p = get_or places i d in
     let old = h i d l in
@@ -94,7 +94,7 @@ pub length-places : (p : ℕ) (all xs : List PortLine) → length (places_from p
 length-places p all [] = refl
 length-places p all (x ∷ xs) = ap suc (length-places (p + 1) all xs)
 
-get_or-places : (p : ℕ) (all xs : List PortLine) (i m : ℕ) (d : Place) (e : PortLine) → i < length xs → m ≡ p + i → get_or (places_from p all xs) i d ≡ place_of all m (get_or xs i e)
+get_or-places : (p : ℕ) (all xs : List PortLine) (i m : ℕ) (d : TapOnSegment) (e : PortLine) → i < length xs → m ≡ p + i → get_or (places_from p all xs) i d ≡ place_of all m (get_or xs i e)
 get_or-places p all [] i m d e h is = absurd (omega arith)
 get_or-places p all (x ∷ xs) zero m d e h is = let same : p ≡ m = omega arith in ap (λ q. place_of all q x) same
 get_or-places p all (x ∷ xs) (suc i) m d e h is = get_or-places (p + 1) all xs i m d e (omega arith) (omega arith)
@@ -118,7 +118,7 @@ ports_new (r ∷ rs) =
     ∙ sym (sum_by-cons (λ (x : RepeaterLine). length x.ports) r rs)
 
 -- repeaters with the ports of these lines
-ports_of_lines : (rs : List State) (ls : List RepeaterLine) → map (λ r. length r.guards) rs ≡ map (λ l. length l.ports) ls → ports_of rs ≡ sum_by (λ l. length l.ports) ls
+ports_of_lines : (rs : List RepeaterDevice) (ls : List RepeaterLine) → map (λ r. length r.guards) rs ≡ map (λ l. length l.ports) ls → ports_of rs ≡ sum_by (λ l. length l.ports) ls
 ports_of_lines rs ls e = ports_are rs _ e ∙ sym (sums ls)
   where
     sums : (ls : List RepeaterLine) → sum_by (λ l. length l.ports) ls ≡ sum_by (λ n. n) (map (λ (l : RepeaterLine). length l.ports) ls)
@@ -161,7 +161,7 @@ whole_silent plan k h e p c r s v n run silent senders receivers captures guards
     let ports : ports_of k.repeaters ≡ length (flat_map (λ (x : RepeaterLine). x.ports) l.repeaters) = ports_of_lines k.repeaters l.repeaters guards ∙ sym (ports_new l.repeaters) in
     let joined : length all ≡ length l.stations + length (flat_map (λ (x : RepeaterLine). x.ports) l.repeaters) =
     length-append (map tap_of l.stations) (flat_map (λ (x : RepeaterLine). x.ports) l.repeaters) ∙ ap (λ m. m + length (flat_map (λ (x : RepeaterLine). x.ports) l.repeaters)) (length-map l.stations tap_of) in
-    let relays : length k.repeaters ≡ length l.repeaters = sym (length-map k.repeaters (λ (x : State). length x.guards)) ∙ ap length guards ∙ length-map l.repeaters (λ (x : RepeaterLine). length x.ports) in
+    let relays : length k.repeaters ≡ length l.repeaters = sym (length-map k.repeaters (λ (x : RepeaterDevice). length x.guards)) ∙ ap length guards ∙ length-map l.repeaters (λ (x : RepeaterLine). length x.ports) in
     record {
       few = omega (arith, many, few);
       few_devices = omega (arith, senders, relays, run.few_stations, run.few_repeaters);
@@ -194,7 +194,7 @@ tap_within k device port h = elim (cases_lt device (length k.senders)) [
         let is : kept_tap_number (length k.senders) k.repeaters device port ≡ length k.senders + ports_of (take i k.repeaters) + port = grind (arith, nat_tests) in
         let some = t.1 in
         let port_in = t.2 in
-        omega (arith, is, port_in, sum_by_more (λ (x : State). length x.guards) k.repeaters i (new_state 0 0) some, sum_by-take-le (λ (x : State). length x.guards) k.repeaters (i + 1))
+        omega (arith, is, port_in, sum_by_more (λ (x : RepeaterDevice). length x.guards) k.repeaters i (new_state 0 0) some, sum_by-take-le (λ (x : RepeaterDevice). length x.guards) k.repeaters (i + 1))
   ]
 ]
 
@@ -204,11 +204,11 @@ pub record IsTapNumber (k : KeptNet) (device port tap : ℕ) : Type 0 where
   pub number : tap ≡ kept_tap_number (length k.senders) k.repeaters device port
 
 -- told of the same net s as the contract names it
-pub tap_is_numbered : (k s : KeptNet) (device port tap stations : ℕ) (rs : List State) → k ≡ s → IsKeptTap s device port → stations ≡ length k.senders → rs ≡ k.repeaters
+pub tap_is_numbered : (k s : KeptNet) (device port tap stations : ℕ) (rs : List RepeaterDevice) → k ≡ s → IsKeptTap s device port → stations ≡ length k.senders → rs ≡ k.repeaters
     → tap ≡ kept_tap_number stations rs device port → IsTapNumber k device port tap
 tap_is_numbered k s device port tap stations rs same asked many them told = record {
   is_tap = subst (λ x. IsKeptTap x device port) (sym same) asked;
-  number = told ∙ ap₂ (λ m (rs : List State). kept_tap_number m rs device port) many them;
+  number = told ∙ ap₂ (λ m (rs : List RepeaterDevice). kept_tap_number m rs device port) many them;
 }
 
 -- and so it stands at a place
@@ -216,15 +216,15 @@ module _ (k : KeptNet) (h e p c r s v n : ℕ) (w : IsWhole k h e p c r s v n) (
   pub tap_in_places : tap < length k.places
   tap_in_places = let inside = tap_within k device port named.is_tap in omega (arith, named.number, inside, w.taps)
 
-  pub place_in_wires : (at : Place) → at ≡ get_or k.places tap at → at.segment < length k.wires
-  place_in_wires at is = let here = w.placed tap at tap_in_places in subst (λ (x : Place). x.segment < length k.wires) (sym is) here.0
+  pub place_in_wires : (at : TapOnSegment) → at ≡ get_or k.places tap at → at.segment < length k.wires
+  place_in_wires at is = let here = w.placed tap at tap_in_places in subst (λ (x : TapOnSegment). x.segment < length k.wires) (sym is) here.0
 
-  pub local_in_wire : (at : Place) (wire : Wire) → at ≡ get_or k.places tap at → wire ≡ get_or k.wires at.segment wire → at.local < length wire.cable.positions
+  pub local_in_wire : (at : TapOnSegment) (wire : Wire) → at ≡ get_or k.places tap at → wire ≡ get_or k.wires at.segment wire → at.local < length wire.cable.positions
   local_in_wire at wire is found =
       let here : IsPlaced k.wires at = subst (IsPlaced k.wires) (sym is) (w.placed tap at tap_in_places) in
       subst (λ (x : Wire). at.local < length x.cable.positions) (get_or_default k.wires at.segment no_wire wire here.0 ∙ sym found) here.1
 
-  pub hears_at : (at : Place) (wire : Wire) → at ≡ get_or k.places tap at → wire ≡ get_or k.wires at.segment wire →
+  pub hears_at : (at : TapOnSegment) (wire : Wire) → at ≡ get_or k.places tap at → wire ≡ get_or k.wires at.segment wire →
       heard_at (told_at wire.cable) wire.cable.positions at.local ≡ get_or (heard_kept k) tap Idle
   hears_at at wire is found =
       let inside = place_in_wires at is in

@@ -14,12 +14,12 @@ use Rattle.layout.specs.Taps.{taps_of}
 use Rattle.load_plan.specs.declared.plan.Plan.{Plan}
 use Rattle.mac_transmit.specs.Sender.{Sender, SendOutcome}
 use Rattle.mac_receive.specs.Receiver.{Receiving, Reception}
-use Rattle.mac_receive.specs.KeptReceiver.{Kept, Hears, kept_octets}
+use Rattle.mac_receive.specs.KeptReceiver.{KeptReception, Hears, kept_octets}
 use Rattle.repeater_core.specs.declared.repeater.RepeaterEvents.{RepeaterEvents}
-use Rattle.repeater_core.specs.Step.{State, new_state, after, decided_by, emitted_by}
+use Rattle.repeater_core.specs.Step.{RepeaterDevice, new_state, after, decided_by, emitted_by}
 use Rattle.network.specs.declared.outputs.Taken.{Taken}
 use Rattle.kept_devices.specs.KeptReceivers.{AllHear}
-use Rattle.net_step.specs.declared.places.Place.{Place}
+use Rattle.net_step.specs.declared.places.TapOnSegment.{TapOnSegment}
 use Rattle.net_step.specs.Wires.{Wire, wire_at, heard_at_place, carried, cable_places, new_wire, places_from, IsPlaced}
 use Rattle.network.specs.TapsOnSegments.{positions_on, numbers_on, count_on}
 use Rattle.network.specs.Net.{Net, emitted_before, sendings, receptions, each_repeater, ports_of}
@@ -33,10 +33,10 @@ use Rattle.quiet_state.specs.LastSignals.{last_signal, reach_over, IsOverBy, lin
 pub record KeptNet : Type 0 where
   pub t : ℕ
   pub senders : List Sender
-  pub receivers : List Kept
-  pub repeaters : List State
+  pub receivers : List KeptReception
+  pub repeaters : List RepeaterDevice
   pub wires : List Wire
-  pub places : List Place
+  pub places : List TapOnSegment
   pub rows : List Row
   pub captures : List (List Taken)
   pub reaches : List ℕ
@@ -91,12 +91,12 @@ IsKeptTap k device port =
     × (port < length (slice_index_or k.repeaters (device - length k.senders) (new_state 0 0)).guards))
 
 -- The number of a device's tap among all taps, of which the first so many are the stations'.
-abbrev pub kept_tap_number : ℕ → List State → ℕ → ℕ → ℕ
+abbrev pub kept_tap_number : ℕ → List RepeaterDevice → ℕ → ℕ → ℕ
 kept_tap_number stations repeaters device port =
     if nat_lt device stations then device else stations + ports_of (take (device - stations) repeaters) + port
 
 -- What happens at each of these repeaters, whose steps answered these.
-abbrev pub all_told : List State → List RepeaterEvents → List (List Body)
+abbrev pub all_told : List RepeaterDevice → List RepeaterEvents → List (List Body)
 all_told (r ∷ rs) (e ∷ es) = told_bodies (length r.guards) e ∷ all_told rs es
 all_told _ _ = []
 
@@ -106,13 +106,13 @@ Lends (Some (Received n)) octets kept = kept ≡ octets
 Lends _ octets kept = Unit {0}
 
 -- A receiver gave this event in a half bit, and keeps the octets of a frame that it received.
-pub record Gives (r : Reception) (k : Kept) (given : Option Body) : Type 0 where
+pub record Gives (r : Reception) (k : KeptReception) (given : Option Body) : Type 0 where
   pub hears : Hears r.state k
   pub event : given ≡ r.event
   pub lends : Lends r.event r.octets (kept_octets k)
 
 -- Each of these receivers gave one of these events in these receptions, in their order.
-abbrev pub AllGive : List Reception → List Kept → List (Option Body) → Type 0
+abbrev pub AllGive : List Reception → List KeptReception → List (Option Body) → Type 0
 AllGive [] [] [] = Unit {0}
 AllGive (r ∷ rs) (k ∷ ks) (e ∷ es) = Gives r k e × AllGive rs ks es
 AllGive _ _ _ = ⊥

@@ -9,7 +9,7 @@ ghost use Rattle.quiet_state.specs.PlanStates.{AreStatesOf};
 ghost use Rattle.quiet_state.specs.Resumed.{resumed_repeaters, resumed_senders};
 
 use crate::relay::Relay;
-use crate::segment::Segment;
+use crate::segment::SegmentCable;
 use backoff_draw::Draws;
 use frame_layout::Queue;
 use layout::{PortLine, RepeaterLine, StationLine};
@@ -33,7 +33,8 @@ pub fn new_transmitters(
 {
     let mut senders = Vec::new(alloc);
     for k in 0..queues.len() {
-        senders.push(Transmitter::new(queues[k].copy()?, Draws::new(seed, k as u32)))?;
+        let draws = Draws::new(seed, k as u32);
+        senders.push(Transmitter::new(queues[k].copy()?, draws))?;
     }
     Ok(senders)
 }
@@ -152,14 +153,14 @@ pub fn new_segments(
     alloc: Global,
     count: usize,
     taps: &[PortLine],
-) -> Result<Vec<Segment>, OutOfMemory>
+) -> Result<Vec<SegmentCable>, OutOfMemory>
     requires few { length taps.now < 2 ^ 32 }
     requires near { All (λ x. x.at ≤ greatest_place) taps.now }
     ensures { IfOk result (λ segments. segments.items ≡ map (new_wire taps.now) (range_with_len 0 count)) }
 {
     let mut segments = Vec::new(alloc);
     for segment in 0..count {
-        segments.push(Segment::new(alloc, taps, segment)?)?;
+        segments.push(SegmentCable::new(alloc, taps, segment)?)?;
     }
     Ok(segments)
 }

@@ -11,9 +11,9 @@ ghost use Rattle.mac_receive.specs.Receiver.{Receiving};
 ghost use Rattle.mac_receive.specs.KeptReceiver.{kept_octets};
 ghost use Rattle.repeater_core.specs.Step.{after, decided_by, emitted_by};
 
-use crate::places::Place;
+use crate::places::TapOnSegment;
 use crate::relay::Relay;
-use crate::segment::Segment;
+use crate::segment::SegmentCable;
 use collision_log::Body;
 use layout::Octets;
 use lists::OutOfMemory;
@@ -26,7 +26,7 @@ use repeater_core::RepeaterEvents;
 use std::alloc::Global;
 
 /// What every tap hears in the present half bit.
-pub fn hear_all(segments: &[Segment], places: &[Place], heard: &mut [Sym])
+pub fn hear_all(segments: &[SegmentCable], places: &[TapOnSegment], heard: &mut [Sym])
     requires len { length heard.old ≡ length places.now }
     requires placed { All (IsPlaced segments.now) places.now }
     ensures { heard.new ≡ map (heard_at_place segments.now) places.now }
@@ -106,7 +106,7 @@ pub fn join(stations: &[Sym], ports: &[Sym], row: &mut [Sym])
 }
 
 /// Every segment carries what its taps emit.
-pub fn carry_all(segments: &mut [Segment], emitted: &[Sym])
+pub fn carry_all(segments: &mut [SegmentCable], emitted: &[Sym])
     requires { All (λ w. All (λ q. q < length emitted.now) w.taps) segments.old }
     ensures { segments.new ≡ map (carried emitted.now) segments.old }
 {

@@ -9,7 +9,7 @@ use std::alloc::Global;
 
 /// Where a tap is: its segment, and its number among the taps of that segment, both counted from 0.
 #[derive(Clone, Copy, Debug, PartialEq, Eq)]
-pub struct Place {
+pub struct TapOnSegment {
     pub segment: u32,
     pub local: u32,
 }
@@ -23,7 +23,7 @@ fn count_on(taps: &[PortLine], segment: u32) -> usize
 }
 
 /// The place of each tap.
-pub fn places_of(alloc: Global, taps: &[PortLine]) -> Result<Vec<Place>, OutOfMemory>
+pub fn places_of(alloc: Global, taps: &[PortLine]) -> Result<Vec<TapOnSegment>, OutOfMemory>
     requires { length taps.now < 2 ^ 32 }
     ensures { IfOk result (λ places. places.items ≡ places_from 0 taps.now taps.now) }
 {
@@ -31,7 +31,7 @@ pub fn places_of(alloc: Global, taps: &[PortLine]) -> Result<Vec<Place>, OutOfMe
     for q in 0..taps.len() {
         let segment = taps[q].segment;
         let local = count_on(&taps[..q], segment) as u32;
-        places.push(Place { segment, local })?;
+        places.push(TapOnSegment { segment, local })?;
     }
     Ok(places)
 }

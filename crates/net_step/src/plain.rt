@@ -14,10 +14,10 @@ use crate::leaps::{
     calm_relays, calm_senders, leap_receivers, leap_relays, leap_senders, none_receives,
 };
 use crate::passes::{capture_all, carry_all, hear_all, join, relay_all, step_stations};
-use crate::places::{Place, places_of};
+use crate::places::{TapOnSegment, places_of};
 use crate::relay::Relay;
 use crate::rows::{log_all, log_cut};
-use crate::segment::Segment;
+use crate::segment::SegmentCable;
 use crate::settling::Settling;
 use crate::states::{all_idle, all_still, guards_of, none_sends, rests_of, states_of};
 use collision_log::{Body, Rows};
@@ -52,8 +52,8 @@ pub struct PlainNet {
     senders: Vec<Transmitter>,
     receivers: Vec<Receiver>,
     relays: Vec<Relay>,
-    segments: Vec<Segment>,
-    places: Vec<Place>,
+    segments: Vec<SegmentCable>,
+    places: Vec<TapOnSegment>,
     heard: Vec<Sym>,
     emitted: Vec<Sym>,
     port_emitted: Vec<Sym>,
@@ -123,7 +123,7 @@ impl PlainNet {
     ghost use Rattle.load_plan.specs.declared.plan.Plan.{Plan};
     ghost use Rattle.mac_transmit.specs.Sender.{Sender};
     ghost use Rattle.repeater_core.specs.Counts.{resting_count};
-    ghost use Rattle.repeater_core.specs.Step.{State, new_state};
+    ghost use Rattle.repeater_core.specs.Step.{RepeaterDevice, new_state};
     ghost use Rattle.manchester_line.specs.declared.Sym.TheVariants.{Idle};
     ghost use Rattle.network.specs.Net.{Net, net, next, heard_in};
     ghost use Rattle.network.specs.Outputs.{cut_rows};
@@ -249,7 +249,7 @@ impl PlainNet {
     /// The mode of a repeater, counted from 0.
     pub fn mode(&self, repeater: u32) -> Mode
         requires { repeater < length self.now.repeaters }
-        ensures { (d : State) → result ≡ (slice_index_or self.now.repeaters repeater d).mode }
+        ensures { (d : RepeaterDevice) → result ≡ (slice_index_or self.now.repeaters repeater d).mode }
     {
         self.relays[repeater as usize].mode()
     }
@@ -258,7 +258,7 @@ impl PlainNet {
     pub fn rest(&self, repeater: u32, port: u32) -> u32
         requires repeater { repeater < length self.now.repeaters }
         requires port { port < length (slice_index_or self.now.repeaters repeater (new_state 0 0)).guards }
-        ensures { (d : State) → result ≡ (slice_index_or (slice_index_or self.now.repeaters repeater d).counts port (resting_count 0)).rest }
+        ensures { (d : RepeaterDevice) → result ≡ (slice_index_or (slice_index_or self.now.repeaters repeater d).counts port (resting_count 0)).rest }
     {
         self.relays[repeater as usize].rest(port)
     }

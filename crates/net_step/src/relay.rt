@@ -2,7 +2,7 @@
 ghost use Rattle.std.specs.Prelude.{◌≡◌, ◌<◌, ◌≤◌, ◌++◌, length, map, replicate, All, IfOk, OnOk, IsTrue, ◌↔◌};
 ghost use Rattle.mac_parameters.specs.Parameters.{jabber_rest};
 ghost use Rattle.repeater_core.specs.declared.modes.Mode.TheVariants.{Idle};
-ghost use Rattle.repeater_core.specs.Step.{State, new_state, resumed_state, after, decided_by, emitted_by};
+ghost use Rattle.repeater_core.specs.Step.{RepeaterDevice, new_state, resumed_state, after, decided_by, emitted_by};
 ghost use Rattle.network.specs.Rows.{repeater_bodies, told_bodies};
 
 use lists::OutOfMemory;
@@ -23,9 +23,9 @@ pub struct Relay {
 
 impl Model for Relay {
     ghost use Rattle.std.specs.Prelude.{◌≡◌, ◌≤◌, length};
-    ghost use Rattle.repeater_core.specs.Step.{State};
+    ghost use Rattle.repeater_core.specs.Step.{RepeaterDevice};
 
-    ghost Value = { State };
+    ghost Value = { RepeaterDevice };
 
     ghost view = { λ r. r.repeater };
 

@@ -15,12 +15,12 @@ use std::marker::Model;
 
 /// A segment: its cable, and the number of each of its taps among all taps.
 #[derive(Drop)]
-pub struct Segment {
+pub struct SegmentCable {
     cable: Cable,
     taps: Vec<u32>,
 }
 
-impl Model for Segment {
+impl Model for SegmentCable {
     ghost use Rattle.std.specs.Prelude.{◌<◌, ◌≤◌, ◌^◌, length};
     ghost use Rattle.net_step.specs.Wires.{Wire};
 
@@ -89,19 +89,23 @@ fn tell(cable: &mut Cable, taps: &[u32], emitted: &[Sym])
     }
 }
 
-impl Segment {
+impl SegmentCable {
     ghost use Rattle.std.specs.Prelude.{◌≡◌, ◌<◌, ◌≤◌, ◌^◌, All, length, IfOk};
     ghost use Rattle.mac_parameters.specs.Parameters.{greatest_place};
     ghost use Rattle.net_step.specs.Wires.{carried, new_wire};
 
     /// Segment number `segment`, from 0, of a network with these taps.
-    pub fn new(alloc: Global, taps: &[PortLine], segment: usize) -> Result<Segment, OutOfMemory>
+    pub fn new(
+        alloc: Global,
+        taps: &[PortLine],
+        segment: usize,
+    ) -> Result<SegmentCable, OutOfMemory>
         requires few { length taps.now < 2 ^ 32 }
         requires near { All (λ x. x.at ≤ greatest_place) taps.now }
         ensures { IfOk result (λ made. made ≡ new_wire taps.now segment) }
     {
         let places = cable_places(positions_on(alloc, taps, segment)?)?;
-        Ok(Segment {
+        Ok(SegmentCable {
             cable: Cable::new(alloc, &places, 0)?,
             taps: numbers_on(alloc, taps, segment)?,
         })

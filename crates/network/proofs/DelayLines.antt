@@ -10,7 +10,7 @@ use Rattle.manchester_line.specs.declared.Sym.TheVariants.{Idle}
 use Rattle.layout.specs.declared.lines.RepeaterLine.{RepeaterLine}
 use Rattle.port_partition.specs.Guard.{Guard, new_guard}
 use Rattle.repeater_core.specs.Counts.{Choice, resting_count}
-use Rattle.repeater_core.specs.Step.{State, after, chosen, decided_by, emitted_by, guards_after}
+use Rattle.repeater_core.specs.Step.{RepeaterDevice, after, chosen, decided_by, emitted_by, guards_after}
 use Rattle.repeater_core.proofs.Lawful.{length_chosen}
 use Rattle.network.specs.Net.{each_repeater, emitted_before, new_repeater, ports_of}
 
@@ -51,7 +51,7 @@ length-guards_after (g ∷ gs) (h ∷ hs) [] lh le = absurd (omega arith)
 length-guards_after (g ∷ gs) (h ∷ hs) (e ∷ es) lh le = ap suc (length-guards_after gs hs es (omega arith) (omega arith))
 
 -- a repeater whose own ports had these decisions, the latest first
-pub record IsLined (l : RepeaterLine) (r : State) (own : List (List Sym)) : Type 0 where
+pub record IsLined (l : RepeaterLine) (r : RepeaterDevice) (own : List (List Sym)) : Type 0 where
   pub guards : length r.guards ≡ length l.ports
   pub counts : length r.counts ≡ length l.ports
   pub ports : r.line.ports ≡ length l.ports
@@ -59,11 +59,11 @@ pub record IsLined (l : RepeaterLine) (r : State) (own : List (List Sym)) : Type
   pub wide : All (λ row. length row ≡ length l.ports) own
 
 -- it emits what was decided `delay` half bits ago
-emits_late : (l : RepeaterLine) (r : State) (own : List (List Sym)) (back : ℕ) → l.delay ≡ suc back → IsLined l r own → emitted_by r ≡ row_before (length l.ports) own back
+emits_late : (l : RepeaterLine) (r : RepeaterDevice) (own : List (List Sym)) (back : ℕ) → l.delay ≡ suc back → IsLined l r own → emitted_by r ≡ row_before (length l.ports) own back
 emits_late l r own back e is =
     ap₂ take is.ports (is.rows ∙ ap (lined (length l.ports) own) e) ∙ take_row (length l.ports) (row_before (length l.ports) own back) (lined (length l.ports) own back) (row_length (length l.ports) own back is.wide)
 
-length-decided : (l : RepeaterLine) (r : State) (own : List (List Sym)) (hs : List Sym) → IsLined l r own → length (decided_by hs r) ≡ length l.ports
+length-decided : (l : RepeaterLine) (r : RepeaterDevice) (own : List (List Sym)) (hs : List Sym) → IsLined l r own → length (decided_by hs r) ≡ length l.ports
 length-decided l r own hs is = length-map (chosen hs r) (λ (c : Choice). c.symbol) ∙ length_chosen hs r ∙ is.counts
 
 All_cons : {X : Type 0} (P : X → Type 0) (x : X) (xs : List X) → P x → All P xs → All P (x ∷ xs)
@@ -71,7 +71,7 @@ All_cons P x xs h rest zero d l = h
 All_cons P x xs h rest (suc i) d l = rest i d (omega arith)
 
 -- a half bit later
-lined_on : (l : RepeaterLine) (r : State) (own : List (List Sym)) (hs : List Sym) (back : ℕ) → l.delay ≡ suc back → IsLined l r own → length l.ports ≤ length hs → IsLined l (after hs r) (decided_by hs r ∷ own)
+lined_on : (l : RepeaterLine) (r : RepeaterDevice) (own : List (List Sym)) (hs : List Sym) (back : ℕ) → l.delay ≡ suc back → IsLined l r own → length l.ports ≤ length hs → IsLined l (after hs r) (decided_by hs r ∷ own)
 lined_on l r own hs back e is heard =
     let ports = length l.ports in
     let decided = decided_by hs r in
@@ -89,7 +89,7 @@ lined_on l r own hs back e is heard =
     }
 
 -- the repeaters, one after another, each with its own ports of all
-abbrev pub LinesUp : List RepeaterLine → List State → List (List Sym) → Type 0
+abbrev pub LinesUp : List RepeaterLine → List RepeaterDevice → List (List Sym) → Type 0
 LinesUp [] [] h = Unit {0}
 LinesUp (l ∷ ls) (r ∷ rs) h = IsLined l r (map (take (length l.ports)) h) × LinesUp ls rs (map (drop (length l.ports)) h)
 LinesUp _ _ h = ⊥
@@ -105,16 +105,16 @@ delayed_from_All (l ∷ ls) h = let some : 1 ≤ l.delay = h 0 l (omega arith) i
 abbrev pub all_ports : List RepeaterLine → ℕ
 all_ports ls = length (flat_map (λ (l : RepeaterLine). l.ports) ls)
 
-pub ports-lined : (ls : List RepeaterLine) (rs : List State) (h : List (List Sym)) → LinesUp ls rs h → ports_of rs ≡ all_ports ls
+pub ports-lined : (ls : List RepeaterLine) (rs : List RepeaterDevice) (h : List (List Sym)) → LinesUp ls rs h → ports_of rs ≡ all_ports ls
 ports-lined [] [] h up = refl
 ports-lined [] (r ∷ rs) h up = absurd up
 ports-lined (l ∷ ls) [] h up = absurd up
 ports-lined (l ∷ ls) (r ∷ rs) h up =
     let rest = ports-lined ls rs (map (drop (length l.ports)) h) up.1 in
     let one = up.0.guards in
-    omega (arith, sum_by-cons (λ (x : State). length x.guards) r rs, rest, one, length-append l.ports (flat_map (λ (x : RepeaterLine). x.ports) ls))
+    omega (arith, sum_by-cons (λ (x : RepeaterDevice). length x.guards) r rs, rest, one, length-append l.ports (flat_map (λ (x : RepeaterLine). x.ports) ls))
 
-pub lines_next : (ls : List RepeaterLine) (rs : List State) (h : List (List Sym)) (hs : List Sym) → AllDelayed ls → LinesUp ls rs h → ports_of rs ≤ length hs →
+pub lines_next : (ls : List RepeaterLine) (rs : List RepeaterDevice) (h : List (List Sym)) (hs : List Sym) → AllDelayed ls → LinesUp ls rs h → ports_of rs ≤ length hs →
     LinesUp ls (each_repeater after hs rs) (flat_map (λ symbols. symbols) (each_repeater decided_by hs rs) ∷ h)
 lines_next [] [] h hs late up m = tt
 lines_next [] (r ∷ rs) h hs late up m = absurd up
@@ -126,7 +126,7 @@ lines_next (l ∷ ls) (r ∷ rs) h hs late up m =
     let ears = take g hs in
     let rest = drop g hs in
     let guards = up.0.guards in
-    let sum = sum_by-cons (λ (x : State). length x.guards) r rs in
+    let sum = sum_by-cons (λ (x : RepeaterDevice). length x.guards) r rs in
     let heard : length ears ≡ g = length-take-le g hs (omega (arith, m, sum)) in
     let decided = decided_by ears r in
     let others = flat_map (λ (symbols : List Sym). symbols) (each_repeater decided_by rest rs) in
@@ -178,7 +178,7 @@ abbrev pub delays : List RepeaterLine → List ℕ
 delays ls = flat_map (λ (l : RepeaterLine). replicate (length l.ports) l.delay) ls
 
 -- what a port emits was decided as many half bits ago as the delay says
-pub lines_emit : (ls : List RepeaterLine) (rs : List State) (h : List (List Sym)) (e : ℕ) → AllDelayed ls → LinesUp ls rs h → e < all_ports ls → get_or (flat_map emitted_by rs) e Idle ≡ emitted_before h (get_or (delays ls) e 0) e
+pub lines_emit : (ls : List RepeaterLine) (rs : List RepeaterDevice) (h : List (List Sym)) (e : ℕ) → AllDelayed ls → LinesUp ls rs h → e < all_ports ls → get_or (flat_map emitted_by rs) e Idle ≡ emitted_before h (get_or (delays ls) e 0) e
 lines_emit [] [] h e late up m = absurd (omega arith)
 lines_emit [] (r ∷ rs) h e late up m = absurd up
 lines_emit (l ∷ ls) [] h e late up m = absurd up

@@ -9,7 +9,7 @@ use Rattle.manchester_line.specs.declared.Sym.{Sym}
 use Rattle.port_partition.specs.declared.guard.GuardEvent.{GuardEvent}
 use Rattle.port_partition.specs.declared.guard.GuardEvent.TheVariants as event
 use Rattle.repeater_core.specs.declared.repeater.RepeaterEvents.{RepeaterEvents}
-use Rattle.repeater_core.specs.Step.{State, mask_from, is_closing, is_opening, chosen, guard_events, emitted_by, decided_by, clash_begins, closed_mask, opened_mask, halted_mask}
+use Rattle.repeater_core.specs.Step.{RepeaterDevice, mask_from, is_closing, is_opening, chosen, guard_events, emitted_by, decided_by, clash_begins, closed_mask, opened_mask, halted_mask}
 use Rattle.repeater_core.specs.Counts.{Choice}
 use Rattle.port_partition.specs.Guard.{Guard}
 use Rattle.network.specs.Rows.{rows_of_bodies, repeater_bodies, port_bodies, guard_bodies, happened, told_bodies, bits_bodies}
@@ -60,7 +60,7 @@ bits_are port (h ∷ hs) (e ∷ es) l =
     ∙ ap (λ rest. happened h (Halted port) ++ rest) (guard_bits port e (port_bodies (port + 1) hs es))
 
 -- what the answer of a repeater says happens
-pub told_are : (heard : List Sym) (r : State) (ports : ℕ) (e : RepeaterEvents) → ports ≡ length (guard_events r.guards heard (emitted_by r)) → length (chosen heard r) ≡ ports →
+pub told_are : (heard : List Sym) (r : RepeaterDevice) (ports : ℕ) (e : RepeaterEvents) → ports ≡ length (guard_events r.guards heard (emitted_by r)) → length (chosen heard r) ≡ ports →
     e.clash ≡ clash_begins heard r → e.closed ≡ closed_mask heard r → e.opened ≡ opened_mask heard r → e.halted ≡ halted_mask heard r → told_bodies ports e ≡ repeater_bodies heard r
 told_are heard r ports e np nc clash closed opened halted =
     let hs = map (λ (c : Choice). c.halted) (chosen heard r) in
@@ -79,7 +79,7 @@ length-guard_events (g ∷ gs) (h ∷ hs) [] lh le = absurd (omega arith)
 length-guard_events (g ∷ gs) (h ∷ hs) (e ∷ es) lh le = ap suc (length-guard_events gs hs es (omega arith) (omega arith))
 
 -- the same for a repeater whose ports heard, emitted and decided these symbols
-pub step_told : (heard emitted decided : List Sym) (r : State) (ports : ℕ) (e : RepeaterEvents) → length heard ≡ ports → length emitted ≡ ports → length decided ≡ ports → length r.guards ≡ ports →
+pub step_told : (heard emitted decided : List Sym) (r : RepeaterDevice) (ports : ℕ) (e : RepeaterEvents) → length heard ≡ ports → length emitted ≡ ports → length decided ≡ ports → length r.guards ≡ ports →
     emitted ≡ emitted_by r → decided ≡ decided_by heard r →
     e.clash ≡ clash_begins heard r → e.closed ≡ closed_mask heard r → e.opened ≡ opened_mask heard r → e.halted ≡ halted_mask heard r → told_bodies ports e ≡ repeater_bodies heard r
 step_told heard emitted decided r ports e lh le ld lg ee ed clash closed opened halted =

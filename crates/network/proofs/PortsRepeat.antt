@@ -8,7 +8,7 @@ use Rattle.manchester_line.specs.declared.Sym.{Sym}
 use Rattle.manchester_line.specs.declared.Sym.TheVariants.{Idle}
 use Rattle.layout.specs.declared.lines.PortLine.{PortLine}
 use Rattle.layout.specs.declared.lines.RepeaterLine.{RepeaterLine}
-use Rattle.layout.specs.declared.ways.Tap.TheVariants.{Station, Port}
+use Rattle.layout.specs.declared.ways.Attachment.TheVariants.{Station, Port}
 use Rattle.layout.specs.declared.ways.Way.TheVariants as way
 use Rattle.layout.specs.Paths.{place, IsTap, delay_of}
 use Rattle.layout.proofs.Cuts.{has_part}
@@ -16,7 +16,7 @@ use Rattle.layout.proofs.Sides.{repeater_number}
 use Rattle.load_plan.specs.declared.plan.Plan.{Plan}
 use Rattle.port_partition.specs.Guard.{Guard}
 use Rattle.repeater_core.specs.Counts.{Choice}
-use Rattle.repeater_core.specs.Step.{State, chosen, decided_by, resting_by}
+use Rattle.repeater_core.specs.Step.{RepeaterDevice, chosen, decided_by, resting_by}
 use Rattle.repeater_core.proofs.Lawful.{length_chosen, signals}
 use Rattle.network.specs.Attempts.{port_number, tap_number, IsOpen, IsAwake}
 use Rattle.network.specs.Net.{ports_of, net, each_repeater, heard_in, ports_hear}
@@ -27,26 +27,26 @@ use Rattle.network.proofs.DelayLines.{LinesUp, delayed_from_All, all_ports, port
 use Rattle.network.proofs.AbsoluteTimes.{earlier_at, IsShaped, heard_sizes, shaped, port_emits}
 use Rattle.network.proofs.TapNumbers.{read_behind, port_in, port_below, delay_at}
 
-abbrev closed_of : State → List Bool
+abbrev closed_of : RepeaterDevice → List Bool
 closed_of r = map (λ (g : Guard). g.closed) r.guards
 
-abbrev all_closed : List State → List Bool
+abbrev all_closed : List RepeaterDevice → List Bool
 all_closed rs = flat_map closed_of rs
 
-abbrev all_resting : List Sym → List State → List Bool
+abbrev all_resting : List Sym → List RepeaterDevice → List Bool
 all_resting hs rs = flat_map (λ (rests : List Bool). rests) (each_repeater resting_by hs rs)
 
-abbrev all_decided : List Sym → List State → List Sym
+abbrev all_decided : List Sym → List RepeaterDevice → List Sym
 all_decided hs rs = flat_map (λ (symbols : List Sym). symbols) (each_repeater decided_by hs rs)
 
-size_resting : (hs : List Sym) (r : State) → length (resting_by hs r) ≡ length r.counts
+size_resting : (hs : List Sym) (r : RepeaterDevice) → length (resting_by hs r) ≡ length r.counts
 size_resting hs r = length-map (chosen hs r) (λ (c : Choice). c.rests) ∙ length_chosen hs r
 
-size_decided : (hs : List Sym) (r : State) → length (decided_by hs r) ≡ length r.counts
+size_decided : (hs : List Sym) (r : RepeaterDevice) → length (decided_by hs r) ≡ length r.counts
 size_decided hs r = length-map (chosen hs r) (λ (c : Choice). c.symbol) ∙ length_chosen hs r
 
 -- what an open port hears is decided for the others that do not rest, wherever its repeater stands among all
-row_repeats : (ls : List RepeaterLine) (rs : List State) (h : List (List Sym)) (hs : List Sym) (r i j : ℕ) (x y : PortLine) → LinesUp ls rs h → ports_of rs ≤ length hs
+row_repeats : (ls : List RepeaterLine) (rs : List RepeaterDevice) (h : List (List Sym)) (hs : List Sym) (r i j : ℕ) (x y : PortLine) → LinesUp ls rs h → ports_of rs ≤ length hs
     → port_in ls r i ≡ Some x → port_in ls r j ≡ Some y → i ≢ j
     → get_or (all_closed rs) (port_number ls r i) true ≡ false → get_or hs (port_number ls r i) Idle ≢ Idle → get_or (all_resting hs rs) (port_number ls r j) true ≡ false
     → get_or (all_decided hs rs) (port_number ls r j) Idle ≢ Idle
@@ -58,7 +58,7 @@ row_repeats (l ∷ ls) (s ∷ rs) h hs zero i j x y up m pi pj ne o b a =
     let rest = drop g hs in
     let guards : g ≡ length l.ports = up.0.guards in
     let counts : length s.counts ≡ length l.ports = up.0.counts in
-    let sum = sum_by-cons (λ (z : State). length z.guards) s rs in
+    let sum = sum_by-cons (λ (z : RepeaterDevice). length z.guards) s rs in
     let size : length ears ≡ g = length-take-le g hs (omega (arith, m, sum)) in
     let low_i : i < length l.ports = slice_get_within l.ports i x pi in
     let low_j : j < length l.ports = slice_get_within l.ports j y pj in
@@ -79,7 +79,7 @@ row_repeats (l ∷ ls) (s ∷ rs) h hs (suc r) i j x y up m pi pj ne o b a =
     let q = port_number ls r j in
     let guards : g ≡ n = up.0.guards in
     let counts : length s.counts ≡ n = up.0.counts in
-    let sum = sum_by-cons (λ (z : State). length z.guards) s rs in
+    let sum = sum_by-cons (λ (z : RepeaterDevice). length z.guards) s rs in
     let more = length-drop g hs in
     let is_open : get_or (all_closed rs) p true ≡ false = sym (read_behind (closed_of s) (all_closed rs) n p true (length-map s.guards (λ (z : Guard). z.closed) ∙ guards)) ∙ o in
     let at : get_or rest p Idle ≡ get_or hs (n + p) Idle = get_or-drop g hs p Idle ∙ ap (λ k. get_or hs (k + p) Idle) guards in

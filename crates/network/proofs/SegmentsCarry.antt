@@ -8,7 +8,7 @@ use Rattle.manchester_line.specs.Line.{mix_of}
 use Rattle.mac_parameters.specs.Distances.{distance}
 use Rattle.layout.specs.declared.lines.Layout.{Layout}
 use Rattle.layout.specs.declared.lines.PortLine.{PortLine}
-use Rattle.layout.specs.declared.ways.Tap.{Tap}
+use Rattle.layout.specs.declared.ways.Attachment.{Attachment}
 use Rattle.layout.specs.declared.ways.Way.TheVariants as way
 use Rattle.layout.specs.Paths.{place, IsTap, part_by, at_of, step_length}
 use Rattle.layout.proofs.Cuts.{has_part}
@@ -57,10 +57,10 @@ heard_busy told p here d q (x ∷ xs) (suc i) m l e ne on h =
     mix_right (cond (eqb x.segment here.segment && not (eqb q p)) (told (distance here.at x.at) q) Idle) (heard_of told p here (q + 1) xs)
     (heard_busy told p here d (q + 1) xs i m (omega arith) (omega arith) ne on h)
 
-segment_is : (l : Layout) (t : Tap) (x : PortLine) (part : ℕ) → place l t ≡ Some x → part_by l way.Cable t ≡ Some part → x.segment ≡ part
+segment_is : (l : Layout) (t : Attachment) (x : PortLine) (part : ℕ) → place l t ≡ Some x → part_by l way.Cable t ≡ Some part → x.segment ≡ part
 segment_is l t x part h on = same_Some x.segment part (sym (ap (option_map (λ (y : PortLine). y.segment)) h) ∙ on)
 
-at_is : (l : Layout) (t : Tap) (x : PortLine) → place l t ≡ Some x → at_of l t ≡ x.at
+at_is : (l : Layout) (t : Attachment) (x : PortLine) → place l t ≡ Some x → at_of l t ≡ x.at
 at_is l t x h = ap (λ o. unwrap_or (option_map (λ (y : PortLine). y.at) o) 0) h
 
 either_way : (x y : ℕ) → distance x y ≡ distance y x

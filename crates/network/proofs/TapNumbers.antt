@@ -6,8 +6,8 @@ use Rattle.std.proofs.lemmas.Option.{none-some, slice_get-map, slice_get_within,
 use Rattle.layout.specs.declared.lines.Layout.{Layout}
 use Rattle.layout.specs.declared.lines.PortLine.{PortLine}
 use Rattle.layout.specs.declared.lines.RepeaterLine.{RepeaterLine}
-use Rattle.layout.specs.declared.ways.Tap.{Tap}
-use Rattle.layout.specs.declared.ways.Tap.TheVariants.{Station, Port}
+use Rattle.layout.specs.declared.ways.Attachment.{Attachment}
+use Rattle.layout.specs.declared.ways.Attachment.TheVariants.{Station, Port}
 use Rattle.layout.specs.Paths.{place}
 use Rattle.network.specs.Attempts.{port_number, tap_number}
 use Rattle.layout.specs.Taps.{taps_of, tap_of}
@@ -73,20 +73,20 @@ station_below l k x h =
     let size : length (map tap_of l.stations) ≡ length l.stations = length-map l.stations tap_of in
     omega (arith, within, size)
 
-tap_at : (l : Layout) (t : Tap) (x : PortLine) → place l t ≡ Some x → slice_get (taps_of l) (tap_number l t) ≡ Some x
+tap_at : (l : Layout) (t : Attachment) (x : PortLine) → place l t ≡ Some x → slice_get (taps_of l) (tap_number l t) ≡ Some x
 tap_at l (Station k) x h = get_before (map tap_of l.stations) (ports_in l.repeaters) k x (station_at l k x h)
 tap_at l (Port r p) x h =
     let size : length (map tap_of l.stations) ≡ length l.stations = length-map l.stations tap_of in
     get_behind (map tap_of l.stations) (ports_in l.repeaters) (port_number l.repeaters r p) (length l.stations + port_number l.repeaters r p) x (omega (arith, size)) (port_at l.repeaters r p x h)
 
-pub tap_below : (l : Layout) (t : Tap) (x : PortLine) → place l t ≡ Some x → tap_number l t < length (taps_of l)
+pub tap_below : (l : Layout) (t : Attachment) (x : PortLine) → place l t ≡ Some x → tap_number l t < length (taps_of l)
 tap_below l t x h = slice_get_within (taps_of l) (tap_number l t) x (tap_at l t x h)
 
-pub tap_read : (l : Layout) (t : Tap) (x d : PortLine) → place l t ≡ Some x → get_or (taps_of l) (tap_number l t) d ≡ x
+pub tap_read : (l : Layout) (t : Attachment) (x d : PortLine) → place l t ≡ Some x → get_or (taps_of l) (tap_number l t) d ≡ x
 tap_read l t x d h = get_or_from_slice_get (taps_of l) (tap_number l t) x d (tap_at l t x h)
 
 -- different taps have different numbers
-pub taps_differ : (l : Layout) (a b : Tap) (x y : PortLine) → place l a ≡ Some x → place l b ≡ Some y → tap_number l a ≡ tap_number l b → a ≡ b
+pub taps_differ : (l : Layout) (a b : Attachment) (x y : PortLine) → place l a ≡ Some x → place l b ≡ Some y → tap_number l a ≡ tap_number l b → a ≡ b
 taps_differ l (Station k) (Station j) x y h i e = ap (λ n. Station n) e
 taps_differ l (Station k) (Port s q) x y h i e = let below : k < length l.stations = station_below l k x h in absurd (omega arith)
 taps_differ l (Port r p) (Station j) x y h i e = let below : j < length l.stations = station_below l j y i in absurd (omega arith)

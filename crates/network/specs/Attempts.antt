@@ -3,8 +3,8 @@
 use Rattle.std.specs.Prelude.{ℕ, zero, suc, ◌≡◌, ◌≢◌, ◌+◌, ◌<◌, ◌≤◌, ◌⊎◌, true, false, min, max, All, Bool, List, [], ◌∷◌, map, flat_map, length, slice_index_or}
 use Rattle.layout.specs.declared.lines.Layout.{Layout}
 use Rattle.layout.specs.declared.lines.RepeaterLine.{RepeaterLine}
-use Rattle.layout.specs.declared.ways.Tap.{Tap}
-use Rattle.layout.specs.declared.ways.Tap.TheVariants.{Station, Port}
+use Rattle.layout.specs.declared.ways.Attachment.{Attachment}
+use Rattle.layout.specs.declared.ways.Attachment.TheVariants.{Station, Port}
 use Rattle.layout.specs.Paths.{Path, IsPath, length_of}
 use Rattle.load_plan.specs.declared.plan.Plan.{Plan}
 use Rattle.mac_transmit.specs.Attempts.{Attempt, IsSending, Finishes, AreFrames}
@@ -29,18 +29,18 @@ port_number (x ∷ xs) zero p = p
 port_number (x ∷ xs) (suc r) p = length x.ports + port_number xs r p
 
 -- Which tap of all, from 0, this is: those of the stations come first, then those of the ports.
-abbrev pub tap_number : Layout → Tap → ℕ
+abbrev pub tap_number : Layout → Attachment → ℕ
 tap_number l (Station k) = k
 tap_number l (Port r p) = length l.stations + port_number l.repeaters r p
 
 -- Before half bit t the tap is no port that is partitioned: a station's tap never is (clause 9).
-abbrev pub IsOpen : Plan → Tap → ℕ → Type 0
+abbrev pub IsOpen : Plan → Attachment → ℕ → Type 0
 IsOpen plan (Station k) t = Unit {0}
 IsOpen plan (Port r p) t =
     slice_index_or (closed_in (net plan t)) (port_number plan.layout.repeaters r p) true ≡ false
 
 -- In half bit t the tap is no port that rests: a station's tap never is.
-abbrev pub IsAwake : Plan → Tap → ℕ → Type 0
+abbrev pub IsAwake : Plan → Attachment → ℕ → Type 0
 IsAwake plan (Station k) t = Unit {0}
 IsAwake plan (Port r p) t =
     slice_index_or (resting_in (net plan t)) (port_number plan.layout.repeaters r p) true ≡ false

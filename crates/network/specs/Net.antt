@@ -12,7 +12,7 @@ use Rattle.load_plan.specs.declared.plan.Plan.{Plan}
 use Rattle.mac_transmit.specs.Sender.{Sender, SendOutcome, new_sender, sender_step}
 use Rattle.manchester_line.specs.Line.{is_signal}
 use Rattle.mac_receive.specs.Receiver.{Receiving, Reception, new_receiving, receiver_step}
-use Rattle.repeater_core.specs.Step.{State, new_state, after, emitted_by, decided_by}
+use Rattle.repeater_core.specs.Step.{RepeaterDevice, new_state, after, emitted_by, decided_by}
 use Rattle.network.specs.declared.outputs.Taken.{Taken}
 use Rattle.network.specs.Hearing.{heard_by}
 use Rattle.layout.specs.Taps.{taps_of}
@@ -31,7 +31,7 @@ receptions (h ∷ hs) (e ∷ es) (r ∷ rs) = receiver_step r h (is_signal e) �
 receptions _ _ _ = []
 
 -- What f says of each repeater and of what its ports hear; the ports of one repeater follow those of the one before.
-abbrev pub each_repeater : {X : Type 0} → (List Sym → State → X) → List Sym → List State → List X
+abbrev pub each_repeater : {X : Type 0} → (List Sym → RepeaterDevice → X) → List Sym → List RepeaterDevice → List X
 each_repeater f heard [] = []
 each_repeater f heard (r ∷ rs) =
     f (take (length r.guards) heard) r ∷ each_repeater f (drop (length r.guards) heard) rs
@@ -43,7 +43,7 @@ pub record Net : Type 0 where
   pub t : ℕ
   pub senders : List Sender
   pub receivers : List Receiving
-  pub repeaters : List State
+  pub repeaters : List RepeaterDevice
   pub emitted : List (List Sym)
   pub decided : List (List Sym)
   pub rows : List Row
@@ -118,7 +118,7 @@ abbrev pub new_receiver : ℕ → StationLine → Receiving
 new_receiver most s = new_receiving s.lose most
 
 -- A repeater of a layout before half bit 0, with its number of ports and its delay in half bits.
-abbrev pub new_repeater : RepeaterLine → State
+abbrev pub new_repeater : RepeaterLine → RepeaterDevice
 new_repeater r = new_state (length r.ports) r.delay
 
 -- The network of a plan before half bit 0: all devices are new, and nothing was emitted or decided. In format 2 frames
@@ -143,5 +143,5 @@ net plan zero = new_net plan
 net plan (suc t) = next (net plan t)
 
 -- How many ports these repeaters have.
-abbrev pub ports_of : List State → ℕ
+abbrev pub ports_of : List RepeaterDevice → ℕ
 ports_of rs = sum_by (λ r. length r.guards) rs

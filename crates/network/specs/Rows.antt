@@ -8,7 +8,7 @@ use Rattle.collision_log.specs.declared.row.Row.{Row}
 use Rattle.port_partition.specs.declared.guard.GuardEvent.{GuardEvent}
 use Rattle.port_partition.specs.declared.guard.GuardEvent.TheVariants as event
 use Rattle.repeater_core.specs.declared.repeater.RepeaterEvents.{RepeaterEvents}
-use Rattle.repeater_core.specs.Step.{State, chosen, emitted_by, guard_events, clash_begins}
+use Rattle.repeater_core.specs.Step.{RepeaterDevice, chosen, emitted_by, guard_events, clash_begins}
 
 -- The row of an event of device k in half bit t, where there is an event.
 abbrev pub row_of : ℕ → ℕ → Option Body → List Row
@@ -39,7 +39,7 @@ port_bodies port _ _ = []
 
 -- What happens at a repeater whose ports hear these symbols, in its own order: a collision that begins there, then what
 -- happens at its ports (clause 9).
-abbrev pub repeater_bodies : List Sym → State → List Body
+abbrev pub repeater_bodies : List Sym → RepeaterDevice → List Body
 repeater_bodies heard r =
     happened (clash_begins heard r) Clash
     ++ port_bodies 1 (map (λ c. c.halted) (chosen heard r)) (guard_events r.guards heard (emitted_by r))

@@ -4,7 +4,7 @@ use Rattle.std.specs.Prelude.{ℕ, ◌≡◌, ◌≢◌, ◌+◌, ◌<◌, Conta
 use Rattle.capture_file.specs.declared.entries.Record.{Record}
 use Rattle.manchester_line.specs.declared.Sym.TheVariants.{Idle}
 use Rattle.collision_log.specs.declared.row.Row.{Row}
-use Rattle.layout.specs.declared.ways.Tap.{Tap}
+use Rattle.layout.specs.declared.ways.Attachment.{Attachment}
 use Rattle.layout.specs.declared.ways.Way.TheVariants as way
 use Rattle.layout.specs.Paths.{IsStep, step_length}
 use Rattle.load_plan.specs.Loads.{planned_queues}
@@ -19,7 +19,7 @@ use Rattle.network.specs.Times.{heard, emitted}
 -- in the profile's half bits).
 abbrev pub CablesCarry : Type 0
 CablesCarry =
-    (plan : Plan) (a b : Tap) (t : ℕ) → IsStep plan.layout way.Cable a b
+    (plan : Plan) (a b : Attachment) (t : ℕ) → IsStep plan.layout way.Cable a b
     → emitted plan (tap_number plan.layout a) t ≢ Idle
     → heard plan (tap_number plan.layout b) (t + step_length plan.layout way.Cable a b) ≢ Idle
 
@@ -27,7 +27,7 @@ CablesCarry =
 -- after the repeater's delay in half bits (clause 9).
 abbrev pub RepeatersRepeat : Type 0
 RepeatersRepeat =
-    (plan : Plan) (a b : Tap) (t : ℕ) → IsStep plan.layout way.Repeater a b
+    (plan : Plan) (a b : Attachment) (t : ℕ) → IsStep plan.layout way.Repeater a b
     → IsOpen plan a t → IsAwake plan b t → heard plan (tap_number plan.layout a) t ≢ Idle
     → emitted plan (tap_number plan.layout b) (t + step_length plan.layout way.Repeater a b) ≢ Idle
 

@@ -2,7 +2,7 @@
 use Rattle.std.specs.Prelude.{ℕ, List, max}
 use Rattle.outside.specs.declared.calls.Calls.{Calls}
 use Rattle.outside.specs.declared.memory.MemoryStore.{MemoryStore}
-use Rattle.outside.specs.declared.memory.Tally.{Tally}
+use Rattle.outside.specs.declared.memory.CallTally.{CallTally}
 use Rattle.outside.specs.Calls.{no_calls, next_call, is_failing, faults_after}
 use Rattle.outside.specs.Files.{Files}
 
@@ -11,11 +11,11 @@ abbrev pub files_of : MemoryStore → Files
 files_of store = store.files.items
 
 -- its calls by their kinds, their faults, and the longest room or piece
-abbrev pub tally_of : MemoryStore → Tally
+abbrev pub tally_of : MemoryStore → CallTally
 tally_of store = store.tally
 
 -- the tally before any call; the numbers are those of the reads, starts and appends that fail
-abbrev pub no_tally : List ℕ → List ℕ → List ℕ → Tally
+abbrev pub no_tally : List ℕ → List ℕ → List ℕ → CallTally
 no_tally reads starts appends =
     record {
       reads = no_calls reads;
@@ -27,7 +27,7 @@ no_tally reads starts appends =
     }
 
 -- the tally after one more read, with a room of so many octets
-abbrev pub after_read : ℕ → Tally → Tally
+abbrev pub after_read : ℕ → CallTally → CallTally
 after_read room tally =
     let reads : Calls = next_call tally.reads in
     record tally {
@@ -37,13 +37,13 @@ after_read room tally =
     }
 
 -- the tally after one more start
-abbrev pub after_start : Tally → Tally
+abbrev pub after_start : CallTally → CallTally
 after_start tally =
     let starts : Calls = next_call tally.starts in
     record tally { starts = starts; write_faults = faults_after (is_failing starts) tally.write_faults }
 
 -- the tally after one more append, of so many octets
-abbrev pub after_append : ℕ → Tally → Tally
+abbrev pub after_append : ℕ → CallTally → CallTally
 after_append piece tally =
     let appends : Calls = next_call tally.appends in
     record tally {

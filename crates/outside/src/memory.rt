@@ -18,7 +18,7 @@ pub struct File {
 
 /// The calls of a store by their kinds, their faults, and the longest room or piece, in octets.
 #[derive(Debug, Drop)]
-pub(crate) struct Tally {
+pub(crate) struct CallTally {
     reads: Calls,
     starts: Calls,
     appends: Calls,
@@ -27,7 +27,7 @@ pub(crate) struct Tally {
     largest: u64,
 }
 
-impl Tally {
+impl CallTally {
     /// Counts a read with a room of so many octets, and says whether it fails.
     fn read(&mut self, room: usize) -> bool
         ensures tally { self.new ≡ after_read room self.old }
@@ -78,7 +78,7 @@ impl Tally {
 pub struct MemoryStore {
     alloc: Global,
     files: Vec<File>,
-    tally: Tally,
+    tally: CallTally,
 }
 
 /// The place of the first file of this name.
@@ -140,7 +140,7 @@ impl MemoryStore {
         MemoryStore {
             alloc,
             files: Vec::new(alloc),
-            tally: Tally {
+            tally: CallTally {
                 reads: Calls::new(alloc),
                 starts: Calls::new(alloc),
                 appends: Calls::new(alloc),
@@ -164,7 +164,7 @@ impl MemoryStore {
         Ok(MemoryStore {
             alloc,
             files: Vec::new(alloc),
-            tally: Tally {
+            tally: CallTally {
                 reads: Calls::with_failing(alloc, reads)?,
                 starts: Calls::with_failing(alloc, starts)?,
                 appends: Calls::with_failing(alloc, appends)?,

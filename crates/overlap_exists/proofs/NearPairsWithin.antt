@@ -6,8 +6,8 @@ use Rattle.layout.specs.declared.lines.Layout.{Layout}
 use Rattle.layout.specs.declared.lines.PortLine.{PortLine}
 use Rattle.layout.specs.declared.lines.RepeaterLine.{RepeaterLine}
 use Rattle.layout.specs.declared.lines.StationLine.{StationLine}
-use Rattle.layout.specs.declared.ways.Tap.{Tap}
-use Rattle.layout.specs.declared.ways.Tap.TheVariants.{Station, Port}
+use Rattle.layout.specs.declared.ways.Attachment.{Attachment}
+use Rattle.layout.specs.declared.ways.Attachment.TheVariants.{Station, Port}
 use Rattle.layout.specs.declared.ways.Way.{Way}
 use Rattle.layout.specs.declared.ways.Way.TheVariants as way
 use Rattle.layout.specs.Paths.{place, part_by, IsStep, IsWalk, IsDistance, at_of, step_length, walk_length}
@@ -26,14 +26,14 @@ none_at (suc r) = refl
 no_port : (l : Layout) (r p : ℕ) → l.repeaters ≡ [] → place l (Port r p) ≡ None
 no_port l r p e = ap (λ (x : Option RepeaterLine). option_and_then (λ row. slice_get row.ports p) x) (ap (λ (rs : List RepeaterLine). slice_get rs r) e ∙ none_at r)
 
-no_repeater : (l : Layout) (a b : Tap) → l.repeaters ≡ [] → IsStep l way.Repeater a b → ⊥
+no_repeater : (l : Layout) (a b : Attachment) → l.repeaters ≡ [] → IsStep l way.Repeater a b → ⊥
 no_repeater l (Station k) b e step = let none : None ≡ Some step.part = step.from in cc
 no_repeater l (Port r p) b e step =
     let none : None ≡ Some step.part = sym (ap (λ (x : Option PortLine). option_map (λ (q : PortLine). r) x) (no_port l r p e)) ∙ step.from in
     cc
 
 -- so that a walk from one tap to another is one step along a cable
-one_step : (l : Layout) (w : Way) (a : Tap) (ts : List Tap) (b : Tap) → l.repeaters ≡ [] → a ≢ b → IsWalk l w a ts b → IsStep l way.Cable a b × (walk_length l w a ts ≡ step_length l way.Cable a b)
+one_step : (l : Layout) (w : Way) (a : Attachment) (ts : List Attachment) (b : Attachment) → l.repeaters ≡ [] → a ≢ b → IsWalk l w a ts b → IsStep l way.Cable a b × (walk_length l w a ts ≡ step_length l way.Cable a b)
 one_step l w a [] b e ne walk = absurd (ne walk)
 one_step l way.Repeater a (t ∷ ts) b e ne walk = absurd (no_repeater l a t e walk.0)
 one_step l way.Cable a (t ∷ []) b e ne walk =

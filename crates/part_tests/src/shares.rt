@@ -32,18 +32,18 @@ repeater = [{ name = "r", delay = 16, port = [{ segment = "x", at = 20 }, { segm
 
 /// What a share tells of a part.
 #[derive(Clone, Copy, Debug, PartialEq, Eq)]
-struct State {
+struct PartTold {
     window: u64,
     ready: bool,
     clean: bool,
     lost: bool,
 }
 
-fn state_of(share: &FakeShare, part: u32) -> Option<State> {
+fn state_of(share: &FakeShare, part: u32) -> Option<PartTold> {
     if !share.owns(part) {
         return None;
     }
-    Some(State {
+    Some(PartTold {
         window: share.window(part),
         ready: share.ready(part),
         clean: share.clean(part),
@@ -165,7 +165,7 @@ fn a_part_runs(rt: HostRuntime) -> Result<(), Fail> {
     let plan = plan_of(rt.alloc(), ONE_SEGMENT)?;
     let mut share = share_of_segment(rt.alloc(), &plan, 0)?;
     assert!(rt; share.owns(0) && !share.owns(1) && !share.refilled(0));
-    let new = State {
+    let new = PartTold {
         window: 0,
         ready: true,
         clean: true,
@@ -173,7 +173,7 @@ fn a_part_runs(rt: HostRuntime) -> Result<(), Fail> {
     };
     assert_eq!(rt; state_of(&share, 0), Some(new));
     make_window(&mut share, 0)?;
-    assert_eq!(rt; state_of(&share, 0), Some(State { window: 1, ..new }));
+    assert_eq!(rt; state_of(&share, 0), Some(PartTold { window: 1, ..new }));
     let (segments, repeaters) = share.into_parts();
     assert_eq!(rt; (segments.len(), repeaters.len()), (1, 0));
     assert_eq!(rt; stand(&segments), Some((0, 1)));
@@ -186,19 +186,19 @@ fn parcels_go_round(rt: HostRuntime) -> Result<(), Fail> {
     let plan = plan_of(rt.alloc(), TWO_SEGMENTS)?;
     let mut near = share_with_repeater(rt.alloc(), &plan)?;
     let mut far = share_of_segment(rt.alloc(), &plan, 1)?;
-    let new = State {
+    let new = PartTold {
         window: 0,
         ready: true,
         clean: true,
         lost: false,
     };
-    let gone = State {
+    let gone = PartTold {
         window: 1,
         ready: false,
         clean: false,
         lost: true,
     };
-    let waits = State {
+    let waits = PartTold {
         window: 0,
         ready: false,
         clean: false,
@@ -233,7 +233,7 @@ fn parcels_go_round(rt: HostRuntime) -> Result<(), Fail> {
     take(&mut near, second)?;
     assert_eq!(rt;
         state_of(&near, 2),
-        Some(State {
+        Some(PartTold {
             ready: true,
             ..waits
         })
@@ -246,7 +246,7 @@ fn parcels_go_round(rt: HostRuntime) -> Result<(), Fail> {
     let across = post(&mut near, 1)?;
     assert!(rt; !near.awaits(&across) && far.awaits(&across));
     take(&mut far, across)?;
-    let home = State {
+    let home = PartTold {
         ready: true,
         ..gone
     };
@@ -255,7 +255,7 @@ fn parcels_go_round(rt: HostRuntime) -> Result<(), Fail> {
         (Some(home), Some(home))
     );
     pass_on(&mut far, 1)?;
-    assert_eq!(rt; state_of(&far, 1), Some(State { window: 2, ..gone }));
+    assert_eq!(rt; state_of(&far, 1), Some(PartTold { window: 2, ..gone }));
     let (segments, repeaters) = near.into_parts();
     assert_eq!(rt;
         (stand(&segments), stand(&repeaters)),

@@ -3,8 +3,8 @@ use Rattle.std.proofs.Common.{◌≡◌, ◌⊎◌, refl, sym, ◌∙◌, subst,
 use Rattle.std.proofs.lemmas.Bool.{cases_eq, cases_lt}
 use Rattle.std.proofs.lemmas.List.{get_or-set_same, get_or-set_other, get_or-replicate, get_or_past, set_past, length-replicate}
 use Rattle.layout.specs.declared.lines.Layout.{Layout}
-use Rattle.layout.specs.declared.ways.Tap.{Tap}
-use Rattle.layout.specs.declared.ways.Tap.TheVariants.{Station, Port}
+use Rattle.layout.specs.declared.ways.Attachment.{Attachment}
+use Rattle.layout.specs.declared.ways.Attachment.TheVariants.{Station, Port}
 use Rattle.layout.specs.declared.ways.Way.{Way}
 use Rattle.layout.specs.declared.ways.Way.TheVariants as way
 use Rattle.layout.specs.Sound.{IsSound}
@@ -31,7 +31,7 @@ right_open l n table e = record {
       absurd (cc);
 }
 
-right_at : (l : Layout) (table : List Entry) (w : Way) (t : Tap) (far : Option Far) → IsRight l table → IsLow t → entry_of table w t ≡ Found far → IsFarthest (IsOnward l w t) far
+right_at : (l : Layout) (table : List Entry) (w : Way) (t : Attachment) (far : Option Far) → IsRight l table → IsLow t → entry_of table w t ≡ Found far → IsFarthest (IsOnward l w t) far
 right_at l table w (Station k) far right low known = absurd (cc)
 right_at l table w (Port r p) far right low known = right.right w r p far low.1 known
 
@@ -74,7 +74,7 @@ right_set l table w r p far low right h v s q other too known =
     same_port : (l : Layout) (w v : Way) (r s p q : ℕ) (far : Option Far) → w ≡ v → r ≡ s → p ≡ q → IsFarthest (IsOnward l w (Port r p)) far → IsFarthest (IsOnward l v (Port s q)) far
     same_port l w v r s p q far a b c h = rw (← a, ← b, ← c) h
 
-right_with : (l : Layout) (table : List Entry) (w : Way) (t : Tap) (far : Option Far) → IsLow t → IsRight l table → IsFarthest (IsOnward l w t) far → IsRight l (with_entry table w t far)
+right_with : (l : Layout) (table : List Entry) (w : Way) (t : Attachment) (far : Option Far) → IsLow t → IsRight l table → IsFarthest (IsOnward l w t) far → IsRight l (with_entry table w t far)
 right_with l table w (Station k) far low right h = right
 right_with l table w (Port r p) far low right h = record { right = λ v s q other too known. right_set l table w r p far low.1 right h v s q other too known }
 

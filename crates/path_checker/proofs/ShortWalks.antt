@@ -6,8 +6,8 @@ use Rattle.std.proofs.lemmas.Option.{slice_get_within}
 use Rattle.layout.specs.Limits.{most_stations, most_repeaters}
 use Rattle.layout.specs.declared.lines.Layout.{Layout}
 use Rattle.layout.specs.declared.lines.StationLine.{StationLine}
-use Rattle.layout.specs.declared.ways.Tap.{Tap}
-use Rattle.layout.specs.declared.ways.Tap.TheVariants.{Station, Port}
+use Rattle.layout.specs.declared.ways.Attachment.{Attachment}
+use Rattle.layout.specs.declared.ways.Attachment.TheVariants.{Station, Port}
 use Rattle.layout.specs.declared.ways.Way.{Way}
 use Rattle.layout.specs.Paths.{IsTap, other_way, IsWalk}
 use Rattle.layout.specs.Taps.{tap_of}
@@ -86,20 +86,20 @@ few (suc n) xs apart below =
     omega arith
 
 -- a number for each tap of a sound layout
-abbrev number_of : Tap → ℕ
+abbrev number_of : Attachment → ℕ
 number_of (Station k) = k
 number_of (Port r p) = most_stations + 32 * r + p
 
 -- a tap whose numbers are in range
-abbrev pub IsLow : Tap → Type 0
+abbrev pub IsLow : Attachment → Type 0
 IsLow (Station k) = k < most_stations
 IsLow (Port r p) = (r < most_repeaters) × (p < 32)
 
-low_number : (t : Tap) → IsLow t → number_of t < 5120
+low_number : (t : Attachment) → IsLow t → number_of t < 5120
 low_number (Station k) low = omega arith
 low_number (Port r p) low = let a : r < most_repeaters = low.0 in let b : p < 32 = low.1 in omega arith
 
-pub sound_low : (l : Layout) → IsSound l → (t : Tap) → IsTap l t → IsLow t
+pub sound_low : (l : Layout) → IsSound l → (t : Attachment) → IsTap l t → IsLow t
 sound_low l sound (Station k) is =
     let found : (s : StationLine) × (slice_get l.stations k ≡ Some s) = mapped tap_of (slice_get l.stations k) is.0 is.1 in
     let low : k < length l.stations = slice_get_within l.stations k found.0 found.1 in
@@ -114,7 +114,7 @@ sound_low l sound (Port r p) is =
     let ports : length found.row.ports ≤ 32 = row.ports_most in
     (omega arith, omega arith)
 
-same_number : (a b : Tap) → IsLow a → IsLow b → number_of a ≡ number_of b → a ≡ b
+same_number : (a b : Attachment) → IsLow a → IsLow b → number_of a ≡ number_of b → a ≡ b
 same_number (Station k) (Station j) x y e = ap (λ (n : ℕ). Station n) e
 same_number (Station k) (Port s q) x y e = absurd (let z : q < 32 = y.1 in omega arith)
 same_number (Port r p) (Station j) x y e = absurd (let z : p < 32 = x.1 in omega arith)
@@ -126,26 +126,26 @@ same_number (Port r p) (Port s q) x y e =
     let done : Port r p ≡ Port s q = cc in
     done
 
-abbrev AreLow : List Tap → Type 0
+abbrev AreLow : List Attachment → Type 0
 AreLow [] = Unit {0}
 AreLow (t ∷ ts) = IsLow t × AreLow ts
 
-abbrev numbers : List Tap → List ℕ
+abbrev numbers : List Attachment → List ℕ
 numbers ts = map number_of ts
 
-numbers_lack : (a : Tap) (ts : List Tap) → IsLow a → AreLow ts → Avoids a ts → Lacks (number_of a) (numbers ts)
+numbers_lack : (a : Attachment) (ts : List Attachment) → IsLow a → AreLow ts → Avoids a ts → Lacks (number_of a) (numbers ts)
 numbers_lack a [] x low avoids = tt
 numbers_lack a (t ∷ ts) x low avoids = (λ e. avoids.0 (same_number t a low.0 x e), numbers_lack a ts x low.1 avoids.1)
 
-numbers_below : (ts : List Tap) → AreLow ts → AreBelow 5120 (numbers ts)
+numbers_below : (ts : List Attachment) → AreLow ts → AreBelow 5120 (numbers ts)
 numbers_below [] low = tt
 numbers_below (t ∷ ts) low = (low_number t low.0, numbers_below ts low.1)
 
-walk_low_taps : (l : Layout) → IsSound l → (w : Way) (a : Tap) (ts : List Tap) (b : Tap) → IsWalk l w a ts b → AreLow ts
+walk_low_taps : (l : Layout) → IsSound l → (w : Way) (a : Attachment) (ts : List Attachment) (b : Attachment) → IsWalk l w a ts b → AreLow ts
 walk_low_taps l sound w a [] b walk = tt
 walk_low_taps l sound w a (t ∷ ts) b walk = (sound_low l sound t (has_part l w t walk.0.part walk.0.to), walk_low_taps l sound (other_way w) t ts b walk.1)
 
-walk_apart : (l : Layout) → IsSound l → (w : Way) (a : Tap) (ts : List Tap) (b : Tap) → IsWalk l w a ts b → AreApart (numbers ts)
+walk_apart : (l : Layout) → IsSound l → (w : Way) (a : Attachment) (ts : List Attachment) (b : Attachment) → IsWalk l w a ts b → AreApart (numbers ts)
 walk_apart l sound w a [] b walk = tt
 walk_apart l sound w a (t ∷ ts) b walk =
     let tap : IsTap l t = has_part l w t walk.0.part walk.0.to in
@@ -153,10 +153,10 @@ walk_apart l sound w a (t ∷ ts) b walk =
     let off : Avoids t ts = leaves l (sound_cuts l sound) (other_way w) t ts b tap walk.1 in
     (numbers_lack t ts (sound_low l sound t tap) low off, walk_apart l sound (other_way w) t ts b walk.1)
 
-pub walk_short : (l : Layout) → IsSound l → (w : Way) (a : Tap) (ts : List Tap) (b : Tap) → IsWalk l w a ts b → length ts ≤ 5120
+pub walk_short : (l : Layout) → IsSound l → (w : Way) (a : Attachment) (ts : List Attachment) (b : Attachment) → IsWalk l w a ts b → length ts ≤ 5120
 walk_short l sound w a ts b walk =
     let most : length (numbers ts) ≤ 5120 = few 5120 (numbers ts) (walk_apart l sound w a ts b walk) (numbers_below ts (walk_low_taps l sound w a ts b walk)) in
     rw length-map at most
 
-pub has_room : (l : Layout) → IsSound l → (w : Way) (a : Tap) → HasRoom l w a 5120
+pub has_room : (l : Layout) → IsSound l → (w : Way) (a : Attachment) → HasRoom l w a 5120
 has_room l sound w a = record { most = λ ts b walk. walk_short l sound w a ts b walk }

@@ -8,8 +8,8 @@ use Rattle.layout.specs.declared.lines.Layout.{Layout}
 use Rattle.layout.specs.declared.lines.PortLine.{PortLine}
 use Rattle.layout.specs.declared.lines.RepeaterLine.{RepeaterLine}
 use Rattle.layout.specs.declared.lines.StationLine.{StationLine}
-use Rattle.layout.specs.declared.ways.Tap.{Tap}
-use Rattle.layout.specs.declared.ways.Tap.TheVariants.{Station, Port}
+use Rattle.layout.specs.declared.ways.Attachment.{Attachment}
+use Rattle.layout.specs.declared.ways.Attachment.TheVariants.{Station, Port}
 use Rattle.layout.specs.declared.ways.Way.{Way}
 use Rattle.layout.specs.declared.ways.Way.TheVariants as way
 use Rattle.layout.specs.Among.{IsAmong}
@@ -99,7 +99,7 @@ repeater_found r (x ∷ xs) g h =
     ]
 
 -- each of the layout's taps, and no other
-all_among : (l : Layout) (t : Tap) (line : PortLine) → place l t ≡ Some line → IsAmong (record { tap = t; segment = line.segment; at = line.at }) (all_stops l)
+all_among : (l : Layout) (t : Attachment) (line : PortLine) → place l t ≡ Some line → IsAmong (record { tap = t; segment = line.segment; at = line.at }) (all_stops l)
 unfolding all_stops
 all_among l (Station k) line h =
     let found : (s : StationLine) × (slice_get l.stations k ≡ Some s) = mapped tap_of (slice_get l.stations k) line h in
@@ -168,7 +168,7 @@ repeater_lists-at r n zero (x ∷ xs) row h at =
 repeater_lists-at r n (suc i) (x ∷ xs) row h at = repeater_lists-at (r + 1) n i xs row h (omega arith)
 
 -- a tap beside another: it stands where it says, and both are of one part
-pub record IsBeside (l : Layout) (w : Way) (a : Tap) (g : Stop) : Type 0 where
+pub record IsBeside (l : Layout) (w : Way) (a : Attachment) (g : Stop) : Type 0 where
   pub stands : IsStop l g
   pub part : ℕ
   pub from : part_by l w a ≡ Some part
@@ -190,7 +190,7 @@ module _ (l : Layout) (n : Network) (sound : IsSound l) (net : IsNetworkOf l n) 
         | inr high ↦ absurd (subst (IsAmong g) (list_at-past (stops_on (all_stops l)) (length l.segments) segment high) here)
       ]
 
-  pub segment_all : (segment : ℕ) (t : Tap) → part_by l way.Cable t ≡ Some segment → (s : Stop) × IsAmong s (list_at n.segments segment) × (s.tap ≡ t)
+  pub segment_all : (segment : ℕ) (t : Attachment) → part_by l way.Cable t ≡ Some segment → (s : Stop) × IsAmong s (list_at n.segments segment) × (s.tap ≡ t)
   segment_all segment t on =
       let there : (x : PortLine) × (place l t ≡ Some x) = mapped (λ (p : PortLine). p.segment) (place l t) segment on in
       let same : there.0.segment ≡ segment = same_Some there.0.segment segment (sym (ap (option_map (λ (p : PortLine). p.segment)) there.1) ∙ on) in
@@ -205,7 +205,7 @@ module _ (l : Layout) (n : Network) (sound : IsSound l) (net : IsNetworkOf l n) 
       let e : slice_get (repeater_lists 0 l.repeaters) r ≡ Some (port_stops r 0 found.row.ports) = repeater_lists-at 0 r r l.repeaters found.row found.of_row (omega arith) in
       (found.row, found.of_row, rw (net.repeaters, e) refl)
 
-  ports_found : (t : Tap) (line : PortLine) (g : Stop) → place l t ≡ Some line → IsAmong g (ports_at n t) → IsBeside l way.Repeater t g
+  ports_found : (t : Attachment) (line : PortLine) (g : Stop) → place l t ≡ Some line → IsAmong g (ports_at n t) → IsBeside l way.Repeater t g
   ports_found (Station k) line g h among = absurd among
   ports_found (Port r p) line g h among =
       let at : (row : RepeaterLine) × (slice_get l.repeaters r ≡ Some row) × (list_at n.repeaters r ≡ port_stops r 0 row.ports) = port_list r p line h in
@@ -223,7 +223,7 @@ module _ (l : Layout) (n : Network) (sound : IsSound l) (net : IsNetworkOf l n) 
       record { stands = is; part = s.segment; from = rw stands refl; to = rw (is, found.1) refl }
   beside_found way.Repeater s g stands among = ports_found s.tap _ g stands among
 
-  ports_among : (t g : Tap) (line : PortLine) → place l t ≡ Some line → IsStep l way.Repeater t g → (s : Stop) × IsAmong s (ports_at n t) × (s.tap ≡ g)
+  ports_among : (t g : Attachment) (line : PortLine) → place l t ≡ Some line → IsStep l way.Repeater t g → (s : Stop) × IsAmong s (ports_at n t) × (s.tap ≡ g)
   ports_among (Station k) g line h step = let none : None ≡ Some step.part = step.from in absurd (cc)
   ports_among (Port r p) (Station k) line h step = let none : None ≡ Some step.part = step.to in absurd (cc)
   ports_among (Port r p) (Port t q) line h step =
@@ -237,7 +237,7 @@ module _ (l : Layout) (n : Network) (sound : IsSound l) (net : IsNetworkOf l n) 
       let among : IsAmong (port_stop r q there.0) (port_stops r 0 at.0.ports) = port_among r q 0 q at.0.ports there.0 line_at (omega arith) in
       (port_stop r q there.0, subst (IsAmong (port_stop r q there.0)) (sym at.2) among, ap (λ (m : ℕ). Port m q) (sym same))
 
-  pub beside_among : (w : Way) (s : Stop) (g : Tap) → IsStop l s → IsStep l w s.tap g → (x : Stop) × IsAmong x (stops_by n w s) × (x.tap ≡ g)
+  pub beside_among : (w : Way) (s : Stop) (g : Attachment) → IsStop l s → IsStep l w s.tap g → (x : Stop) × IsAmong x (stops_by n w s) × (x.tap ≡ g)
   beside_among way.Cable s g stands step =
       let there : (x : PortLine) × (place l g ≡ Some x) = mapped (λ (p : PortLine). p.segment) (place l g) step.part step.to in
       let number : there.0.segment ≡ step.part = same_Some there.0.segment step.part (sym (ap (option_map (λ (p : PortLine). p.segment)) there.1) ∙ step.to) in

@@ -7,8 +7,8 @@ use Rattle.mac_parameters.specs.Parameters.{slot_time, interframe_gap}
 use Rattle.layout.specs.declared.lines.Layout.{Layout}
 use Rattle.layout.specs.declared.lines.PortLine.{PortLine}
 use Rattle.layout.specs.declared.lines.StationLine.{StationLine}
-use Rattle.layout.specs.declared.ways.Tap.{Tap}
-use Rattle.layout.specs.declared.ways.Tap.TheVariants.{Station}
+use Rattle.layout.specs.declared.ways.Attachment.{Attachment}
+use Rattle.layout.specs.declared.ways.Attachment.TheVariants.{Station}
 use Rattle.layout.specs.declared.ways.Way.{Way}
 use Rattle.layout.specs.declared.ways.Way.TheVariants as way
 use Rattle.layout.specs.Paths.{IsTap, other_way, IsWalk, step_length, walk_length, IsDistance}
@@ -26,7 +26,7 @@ use Rattle.path_checker.specs.Verdicts.{IsWorst, IsVerdict, IsApart, IsWorstBelo
 use Rattle.path_checker.proofs.FarthestStation.{farthest_same}
 use Rattle.path_checker.proofs.ShortWalks.{walk_short}
 
-apart_walk : (l : Layout) → IsSound l → (w : Way) (a t : Tap) (ts : List Tap) (s n : ℕ) (b : ℕ) → a ≡ Station b → IsWalk l w a (t ∷ ts) (Station s) → b ≢ s
+apart_walk : (l : Layout) → IsSound l → (w : Way) (a t : Attachment) (ts : List Attachment) (s n : ℕ) (b : ℕ) → a ≡ Station b → IsWalk l w a (t ∷ ts) (Station s) → b ≢ s
 apart_walk l sound w a t ts s n b is walk = λ e. never_round l (sound_cuts l sound) w a t ts (Station s) walk (ap (λ (k : ℕ). Station k) (sym e) ∙ sym is)
 
 onward_apart : (l : Layout) → IsSound l → (a n s : ℕ) → IsOnward l way.Cable (Station a) n s → IsApart l a n s
@@ -39,7 +39,7 @@ onward_apart l sound a n s h = (
   },
 )
 
-onward_by : (l : Layout) (a n s : ℕ) (w : Way) (ts : List Tap) → a ≢ s → IsWalk l w (Station a) ts (Station s) → walk_length l w (Station a) ts ≡ n → IsOnward l way.Cable (Station a) n s
+onward_by : (l : Layout) (a n s : ℕ) (w : Way) (ts : List Attachment) → a ≢ s → IsWalk l w (Station a) ts (Station s) → walk_length l w (Station a) ts ≡ n → IsOnward l way.Cable (Station a) n s
 onward_by l a n s w [] ne walk long = absurd (ne (let e : Station a ≡ Station s = walk in cc))
 onward_by l a n s way.Cable (t ∷ ts) ne walk long =
     record { first = t; via = record { step = walk.0; rest = walk_length l way.Repeater t ts; reach = record { taps = ts; leads = walk.1; long = refl }; sum = long } }
@@ -123,7 +123,7 @@ module _ (l : Layout) (k : ℕ) where
   pub worst_more : (w v : Option Worst) (far : Option Far) → IsWorstBelow l k w → IsFarthest (IsApart l k) far → v ≡ longer_of w k far → IsWorstBelow l (k + 1) v
   worst_more w v far h f e = rw e (worst_next w far h f)
 
-distance_low : (l : Layout) → IsSound l → (a b : Tap) (n : ℕ) → IsDistance l a b n → n ≤ 10240000
+distance_low : (l : Layout) → IsSound l → (a b : Attachment) (n : ℕ) → IsDistance l a b n → n ≤ 10240000
 distance_low l sound a b n h =
     let short : length h.path.taps ≤ 5120 = walk_short l sound h.path.begins a h.path.taps b h.leads in
     let long : walk_length l h.path.begins a h.path.taps ≡ n = h.long in
@@ -136,11 +136,11 @@ worst_low l sound k (Some v) h w e =
     subst (λ (x : Worst). x.length ≤ 10240000) same (distance_low l sound (Station v.a) (Station v.b) v.length h.1.1)
 
 -- a walk ends at one of the layout's taps
-ends_at : (l : Layout) (w : Way) (a t : Tap) (ts : List Tap) (b : Tap) → IsWalk l w a (t ∷ ts) b → IsTap l b
+ends_at : (l : Layout) (w : Way) (a t : Attachment) (ts : List Attachment) (b : Attachment) → IsWalk l w a (t ∷ ts) b → IsTap l b
 ends_at l w a t [] b walk = subst (IsTap l) walk.1 (has_part l w t walk.0.part walk.0.to)
 ends_at l w a t (u ∷ us) b walk = ends_at l (other_way w) t u us b walk.1
 
-path_ends : (l : Layout) (w : Way) (a : Tap) (ts : List Tap) (b : Tap) → a ≢ b → IsWalk l w a ts b → IsTap l b
+path_ends : (l : Layout) (w : Way) (a : Attachment) (ts : List Attachment) (b : Attachment) → a ≢ b → IsWalk l w a ts b → IsTap l b
 path_ends l w a [] b ne walk = absurd (ne walk)
 path_ends l w a (t ∷ ts) b ne walk = ends_at l w a t ts b walk
 

@@ -2,8 +2,8 @@
 -- clause 13). Lengths are half bits; segments, stations, repeaters and their ports count from 0.
 use Rattle.std.specs.Prelude.{◌≡◌, ◌⊎◌, ℕ, ◌+◌, ◌*◌, ◌<◌, ◌≤◌, Bool, false, ◌==◌, ◌&&◌, nat_lt, if◌then◌else◌, List, length, slice_index_or, slice_set, Option, None, Some, option_map}
 use Rattle.layout.specs.declared.lines.Layout.{Layout}
-use Rattle.layout.specs.declared.ways.Tap.{Tap}
-use Rattle.layout.specs.declared.ways.Tap.TheVariants.{Station, Port}
+use Rattle.layout.specs.declared.ways.Attachment.{Attachment}
+use Rattle.layout.specs.declared.ways.Attachment.TheVariants.{Station, Port}
 use Rattle.layout.specs.declared.ways.Way.{Way}
 use Rattle.layout.specs.declared.ways.Way.TheVariants as way
 use Rattle.layout.specs.Paths.{place, IsStep, other_way, IsWalk, step_length, walk_length}
@@ -17,25 +17,25 @@ abbrev pub IsStop : Layout → Stop → Type 0
 IsStop l s = place l s.tap ≡ Some (record { segment = s.segment; at = s.at })
 
 -- No walk from the tap that begins by this way has more than `room` steps.
-pub record HasRoom (l : Layout) (way : Way) (a : Tap) (room : ℕ) : Type 0 where
-  pub most : (ts : List Tap) (b : Tap) → IsWalk l way a ts b → length ts ≤ room
+pub record HasRoom (l : Layout) (way : Way) (a : Attachment) (room : ℕ) : Type 0 where
+  pub most : (ts : List Attachment) (b : Attachment) → IsWalk l way a ts b → length ts ≤ room
 
 -- From tap a some walk, the first step of which is by this way, leads over n half bits to station s.
-pub record IsReach (l : Layout) (way : Way) (a : Tap) (n s : ℕ) : Type 0 where
-  pub taps : List Tap
+pub record IsReach (l : Layout) (way : Way) (a : Attachment) (n s : ℕ) : Type 0 where
+  pub taps : List Attachment
   pub leads : IsWalk l way a taps (Station s)
   pub long : walk_length l way a taps ≡ n
 
 -- From tap a some walk, whose first step is by this way to tap g, leads over n half bits to station s.
-pub record IsVia (l : Layout) (way : Way) (a g : Tap) (n s : ℕ) : Type 0 where
+pub record IsVia (l : Layout) (way : Way) (a g : Attachment) (n s : ℕ) : Type 0 where
   pub step : IsStep l way a g
   pub rest : ℕ
   pub reach : IsReach l (other_way way) g rest s
   pub sum : step_length l way a g + rest ≡ n
 
 -- From tap a some walk of one step or more, the first of which is by this way, leads over n half bits to station s.
-pub record IsOnward (l : Layout) (way : Way) (a : Tap) (n s : ℕ) : Type 0 where
-  pub first : Tap
+pub record IsOnward (l : Layout) (way : Way) (a : Attachment) (n s : ℕ) : Type 0 where
+  pub first : Attachment
   pub via : IsVia l way a first n s
 
 -- n half bits to station s are less than that, or as much and not to a lower station.
@@ -62,7 +62,7 @@ farther_of (Some x) (Some y) =
     else (if nat_lt y.length x.length then Some x else (if nat_lt y.station x.station then Some y else Some x))
 
 -- Whether two taps are one.
-abbrev pub is_same_tap : Tap → Tap → Bool
+abbrev pub is_same_tap : Attachment → Attachment → Bool
 is_same_tap (Station k) (Station j) = k == j
 is_same_tap (Station k) (Port s q) = false
 is_same_tap (Port r p) (Station j) = false
@@ -79,12 +79,12 @@ abbrev pub entry_place : Way → ℕ → ℕ → ℕ
 entry_place w r p = 64 * r + 2 * p + way_number w
 
 -- The entry of a tap by a way; that of a station is always Open, since it has none.
-abbrev pub entry_of : List Entry → Way → Tap → Entry
+abbrev pub entry_of : List Entry → Way → Attachment → Entry
 entry_of table w (Station k) = Open
 entry_of table w (Port r p) = slice_index_or table (entry_place w r p) Open
 
 -- A table in which that is now found for a tap by a way; for a station it stays as it is.
-abbrev pub with_entry : List Entry → Way → Tap → Option Far → List Entry
+abbrev pub with_entry : List Entry → Way → Attachment → Option Far → List Entry
 with_entry table w (Station k) far = table
 with_entry table w (Port r p) far = slice_set table (entry_place w r p) (Found far)
 

@@ -4,8 +4,8 @@ use Rattle.std.specs.Prelude.{ℕ, ◌≡◌, ◌≢◌, ◌+◌, ◌*◌, ◌<�
 use Rattle.mac_parameters.specs.Parameters.{slot_time, interframe_gap, bit_512}
 use Rattle.manchester_line.specs.declared.Sym.TheVariants.{Idle}
 use Rattle.layout.specs.declared.lines.Layout.{Layout}
-use Rattle.layout.specs.declared.ways.Tap.{Tap}
-use Rattle.layout.specs.declared.ways.Tap.TheVariants.{Station}
+use Rattle.layout.specs.declared.ways.Attachment.{Attachment}
+use Rattle.layout.specs.declared.ways.Attachment.TheVariants.{Station}
 use Rattle.layout.specs.declared.ways.Way.{Way}
 use Rattle.layout.specs.declared.ways.Way.TheVariants as way
 use Rattle.layout.specs.Paths.{Path, IsPath, step_length, length_of}
@@ -18,7 +18,7 @@ use Rattle.path_checker.specs.declared.verdict.PathVerdict.TheVariants.{Within, 
 
 -- For a wave that is at tap a in half bit t and goes on from tap to tap: when it reaches a repeater, the port by which
 -- it enters is open and the port by which it leaves does not rest.
-abbrev pub IsClear : Plan → Way → Tap → List Tap → ℕ → Type 0
+abbrev pub IsClear : Plan → Way → Attachment → List Attachment → ℕ → Type 0
 IsClear plan w a [] t = Unit {0}
 IsClear plan way.Cable a (b ∷ bs) t =
     IsClear plan way.Repeater b bs (t + step_length plan.layout way.Cable a b)

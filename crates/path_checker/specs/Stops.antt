@@ -5,8 +5,8 @@ use Rattle.layout.specs.declared.lines.Layout.{Layout}
 use Rattle.layout.specs.declared.lines.PortLine.{PortLine}
 use Rattle.layout.specs.declared.lines.RepeaterLine.{RepeaterLine}
 use Rattle.layout.specs.declared.lines.StationLine.{StationLine}
-use Rattle.layout.specs.declared.ways.Tap.{Tap}
-use Rattle.layout.specs.declared.ways.Tap.TheVariants.{Station, Port}
+use Rattle.layout.specs.declared.ways.Attachment.{Attachment}
+use Rattle.layout.specs.declared.ways.Attachment.TheVariants.{Station, Port}
 use Rattle.layout.specs.declared.ways.Way.{Way}
 use Rattle.layout.specs.declared.ways.Way.TheVariants as way
 use Rattle.layout.specs.Joined.{counted_up}
@@ -59,7 +59,7 @@ abbrev pub list_at : List (List Stop) → ℕ → List Stop
 list_at lists n = unwrap_or (slice_get lists n) []
 
 -- The taps of a port's repeater, and none for a station.
-abbrev pub ports_at : Network → Tap → List Stop
+abbrev pub ports_at : Network → Attachment → List Stop
 ports_at n (Station k) = []
 ports_at n (Port r p) = list_at n.repeaters r
 

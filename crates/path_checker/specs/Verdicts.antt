@@ -3,7 +3,7 @@
 use Rattle.std.specs.Prelude.{◌≡◌, ◌≢◌, ◌⊎◌, ℕ, ◌+◌, ◌*◌, ◌<◌, ◌≤◌, nat_lt, if◌then◌else◌, length, Option, None, Some}
 use Rattle.mac_parameters.specs.Parameters.{slot_time, interframe_gap}
 use Rattle.layout.specs.declared.lines.Layout.{Layout}
-use Rattle.layout.specs.declared.ways.Tap.TheVariants.{Station}
+use Rattle.layout.specs.declared.ways.Attachment.TheVariants.{Station}
 use Rattle.layout.specs.Paths.{IsDistance}
 use Rattle.path_checker.specs.declared.far.Far.{Far}
 use Rattle.path_checker.specs.declared.verdict.PathVerdict.{PathVerdict}

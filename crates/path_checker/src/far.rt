@@ -7,8 +7,8 @@ ghost use Rattle.path_checker.specs.Stops.{IsNetworkOf};
 ghost use Rattle.path_checker.specs.Far.{IsStop, HasRoom, IsOnward, IsFarthest, IsRight, is_same_tap, farther_of, lengthened};
 
 use crate::stops::{Network, Stop};
-use crate::table::{Entry, Table, entry_of, set_entry};
-use layout::{Layout, Tap, Way};
+use crate::table::{Entry, ReachTable, entry_of, set_entry};
+use layout::{Attachment, Layout, Way};
 
 /// As many taps as a layout can have (profile).
 pub const MOST_TAPS: u32 = 5_120;
@@ -31,12 +31,12 @@ fn other_way(way: Way) -> Way
 }
 
 /// The delay of a port's repeater in half bits, and 0 for a station.
-fn delay_of(layout: &Layout, tap: Tap) -> u32
+fn delay_of(layout: &Layout, tap: Attachment) -> u32
     ensures { result ≡ delay_of layout.now tap }
 {
     match tap {
-        Tap::Station(_) => 0,
-        Tap::Port { repeater, .. } => {
+        Attachment::Station(_) => 0,
+        Attachment::Port { repeater, .. } => {
             if (repeater as usize) < layout.repeaters.len() {
                 layout.repeaters.get(repeater as usize).delay
             } else {
@@ -59,17 +59,17 @@ fn step_length(layout: &Layout, way: Way, from: &Stop, to: &Stop) -> u32
 }
 
 /// `==` of taps.
-fn is_same_tap(a: Tap, b: Tap) -> bool
+fn is_same_tap(a: Attachment, b: Attachment) -> bool
     ensures { result ≡ is_same_tap a b }
 {
     match (a, b) {
-        (Tap::Station(k), Tap::Station(j)) => k == j,
+        (Attachment::Station(k), Attachment::Station(j)) => k == j,
         (
-            Tap::Port {
+            Attachment::Port {
                 repeater: r,
                 port: p,
             },
-            Tap::Port {
+            Attachment::Port {
                 repeater: s,
                 port: q,
             },
@@ -117,7 +117,7 @@ pub fn lengthened(by: u32, far: Option<Far>) -> Option<Far>
 pub fn farthest(
     layout: &Layout,
     network: &Network,
-    table: &mut Table,
+    table: &mut ReachTable,
     way: Way,
     from: &Stop,
     room: u32,
@@ -143,7 +143,7 @@ pub fn farthest(
             continue;
         }
         let step = step_length(layout, way, from, &stop);
-        if let Tap::Station(station) = stop.tap {
+        if let Attachment::Station(station) = stop.tap {
             best = farther(best, lengthened(step, Some(Far { length: 0, station })));
             continue;
         }

@@ -10,5 +10,5 @@ mod verdict;
 pub use far::{Far, MOST_TAPS, farther, farthest, lengthened};
 pub use lists::OutOfMemory;
 pub use stops::{Network, Stop, Stops, network_of};
-pub use table::{Entry, Table, open_table};
+pub use table::{Entry, ReachTable, open_table};
 pub use verdict::{PathVerdict, check_paths};

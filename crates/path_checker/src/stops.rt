@@ -6,14 +6,14 @@ ghost use Rattle.layout.specs.Limits.{most_repeaters, most_segments, most_statio
 ghost use Rattle.mac_parameters.specs.Parameters.{most_ports};
 ghost use Rattle.path_checker.specs.Stops.{station_stops, port_stops, repeater_stops, all_stops, stops_on, repeater_lists, stops_by, list_at, IsNetworkOf};
 
-use layout::{Layout, PortLine, RepeaterLine, StationLine, Tap, Way};
+use layout::{Attachment, Layout, PortLine, RepeaterLine, StationLine, Way};
 use lists::{List, OutOfMemory};
 use std::alloc::Global;
 
 /// A tap, with its segment's number from 0 and its place there in half bits from the end of the cable.
 #[derive(Clone, Copy, Debug, PartialEq, Eq)]
 pub struct Stop {
-    pub tap: Tap,
+    pub tap: Attachment,
     pub segment: u32,
     pub at: u32,
 }
@@ -36,7 +36,7 @@ fn push_stations(stops: &mut Stops, stations: &[StationLine]) -> Result<(), OutO
     for k in 0..stations.len() {
         let station = &stations[k];
         stops.push(Stop {
-            tap: Tap::Station(k as u32),
+            tap: Attachment::Station(k as u32),
             segment: station.segment,
             at: station.at,
         })?;
@@ -52,7 +52,7 @@ fn push_ports(stops: &mut Stops, repeater: u32, ports: &[PortLine]) -> Result<()
     for k in 0..ports.len() {
         let port = ports[k];
         stops.push(Stop {
-            tap: Tap::Port {
+            tap: Attachment::Port {
                 repeater,
                 port: k as u32,
             },
@@ -176,8 +176,8 @@ impl Network {
         match way {
             Way::Cable => list_at(&self.segments, stop.segment),
             Way::Repeater => match stop.tap {
-                Tap::Station(_) => &[],
-                Tap::Port { repeater, .. } => list_at(&self.repeaters, repeater),
+                Attachment::Station(_) => &[],
+                Attachment::Port { repeater, .. } => list_at(&self.repeaters, repeater),
             },
         }
     }

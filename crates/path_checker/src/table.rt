@@ -5,7 +5,7 @@ ghost use Rattle.path_checker.specs.Far.{way_number, entry_place, entry_of, with
 ghost use Rattle.path_checker.specs.declared.table.Entry.TheVariants.{Open};
 
 use crate::far::Far;
-use layout::{Tap, Way};
+use layout::{Attachment, Way};
 use lists::{List, OutOfMemory};
 use std::alloc::Global;
 
@@ -17,10 +17,10 @@ pub enum Entry {
 }
 
 /// An entry for each way and each port that a repeater can have.
-pub type Table = List<Entry>;
+pub type ReachTable = List<Entry>;
 
 /// A table for so many repeaters in which nothing is known.
-pub fn open_table(alloc: Global, repeaters: usize) -> Result<Table, OutOfMemory>
+pub fn open_table(alloc: Global, repeaters: usize) -> Result<ReachTable, OutOfMemory>
     requires { repeaters ≤ most_repeaters }
     ensures { IfOk result (λ table. table ≡ replicate (64 * repeaters) Open) }
 {
@@ -49,10 +49,10 @@ fn entry_place(way: Way, repeater: u32, port: u32) -> usize
 }
 
 /// The entry of a tap by a way; a station has none, and is always `Open`.
-pub fn entry_of(table: &Table, way: Way, tap: Tap) -> Entry
+pub fn entry_of(table: &ReachTable, way: Way, tap: Attachment) -> Entry
     ensures { result ≡ entry_of table.now way tap }
 {
-    let Tap::Port { repeater, port } = tap else {
+    let Attachment::Port { repeater, port } = tap else {
         return Entry::Open;
     };
     let place = entry_place(way, repeater, port);
@@ -64,10 +64,10 @@ pub fn entry_of(table: &Table, way: Way, tap: Tap) -> Entry
 }
 
 /// Puts down what is found for a tap by a way; nothing is kept of a station.
-pub fn set_entry(table: &mut Table, way: Way, tap: Tap, far: Option<Far>)
+pub fn set_entry(table: &mut ReachTable, way: Way, tap: Attachment, far: Option<Far>)
     ensures { table.new ≡ with_entry table.old way tap far }
 {
-    let Tap::Port { repeater, port } = tap else {
+    let Attachment::Port { repeater, port } = tap else {
         return;
     };
     let place = entry_place(way, repeater, port);

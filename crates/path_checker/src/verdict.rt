@@ -9,8 +9,8 @@ ghost use Rattle.path_checker.specs.Stops.{IsNetworkOf};
 
 use crate::far::{Far, MOST_TAPS, farthest};
 use crate::stops::{Network, Stop, network_of};
-use crate::table::{Table, open_table};
-use layout::{Layout, Tap, Way};
+use crate::table::{ReachTable, open_table};
+use layout::{Attachment, Layout, Way};
 use lists::OutOfMemory;
 use mac_parameters::{INTERFRAME_GAP, SLOT_TIME};
 use std::alloc::Global;
@@ -35,7 +35,12 @@ pub struct Worst {
 }
 
 /// The station that is farthest from a station.
-fn farthest_of(layout: &Layout, network: &Network, table: &mut Table, station: u32) -> Option<Far>
+fn farthest_of(
+    layout: &Layout,
+    network: &Network,
+    table: &mut ReachTable,
+    station: u32,
+) -> Option<Far>
     requires sound { IsSound layout.now }
     requires network { IsNetworkOf layout.now network.now }
     requires table { IsRight layout.now table.old }
@@ -45,7 +50,7 @@ fn farthest_of(layout: &Layout, network: &Network, table: &mut Table, station: u
 {
     let line = layout.stations.get(station as usize);
     let from = Stop {
-        tap: Tap::Station(station),
+        tap: Attachment::Station(station),
         segment: line.segment,
         at: line.at,
     };
@@ -77,7 +82,7 @@ fn longer(worst: Option<Worst>, a: u32, far: Option<Far>) -> Option<Worst>
 }
 
 /// The two stations that are farthest apart, the first pair of equally far ones.
-fn worst_pair(layout: &Layout, network: &Network, table: &mut Table) -> Option<Worst>
+fn worst_pair(layout: &Layout, network: &Network, table: &mut ReachTable) -> Option<Worst>
     requires sound { IsSound layout.now }
     requires network { IsNetworkOf layout.now network.now }
     requires table { IsRight layout.now table.old }

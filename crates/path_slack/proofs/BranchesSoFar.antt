@@ -2,8 +2,8 @@
 use Rattle.std.proofs.Common.{◌≡◌, sym, ◌∙◌, ap, subst, inl, inr, ℕ, ◌+◌, ◌<◌, ◌≤◌, List, [], ◌∷◌, ◌++◌, length, get_or, take, Some, Option}
 use Rattle.std.proofs.lemmas.List.{take_more, take_all}
 use Rattle.layout.specs.declared.lines.Layout.{Layout}
-use Rattle.layout.specs.declared.ways.Tap.{Tap}
-use Rattle.layout.specs.declared.ways.Tap.TheVariants.{Station, Port}
+use Rattle.layout.specs.declared.ways.Attachment.{Attachment}
+use Rattle.layout.specs.declared.ways.Attachment.TheVariants.{Station, Port}
 use Rattle.layout.specs.declared.ways.Way.{Way}
 use Rattle.layout.specs.declared.ways.Way.TheVariants as way
 use Rattle.layout.specs.Among.{IsAmong}
@@ -21,11 +21,11 @@ use Rattle.path_slack.specs.declared.branches.Branch.{Branch}
 use Rattle.path_slack.specs.Branches.{IsBranch, AreBranchesOf}
 
 -- off its cable a station reaches itself alone
-pub station_off : (l : Layout) (t : Tap) (k : ℕ) (far : Option Far) → t ≡ Station k → far ≡ own_far k → IsFarthest (IsReach l way.Repeater t) far
+pub station_off : (l : Layout) (t : Attachment) (k : ℕ) (far : Option Far) → t ≡ Station k → far ≡ own_far k → IsFarthest (IsReach l way.Repeater t) far
 station_off l t k far is far_is = rw (is, far_is) (own_reach l k)
 
 -- and a port what is farther on, by either way
-pub port_reaches : (l : Layout) (w : Way) (t : Tap) (r p : ℕ) (far : Option Far) → t ≡ Port r p → IsFarthest (IsOnward l w t) far → IsFarthest (IsReach l w t) far
+pub port_reaches : (l : Layout) (w : Way) (t : Attachment) (r p : ℕ) (far : Option Far) → t ≡ Port r p → IsFarthest (IsOnward l w t) far → IsFarthest (IsReach l w t) far
 port_reaches l w t r p far is h = onward_all l w t far (λ j same. let no : Port r p ≡ Station j = sym is ∙ same in cc) h
 
 -- one branch for each of these taps
@@ -73,7 +73,7 @@ module _ (l : Layout) (net : Network) (sound : IsSound l) (of : IsNetworkOf l ne
       record {
         on = λ b among.
             let found : (s : Stop) × IsAmong s (list_at net.segments segment) × (s.tap ≡ b.tap) = whole.each b among in
-            subst (λ (t : Tap). part_by l way.Cable t ≡ Some segment) found.2 (segment_each l net sound of segment found.0 found.1).1;
+            subst (λ (t : Attachment). part_by l way.Cable t ≡ Some segment) found.2 (segment_each l net sound of segment found.0 found.1).1;
         far = whole.far;
         all = λ t on.
             let listed : (s : Stop) × IsAmong s (list_at net.segments segment) × (s.tap ≡ t) = segment_all l net sound of segment t on in

@@ -8,7 +8,7 @@ use Rattle.mac_parameters.specs.Distances.{distance}
 use Rattle.mac_parameters.specs.Parameters.{greatest_place, greatest_delay}
 use Rattle.layout.specs.declared.lines.Layout.{Layout}
 use Rattle.layout.specs.declared.lines.PortLine.{PortLine}
-use Rattle.layout.specs.declared.ways.Tap.{Tap}
+use Rattle.layout.specs.declared.ways.Attachment.{Attachment}
 use Rattle.layout.specs.declared.ways.Way.TheVariants as way
 use Rattle.layout.specs.Paths.{place, part_by, IsStep, at_of, step_length}
 use Rattle.layout.specs.Sound.{IsSound}
@@ -29,7 +29,7 @@ moved_down segment high x at down = rw (eq-eqb segment segment refl, lt-leb high
 moved_off : (segment high x n at : ℕ) → (n ≡ segment → ⊥) → moved_place segment high x n at ≡ at
 moved_off segment high x n at ne = rw (ne_eqb n segment ne) refl
 
-at_moved : (l : Layout) (segment high x : ℕ) (t : Tap) (n : ℕ) → part_by l way.Cable t ≡ Some n → at_of (lengthened_gap l segment high x) t ≡ moved_place segment high x n (at_of l t)
+at_moved : (l : Layout) (segment high x : ℕ) (t : Attachment) (n : ℕ) → part_by l way.Cable t ≡ Some n → at_of (lengthened_gap l segment high x) t ≡ moved_place segment high x n (at_of l t)
 at_moved l segment high x t n on =
     let line : (p : PortLine) × (place l t ≡ Some p) = mapped (λ (p : PortLine). p.segment) (place l t) n on in
     let same : line.0.segment ≡ n = same_Some line.0.segment n (sym (ap (option_map (λ (p : PortLine). p.segment)) line.1) ∙ on) in
@@ -47,7 +47,7 @@ wider_back : (a b x k : ℕ) → b < k → k ≤ a → distance (a + x) b ≡ di
 wider_back a b x k low up = omega arith
 
 module _ (l : Layout) (segment high x : ℕ) where
-  moved_step : (a b : Tap) (n : ℕ) → part_by l way.Cable a ≡ Some n → part_by l way.Cable b ≡ Some n → step_length (lengthened_gap l segment high x) way.Cable a b ≡ distance (moved_place segment high x n (at_of l a)) (moved_place segment high x n (at_of l b))
+  moved_step : (a b : Attachment) (n : ℕ) → part_by l way.Cable a ≡ Some n → part_by l way.Cable b ≡ Some n → step_length (lengthened_gap l segment high x) way.Cable a b ≡ distance (moved_place segment high x n (at_of l a)) (moved_place segment high x n (at_of l b))
   moved_step a b n on too =
       ap (λ (i : ℕ). distance i (at_of (lengthened_gap l segment high x) b)) (at_moved l segment high x a n on)
       ∙ ap (λ (i : ℕ). distance (moved_place segment high x n (at_of l a)) i) (at_moved l segment high x b n too)
@@ -55,7 +55,7 @@ module _ (l : Layout) (segment high x : ℕ) where
   at_both : (a b i j : ℕ) → moved_place segment high x segment a ≡ i → moved_place segment high x segment b ≡ j → distance (moved_place segment high x segment a) (moved_place segment high x segment b) ≡ distance i j
   at_both a b i j e f = ap (λ (k : ℕ). distance k (moved_place segment high x segment b)) e ∙ ap (λ (k : ℕ). distance i k) f
 
-  piece_longer : (a b : Tap) → IsStep l way.Cable a b → OverPiece l segment high a b → step_length (lengthened_gap l segment high x) way.Cable a b ≡ step_length l way.Cable a b + x
+  piece_longer : (a b : Attachment) → IsStep l way.Cable a b → OverPiece l segment high a b → step_length (lengthened_gap l segment high x) way.Cable a b ≡ step_length l way.Cable a b + x
   piece_longer a b step over =
       let too : part_by l way.Cable b ≡ Some segment = step.to ∙ sym step.from ∙ over.0 in
       elim over.1 [
@@ -69,7 +69,7 @@ module _ (l : Layout) (segment high x : ℕ) where
             ∙ wider_back (at_of l a) (at_of l b) x high falls.0 falls.1
       ]
 
-  on_piece : (a b : Tap) → IsStep l way.Cable a b → part_by l way.Cable a ≡ Some segment → (OverPiece l segment high a b → ⊥) → step_length (lengthened_gap l segment high x) way.Cable a b ≡ step_length l way.Cable a b
+  on_piece : (a b : Attachment) → IsStep l way.Cable a b → part_by l way.Cable a ≡ Some segment → (OverPiece l segment high a b → ⊥) → step_length (lengthened_gap l segment high x) way.Cable a b ≡ step_length l way.Cable a b
   on_piece a b step on not =
       let too : part_by l way.Cable b ≡ Some segment = step.to ∙ sym step.from ∙ on in
       elim (cases_lt (at_of l a) high) [
@@ -86,7 +86,7 @@ module _ (l : Layout) (segment high x : ℕ) where
         ]
       ]
 
-  piece_same : (a b : Tap) → IsStep l way.Cable a b → (OverPiece l segment high a b → ⊥) → step_length (lengthened_gap l segment high x) way.Cable a b ≡ step_length l way.Cable a b
+  piece_same : (a b : Attachment) → IsStep l way.Cable a b → (OverPiece l segment high a b → ⊥) → step_length (lengthened_gap l segment high x) way.Cable a b ≡ step_length l way.Cable a b
   piece_same a b step not =
       elim (cases_eq step.part segment) [
         | inl same ↦ on_piece a b step (step.from ∙ ap (λ (n : ℕ). Some n) same) not
@@ -96,7 +96,7 @@ module _ (l : Layout) (segment high x : ℕ) where
             ∙ ap (λ (k : ℕ). distance (at_of l a) k) (moved_off segment high x step.part (at_of l b) ne)
       ]
 
-  decide_on : (a b : Tap) → part_by l way.Cable a ≡ Some segment → OverPiece l segment high a b ⊎ (OverPiece l segment high a b → ⊥)
+  decide_on : (a b : Attachment) → part_by l way.Cable a ≡ Some segment → OverPiece l segment high a b ⊎ (OverPiece l segment high a b → ⊥)
   decide_on a b on =
       elim (cases_lt (at_of l a) high) [
         | inl a_down ↦ elim (cases_lt (at_of l b) high) [
@@ -109,7 +109,7 @@ module _ (l : Layout) (segment high x : ℕ) where
         ]
       ]
 
-  decide_piece : (a b : Tap) → IsStep l way.Cable a b → OverPiece l segment high a b ⊎ (OverPiece l segment high a b → ⊥)
+  decide_piece : (a b : Attachment) → IsStep l way.Cable a b → OverPiece l segment high a b ⊎ (OverPiece l segment high a b → ⊥)
   decide_piece a b step =
       elim (cases_eq step.part segment) [
         | inl same ↦ decide_on a b (step.from ∙ ap (λ (n : ℕ). Some n) same)
@@ -140,13 +140,13 @@ moved_most segment high x n at last low fits least =
     ]
 
 module _ (l : Layout) (segment high last x : ℕ) (sound : IsSound l) (is_last : IsLastPlace l segment last) (has : HasTapAt l segment high) (above : 1 ≤ high) where
-  old_place : (t : Tap) (p : PortLine) → place (lengthened_gap l segment high x) t ≡ Some p → (q : PortLine) × (place l t ≡ Some q) × (moved_port segment high x q ≡ p)
+  old_place : (t : Attachment) (p : PortLine) → place (lengthened_gap l segment high x) t ≡ Some p → (q : PortLine) × (place l t ≡ Some q) × (moved_port segment high x q ≡ p)
   old_place t p h =
       let moved : option_map (moved_port segment high x) (place l t) ≡ Some p = sym (place_moved l segment high x t) ∙ h in
       let found : (q : PortLine) × (place l t ≡ Some q) = mapped (moved_port segment high x) (place l t) p moved in
       (found.0, found.1, same_Some (moved_port segment high x found.0) p (sym (ap (option_map (moved_port segment high x)) found.1) ∙ moved))
 
-  on_last : (q : PortLine) (t : Tap) → place l t ≡ Some q → q.segment ≡ segment → q.at ≤ last
+  on_last : (q : PortLine) (t : Attachment) → place l t ≡ Some q → q.segment ≡ segment → q.at ≤ last
   on_last q t stands same = is_last.least q.at (record { tap = t; stands = stands ∙ ap (λ (n : ℕ). Some (let p : PortLine = record { segment = n; at = q.at } in p)) same })
 
   kept : x ≤ greatest_place - last → last ≤ greatest_place → KeepsBounds (lengthened_gap l segment high x)

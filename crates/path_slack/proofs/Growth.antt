@@ -2,8 +2,8 @@
 -- their path has such a step, and stays if not: a path has at most one step in a part.
 use Rattle.std.proofs.Common.{◌≡◌, ◌≢◌, ◌⊎◌, refl, sym, ◌∙◌, ap, subst, inl, inr, ℕ, ◌+◌, List, [], ◌∷◌, Some, arith}
 use Rattle.layout.specs.declared.lines.Layout.{Layout}
-use Rattle.layout.specs.declared.ways.Tap.{Tap}
-use Rattle.layout.specs.declared.ways.Tap.TheVariants.{Station}
+use Rattle.layout.specs.declared.ways.Attachment.{Attachment}
+use Rattle.layout.specs.declared.ways.Attachment.TheVariants.{Station}
 use Rattle.layout.specs.declared.ways.Way.{Way}
 use Rattle.layout.specs.declared.ways.Way.TheVariants as way
 use Rattle.layout.specs.Paths.{part_by, IsStep, other_way, IsWalk, step_length, walk_length, Path, IsPath, length_of, IsDistance}
@@ -16,85 +16,85 @@ use Rattle.path_slack.specs.Crossings.{IsCrossed}
 use Rattle.path_slack.proofs.WalksJoined.{joined, crossed_turned}
 
 -- layout m is l where the steps of a part that C names are x longer
-pub record IsGrowth (l m : Layout) (x : ℕ) (v : Way) (part : ℕ) (C : Tap → Tap → Type 0) : Type 0 where
-  pub parts : (w : Way) (t : Tap) → part_by m w t ≡ part_by l w t
-  pub decide : (a b : Tap) → IsStep l v a b → C a b ⊎ (C a b → ⊥)
-  pub on : (a b : Tap) → C a b → part_by l v a ≡ Some part
-  pub back : (a b : Tap) → IsStep l v a b → C a b → C b a
-  pub longer : (a b : Tap) → IsStep l v a b → C a b → step_length m v a b ≡ step_length l v a b + x
-  pub same : (a b : Tap) → IsStep l v a b → (C a b → ⊥) → step_length m v a b ≡ step_length l v a b
-  pub others : (a b : Tap) → step_length m (other_way v) a b ≡ step_length l (other_way v) a b
+pub record IsGrowth (l m : Layout) (x : ℕ) (v : Way) (part : ℕ) (C : Attachment → Attachment → Type 0) : Type 0 where
+  pub parts : (w : Way) (t : Attachment) → part_by m w t ≡ part_by l w t
+  pub decide : (a b : Attachment) → IsStep l v a b → C a b ⊎ (C a b → ⊥)
+  pub on : (a b : Attachment) → C a b → part_by l v a ≡ Some part
+  pub back : (a b : Attachment) → IsStep l v a b → C a b → C b a
+  pub longer : (a b : Attachment) → IsStep l v a b → C a b → step_length m v a b ≡ step_length l v a b + x
+  pub same : (a b : Attachment) → IsStep l v a b → (C a b → ⊥) → step_length m v a b ≡ step_length l v a b
+  pub others : (a b : Attachment) → step_length m (other_way v) a b ≡ step_length l (other_way v) a b
 
 apart_ways : (v : Way) → other_way v ≡ v → ⊥
 apart_ways way.Cable e = cc
 apart_ways way.Repeater e = cc
 
-module _ (l m : Layout) (x : ℕ) (v : Way) (part : ℕ) (C : Tap → Tap → Type 0) (sound : IsSound l) (g : IsGrowth l m x v part C) where
-  step_to : (w : Way) (a b : Tap) → IsStep l w a b → IsStep m w a b
+module _ (l m : Layout) (x : ℕ) (v : Way) (part : ℕ) (C : Attachment → Attachment → Type 0) (sound : IsSound l) (g : IsGrowth l m x v part C) where
+  step_to : (w : Way) (a b : Attachment) → IsStep l w a b → IsStep m w a b
   step_to w a b s = record { different = s.different; part = s.part; from = g.parts w a ∙ s.from; to = g.parts w b ∙ s.to }
 
-  step_from : (w : Way) (a b : Tap) → IsStep m w a b → IsStep l w a b
+  step_from : (w : Way) (a b : Attachment) → IsStep m w a b → IsStep l w a b
   step_from w a b s = record { different = s.different; part = s.part; from = sym (g.parts w a) ∙ s.from; to = sym (g.parts w b) ∙ s.to }
 
-  walk_to : (w : Way) (a : Tap) (ts : List Tap) (b : Tap) → IsWalk l w a ts b → IsWalk m w a ts b
+  walk_to : (w : Way) (a : Attachment) (ts : List Attachment) (b : Attachment) → IsWalk l w a ts b → IsWalk m w a ts b
   walk_to w a [] b walk = walk
   walk_to w a (t ∷ ts) b walk = (step_to w a t walk.0, walk_to (other_way w) t ts b walk.1)
 
-  walk_from : (w : Way) (a : Tap) (ts : List Tap) (b : Tap) → IsWalk m w a ts b → IsWalk l w a ts b
+  walk_from : (w : Way) (a : Attachment) (ts : List Attachment) (b : Attachment) → IsWalk m w a ts b → IsWalk l w a ts b
   walk_from w a [] b walk = walk
   walk_from w a (t ∷ ts) b walk = (step_from w a t walk.0, walk_from (other_way w) t ts b walk.1)
 
   -- no step of the walk is one that C names
-  abbrev NoneOver : Way → Tap → List Tap → Type 0
+  abbrev NoneOver : Way → Attachment → List Attachment → Type 0
   NoneOver w c [] = Unit {0}
   NoneOver w c (t ∷ ts) = (w ≡ v → C c t → ⊥) × NoneOver (other_way w) t ts
 
-  step_same : (w : Way) (a b : Tap) → IsStep l w a b → (w ≡ v → C a b → ⊥) → step_length m w a b ≡ step_length l w a b
+  step_same : (w : Way) (a b : Attachment) → IsStep l w a b → (w ≡ v → C a b → ⊥) → step_length m w a b ≡ step_length l w a b
   step_same w a b step not =
       elim (same_way w v) [
         | inl e ↦ subst (λ (u : Way). step_length m u a b ≡ step_length l u a b) (sym e) (g.same a b (subst (λ (u : Way). IsStep l u a b) e step) (not e))
         | inr e ↦ subst (λ (u : Way). step_length m u a b ≡ step_length l u a b) (sym e) (g.others a b)
       ]
 
-  none_same : (w : Way) (c : Tap) (ts : List Tap) (b : Tap) → IsWalk l w c ts b → NoneOver w c ts → walk_length m w c ts ≡ walk_length l w c ts
+  none_same : (w : Way) (c : Attachment) (ts : List Attachment) (b : Attachment) → IsWalk l w c ts b → NoneOver w c ts → walk_length m w c ts ≡ walk_length l w c ts
   none_same w c [] b walk none = refl
   none_same w c (t ∷ ts) b walk none =
       ap (λ (n : ℕ). n + walk_length m (other_way w) t ts) (step_same w c t walk.0 none.0)
       ∙ ap (λ (n : ℕ). step_length l w c t + n) (none_same (other_way w) t ts b walk.1 none.1)
 
   -- after a step in a part the walk never comes back to the part
-  leaves_part : (a t : Tap) (ts : List Tap) (b : Tap) → IsWalk l v a (t ∷ ts) b → part_by l v a ≡ Some part → (e : Tap) → part_by l v e ≡ Some part → Avoids e ts
+  leaves_part : (a t : Attachment) (ts : List Attachment) (b : Attachment) → IsWalk l v a (t ∷ ts) b → part_by l v a ≡ Some part → (e : Attachment) → part_by l v e ≡ Some part → Avoids e ts
   leaves_part a t ts b walk on e h =
       let there : part_by l v t ≡ Some part = walk.0.to ∙ sym walk.0.from ∙ on in
       elim (same_tap e t) [
-        | inl same ↦ subst (λ (y : Tap). Avoids y ts) (sym same) (leaves l (sound_cuts l sound) (other_way v) t ts b (has_part l v t part there) walk.1)
+        | inl same ↦ subst (λ (y : Attachment). Avoids y ts) (sym same) (leaves l (sound_cuts l sound) (other_way v) t ts b (has_part l v t part there) walk.1)
         | inr ne ↦
             let step : IsStep l v e t = record { different = ne; part = part; from = h; to = there } in
             (leaves l (sound_cuts l sound) v e (t ∷ ts) b (has_part l v e part h) (step, walk.1)).1
       ]
 
-  none_over : (w : Way) (c : Tap) (ts : List Tap) (b : Tap) → IsWalk l w c ts b → (w ≡ v → part_by l v c ≡ Some part → ⊥) → ((e : Tap) → part_by l v e ≡ Some part → Avoids e ts) → NoneOver w c ts
+  none_over : (w : Way) (c : Attachment) (ts : List Attachment) (b : Attachment) → IsWalk l w c ts b → (w ≡ v → part_by l v c ≡ Some part → ⊥) → ((e : Attachment) → part_by l v e ≡ Some part → Avoids e ts) → NoneOver w c ts
   none_over w c [] b walk head avoid = tt
   none_over w c (t ∷ ts) b walk head avoid =
       (λ e over. head e (g.on c t over), none_over (other_way w) t ts b walk.1 (λ e h. (avoid t h).0 refl) (λ e h. (avoid e h).1))
 
   -- so it has no more such steps
-  beyond : (a t : Tap) (ts : List Tap) (b : Tap) → IsStep l v a t → C a t → IsWalk l (other_way v) t ts b → NoneOver (other_way v) t ts
+  beyond : (a t : Attachment) (ts : List Attachment) (b : Attachment) → IsStep l v a t → C a t → IsWalk l (other_way v) t ts b → NoneOver (other_way v) t ts
   beyond a t ts b step over walk =
       none_over (other_way v) t ts b walk (λ e h. apart_ways v e) (leaves_part a t ts b (step, walk) (g.on a t over))
 
   -- a step that C names, and the walks from its ends
-  record IsFound (a b : Tap) : Type 0 where
-    near : Tap
-    far : Tap
+  record IsFound (a b : Attachment) : Type 0 where
+    near : Attachment
+    far : Attachment
     step : IsStep l v near far
     over : C near far
-    rs : List Tap
-    us : List Tap
+    rs : List Attachment
+    us : List Attachment
     before : IsWalk l (other_way v) near rs a
     after : IsWalk l (other_way v) far us b
 
-  found_first : (w : Way) (a b c t : Tap) (rs ts : List Tap) → w ≡ v → IsWalk l (other_way w) c rs a → IsStep l w c t → IsWalk l (other_way w) t ts b → C c t → IsFound a b
+  found_first : (w : Way) (a b c t : Attachment) (rs ts : List Attachment) → w ≡ v → IsWalk l (other_way w) c rs a → IsStep l w c t → IsWalk l (other_way w) t ts b → C c t → IsFound a b
   found_first w a b c t rs ts e before step after over = record {
     near = c;
     far = t;
@@ -106,7 +106,7 @@ module _ (l m : Layout) (x : ℕ) (v : Way) (part : ℕ) (C : Tap → Tap → Ty
     after = subst (λ (u : Way). IsWalk l (other_way u) t ts b) e after;
   }
 
-  find : (w : Way) (a b c : Tap) (rs ts : List Tap) → IsWalk l (other_way w) c rs a → IsWalk l w c ts b → NoneOver w c ts ⊎ IsFound a b
+  find : (w : Way) (a b c : Attachment) (rs ts : List Attachment) → IsWalk l (other_way w) c rs a → IsWalk l w c ts b → NoneOver w c ts ⊎ IsFound a b
   find w a b c rs [] before walk = inl tt
   find w a b c rs (t ∷ ts) before walk =
       let again : IsWalk l (other_way (other_way w)) t (c ∷ rs) a = subst (λ (u : Way). IsWalk l u t (c ∷ rs) a) (sym (other-other w)) (step_back l w c t walk.0, before) in
@@ -120,7 +120,7 @@ module _ (l m : Layout) (x : ℕ) (v : Way) (part : ℕ) (C : Tap → Tap → Ty
       ]
 
   -- in m the found path is x longer
-  module _ (a b : Tap) (f : IsFound a b) where
+  module _ (a b : Attachment) (f : IsFound a b) where
     length_found : ℕ
     length_found = walk_length l (other_way v) f.near f.rs + step_length l v f.near f.far + walk_length l (other_way v) f.far f.us
 
@@ -140,11 +140,11 @@ module _ (l m : Layout) (x : ℕ) (v : Way) (part : ℕ) (C : Tap → Tap → Ty
         subst (λ (n : ℕ). IsDistance m a b n) sum
         (joined m v f.near f.far a b f.rs f.us (step_to v f.near f.far f.step) (walk_to (other_way v) f.near f.rs a f.before) (walk_to (other_way v) f.far f.us b f.after))
 
-  path_from : (a b : Tap) (p : Path) → IsPath m a p b → IsPath l a p b
+  path_from : (a b : Attachment) (p : Path) → IsPath m a p b → IsPath l a p b
   path_from a b p leads = walk_from p.begins a p.taps b leads
 
   -- two taps have one distance in m too
-  one_in_m : (a b : Tap) → a ≢ b → (p q : ℕ) → IsDistance m a b p → IsDistance m a b q → p ≡ q
+  one_in_m : (a b : Attachment) → a ≢ b → (p q : ℕ) → IsDistance m a b p → IsDistance m a b q → p ≡ q
   one_in_m a b ne p q d e =
       sym d.long ∙ ap (λ (path : Path). length_of m a path) ((sound_one_path l sound).same a b ne d.path e.path (path_from a b d.path d.leads) (path_from a b e.path e.leads)) ∙ e.long
 

@@ -9,8 +9,8 @@ use Rattle.layout.specs.declared.edge.Edge.{Edge}
 use Rattle.layout.specs.declared.lines.Layout.{Layout}
 use Rattle.layout.specs.declared.lines.PortLine.{PortLine}
 use Rattle.layout.specs.declared.lines.RepeaterLine.{RepeaterLine}
-use Rattle.layout.specs.declared.ways.Tap.{Tap}
-use Rattle.layout.specs.declared.ways.Tap.TheVariants.{Station, Port}
+use Rattle.layout.specs.declared.ways.Attachment.{Attachment}
+use Rattle.layout.specs.declared.ways.Attachment.TheVariants.{Station, Port}
 use Rattle.layout.specs.declared.ways.Way.{Way}
 use Rattle.layout.specs.declared.ways.Way.TheVariants as way
 use Rattle.layout.specs.Networks.{edge_at, edges_from}
@@ -47,13 +47,13 @@ slowed_line b x p None = refl
 slowed_line b x p (Some row) = ap (λ (ps : List PortLine). slice_get ps p) (slowed_ports b x row)
 
 -- the taps stand where they stood
-pub place_kept : (l : Layout) (n x : ℕ) (t : Tap) → place (lengthened_delay l n x) t ≡ place l t
+pub place_kept : (l : Layout) (n x : ℕ) (t : Attachment) → place (lengthened_delay l n x) t ≡ place l t
 unfolding lengthened_delay
 place_kept l n x (Station k) = refl
 place_kept l n x (Port r p) =
     ap (option_and_then (λ (row : RepeaterLine). slice_get row.ports p)) (slowed_get 0 n x l.repeaters r) ∙ slowed_line (eqb (0 + r) n) x p (slice_get l.repeaters r)
 
-pub same_part : (l : Layout) (n x : ℕ) (w : Way) (t : Tap) → part_by (lengthened_delay l n x) w t ≡ part_by l w t
+pub same_part : (l : Layout) (n x : ℕ) (w : Way) (t : Attachment) → part_by (lengthened_delay l n x) w t ≡ part_by l w t
 same_part l n x way.Cable t = ap (option_map (λ (p : PortLine). p.segment)) (place_kept l n x t)
 same_part l n x way.Repeater (Station k) = refl
 same_part l n x way.Repeater (Port r p) = ap (option_map (λ (q : PortLine). r)) (place_kept l n x (Port r p))

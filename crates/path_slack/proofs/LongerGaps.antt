@@ -14,8 +14,8 @@ use Rattle.layout.specs.declared.lines.Layout.{Layout}
 use Rattle.layout.specs.declared.lines.PortLine.{PortLine}
 use Rattle.layout.specs.declared.lines.RepeaterLine.{RepeaterLine}
 use Rattle.layout.specs.declared.lines.StationLine.{StationLine}
-use Rattle.layout.specs.declared.ways.Tap.{Tap}
-use Rattle.layout.specs.declared.ways.Tap.TheVariants.{Station, Port}
+use Rattle.layout.specs.declared.ways.Attachment.{Attachment}
+use Rattle.layout.specs.declared.ways.Attachment.TheVariants.{Station, Port}
 use Rattle.layout.specs.declared.ways.Way.{Way}
 use Rattle.layout.specs.declared.ways.Way.TheVariants as way
 use Rattle.layout.specs.Networks.{edge_at, edges_from}
@@ -36,7 +36,7 @@ moved_line segment high x p None = refl
 moved_line segment high x p (Some row) = slice_get-map (moved_port segment high x) row.ports p
 
 -- where a tap comes to stand
-pub place_moved : (l : Layout) (segment high x : ℕ) (t : Tap) → place (lengthened_gap l segment high x) t ≡ option_map (moved_port segment high x) (place l t)
+pub place_moved : (l : Layout) (segment high x : ℕ) (t : Attachment) → place (lengthened_gap l segment high x) t ≡ option_map (moved_port segment high x) (place l t)
 unfolding lengthened_gap
 place_moved l segment high x (Station k) =
     ap (option_map tap_of) (slice_get-map (moved_station segment high x) l.stations k) ∙ moved_tap segment high x (slice_get l.stations k)
@@ -51,7 +51,7 @@ same_row : (segment high x r : ℕ) (o : Option PortLine) → option_map (λ (p 
 same_row segment high x r None = refl
 same_row segment high x r (Some p) = refl
 
-pub same_part : (l : Layout) (segment high x : ℕ) (w : Way) (t : Tap) → part_by (lengthened_gap l segment high x) w t ≡ part_by l w t
+pub same_part : (l : Layout) (segment high x : ℕ) (w : Way) (t : Attachment) → part_by (lengthened_gap l segment high x) w t ≡ part_by l w t
 same_part l segment high x way.Cable t =
     ap (option_map (λ (p : PortLine). p.segment)) (place_moved l segment high x t) ∙ same_segment segment high x (place l t)
 same_part l segment high x way.Repeater (Station k) = refl
@@ -62,7 +62,7 @@ moved_delay : (segment high x : ℕ) (o : Option RepeaterLine) → unwrap_or (op
 moved_delay segment high x None = refl
 moved_delay segment high x (Some row) = refl
 
-pub same_delay : (l : Layout) (segment high x : ℕ) (t : Tap) → delay_of (lengthened_gap l segment high x) t ≡ delay_of l t
+pub same_delay : (l : Layout) (segment high x : ℕ) (t : Attachment) → delay_of (lengthened_gap l segment high x) t ≡ delay_of l t
 unfolding lengthened_gap
 same_delay l segment high x (Station k) = refl
 same_delay l segment high x (Port r p) =
@@ -229,7 +229,7 @@ port_kept l segment high x all r k p h =
     at_all (λ (q : PortLine). moved_place segment high x q.segment q.at ≤ greatest_place) found.row.ports k p
     (at_all (λ (row : RepeaterLine). All (λ (q : PortLine). moved_place segment high x q.segment q.at ≤ greatest_place) row.ports) l.repeaters r found.row all found.of_row) found.of_port
 
-tap_kept : (l : Layout) (segment high x : ℕ) → All (λ (s : StationLine). moved_place segment high x s.segment s.at ≤ greatest_place) l.stations → All (λ (r : RepeaterLine). All (λ (p : PortLine). moved_place segment high x p.segment p.at ≤ greatest_place) r.ports) l.repeaters → (t : Tap) (p : PortLine) → place l t ≡ Some p → (moved_port segment high x p).at ≤ greatest_place
+tap_kept : (l : Layout) (segment high x : ℕ) → All (λ (s : StationLine). moved_place segment high x s.segment s.at ≤ greatest_place) l.stations → All (λ (r : RepeaterLine). All (λ (p : PortLine). moved_place segment high x p.segment p.at ≤ greatest_place) r.ports) l.repeaters → (t : Attachment) (p : PortLine) → place l t ≡ Some p → (moved_port segment high x p).at ≤ greatest_place
 tap_kept l segment high x stations repeaters (Station k) p h = station_kept l segment high x stations k p h
 tap_kept l segment high x stations repeaters (Port r k) p h = port_kept l segment high x repeaters r k p h
 

@@ -7,8 +7,8 @@ use Rattle.mac_parameters.specs.Parameters.{greatest_place, greatest_delay}
 use Rattle.layout.specs.declared.lines.Layout.{Layout}
 use Rattle.layout.specs.declared.lines.PortLine.{PortLine}
 use Rattle.layout.specs.declared.lines.RepeaterLine.{RepeaterLine}
-use Rattle.layout.specs.declared.ways.Tap.{Tap}
-use Rattle.layout.specs.declared.ways.Tap.TheVariants.{Station, Port}
+use Rattle.layout.specs.declared.ways.Attachment.{Attachment}
+use Rattle.layout.specs.declared.ways.Attachment.TheVariants.{Station, Port}
 use Rattle.layout.specs.declared.ways.Way.TheVariants as way
 use Rattle.layout.specs.Paths.{place, part_by, IsStep, delay_of}
 use Rattle.layout.specs.Sound.{IsSound}
@@ -19,7 +19,7 @@ use Rattle.path_checker.specs.declared.far.Far.{Far}
 use Rattle.path_checker.specs.Far.{IsStop, IsReach, IsFarthest, farther_of, lengthened}
 use Rattle.path_checker.proofs.FarthestStation.{farther_both, IsAfter, after_lengthened, reach_low, far_low}
 use Rattle.path_checker.proofs.ShortWalks.{has_room}
-use Rattle.path_slack.specs.declared.worst.Worst.{Worst}
+use Rattle.path_slack.specs.declared.worst.FarthestPair.{FarthestPair}
 use Rattle.path_slack.specs.Crossings.{ThroughRepeater, IsCrossed}
 use Rattle.path_slack.specs.Pairs.{pair_over, worse_of, IsWorstPair}
 use Rattle.path_slack.proofs.NoRound.{no_round}
@@ -124,7 +124,7 @@ module _ (l : Layout) (sound : IsSound l) (r : ℕ) (row : RepeaterLine) (is_row
         ]
       ]
 
-  pub through_more : (k : ℕ) (worst next both : Option Worst) (seen far on : Option Far) → k < length row.ports → IsWorstPair (IsThrough l r row.delay k) worst → IsFarthest (IsBeyond l r k) seen → IsFarthest (IsReach l way.Cable (Port r k)) far
+  pub through_more : (k : ℕ) (worst next both : Option FarthestPair) (seen far on : Option Far) → k < length row.ports → IsWorstPair (IsThrough l r row.delay k) worst → IsFarthest (IsBeyond l r k) seen → IsFarthest (IsReach l way.Cable (Port r k)) far
       → on ≡ lengthened row.delay far → next ≡ pair_over seen on → both ≡ worse_of worst next → IsWorstPair (IsThrough l r row.delay (k + 1)) both
   through_more k worst next both seen far on low h beyond reach on_is next_is is =
       let there : IsFarthest (IsAfter row.delay (IsReach l way.Cable (Port r k))) on = rw on_is (after_lengthened row.delay (IsReach l way.Cable (Port r k)) far reach) in
@@ -177,7 +177,7 @@ module _ (l : Layout) (sound : IsSound l) (r : ℕ) (row : RepeaterLine) (is_row
       }
 
   -- a port of the repeater
-  port_number : (t : Tap) → part_by l way.Repeater t ≡ Some r → (p : ℕ) × (p < length row.ports) × (t ≡ Port r p)
+  port_number : (t : Attachment) → part_by l way.Repeater t ≡ Some r → (p : ℕ) × (p < length row.ports) × (t ≡ Port r p)
   port_number (Station k) h = absurd (let none : None ≡ Some r = h in cc)
   port_number (Port s p) h =
       let same : s ≡ r = repeater_number l s p r h in
@@ -205,11 +205,11 @@ module _ (l : Layout) (sound : IsSound l) (r : ℕ) (row : RepeaterLine) (is_row
         apart = λ e. h.step.different (p.2 ∙ ap (λ (i : ℕ). Port r i) e ∙ sym q.2);
         before = h.before;
         after = h.after;
-        start = subst (λ (t : Tap). IsReach l way.Cable t h.before a) p.2 h.start;
-        finish = subst (λ (t : Tap). IsReach l way.Cable t h.after b) q.2 h.finish;
+        start = subst (λ (t : Attachment). IsReach l way.Cable t h.before a) p.2 h.start;
+        finish = subst (λ (t : Attachment). IsReach l way.Cable t h.after b) q.2 h.finish;
         sum = omega arith;
       }
 
-  pub through_all : (k : ℕ) (worst : Option Worst) → k ≤ length row.ports → length row.ports ≤ k → IsWorstPair (IsThrough l r row.delay k) worst → IsWorstPair (IsCrossed l way.Repeater (ThroughRepeater l r)) worst
+  pub through_all : (k : ℕ) (worst : Option FarthestPair) → k ≤ length row.ports → length row.ports ≤ k → IsWorstPair (IsThrough l r row.delay k) worst → IsWorstPair (IsCrossed l way.Repeater (ThroughRepeater l r)) worst
   through_all k worst most least h =
       worst_same (IsThrough l r row.delay k) (IsCrossed l way.Repeater (ThroughRepeater l r)) (λ a b n v. through_crossed k a b n most v) (λ a b n v. crossed_through k a b n least v) worst h

@@ -6,7 +6,7 @@ use Rattle.std.proofs.lemmas.List.{take_more, take_all}
 use Rattle.std.proofs.lemmas.Option.{same_Some}
 use Rattle.layout.specs.declared.lines.Layout.{Layout}
 use Rattle.layout.specs.declared.lines.PortLine.{PortLine}
-use Rattle.layout.specs.declared.ways.Tap.{Tap}
+use Rattle.layout.specs.declared.ways.Attachment.{Attachment}
 use Rattle.layout.specs.declared.ways.Way.TheVariants as way
 use Rattle.layout.specs.Among.{IsAmong}
 use Rattle.layout.specs.Paths.{place, part_by, at_of}
@@ -20,7 +20,7 @@ use Rattle.path_slack.specs.Branches.{AreBranchesOf}
 use Rattle.path_slack.specs.Slacks.{HasTapAt, lower_place, IsFirstPlace, IsLastPlace}
 
 -- a tap of the segment stands at its place
-pub has_at : (l : Layout) (t : Tap) (segment : ℕ) → part_by l way.Cable t ≡ Some segment → HasTapAt l segment (at_of l t)
+pub has_at : (l : Layout) (t : Attachment) (segment : ℕ) → part_by l way.Cable t ≡ Some segment → HasTapAt l segment (at_of l t)
 has_at l t segment on =
     let line : (p : PortLine) × (place l t ≡ Some p) = mapped (λ (p : PortLine). p.segment) (place l t) segment on in
     let same : line.0.segment ≡ segment = same_Some line.0.segment segment (sym (ap (option_map (λ (p : PortLine). p.segment)) line.1) ∙ on) in

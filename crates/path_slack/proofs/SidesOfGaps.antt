@@ -5,7 +5,7 @@ use Rattle.std.proofs.lemmas.Option.{same_Some}
 use Rattle.mac_parameters.specs.Distances.{distance}
 use Rattle.mac_parameters.specs.Parameters.{greatest_place}
 use Rattle.layout.specs.declared.lines.Layout.{Layout}
-use Rattle.layout.specs.declared.ways.Tap.{Tap}
+use Rattle.layout.specs.declared.ways.Attachment.{Attachment}
 use Rattle.layout.specs.declared.ways.Way.TheVariants as way
 use Rattle.layout.specs.Among.{IsAmong}
 use Rattle.layout.specs.Paths.{part_by, IsStep, at_of}
@@ -17,7 +17,7 @@ use Rattle.path_checker.specs.Far.{IsReach, IsFarthest, farther_of, lengthened}
 use Rattle.path_checker.proofs.FarthestStation.{farthest_same, farther_both, IsAfter, after_lengthened, reach_low, far_low}
 use Rattle.path_checker.proofs.ShortWalks.{has_room}
 use Rattle.path_slack.specs.declared.branches.Branch.{Branch}
-use Rattle.path_slack.specs.declared.worst.Worst.{Worst}
+use Rattle.path_slack.specs.declared.worst.FarthestPair.{FarthestPair}
 use Rattle.path_slack.specs.Crossings.{Rises, OverPiece, IsCrossed}
 use Rattle.path_slack.specs.Branches.{IsBranch, AreBranchesOf}
 use Rattle.path_slack.specs.Pairs.{pair_over, IsWorstPair}
@@ -26,7 +26,7 @@ use Rattle.path_slack.proofs.WalksJoined.{crossed_turned}
 use Rattle.path_slack.proofs.WorstPairs.{worst_same, IsOneWay, IsByBoth, worst_over_both}
 
 -- what the branches reach whose taps S takes, so many half bits farther on
-pub record IsFromSide (l : Layout) (S : Tap → ℕ → Type 0) (bs : List Branch) (n s : ℕ) : Type 0 where
+pub record IsFromSide (l : Layout) (S : Attachment → ℕ → Type 0) (bs : List Branch) (n s : ℕ) : Type 0 where
   pub branch : Branch
   pub among : IsAmong branch bs
   pub by : ℕ
@@ -34,16 +34,16 @@ pub record IsFromSide (l : Layout) (S : Tap → ℕ → Type 0) (bs : List Branc
   pub after : IsAfter by (IsReach l way.Repeater branch.tap) n s
 
 -- below the place, and at it or above
-abbrev pub Below : Layout → ℕ → Tap → ℕ → Type 0
+abbrev pub Below : Layout → ℕ → Attachment → ℕ → Type 0
 Below l high t k = (at_of l t < high) × (k ≡ high - at_of l t)
 
-abbrev pub Above : Layout → ℕ → Tap → ℕ → Type 0
+abbrev pub Above : Layout → ℕ → Attachment → ℕ → Type 0
 Above l high t k = (high ≤ at_of l t) × (k ≡ at_of l t - high)
 
-pub side_none : (l : Layout) (S : Tap → ℕ → Type 0) → IsFarthest (IsFromSide l S []) None
+pub side_none : (l : Layout) (S : Attachment → ℕ → Type 0) → IsFarthest (IsFromSide l S []) None
 side_none l S = λ n s h. h.among
 
-module _ (l : Layout) (S : Tap → ℕ → Type 0) (bs : List Branch) (k : ℕ) (d : Branch) (low : k < length bs) where
+module _ (l : Layout) (S : Attachment → ℕ → Type 0) (bs : List Branch) (k : ℕ) (d : Branch) (low : k < length bs) where
   side_before : (n s : ℕ) → IsFromSide l S (take k bs) n s → IsFromSide l S (take k bs ++ get_or bs k d ∷ []) n s
   side_before n s h = record { branch = h.branch; among = among_more h.branch (get_or bs k d) (take k bs) h.among; by = h.by; side = h.side; after = h.after }
 
@@ -96,10 +96,10 @@ module _ (l : Layout) (segment high : ℕ) (bs : List Branch) (sound : IsSound l
       let most : f.length ≤ greatest_place * 5120 = far_low l way.Repeater (get_or bs k d).tap 5120 (get_or bs k d).far f sound (has_room l sound way.Repeater (get_or bs k d).tap) (of.far (get_or bs k d) (among_at bs k d low)) e in
       omega arith
 
-  pub at_fits : (t : Tap) → at_of l t ≤ greatest_place
+  pub at_fits : (t : Attachment) → at_of l t ≤ greatest_place
   at_fits t = at_low l sound t
 
-  side_low : (S : Tap → ℕ → Type 0) → ((t : Tap) (k : ℕ) → S t k → k ≤ greatest_place) → (xs : List Branch) (best : Option Far) → IsFarthest (IsFromSide l S xs) best → (r : Far) → best ≡ Some r → r.length < 1073741824
+  side_low : (S : Attachment → ℕ → Type 0) → ((t : Attachment) (k : ℕ) → S t k → k ≤ greatest_place) → (xs : List Branch) (best : Option Far) → IsFarthest (IsFromSide l S xs) best → (r : Far) → best ≡ Some r → r.length < 1073741824
   side_low S short xs None h r e = absurd (cc)
   side_low S short xs (Some x) h r e =
       let same : x ≡ r = same_Some x r e in
@@ -149,19 +149,19 @@ module _ (l : Layout) (segment high : ℕ) (bs : List Branch) (sound : IsSound l
       }
 
   -- the same steps go over the piece the other way
-  piece_turned : (s t : Tap) → IsStep l way.Cable s t → OverPiece l segment high s t → OverPiece l segment high t s
+  piece_turned : (s t : Attachment) → IsStep l way.Cable s t → OverPiece l segment high s t → OverPiece l segment high t s
   piece_turned s t step over = (step.to ∙ sym step.from ∙ over.0, elim over.1 [ inl rises ↦ inr rises | inr falls ↦ inl falls ])
 
   -- a tap of the segment on a side
-  on_side : (S : Tap → ℕ → Type 0) (t : Tap) (by rest s : ℕ) → part_by l way.Cable t ≡ Some segment → S t by → IsReach l way.Repeater t rest s → IsFromSide l S bs (by + rest) s
+  on_side : (S : Attachment → ℕ → Type 0) (t : Attachment) (by rest s : ℕ) → part_by l way.Cable t ≡ Some segment → S t by → IsReach l way.Repeater t rest s → IsFromSide l S bs (by + rest) s
   on_side S t by rest s on side reach =
       let found : (b : Branch) × IsAmong b bs × (b.tap ≡ t) = of.all t on in
       record {
         branch = found.0;
         among = found.1;
         by = by;
-        side = subst (λ (u : Tap). S u by) (sym found.2) side;
-        after = record { rest = rest; has = subst (λ (u : Tap). IsReach l way.Repeater u rest s) (sym found.2) reach; sum = refl };
+        side = subst (λ (u : Attachment). S u by) (sym found.2) side;
+        after = record { rest = rest; has = subst (λ (u : Attachment). IsReach l way.Repeater u rest s) (sym found.2) reach; sum = refl };
       }
 
   added : (a b r j k n : ℕ) → a < k → k ≤ b → r + distance a b + j ≡ n → (k - a) + r + ((b - k) + j) ≡ n
@@ -188,7 +188,7 @@ module _ (l : Layout) (segment high : ℕ) (bs : List Branch) (sound : IsSound l
       ]
 
   -- the pair of the two sides' farthest stations is the worst one
-  pub worst_over_gap : (k : ℕ) (below above : Option Far) (worst : Option Worst) → length bs ≤ k → IsFarthest (IsFromSide l (Below l high) (take k bs)) below → IsFarthest (IsFromSide l (Above l high) (take k bs)) above → worst ≡ pair_over below above → IsWorstPair (IsCrossed l way.Cable (OverPiece l segment high)) worst
+  pub worst_over_gap : (k : ℕ) (below above : Option Far) (worst : Option FarthestPair) → length bs ≤ k → IsFarthest (IsFromSide l (Below l high) (take k bs)) below → IsFarthest (IsFromSide l (Above l high) (take k bs)) above → worst ≡ pair_over below above → IsWorstPair (IsCrossed l way.Cable (OverPiece l segment high)) worst
   worst_over_gap k below above worst all low up is =
       let lower : IsFarthest (IsFromSide l (Below l high) bs) below = subst (λ (xs : List Branch). IsFarthest (IsFromSide l (Below l high) xs) below) (take_all k bs all) low in
       let upper : IsFarthest (IsFromSide l (Above l high) bs) above = subst (λ (xs : List Branch). IsFarthest (IsFromSide l (Above l high) xs) above) (take_all k bs all) up in

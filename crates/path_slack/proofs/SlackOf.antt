@@ -3,15 +3,15 @@ use Rattle.std.proofs.Common.{◌≡◌, ◌≢◌, refl, sym, subst, inl, inr, 
 use Rattle.std.proofs.lemmas.Bool.{cases_lt}
 use Rattle.mac_parameters.specs.Parameters.{slot_time, interframe_gap}
 use Rattle.layout.specs.declared.lines.Layout.{Layout}
-use Rattle.layout.specs.declared.ways.Tap.{Tap}
-use Rattle.layout.specs.declared.ways.Tap.TheVariants.{Station}
+use Rattle.layout.specs.declared.ways.Attachment.{Attachment}
+use Rattle.layout.specs.declared.ways.Attachment.TheVariants.{Station}
 use Rattle.layout.specs.declared.ways.Way.{Way}
 use Rattle.layout.specs.Paths.{IsDistance}
 use Rattle.layout.specs.Sound.{IsSound}
 use Rattle.path_checker.specs.declared.verdict.PathVerdict.TheVariants.{Over}
 use Rattle.path_checker.specs.Verdicts.{IsRoundTrip, IsVerdict}
 use Rattle.path_slack.specs.declared.slack.Limit.{Limit}
-use Rattle.path_slack.specs.declared.worst.Worst.{Worst}
+use Rattle.path_slack.specs.declared.worst.FarthestPair.{FarthestPair}
 use Rattle.path_slack.specs.Crossings.{IsCrossed}
 use Rattle.path_slack.specs.Lengthened.{KeepsBounds}
 use Rattle.path_slack.specs.Pairs.{IsWorstPair}
@@ -19,7 +19,7 @@ use Rattle.path_slack.specs.Slacks.{IsOverlong, IsStoppedBy, IsSlack, IsReckoned
 use Rattle.path_slack.proofs.Growth.{IsGrowth, IsGrown, grown, crossed_distance, crossed_longer, crossed_back}
 use Rattle.path_slack.proofs.Verdicts.{second_within}
 
-module _ (l : Layout) (v : Way) (part : ℕ) (C : Tap → Tap → Type 0) (m : ℕ → Layout) (sound : IsSound l) (g : (x : ℕ) → IsGrowth l (m x) x v part C) (short : IsOverlong l → ⊥) where
+module _ (l : Layout) (v : Way) (part : ℕ) (C : Attachment → Attachment → Type 0) (m : ℕ → Layout) (sound : IsSound l) (g : (x : ℕ) → IsGrowth l (m x) x v part C) (short : IsOverlong l → ⊥) where
   -- in l each trip is short
   trip_short : (a b n : ℕ) → a ≢ b → IsDistance l (Station a) (Station b) n → 2 * n + interframe_gap < slot_time
   trip_short a b n ne d =
@@ -36,7 +36,7 @@ module _ (l : Layout) (v : Way) (part : ℕ) (C : Tap → Tap → Type 0) (m : �
         | inr high ↦ is b a n (omega arith) (crossed_back l (m 0) 0 v part C sound (g 0) a b n h)
       ]
 
-  crossed_most : (w : Worst) → IsWorstPair (IsCrossed l v C) (Some w) → (a b n : ℕ) → a ≢ b → IsCrossed l v C a b n → n ≤ w.length
+  crossed_most : (w : FarthestPair) → IsWorstPair (IsCrossed l v C) (Some w) → (a b n : ℕ) → a ≢ b → IsCrossed l v C a b n → n ≤ w.length
   crossed_most w is a b n ne h =
       elim (cases_lt a b) [
         | inl low ↦ elim (is.2 a b n low h) [ inl less ↦ omega arith | inr (same, later) ↦ omega arith ]
@@ -60,19 +60,19 @@ module _ (l : Layout) (v : Way) (part : ℕ) (C : Tap → Tap → Type 0) (m : �
   no_crossed_short : (x : ℕ) → IsWorstPair (IsCrossed l v C) None → IsOverlong (m x) → ⊥
   no_crossed_short x is over = short_by x (λ a b n ne h. absurd (none_crossed is a b n ne h)) over
 
-  grown_short : (x : ℕ) (w : Worst) → IsWorstPair (IsCrossed l v C) (Some w) → 2 * (w.length + x) + interframe_gap < slot_time → IsOverlong (m x) → ⊥
+  grown_short : (x : ℕ) (w : FarthestPair) → IsWorstPair (IsCrossed l v C) (Some w) → 2 * (w.length + x) + interframe_gap < slot_time → IsOverlong (m x) → ⊥
   grown_short x w is fits over = short_by x (λ a b n ne h. let bound : n ≤ w.length = crossed_most w is a b n ne h in omega arith) over
 
-  worst_trip : (x : ℕ) (w : Worst) → IsWorstPair (IsCrossed l v C) (Some w) → IsRoundTrip (m x) w.a w.b (2 * (w.length + x) + interframe_gap)
+  worst_trip : (x : ℕ) (w : FarthestPair) → IsWorstPair (IsCrossed l v C) (Some w) → IsRoundTrip (m x) w.a w.b (2 * (w.length + x) + interframe_gap)
   worst_trip x w is = record { distance = w.length + x; apart = crossed_longer l (m x) x v part C sound (g x) w.a w.b w.length is.1; sum = refl }
 
-  grown_long : (x : ℕ) (w : Worst) → IsWorstPair (IsCrossed l v C) (Some w) → slot_time ≤ 2 * (w.length + x) + interframe_gap → IsOverlong (m x)
+  grown_long : (x : ℕ) (w : FarthestPair) → IsWorstPair (IsCrossed l v C) (Some w) → slot_time ≤ 2 * (w.length + x) + interframe_gap → IsOverlong (m x)
   grown_long x w is long =
       let low : w.a < w.b = is.0 in
       record { a = w.a; b = w.b; different = (λ e. omega arith); trip = 2 * (w.length + x) + interframe_gap; has = worst_trip x w is; most = long }
 
   -- where the worst pair is too far apart it is the verdict's
-  is_over : (x : ℕ) (w : Worst) → IsWorstPair (IsCrossed l v C) (Some w) → slot_time ≤ 2 * (w.length + x) + interframe_gap → IsVerdict (m x) (Over (2 * (w.length + x) + interframe_gap) w.a w.b)
+  is_over : (x : ℕ) (w : FarthestPair) → IsWorstPair (IsCrossed l v C) (Some w) → slot_time ≤ 2 * (w.length + x) + interframe_gap → IsVerdict (m x) (Over (2 * (w.length + x) + interframe_gap) w.a w.b)
   is_over x w is long =
       let low : w.a < w.b = is.0 in (
         record {
@@ -114,7 +114,7 @@ module _ (l : Layout) (v : Way) (part : ℕ) (C : Tap → Tap → Type 0) (m : �
       ),
     )
 
-    held_slack : (w : Worst) (s : ℕ × Limit) → IsWorstPair (IsCrossed l v C) (Some w) → IsReckoned room (Some w) s → IsSlack l m (Some s)
+    held_slack : (w : FarthestPair) (s : ℕ × Limit) → IsWorstPair (IsCrossed l v C) (Some w) → IsReckoned room (Some w) s → IsSlack l m (Some s)
     held_slack w s is h =
         let low : s.0 ≤ room = h.0 in
         let small : 2 * (w.length + s.0) + interframe_gap < slot_time = h.1 in (
@@ -149,12 +149,12 @@ module _ (l : Layout) (v : Way) (part : ℕ) (C : Tap → Tap → Type 0) (m : �
           ],
         )
 
-    pub is_slack : (worst : Option Worst) (s : ℕ × Limit) → IsWorstPair (IsCrossed l v C) worst → IsReckoned room worst s → IsSlack l m (Some s)
+    pub is_slack : (worst : Option FarthestPair) (s : ℕ × Limit) → IsWorstPair (IsCrossed l v C) worst → IsReckoned room worst s → IsSlack l m (Some s)
     is_slack None s is h = free_slack s is h
     is_slack (Some w) s is h = held_slack w s is h
 
   -- the worst pair's trip is short
-  pub worst_short : (worst : Option Worst) (w : Worst) → IsWorstPair (IsCrossed l v C) worst → worst ≡ Some w → 2 * w.length + interframe_gap < slot_time
+  pub worst_short : (worst : Option FarthestPair) (w : FarthestPair) → IsWorstPair (IsCrossed l v C) worst → worst ≡ Some w → 2 * w.length + interframe_gap < slot_time
   worst_short worst w is e =
       let here : IsWorstPair (IsCrossed l v C) (Some w) = subst (IsWorstPair (IsCrossed l v C)) e is in
       let low : w.a < w.b = here.0 in

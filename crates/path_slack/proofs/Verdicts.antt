@@ -3,7 +3,7 @@ use Rattle.std.proofs.Common.{◌≡◌, ◌≢◌, refl, sym, subst, ℕ, ◌<�
 use Rattle.std.proofs.lemmas.Bool.{false≢true}
 use Rattle.mac_parameters.specs.Parameters.{slot_time}
 use Rattle.layout.specs.declared.lines.Layout.{Layout}
-use Rattle.layout.specs.declared.ways.Tap.TheVariants.{Station}
+use Rattle.layout.specs.declared.ways.Attachment.TheVariants.{Station}
 use Rattle.layout.specs.Paths.{IsDistance}
 use Rattle.layout.proofs.WalksBack.{distance_back}
 use Rattle.path_checker.specs.declared.verdict.PathVerdict.{PathVerdict}

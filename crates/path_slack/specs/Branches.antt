@@ -2,7 +2,7 @@
 -- Segments, repeaters, ports and stations count from 0.
 use Rattle.std.specs.Prelude.{◌≡◌, ℕ, List, Some}
 use Rattle.layout.specs.declared.lines.Layout.{Layout}
-use Rattle.layout.specs.declared.ways.Tap.{Tap}
+use Rattle.layout.specs.declared.ways.Attachment.{Attachment}
 use Rattle.layout.specs.declared.ways.Way.TheVariants as way
 use Rattle.layout.specs.Among.{IsAmong}
 use Rattle.layout.specs.Paths.{part_by}
@@ -17,4 +17,4 @@ IsBranch l b = IsFarthest (IsReach l way.Repeater b.tap) b.far
 pub record AreBranchesOf (l : Layout) (segment : ℕ) (bs : List Branch) : Type 0 where
   pub on : (b : Branch) → IsAmong b bs → part_by l way.Cable b.tap ≡ Some segment
   pub far : (b : Branch) → IsAmong b bs → IsBranch l b
-  pub all : (t : Tap) → part_by l way.Cable t ≡ Some segment → (b : Branch) × IsAmong b bs × (b.tap ≡ t)
+  pub all : (t : Attachment) → part_by l way.Cable t ≡ Some segment → (b : Branch) × IsAmong b bs × (b.tap ≡ t)

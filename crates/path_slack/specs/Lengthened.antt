@@ -5,7 +5,7 @@ use Rattle.layout.specs.declared.lines.Layout.{Layout}
 use Rattle.layout.specs.declared.lines.PortLine.{PortLine}
 use Rattle.layout.specs.declared.lines.RepeaterLine.{RepeaterLine}
 use Rattle.layout.specs.declared.lines.StationLine.{StationLine}
-use Rattle.layout.specs.declared.ways.Tap.{Tap}
+use Rattle.layout.specs.declared.ways.Attachment.{Attachment}
 use Rattle.layout.specs.Paths.{place, delay_of}
 use Rattle.mac_parameters.specs.Parameters.{greatest_place, greatest_delay}
 
@@ -50,5 +50,5 @@ lengthened_delay l repeater x = record l { repeaters = slowed_from 0 repeater x 
 
 -- Each tap stands at a place that a cable can have, and each repeater has a delay that repeaters can have.
 pub record KeepsBounds (l : Layout) : Type 0 where
-  pub places : (t : Tap) (p : PortLine) → place l t ≡ Some p → p.at ≤ greatest_place
-  pub delays : (t : Tap) → delay_of l t ≤ greatest_delay
+  pub places : (t : Attachment) (p : PortLine) → place l t ≡ Some p → p.at ≤ greatest_place
+  pub delays : (t : Attachment) → delay_of l t ≤ greatest_delay

@@ -4,7 +4,7 @@ use Rattle.std.specs.Prelude.{◌≡◌, ◌≢◌, ◌⊎◌, ◌↔◌, ℕ, �
 use Rattle.std.specs.List.{AllPairs, Any}
 use Rattle.mac_parameters.specs.Parameters.{slot_time, interframe_gap}
 use Rattle.layout.specs.declared.lines.Layout.{Layout}
-use Rattle.layout.specs.declared.ways.Tap.{Tap}
+use Rattle.layout.specs.declared.ways.Attachment.{Attachment}
 use Rattle.layout.specs.Paths.{place}
 use Rattle.path_checker.specs.declared.verdict.PathVerdict.TheVariants.{Over}
 use Rattle.path_checker.specs.Verdicts.{IsRoundTrip, IsVerdict}
@@ -12,7 +12,7 @@ use Rattle.path_slack.specs.declared.slack.DelaySlack.{DelaySlack}
 use Rattle.path_slack.specs.declared.slack.GapSlack.{GapSlack}
 use Rattle.path_slack.specs.declared.slack.Limit.{Limit}
 use Rattle.path_slack.specs.declared.slack.Limit.TheVariants.{Pair, Bound}
-use Rattle.path_slack.specs.declared.worst.Worst.{Worst}
+use Rattle.path_slack.specs.declared.worst.FarthestPair.{FarthestPair}
 use Rattle.path_slack.specs.Lengthened.{lengthened_gap, lengthened_delay, KeepsBounds}
 
 -- Some two stations have a round trip of the slot time or more (4.4.2).
@@ -44,7 +44,7 @@ IsSlack l grown (Some s) =
 
 -- Some tap of the segment stands at this place.
 pub record HasTapAt (l : Layout) (segment at : ℕ) : Type 0 where
-  pub tap : Tap
+  pub tap : Attachment
   pub stands : place l tap ≡ Some (record { segment = segment; at = at })
 
 -- Two places of a segment at which taps stand, with no tap between them.
@@ -106,7 +106,7 @@ IsDelaySlack l d = IsSlack l (lengthened_delay l d.repeater) d.slack
 
 -- A lengthening by x that is as great as the bound and the worst pair leave, and what stops it: with x the pair's round
 -- trip is less than the slot time; with one more it is not, or the bound is passed.
-abbrev pub IsReckoned : ℕ → Option Worst → ℕ × Limit → Type 0
+abbrev pub IsReckoned : ℕ → Option FarthestPair → ℕ × Limit → Type 0
 IsReckoned room None s = (s.0 ≡ room) × (s.1 ≡ Bound)
 IsReckoned room (Some w) s =
     (s.0 ≤ room) × (2 * (w.length + s.0) + interframe_gap < slot_time)

@@ -10,16 +10,16 @@ ghost use Rattle.path_slack.specs.Branches.{AreBranchesOf};
 ghost use Rattle.path_slack.specs.Pairs.{IsWorstPair};
 
 use crate::places::at_of;
-use crate::worst::{Worst, pair_over, worse};
-use layout::{Layout, Tap, Way};
+use crate::worst::{FarthestPair, pair_over, worse};
+use layout::{Attachment, Layout, Way};
 use lists::{List, OutOfMemory};
-use path_checker::{Far, MOST_TAPS, Network, Stop, Table, farther, farthest, lengthened};
+use path_checker::{Far, MOST_TAPS, Network, ReachTable, Stop, farther, farthest, lengthened};
 use std::alloc::Global;
 
 /// A tap, and the station that is farthest from it off its cable.
 #[derive(Clone, Copy, Debug, PartialEq, Eq)]
 pub struct Branch {
-    pub tap: Tap,
+    pub tap: Attachment,
     pub far: Option<Far>,
 }
 
@@ -31,7 +31,7 @@ pub struct Branches {
 }
 
 /// The station that is farthest from a tap off its cable: from a station that is itself.
-fn off_cable(layout: &Layout, network: &Network, table: &mut Table, stop: &Stop) -> Option<Far>
+fn off_cable(layout: &Layout, network: &Network, table: &mut ReachTable, stop: &Stop) -> Option<Far>
     requires sound { IsSound layout.now }
     requires network { IsNetworkOf layout.now network.now }
     requires table { IsRight layout.now table.old }
@@ -39,7 +39,7 @@ fn off_cable(layout: &Layout, network: &Network, table: &mut Table, stop: &Stop)
     ensures far { IsFarthest (IsReach layout.now way.Repeater stop.now.tap) result }
     ensures table { IsRight layout.now table.new }
 {
-    if let Tap::Station(station) = stop.tap {
+    if let Attachment::Station(station) = stop.tap {
         return Some(Far { length: 0, station });
     }
     farthest(layout, network, table, Way::Repeater, stop, MOST_TAPS)
@@ -50,7 +50,7 @@ pub fn branches_of(
     alloc: Global,
     layout: &Layout,
     network: &Network,
-    table: &mut Table,
+    table: &mut ReachTable,
     segment: u32,
 ) -> Result<Branches, OutOfMemory>
     requires sound { IsSound layout.now }
@@ -71,7 +71,7 @@ pub fn branches_of(
 }
 
 /// The pair of stations that is farthest apart over the piece of the segment's cable just below the place `high`.
-pub fn worst_over(layout: &Layout, branches: &Branches, high: u32) -> Option<Worst>
+pub fn worst_over(layout: &Layout, branches: &Branches, high: u32) -> Option<FarthestPair>
     requires sound { IsSound layout.now }
     requires branches { AreBranchesOf layout.now branches.now.segment branches.now.list }
     requires high { high ≤ greatest_place }
@@ -96,9 +96,9 @@ pub fn worst_over(layout: &Layout, branches: &Branches, high: u32) -> Option<Wor
 pub fn worst_through(
     layout: &Layout,
     network: &Network,
-    table: &mut Table,
+    table: &mut ReachTable,
     repeater: u32,
-) -> Option<Worst>
+) -> Option<FarthestPair>
     requires sound { IsSound layout.now }
     requires network { IsNetworkOf layout.now network.now }
     requires table { IsRight layout.now table.old }
@@ -112,7 +112,7 @@ pub fn worst_through(
     for k in 0..line.ports.len() {
         let port = *line.ports.get(k);
         let stop = Stop {
-            tap: Tap::Port {
+            tap: Attachment::Port {
                 repeater,
                 port: k as u32,
             },

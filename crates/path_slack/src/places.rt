@@ -2,14 +2,14 @@
 ghost use Rattle.std.specs.Prelude.{◌≡◌};
 ghost use Rattle.layout.specs.Paths.{place, at_of};
 
-use layout::{Layout, PortLine, Tap};
+use layout::{Attachment, Layout, PortLine};
 
 /// Where a tap stands, if the layout has it.
-fn place(layout: &Layout, tap: Tap) -> Option<PortLine>
+fn place(layout: &Layout, tap: Attachment) -> Option<PortLine>
     ensures { result ≡ place layout.now tap }
 {
     match tap {
-        Tap::Station(station) => {
+        Attachment::Station(station) => {
             if station as usize >= layout.stations.len() {
                 return None;
             }
@@ -19,7 +19,7 @@ fn place(layout: &Layout, tap: Tap) -> Option<PortLine>
                 at: line.at,
             })
         }
-        Tap::Port { repeater, port } => {
+        Attachment::Port { repeater, port } => {
             if repeater as usize >= layout.repeaters.len() {
                 return None;
             }
@@ -33,7 +33,7 @@ fn place(layout: &Layout, tap: Tap) -> Option<PortLine>
 }
 
 /// A tap's place on its cable.
-pub fn at_of(layout: &Layout, tap: Tap) -> u32
+pub fn at_of(layout: &Layout, tap: Attachment) -> u32
     ensures { result ≡ at_of layout.now tap }
 {
     match place(layout, tap) {

@@ -13,11 +13,11 @@ ghost use Rattle.path_slack.specs.Slacks.{IsOverlong, IsSlack, IsReckoned, HasTa
 use crate::branches::{Branches, branches_of, worst_over, worst_through};
 use crate::lengthen::MOST_DELAY;
 use crate::places::at_of;
-use crate::worst::Worst;
+use crate::worst::FarthestPair;
 use layout::Layout;
 use lists::{List, OutOfMemory};
 use mac_parameters::{GREATEST_PLACE, INTERFRAME_GAP, SLOT_TIME};
-use path_checker::{Network, PathVerdict, Table, check_paths, network_of, open_table};
+use path_checker::{Network, PathVerdict, ReachTable, check_paths, network_of, open_table};
 use std::alloc::Global;
 
 /// What stops a lengthening.
@@ -78,11 +78,11 @@ fn is_over(alloc: Global, layout: &Layout) -> Result<bool, OutOfMemory>
 }
 
 /// The greatest lengthening that the bound and the worst pair leave.
-fn reckoned(room: u32, worst: Option<Worst>) -> (u32, Limit)
+fn reckoned(room: u32, worst: Option<FarthestPair>) -> (u32, Limit)
     requires { ForSome worst (λ w. 2 * w.length + interframe_gap < slot_time) }
     ensures { IsReckoned room worst result }
 {
-    let Some(Worst { length, a, b }) = worst else {
+    let Some(FarthestPair { length, a, b }) = worst else {
         return (room, Limit::Bound);
     };
     let spare = (SLOT_TIME - 1 - INTERFRAME_GAP) / 2 - length;
@@ -195,7 +195,7 @@ fn gap_slacks(
     alloc: Global,
     layout: &Layout,
     network: &Network,
-    table: &mut Table,
+    table: &mut ReachTable,
     over: bool,
 ) -> Result<GapList, OutOfMemory>
     requires sound { IsSound layout.now }
@@ -218,7 +218,7 @@ fn gap_slacks(
 fn delay_slack(
     layout: &Layout,
     network: &Network,
-    table: &mut Table,
+    table: &mut ReachTable,
     repeater: u32,
     over: bool,
 ) -> Option<(u32, Limit)>
@@ -244,7 +244,7 @@ fn delay_slacks(
     alloc: Global,
     layout: &Layout,
     network: &Network,
-    table: &mut Table,
+    table: &mut ReachTable,
     over: bool,
 ) -> Result<DelayList, OutOfMemory>
     requires sound { IsSound layout.now }

@@ -7,14 +7,14 @@ use path_checker::Far;
 
 /// Two stations, the lower one first, and how far apart they are in half bits.
 #[derive(Clone, Copy, Debug, PartialEq, Eq)]
-pub struct Worst {
+pub struct FarthestPair {
     pub length: u32,
     pub a: u32,
     pub b: u32,
 }
 
 /// The pair of the stations that two sides reach.
-pub fn pair_over(near: Option<Far>, far: Option<Far>) -> Option<Worst>
+pub fn pair_over(near: Option<Far>, far: Option<Far>) -> Option<FarthestPair>
     requires near { ForSome near (λ r. r.length < 2 ^ 30) }
     requires far { ForSome far (λ r. r.length < 2 ^ 30) }
     ensures { result ≡ pair_over near far }
@@ -27,13 +27,13 @@ pub fn pair_over(near: Option<Far>, far: Option<Far>) -> Option<Worst>
     };
     let length = near.length + far.length;
     if near.station < far.station {
-        return Some(Worst {
+        return Some(FarthestPair {
             length,
             a: near.station,
             b: far.station,
         });
     }
-    Some(Worst {
+    Some(FarthestPair {
         length,
         a: far.station,
         b: near.station,
@@ -41,7 +41,7 @@ pub fn pair_over(near: Option<Far>, far: Option<Far>) -> Option<Worst>
 }
 
 /// The pair that is farther apart, and the first one of two that are equally far.
-fn worse_pair(v: Worst, w: Worst) -> Worst
+fn worse_pair(v: FarthestPair, w: FarthestPair) -> FarthestPair
     ensures { result ≡ worse_pair v w }
 {
     if v.length < w.length {
@@ -60,7 +60,7 @@ fn worse_pair(v: Worst, w: Worst) -> Worst
 }
 
 /// The worse one of two pairs that there may be.
-pub fn worse(v: Option<Worst>, w: Option<Worst>) -> Option<Worst>
+pub fn worse(v: Option<FarthestPair>, w: Option<FarthestPair>) -> Option<FarthestPair>
     ensures { result ≡ worse_of v w }
 {
     match (v, w) {

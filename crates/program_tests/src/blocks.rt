@@ -1,12 +1,17 @@
 //! Files that are longer than a block are read and written by blocks.
-use crate::calls::{BLOCK, CAPTURE, words_of};
+use crate::calls::{BLOCK, CAPTURE, MemoryWorld, put, status_of};
 use lists::OutOfMemory;
-use netsim::{World, netsim};
-use outside::{MemorySink, MemoryStore, OpenGate};
+use netsim::World;
+use outside::{MemorySink, MemoryStore};
+use std::alloc::Global;
 
 /// One segment with stations a and b, of which b has a load.
 const LOADED: &str =
     "format = 1\nseed = 1\nuntil_bits = 600000\n[[segment]]\nname = \"x\"\n[[station]]\nname = \"a\"\nsegment = \"x\"\nat = 0\n[[station]]\nname = \"b\"\nsegment = \"x\"\nat = 10\nload = \"b.pcap\"\n";
+
+/// What is said of the run.
+const SAID: &str =
+    "within 212 a b\nhalf_bits 1200000\nsent 45 collided 0 late 0 given_up 0 cut 0 left 0 received 45 dropped 0 clash 0 closed 0 opened 0\n";
 
 /// What a's send of a long frame begins with: the frame's header of 14 octets.
 const LONG_SEND: &str =
@@ -16,28 +21,51 @@ const LONG_SEND: &str =
 const ZEROS: &str =
     "0000000000000000000000000000000000000000000000000000000000000000000000000000000000000000000000000000";
 
+/// Puts one more send of a long frame to a layout.
+fn push_send(layout: &mut String) -> Result<(), OutOfMemory> {
+    layout.push_str(LONG_SEND)?;
+    for _fifty in 0..30 {
+        layout.push_str(ZEROS)?;
+    }
+    layout.push_str("\"\n")?;
+    Ok(())
+}
+
 /// The layout with sends of 45 frames of 1,514 octets by a.
-fn long_layout<R: AllocGlobal>(rt: &R) -> Result<String, OutOfMemory> {
-    let mut layout = String::from_str(rt.alloc(), LOADED)?;
+fn long_layout(alloc: Global) -> Result<String, OutOfMemory> {
+    let mut layout = String::from_str(alloc, LOADED)?;
     for _frame in 0..45 {
-        layout.push_str(LONG_SEND)?;
-        for _fifty in 0..30 {
-            layout.push_str(ZEROS)?;
-        }
-        layout.push_str("\"\n")?;
+        push_send(&mut layout)?;
     }
     Ok(layout)
 }
 
-/// A capture of a hundred long records of zeros, of which not all octets were kept.
-fn long_load<R: AllocGlobal>(rt: &R) -> Result<Vec<u8>, OutOfMemory> {
-    let mut load = Vec::new(rt.alloc());
+/// Puts one more record of 1,514 zeros to a capture, of which one octet wasn't kept.
+fn push_record(load: &mut Vec<u8>) -> Result<(), OutOfMemory> {
+    load.extend_from_slice(&[0, 0, 0, 0, 0, 0, 0, 0, 0xea, 5, 0, 0, 0xeb, 5, 0, 0])?;
+    for _octet in 0..1_514 {
+        load.push(0)?;
+    }
+    Ok(())
+}
+
+/// A capture of a hundred such records.
+fn long_load(alloc: Global) -> Result<Vec<u8>, OutOfMemory> {
+    let mut load = Vec::new(alloc);
     load.extend_from_slice(&CAPTURE)?;
     for _record in 0..100 {
-        load.extend_from_slice(&[0, 0, 0, 0, 0, 0, 0, 0, 0xea, 5, 0, 0, 0xeb, 5, 0, 0])?;
-        load.extend_from_slice(&[0; 1_514])?;
+        push_record(&mut load)?;
     }
     Ok(load)
+}
+
+/// A store with that layout and that load, and a sink.
+fn long_world(alloc: Global) -> Result<MemoryWorld, OutOfMemory> {
+    let mut store = MemoryStore::new(alloc);
+    put(&mut store, "l.toml", long_layout(alloc)?.as_bytes())?;
+    put(&mut store, "b.pcap", long_load(alloc)?.as_slice())?;
+    let out = MemorySink::new(alloc);
+    Ok(World { store, out })
 }
 
 fn held_length(store: &MemoryStore, name: &str) -> usize {
@@ -50,21 +78,10 @@ fn held_length(store: &MemoryStore, name: &str) -> usize {
 /// A layout and a load of three blocks, whose records are skipped, and a capture of two.
 #[test]
 fn long_files(rt: HostRuntime) -> Result<(), OutOfMemory> {
-    let mut store = MemoryStore::new(rt.alloc());
-    store.put("l.toml", long_layout(&rt)?.as_bytes())?;
-    store.put("b.pcap", long_load(&rt)?.as_slice())?;
-    assert_eq!(rt; store.largest(), 0);
-    let words = words_of(&rt, &["plain", "l.toml", "out"])?;
-    let mut world = World {
-        store,
-        out: MemorySink::new(rt.alloc()),
-    };
-    let status = netsim(&rt, rt.alloc(), &words, &mut world, &OpenGate);
+    let mut world = long_world(rt.alloc())?;
+    let status = status_of(&rt, &["plain", "l.toml", "out"], &mut world)?;
     assert_eq!(rt; status, 0);
-    assert_eq!(rt;
-        world.out.bytes(),
-        b"within 212 a b\nhalf_bits 1200000\nsent 45 collided 0 late 0 given_up 0 cut 0 left 0 received 45 dropped 0 clash 0 closed 0 opened 0\n".as_slice()
-    );
+    assert!(rt; world.out.bytes() == SAID.as_bytes());
     assert_eq!(rt;
         held_length(&world.store, "out.b.pcap"),
         24 + 45 * (16 + 1_514)

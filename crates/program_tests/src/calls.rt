@@ -1,15 +1,13 @@
-//! Calls over stores and sinks in memory, for the tests.
-use lists::{OutOfMemory, Text};
+//! Calls over stores and sinks in memory, for the tests. No contract says what the store holds: the tests look.
+use lists::{List, OutOfMemory, Text};
 use netsim::{Words, World, netsim};
 use outside::{MemorySink, MemoryStore, OpenGate};
+use std::alloc::Global;
 use std::sync::Wait;
 use std::thread::Threads;
 
-pub const LOG: &str =
-    "1152 station a sent frame 1 start 0 attempt 1\n1162 station b received octets 64\n";
-
-pub const COUNTERS: &str =
-    "station a queued 1 short 0 long 0 snapped 0 sent 1 collided 0 late 0 given_up 0 cut 0 left 0 received 0 fragment 0 too_long 0 fcs 0 align 0 damaged 0\nstation b queued 0 short 0 long 0 snapped 0 sent 0 collided 0 late 0 given_up 0 cut 0 left 0 received 1 fragment 0 too_long 0 fcs 0 align 0 damaged 0\n";
+/// The world of a call: a store and a sink in memory.
+pub type MemoryWorld = World<MemoryStore, MemorySink>;
 
 pub const SUMMARY: &str =
     "within 212 a b\nhalf_bits 1400\nsent 1 collided 0 late 0 given_up 0 cut 0 left 0 received 1 dropped 0 clash 0 closed 0 opened 0\n";
@@ -22,6 +20,33 @@ pub const CAPTURE: [u8; 24] = [
 /// The state before half bit 0.
 pub const STATE: &str =
     "state 0\nstation a phase rest defer watch attempt 1 place 0 drawn 0\nstation b phase rest defer watch attempt 1 place 0 drawn 0\nend\n";
+
+/// One segment with a station a at 0 and a station b at 10, up to the name of b's load.
+const STATIONS: &str =
+    "format = 1\nseed = 1\nuntil_bits = 700\n[[segment]]\nname = \"x\"\n[[station]]\nname = \"a\"\nsegment = \"x\"\nat = 0\n[[station]]\nname = \"b\"\nsegment = \"x\"\nat = 10\nload = \"";
+
+/// The end of that line, and a frame that a sends.
+const SEND: &str =
+    "\"\n[[send]]\nstation = \"a\"\nat = 0\noctets = \"ffffffffffff0200000000010800\"\n";
+
+/// A station c at 20 with a load of its own.
+const THIRD: &str = "[[station]]\nname = \"c\"\nsegment = \"x\"\nat = 20\nload = \"c.pcap\"\n";
+
+pub const LOG: &str =
+    "1152 station a sent frame 1 start 0 attempt 1\n1162 station b received octets 64\n";
+
+/// The files of all forms but the loads, and a layout, a load, a log and a state that are refused, each by its pieces.
+const TEXTS: [(&str, &[&str]); 9] = [
+    ("l.toml", &[STATIONS, "b.pcap", SEND]),
+    ("two.toml", &[STATIONS, "b.pcap", SEND, THIRD]),
+    ("m.log", &[LOG]),
+    ("out.state", &[STATE]),
+    ("none", &[]),
+    ("in.log", &[STATIONS, "b.pcap", SEND]),
+    ("load.toml", &[STATIONS, "none", SEND]),
+    ("other.log", &["1162 station c received octets 64\n"]),
+    ("none.state", &[]),
+];
 
 /// The words of runs: by half bits, by windows on so many workers, and from the state.
 pub const RUNS: [&[&str]; 6] = [
@@ -59,97 +84,85 @@ pub const RUN: Case<'static> = Case {
     said: SUMMARY,
 };
 
-pub fn words_of<R: AllocGlobal>(rt: &R, line: &[&str]) -> Result<Words, OutOfMemory> {
-    let mut words = Words::new(rt.alloc());
+fn words_of(alloc: Global, line: &[&str]) -> Result<Words, OutOfMemory> {
+    let mut words = Words::new(alloc);
     for word in line {
-        words.push(Text::new(rt.alloc(), word)?)?;
+        words.push(Text::new(alloc, word)?)?;
     }
     Ok(words)
 }
 
-/// One segment with a station a at 0, which sends a frame, and a station b at 10, which has this load.
-fn layout<R: AllocGlobal>(rt: &R, load: &str) -> Result<String, OutOfMemory> {
-    let text = format!(in rt.alloc();
-        "format = 1\nseed = 1\nuntil_bits = 700\n[[segment]]\nname = \"x\"\n[[station]]\nname = \"a\"\nsegment = \"x\"\nat = 0\n[[station]]\nname = \"b\"\nsegment = \"x\"\nat = 10\nload = \"{load}\"\n[[send]]\nstation = \"a\"\nat = 0\noctets = \"ffffffffffff0200000000010800\"\n"
-    )?;
-    Ok(text)
+/// Puts a file into a store.
+pub fn put(store: &mut MemoryStore, name: &str, octets: &[u8]) -> Result<(), OutOfMemory> {
+    store.put(name, octets)
 }
 
-/// The same with a station c at 20, which has a load of its own.
-fn two_loads<R: AllocGlobal>(rt: &R) -> Result<String, OutOfMemory> {
-    let first = layout(rt, "b.pcap")?;
-    let text = format!(in rt.alloc();
-        "{first}[[station]]\nname = \"c\"\nsegment = \"x\"\nat = 20\nload = \"c.pcap\"\n"
-    )?;
-    Ok(text)
+/// Puts a file of these pieces into a store.
+fn put_pieces(
+    alloc: Global,
+    store: &mut MemoryStore,
+    name: &str,
+    pieces: &[&str],
+) -> Result<(), OutOfMemory> {
+    let mut octets = List::new(alloc);
+    for piece in pieces {
+        octets.extend(piece.as_bytes())?;
+    }
+    put(store, name, octets.as_slice())
 }
 
-/// Puts the files of all forms into a store: layouts, loads, a log and a state.
-fn put_sound<R: AllocGlobal>(rt: &R, store: &mut MemoryStore) -> Result<(), OutOfMemory> {
-    store.put("l.toml", layout(rt, "b.pcap")?.as_bytes())?;
-    store.put("two.toml", two_loads(rt)?.as_bytes())?;
-    store.put("b.pcap", &CAPTURE)?;
-    store.put("c.pcap", &CAPTURE)?;
-    store.put("m.log", LOG.as_bytes())?;
-    store.put("out.state", STATE.as_bytes())
+/// A store without files, of whose calls those of the case fail.
+fn empty_store(alloc: Global, case: &Case<'_>) -> Result<MemoryStore, OutOfMemory> {
+    MemoryStore::with_failing(alloc, &[case.read], &[case.start], &[case.append])
 }
 
-/// Puts a layout, a load, a log and a state that are refused into a store.
-fn put_refused<R: AllocGlobal>(rt: &R, store: &mut MemoryStore) -> Result<(), OutOfMemory> {
-    store.put("none", b"")?;
-    store.put("in.log", layout(rt, "b.pcap")?.as_bytes())?;
-    store.put("load.toml", layout(rt, "none")?.as_bytes())?;
-    store.put("other.log", b"1162 station c received octets 64\n")?;
-    store.put("none.state", b"")
-}
-
-/// A store with the files of all forms, and with a layout, a load, a log and a state that are refused.
-fn store_of<R: AllocGlobal>(rt: &R, case: &Case<'_>) -> Result<MemoryStore, OutOfMemory> {
-    let mut store = MemoryStore::with_failing(
-        rt.alloc(),
-        &[case.read],
-        &[case.start],
-        &[case.append],
-    )?;
-    put_sound(rt, &mut store)?;
-    put_refused(rt, &mut store)?;
+/// A store with all files.
+fn store_of(alloc: Global, case: &Case<'_>) -> Result<MemoryStore, OutOfMemory> {
+    let mut store = empty_store(alloc, case)?;
+    for name in ["b.pcap", "c.pcap"] {
+        put(&mut store, name, &CAPTURE)?;
+    }
+    for (name, pieces) in TEXTS {
+        put_pieces(alloc, &mut store, name, pieces)?;
+    }
     Ok(store)
 }
 
-/// That store, and a sink to which nothing was written.
-pub fn world_of<R: AllocGlobal>(
-    rt: &R,
-    case: &Case<'_>,
-) -> Result<World<MemoryStore, MemorySink>, OutOfMemory> {
-    Ok(World {
-        store: store_of(rt, case)?,
-        out: MemorySink::with_failing(rt.alloc(), &[case.write])?,
-    })
+/// A sink to which nothing was written, of whose calls that of the case fails.
+fn sink_of(alloc: Global, case: &Case<'_>) -> Result<MemorySink, OutOfMemory> {
+    MemorySink::with_failing(alloc, &[case.write])
 }
 
-/// Whether the call gives the case's status and says what it must, by blocks that are no larger than promised.
+/// A store with all files, and a sink to which nothing was written.
+pub fn world_of(alloc: Global, case: &Case<'_>) -> Result<MemoryWorld, OutOfMemory> {
+    let store = store_of(alloc, case)?;
+    let out = sink_of(alloc, case)?;
+    Ok(World { store, out })
+}
+
+/// What the top call answers.
+pub fn status_of<R: Threads + Wait + Sync + AllocGlobal>(
+    rt: &R,
+    line: &[&str],
+    world: &mut MemoryWorld,
+) -> Result<u8, OutOfMemory> {
+    let words = words_of(rt.alloc(), line)?;
+    Ok(netsim(rt, rt.alloc(), &words, world, &OpenGate))
+}
+
+/// Whether a world was told what it must be, by blocks that are no larger than promised.
+fn is_told(case: &Case<'_>, world: &MemoryWorld) -> bool {
+    world.out.bytes() == case.said.as_bytes() && world.store.largest() <= BLOCK
+}
+
+/// Whether the call gives the case's status and says what it must, by such blocks.
 pub fn is_right<R: Threads + Wait + Sync + AllocGlobal>(
     rt: &R,
     case: &Case<'_>,
-    world: &mut World<MemoryStore, MemorySink>,
+    world: &mut MemoryWorld,
 ) -> Result<bool, OutOfMemory> {
-    let words = words_of(rt, case.words)?;
-    let status = netsim(rt, rt.alloc(), &words, world, &OpenGate);
-    Ok(
-        status == case.status
-            && world.out.bytes() == case.said.as_bytes()
-            && world.store.largest() <= BLOCK,
-    )
-}
-
-/// Whether a call gives what it must and begins no file of a run, nor a state over that one.
-pub fn is_alone<R: Threads + Wait + Sync + AllocGlobal>(
-    rt: &R,
-    case: &Case<'_>,
-) -> Result<bool, OutOfMemory> {
-    let mut world = world_of(rt, case)?;
-    let right = is_right(rt, case, &mut world)?;
-    Ok(right && world.store.get("out.log").is_none() && holds(&world.store, "out.state", STATE))
+    let status = status_of(rt, case.words, world)?;
+    Ok(status == case.status && is_told(case, world))
 }
 
 /// Whether a file holds this text.
@@ -158,4 +171,19 @@ pub fn holds(store: &MemoryStore, name: &str, text: &str) -> bool {
         Some(held) => held == text.as_bytes(),
         None => false,
     }
+}
+
+/// Whether a store has no log of a run, and the state as it was.
+fn is_untouched(store: &MemoryStore) -> bool {
+    store.get("out.log").is_none() && holds(store, "out.state", STATE)
+}
+
+/// Whether a call gives what it must and begins no file of a run, nor a state over that one.
+pub fn is_alone<R: Threads + Wait + Sync + AllocGlobal>(
+    rt: &R,
+    case: &Case<'_>,
+) -> Result<bool, OutOfMemory> {
+    let mut world = world_of(rt.alloc(), case)?;
+    let right = is_right(rt, case, &mut world)?;
+    Ok(right && is_untouched(&world.store))
 }

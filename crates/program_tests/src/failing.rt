@@ -1,6 +1,5 @@
 //! What is said and left where a call of the store or of the sink fails: each call in turn, for each form of words.
-use crate::calls::{Case, RUN, RUNS, STATE, holds, is_alone, is_right, world_of};
-use crate::done::holds_one_frame;
+use crate::calls::{Case, LOG, RUN, RUNS, STATE, holds, is_alone, is_right, world_of};
 use lists::OutOfMemory;
 use outside::MemoryStore;
 use std::sync::Wait;
@@ -176,74 +175,91 @@ fn is_left(store: &MemoryStore, whole: &MemoryStore, count: u32, begun: bool) ->
     true
 }
 
-/// Whether a run whose files are begun or filled in vain, each in turn, leaves what it must.
-fn files_are_left<R: Threads + Wait + Sync + AllocGlobal>(
+/// Whether a run that can't begin the file of this number, from 1, or can't fill it, leaves what it must.
+fn file_is_left<R: Threads + Wait + Sync + AllocGlobal>(
+    rt: &R,
+    words: &[&'static str],
+    whole: &MemoryStore,
+    number: u32,
+    begun: bool,
+) -> Result<bool, OutOfMemory> {
+    let (start, append) = if begun { (0, number) } else { (number, 0) };
+    let case = Case {
+        words,
+        start,
+        append,
+        status: 5,
+        said: "",
+        ..RUN
+    };
+    let mut world = world_of(rt.alloc(), &case)?;
+    let right = is_right(rt, &case, &mut world)?;
+    Ok(right && is_left(&world.store, whole, number.saturating_sub(1), begun))
+}
+
+/// Whether a run whose summary can't be written leaves all its files.
+fn all_are_left<R: Threads + Wait + Sync + AllocGlobal>(
     rt: &R,
     words: &[&'static str],
     whole: &MemoryStore,
 ) -> Result<bool, OutOfMemory> {
-    for count in 0..4u32 {
-        for begun in [false, true] {
-            let next = count.saturating_add(1);
-            let (start, append) = if begun { (0, next) } else { (next, 0) };
-            let case = Case {
-                words,
-                start,
-                append,
-                status: 5,
-                said: "",
-                ..RUN
-            };
-            let mut world = world_of(rt, &case)?;
-            let right = is_right(rt, &case, &mut world)?;
-            if !right || !is_left(&world.store, whole, count, begun) {
-                return Ok(false);
-            }
-        }
-    }
-    Ok(true)
+    let case = Case {
+        words,
+        write: 1,
+        status: 5,
+        said: "",
+        ..RUN
+    };
+    let mut world = world_of(rt.alloc(), &case)?;
+    let right = is_right(rt, &case, &mut world)?;
+    Ok(right && is_left(&world.store, whole, 4, false))
 }
 
 #[test]
 fn starts_and_appends_that_fail(rt: HostRuntime) -> Result<(), OutOfMemory> {
-    let mut whole = world_of(&rt, &RUN)?;
+    let mut whole = world_of(rt.alloc(), &RUN)?;
     assert!(rt; is_right(&rt, &RUN, &mut whole)?);
+    assert!(rt; holds(&whole.store, "out.log", LOG));
     for words in RUNS {
-        assert!(rt; files_are_left(&rt, words, &whole.store)?);
-        let silent = Case {
-            words,
-            write: 1,
-            status: 5,
-            said: "",
-            ..RUN
-        };
-        let mut world = world_of(&rt, &silent)?;
-        assert!(rt; is_right(&rt, &silent, &mut world)?);
-        assert!(rt; holds_one_frame(&world.store));
+        for number in [1, 2, 3, 4] {
+            assert!(rt; file_is_left(&rt, words, &whole.store, number, false)?);
+            assert!(rt; file_is_left(&rt, words, &whole.store, number, true)?);
+        }
+        assert!(rt; all_are_left(&rt, words, &whole.store)?);
     }
     Ok(())
+}
+
+/// Whether a stop of which these calls fail leaves the state that it must, or none.
+fn stop_leaves<R: Threads + Wait + Sync + AllocGlobal>(
+    rt: &R,
+    start: u32,
+    append: u32,
+    write: u32,
+    left: Option<&str>,
+) -> Result<bool, OutOfMemory> {
+    let case = Case {
+        words: &["stop", "l.toml", "new", "0"],
+        start,
+        append,
+        write,
+        status: 5,
+        said: "",
+        ..RUN
+    };
+    let mut world = world_of(rt.alloc(), &case)?;
+    let right = is_right(rt, &case, &mut world)?;
+    match left {
+        Some(text) => Ok(right && holds(&world.store, "new.state", text)),
+        None => Ok(right && world.store.get("new.state").is_none()),
+    }
 }
 
 /// A state that isn't begun, one that is begun alone, and one that is written before the last line can't be.
 #[test]
 fn stops_that_fail(rt: HostRuntime) -> Result<(), OutOfMemory> {
-    let stop = Case {
-        words: &["stop", "l.toml", "new", "0"],
-        status: 5,
-        said: "",
-        ..RUN
-    };
-    let begun = Case { start: 1, ..stop };
-    let mut world = world_of(&rt, &begun)?;
-    assert!(rt; is_right(&rt, &begun, &mut world)?);
-    assert!(rt; world.store.get("new.state").is_none());
-    let filled = Case { append: 1, ..stop };
-    let mut world = world_of(&rt, &filled)?;
-    assert!(rt; is_right(&rt, &filled, &mut world)?);
-    assert!(rt; holds(&world.store, "new.state", ""));
-    let said = Case { write: 1, ..stop };
-    let mut world = world_of(&rt, &said)?;
-    assert!(rt; is_right(&rt, &said, &mut world)?);
-    assert!(rt; holds(&world.store, "new.state", STATE));
+    assert!(rt; stop_leaves(&rt, 1, 0, 0, None)?);
+    assert!(rt; stop_leaves(&rt, 0, 1, 0, Some(""))?);
+    assert!(rt; stop_leaves(&rt, 0, 0, 1, Some(STATE))?);
     Ok(())
 }

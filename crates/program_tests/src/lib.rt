@@ -6,6 +6,4 @@ mod blocks;
 #[cfg(test)]
 mod calls;
 #[cfg(test)]
-mod done;
-#[cfg(test)]
 mod failing;

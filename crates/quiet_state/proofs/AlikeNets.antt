@@ -10,7 +10,7 @@ use Rattle.collision_log.specs.declared.row.Row.{Row}
 use Rattle.layout.specs.declared.lines.PortLine.{PortLine}
 use Rattle.mac_transmit.specs.Sender.{Sender, SendOutcome, sender_step}
 use Rattle.mac_receive.specs.Receiver.{Reception}
-use Rattle.repeater_core.specs.Step.{State, after, emitted_by}
+use Rattle.repeater_core.specs.Step.{RepeaterDevice, after, emitted_by}
 use Rattle.network.specs.declared.outputs.Taken.{Taken}
 use Rattle.network.specs.Captures.{captured}
 use Rattle.network.specs.Hearing.{heard_of, heard_by}
@@ -94,7 +94,7 @@ receptions_alike : (n m : Net) → Alike n m → receptions_in n ≡ receptions_
 receptions_alike n m a =
     ap₂ (λ hs es. receptions hs es n.receivers) (stations_alike n m a) (stations_emit_alike n m a) ∙ ap (receptions (stations_hear m) (stations_emit m)) a.receivers
 
-pub each_alike : {X : Type 0} (f : List Sym → State → X) → ((hs : List Sym) (r : State) → f hs r ≡ f hs (bare_state r)) → (n m : Net) → Alike n m → each_repeater f (ports_hear n) n.repeaters ≡ each_repeater f (ports_hear m) m.repeaters
+pub each_alike : {X : Type 0} (f : List Sym → RepeaterDevice → X) → ((hs : List Sym) (r : RepeaterDevice) → f hs r ≡ f hs (bare_state r)) → (n m : Net) → Alike n m → each_repeater f (ports_hear n) n.repeaters ≡ each_repeater f (ports_hear m) m.repeaters
 each_alike f same n m a =
     each_bare f same (ports_hear n) n.repeaters
     ∙ ap₂ (each_repeater f) (ports_alike n m a) a.repeaters

@@ -10,7 +10,7 @@ use Rattle.layout.specs.declared.lines.RepeaterLine.{RepeaterLine}
 use Rattle.port_partition.specs.declared.guard.GuardEvent.{GuardEvent}
 use Rattle.port_partition.specs.declared.guard.GuardEvent.TheVariants as event
 use Rattle.repeater_core.specs.Counts.{Choice}
-use Rattle.repeater_core.specs.Step.{State, chosen, clash_begins, emitted_by, guard_events}
+use Rattle.repeater_core.specs.Step.{RepeaterDevice, chosen, clash_begins, emitted_by, guard_events}
 use Rattle.repeater_core.proofs.Lawful.{length_chosen}
 use Rattle.network.specs.Net.{each_repeater}
 use Rattle.network.specs.Rows.{guard_bodies, happened, port_bodies, repeater_bodies}
@@ -34,7 +34,7 @@ ports_happen ports port (h ∷ hs) (e ∷ es) l m =
     recursion_append (HappensToRepeater ports) (happened h (Halted port)) (guard_bodies port e ++ port_bodies (port + 1) hs es) (happens_if ports h (Halted port) (l, omega arith))
     (recursion_append (HappensToRepeater ports) (guard_bodies port e) (port_bodies (port + 1) hs es) (guards_happen ports port e l (omega arith)) (ports_happen ports (port + 1) hs es (omega arith) (omega arith)))
 
-bodies_happen : (ports : ℕ) (heard : List Sym) (r : State) → length r.counts ≡ ports → AllByRecursion (HappensToRepeater ports) (repeater_bodies heard r)
+bodies_happen : (ports : ℕ) (heard : List Sym) (r : RepeaterDevice) → length r.counts ≡ ports → AllByRecursion (HappensToRepeater ports) (repeater_bodies heard r)
 bodies_happen ports heard r many =
     let hs = map (λ (c : Choice). c.halted) (chosen heard r) in
     let es = guard_events r.guards heard (emitted_by r) in
@@ -48,7 +48,7 @@ pub record HappenAt (ls : List RepeaterLine) (i : ℕ) (bodies : List Body) : Ty
   pub is_line : slice_get ls i ≡ Some line
   pub happen : AllByRecursion (HappensToRepeater (length line.ports)) bodies
 
-pub repeaters_happen : (ls : List RepeaterLine) (rs : List State) (h : List (List Sym)) (heard : List Sym) (i : ℕ) → LinesUp ls rs h → i < length (each_repeater repeater_bodies heard rs) → HappenAt ls i (get_or (each_repeater repeater_bodies heard rs) i [])
+pub repeaters_happen : (ls : List RepeaterLine) (rs : List RepeaterDevice) (h : List (List Sym)) (heard : List Sym) (i : ℕ) → LinesUp ls rs h → i < length (each_repeater repeater_bodies heard rs) → HappenAt ls i (get_or (each_repeater repeater_bodies heard rs) i [])
 repeaters_happen [] [] h heard i up l = absurd (omega arith)
 repeaters_happen [] (r ∷ rs) h heard i up l = absurd up
 repeaters_happen (x ∷ ls) [] h heard i up l = absurd up

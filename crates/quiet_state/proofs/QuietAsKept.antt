@@ -10,7 +10,7 @@ use Rattle.layout.specs.declared.lines.PortLine.{PortLine}
 use Rattle.layout.specs.declared.lines.RepeaterLine.{RepeaterLine}
 use Rattle.load_plan.specs.declared.plan.Plan.{Plan}
 use Rattle.mac_receive.specs.Receiver.{Receiving, Reception, quiet, extended, reception_ended, receiver_step}
-use Rattle.repeater_core.specs.Step.{State}
+use Rattle.repeater_core.specs.Step.{RepeaterDevice}
 use Rattle.network.specs.Net.{net}
 use Rattle.network.specs.Outputs.{half_bits}
 use Rattle.network.specs.Times.{emitted, decided, earlier, port_delays}
@@ -62,7 +62,7 @@ cables_none t taps rows few over p q b d h =
     over_none t q (reach_over (get_or taps q d) taps) rows few (over q d h.emitter) b (omega (arith, within, near))
 
 -- the delays of the ports
-delays_are : (ls : List RepeaterLine) (rs : List State) (h : List (List Sym)) → LinesUp ls rs h → AreLate ls rs → line_delays rs ≡ delays ls
+delays_are : (ls : List RepeaterLine) (rs : List RepeaterDevice) (h : List (List Sym)) → LinesUp ls rs h → AreLate ls rs → line_delays rs ≡ delays ls
 delays_are [] [] h up l = refl
 delays_are [] (r ∷ rs) h up l = absurd up
 delays_are (x ∷ ls) [] h up l = absurd up

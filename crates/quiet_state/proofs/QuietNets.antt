@@ -17,7 +17,7 @@ use Rattle.load_plan.proofs.PlansAreSound.{sound_of_plan}
 use Rattle.mac_transmit.specs.Resuming.{state_of}
 use Rattle.mac_transmit.specs.Sender.{Sender, is_sending}
 use Rattle.repeater_core.specs.declared.modes.Mode.TheVariants as mode
-use Rattle.repeater_core.specs.Step.{State}
+use Rattle.repeater_core.specs.Step.{RepeaterDevice}
 use Rattle.network.specs.Net.{Net, net, next, new_net, new_senders, new_receiver, new_repeater, emitted_before}
 use Rattle.network.specs.Outputs.{half_bits, cut_rows, rows, captures}
 use Rattle.network.specs.Times.{emitted, decided, earlier}
@@ -125,7 +125,7 @@ pub all_still : (most : ℕ) (ss : List StationLine) → AllByRecursion IsStill 
 all_still most [] = tt
 all_still most (s ∷ ss) = (record { awake = refl; no_reception = refl }, all_still most ss)
 
-all_idle : (ls : List RepeaterLine) → AllByRecursion (λ (r : State). r.mode ≡ mode.Idle) (map new_repeater ls)
+all_idle : (ls : List RepeaterLine) → AllByRecursion (λ (r : RepeaterDevice). r.mode ≡ mode.Idle) (map new_repeater ls)
 all_idle [] = tt
 all_idle (l ∷ ls) = (refl, all_idle ls)
 
@@ -137,7 +137,7 @@ begins_quiet plan =
       within = omega (arith, some);
       senders = All-from_recursion (λ (s : Sender). is_sending s.phase ≡ false) n.senders (none_sends plan.layout.seed 0 plan.queues);
       receivers = All-from_recursion IsStill n.receivers (all_still (most_octets (eqb plan.layout.format 2)) plan.layout.stations);
-      repeaters = All-from_recursion (λ (r : State). r.mode ≡ mode.Idle) n.repeaters (all_idle plan.layout.repeaters);
+      repeaters = All-from_recursion (λ (r : RepeaterDevice). r.mode ≡ mode.Idle) n.repeaters (all_idle plan.layout.repeaters);
       cables = λ p q u d hp hq ne on before. absurd (omega arith);
       delays = λ e u in_it before. absurd (omega arith);
     }

@@ -23,7 +23,7 @@ use Rattle.port_partition.proofs.GuardsLater.{guard_kept}
 use Rattle.repeater_core.specs.declared.modes.Mode.{Mode}
 use Rattle.repeater_core.specs.Counts.{Count, Choice, choice, choice_awake, choices_from, resting_count}
 use Rattle.repeater_core.specs.Modes.{wish_of}
-use Rattle.repeater_core.specs.Step.{State, after, chosen, collides, emitted_by, guards_after, mode_next}
+use Rattle.repeater_core.specs.Step.{RepeaterDevice, after, chosen, collides, emitted_by, guards_after, mode_next}
 use Rattle.network.specs.Attempts.{sender_at}
 use Rattle.network.specs.Captures.{captured}
 use Rattle.network.specs.Net.{net, each_repeater, new_repeater, ports_hear, receptions, receptions_in, stations_hear, stations_emit}
@@ -89,15 +89,15 @@ all_brief m hs q [] a = tt
 all_brief m hs q (c ∷ cs) a = (brief (wish_of m hs q) c a.0, all_brief m hs (q + 1) cs a.1)
 
 -- both, of one repeater
-record IsKept (r : State) : Type 0 where
+record IsKept (r : RepeaterDevice) : Type 0 where
   guards : AllByRecursion IsGuard r.guards
   rests : AllByRecursion RestsBriefly r.counts
 
-kept_after : (hs : List Sym) (r : State) → IsKept r → IsKept (after hs r)
+kept_after : (hs : List Sym) (r : RepeaterDevice) → IsKept r → IsKept (after hs r)
 unfolding chosen
 kept_after hs r h = record { guards = guards_kept r.guards hs (emitted_by r) h.guards; rests = all_brief (mode_next hs r) hs 0 r.counts h.rests }
 
-all_kept_after : (hs : List Sym) (rs : List State) → AllByRecursion IsKept rs → AllByRecursion IsKept (each_repeater after hs rs)
+all_kept_after : (hs : List Sym) (rs : List RepeaterDevice) → AllByRecursion IsKept rs → AllByRecursion IsKept (each_repeater after hs rs)
 all_kept_after hs [] a = tt
 all_kept_after hs (r ∷ rs) a = (kept_after (take (length r.guards) hs) r a.0, all_kept_after (drop (length r.guards) hs) rs a.1)
 
@@ -117,10 +117,10 @@ kept : (plan : Plan) (t : ℕ) → AllByRecursion IsKept (net plan t).repeaters
 kept plan zero = all_new plan.layout.repeaters
 kept plan (suc t) = all_kept_after (ports_hear (net plan t)) (net plan t).repeaters (kept plan t)
 
-all_guards : (rs : List State) → AllByRecursion IsKept rs → All IsGuard (flat_map (λ r. r.guards) rs)
+all_guards : (rs : List RepeaterDevice) → AllByRecursion IsKept rs → All IsGuard (flat_map (λ r. r.guards) rs)
 all_guards [] a = All-from_recursion IsGuard [] tt
 all_guards (r ∷ rs) a =
-    All-append IsGuard r.guards (flat_map (λ (x : State). x.guards) rs) (All-from_recursion IsGuard r.guards a.0.guards) (all_guards rs a.1)
+    All-append IsGuard r.guards (flat_map (λ (x : RepeaterDevice). x.guards) rs) (All-from_recursion IsGuard r.guards a.0.guards) (all_guards rs a.1)
 
 few_rests : (cs : List Count) → AllByRecursion RestsBriefly cs → AllByRecursion (λ rest. rest < jabber_rest) (map (λ c. c.rest) cs)
 few_rests [] a = tt
@@ -129,29 +129,29 @@ few_rests (c ∷ cs) a = (a.0, few_rests cs a.1)
 abbrev IsRest : ℕ → Type 0
 IsRest rest = rest < jabber_rest
 
-all_rests : (rs : List State) → AllByRecursion IsKept rs → All IsRest (flat_map (λ r. map (λ c. c.rest) r.counts) rs)
+all_rests : (rs : List RepeaterDevice) → AllByRecursion IsKept rs → All IsRest (flat_map (λ r. map (λ c. c.rest) r.counts) rs)
 all_rests [] a = All-from_recursion IsRest [] tt
 all_rests (r ∷ rs) a =
-    All-append IsRest (map (λ (c : Count). c.rest) r.counts) (flat_map (λ (x : State). map (λ (c : Count). c.rest) x.counts) rs)
+    All-append IsRest (map (λ (c : Count). c.rest) r.counts) (flat_map (λ (x : RepeaterDevice). map (λ (c : Count). c.rest) x.counts) rs)
     (All-from_recursion IsRest (map (λ (c : Count). c.rest) r.counts) (few_rests r.counts a.0.rests)) (all_rests rs a.1)
 
 -- one for each port
 pub delays_long : (l : RepeaterLine) (ls : List RepeaterLine) → length (delays (l ∷ ls)) ≡ length l.ports + length (delays ls)
 delays_long l ls = length-append (replicate (length l.ports) l.delay) (delays ls) ∙ ap (λ n. n + length (delays ls)) (length-replicate (length l.ports) l.delay)
 
-many_guards : (ls : List RepeaterLine) (rs : List State) (h : List (List Sym)) → LinesUp ls rs h → length (flat_map (λ r. r.guards) rs) ≡ length (delays ls)
+many_guards : (ls : List RepeaterLine) (rs : List RepeaterDevice) (h : List (List Sym)) → LinesUp ls rs h → length (flat_map (λ r. r.guards) rs) ≡ length (delays ls)
 many_guards [] [] h up = refl
 many_guards [] (r ∷ rs) h up = absurd up
 many_guards (l ∷ ls) [] h up = absurd up
 many_guards (l ∷ ls) (r ∷ rs) h up =
-    length-append r.guards (flat_map (λ (x : State). x.guards) rs) ∙ ap₂ (λ a b. a + b) up.0.guards (many_guards ls rs (map (drop (length l.ports)) h) up.1) ∙ sym (delays_long l ls)
+    length-append r.guards (flat_map (λ (x : RepeaterDevice). x.guards) rs) ∙ ap₂ (λ a b. a + b) up.0.guards (many_guards ls rs (map (drop (length l.ports)) h) up.1) ∙ sym (delays_long l ls)
 
-many_rests : (ls : List RepeaterLine) (rs : List State) (h : List (List Sym)) → LinesUp ls rs h → length (flat_map (λ r. map (λ c. c.rest) r.counts) rs) ≡ length (delays ls)
+many_rests : (ls : List RepeaterLine) (rs : List RepeaterDevice) (h : List (List Sym)) → LinesUp ls rs h → length (flat_map (λ r. map (λ c. c.rest) r.counts) rs) ≡ length (delays ls)
 many_rests [] [] h up = refl
 many_rests [] (r ∷ rs) h up = absurd up
 many_rests (l ∷ ls) [] h up = absurd up
 many_rests (l ∷ ls) (r ∷ rs) h up =
-    length-append (map (λ (c : Count). c.rest) r.counts) (flat_map (λ (x : State). map (λ (c : Count). c.rest) x.counts) rs)
+    length-append (map (λ (c : Count). c.rest) r.counts) (flat_map (λ (x : RepeaterDevice). map (λ (c : Count). c.rest) x.counts) rs)
     ∙ ap₂ (λ a b. a + b) (length-map r.counts (λ (c : Count). c.rest) ∙ up.0.counts) (many_rests ls rs (map (drop (length l.ports)) h) up.1)
     ∙ sym (delays_long l ls)
 

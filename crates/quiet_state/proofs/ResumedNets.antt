@@ -13,7 +13,7 @@ use Rattle.mac_transmit.specs.Resuming.{state_of}
 use Rattle.mac_transmit.specs.Sender.{Sender, is_sending}
 use Rattle.repeater_core.specs.declared.modes.Mode.TheVariants as mode
 use Rattle.repeater_core.specs.Counts.{Count}
-use Rattle.repeater_core.specs.Step.{State, decided_by}
+use Rattle.repeater_core.specs.Step.{RepeaterDevice, decided_by}
 use Rattle.network.specs.Net.{Net, net, next, decided_in}
 use Rattle.network.specs.Times.{port_delays}
 use Rattle.quiet_state.specs.Laws.{ResumedStatesAreTheSame, ResumedQuietIsTheSame}
@@ -32,15 +32,15 @@ use Rattle.quiet_state.proofs.StatesStay.{same_state}
 states_bare : (ss : List Sender) → map state_of ss ≡ map state_of (map bare_sender ss)
 states_bare ss = sym (map-map state_of bare_sender ss)
 
-guards_bare : (rs : List State) → flat_map (λ r. r.guards) rs ≡ flat_map (λ r. r.guards) (map bare_state rs)
+guards_bare : (rs : List RepeaterDevice) → flat_map (λ r. r.guards) rs ≡ flat_map (λ r. r.guards) (map bare_state rs)
 guards_bare [] = refl
 guards_bare (r ∷ rs) = ap (λ xs. r.guards ++ xs) (guards_bare rs)
 
-rests_bare : (rs : List State) → flat_map (λ r. map (λ c. c.rest) r.counts) rs ≡ flat_map (λ r. map (λ c. c.rest) r.counts) (map bare_state rs)
+rests_bare : (rs : List RepeaterDevice) → flat_map (λ r. map (λ c. c.rest) r.counts) rs ≡ flat_map (λ r. map (λ c. c.rest) r.counts) (map bare_state rs)
 rests_bare [] = refl
 rests_bare (r ∷ rs) = ap₂ (λ (xs ys : List ℕ). xs ++ ys) (sym (map-map (λ (c : Count). c.rest) bare_count r.counts)) (rests_bare rs)
 
-delays_bare : (rs : List State) → line_delays rs ≡ line_delays (map bare_state rs)
+delays_bare : (rs : List RepeaterDevice) → line_delays rs ≡ line_delays (map bare_state rs)
 delays_bare [] = refl
 delays_bare (r ∷ rs) = ap (λ xs. replicate (length r.guards) r.line.delay ++ xs) (delays_bare rs)
 
@@ -48,8 +48,8 @@ same_states : (n m : Net) → Alike n m → net_state n ≡ net_state m
 same_states n m a =
     same_state n.t m.t (map state_of n.senders) (map state_of m.senders) (net_guards n) (net_guards m) (net_rests n) (net_rests m) n.rows m.rows n.captures m.captures a.time
     (states_bare n.senders ∙ ap (map state_of) a.senders ∙ sym (states_bare m.senders))
-    (guards_bare n.repeaters ∙ ap (flat_map (λ (r : State). r.guards)) a.repeaters ∙ sym (guards_bare m.repeaters))
-    (rests_bare n.repeaters ∙ ap (flat_map (λ (r : State). map (λ (c : Count). c.rest) r.counts)) a.repeaters ∙ sym (rests_bare m.repeaters)) a.rows a.captures
+    (guards_bare n.repeaters ∙ ap (flat_map (λ (r : RepeaterDevice). r.guards)) a.repeaters ∙ sym (guards_bare m.repeaters))
+    (rests_bare n.repeaters ∙ ap (flat_map (λ (r : RepeaterDevice). map (λ (c : Count). c.rest) r.counts)) a.repeaters ∙ sym (rests_bare m.repeaters)) a.rows a.captures
 
 pub resumed_states : ResumedStatesAreTheSame
 resumed_states plan t k q = sym (same_states (net plan (t + k)) (net_from plan (state_at plan t) k) (goes_alike plan t k (t + k) q refl))
@@ -85,14 +85,14 @@ from_map P f (x ∷ xs) h = (h.0, from_map P f xs h.1)
 abbrev Rests : Sender → Type 0
 Rests s = is_sending s.phase ≡ false
 
-abbrev Idles : State → Type 0
+abbrev Idles : RepeaterDevice → Type 0
 Idles r = r.mode ≡ mode.Idle
 
 senders_rest : (ss us : List Sender) → map bare_sender ss ≡ map bare_sender us → All Rests ss → All Rests us
 senders_rest ss us e h =
     All-from_recursion Rests us (from_map Rests bare_sender us (subst (AllByRecursion Rests) e (onto_map Rests bare_sender ss (recursion_from_All Rests ss h))))
 
-repeaters_idle : (rs us : List State) → map bare_state rs ≡ map bare_state us → All Idles rs → All Idles us
+repeaters_idle : (rs us : List RepeaterDevice) → map bare_state rs ≡ map bare_state us → All Idles rs → All Idles us
 repeaters_idle rs us e h =
     All-from_recursion Idles us (from_map Idles bare_state us (subst (AllByRecursion Idles) e (onto_map Idles bare_state rs (recursion_from_All Idles rs h))))
 

@@ -12,7 +12,7 @@ use Rattle.port_partition.specs.Guard.{Guard}
 use Rattle.repeater_core.specs.declared.modes.Mode.TheVariants as mode
 use Rattle.repeater_core.specs.Counts.{Count, Choice, choice, choice_awake, choices_from, resting_count}
 use Rattle.repeater_core.specs.Delayed.{Delayed}
-use Rattle.repeater_core.specs.Step.{State, after, chosen, resumed_state}
+use Rattle.repeater_core.specs.Step.{RepeaterDevice, after, chosen, resumed_state}
 use Rattle.network.specs.Net.{net, each_repeater, new_repeater, ports_hear}
 use Rattle.network.proofs.DelayLines.{IsLined, LinesUp, row_before, lined, delays}
 use Rattle.quiet_state.specs.Resumed.{resumed_repeaters}
@@ -22,7 +22,7 @@ use Rattle.quiet_state.proofs.BareRepeaters.{bare_count, bare_state, joined_bare
 abbrev HasNoRun : Count → Type 0
 HasNoRun c = c.run ≡ 0
 
-abbrev RestsWhereIdle : State → Type 0
+abbrev RestsWhereIdle : RepeaterDevice → Type 0
 RestsWhereIdle r = r.mode ≡ mode.Idle → AllByRecursion HasNoRun r.counts
 
 no_run : (c : Count) → (choice Idle c).count.run ≡ 0
@@ -32,11 +32,11 @@ no_runs : (hs : List Sym) (q : ℕ) (cs : List Count) → AllByRecursion HasNoRu
 no_runs hs q [] = tt
 no_runs hs q (c ∷ cs) = (no_run c, no_runs hs (q + 1) cs)
 
-rests_after : (hs : List Sym) (r : State) → RestsWhereIdle (after hs r)
+rests_after : (hs : List Sym) (r : RepeaterDevice) → RestsWhereIdle (after hs r)
 unfolding chosen
 rests_after hs r = λ e. subst (λ m. AllByRecursion HasNoRun (map (λ x. x.count) (choices_from m hs 0 r.counts))) (sym e) (no_runs hs 0 r.counts)
 
-all_rest_after : (hs : List Sym) (rs : List State) → AllByRecursion RestsWhereIdle (each_repeater after hs rs)
+all_rest_after : (hs : List Sym) (rs : List RepeaterDevice) → AllByRecursion RestsWhereIdle (each_repeater after hs rs)
 all_rest_after hs [] = tt
 all_rest_after hs (r ∷ rs) = (rests_after (take (length r.guards) hs) r, all_rest_after (drop (length r.guards) hs) rs)
 
@@ -53,7 +53,7 @@ all_rest plan zero = new_rest plan.layout.repeaters
 all_rest plan (suc t) = all_rest_after (ports_hear (net plan t)) (net plan t).repeaters
 
 -- each has its delay
-abbrev pub AreLate : List RepeaterLine → List State → Type 0
+abbrev pub AreLate : List RepeaterLine → List RepeaterDevice → Type 0
 AreLate [] [] = Unit {0}
 AreLate (l ∷ ls) (r ∷ rs) = (r.line.delay ≡ l.delay) × AreLate ls rs
 AreLate _ _ = ⊥
@@ -62,7 +62,7 @@ new_late : (ls : List RepeaterLine) → AreLate ls (map new_repeater ls)
 new_late [] = tt
 new_late (l ∷ ls) = (refl, new_late ls)
 
-late_after : (ls : List RepeaterLine) (rs : List State) (hs : List Sym) → AreLate ls rs → AreLate ls (each_repeater after hs rs)
+late_after : (ls : List RepeaterLine) (rs : List RepeaterDevice) (hs : List Sym) → AreLate ls rs → AreLate ls (each_repeater after hs rs)
 late_after [] [] hs h = tt
 late_after [] (r ∷ rs) hs h = absurd h
 late_after (l ∷ ls) [] hs h = absurd h
@@ -141,7 +141,7 @@ joined_line : (d : Delayed) (ports delay : ℕ) (rows : List Sym) → d.ports �
 joined_line d ports delay rows p l r =
     ap₂ (λ a b. (let x : Delayed = record { ports = a; delay = b; rows = d.rows } in x)) p l ∙ ap (λ xs. (let x : Delayed = record { ports = ports; delay = delay; rows = xs } in x)) r
 
-one_alike : (l : RepeaterLine) (ls : List RepeaterLine) (r : State) (h : List (List Sym)) → IsLined l r (map (take (length l.ports)) h) → NoneIsComing (l ∷ ls) h → r.mode ≡ mode.Idle → r.line.delay ≡ l.delay → RestsWhereIdle r → bare_state r ≡ bare_state (resumed_state l.delay r.guards (map (λ c. c.rest) r.counts))
+one_alike : (l : RepeaterLine) (ls : List RepeaterLine) (r : RepeaterDevice) (h : List (List Sym)) → IsLined l r (map (take (length l.ports)) h) → NoneIsComing (l ∷ ls) h → r.mode ≡ mode.Idle → r.line.delay ≡ l.delay → RestsWhereIdle r → bare_state r ≡ bare_state (resumed_state l.delay r.guards (map (λ c. c.rest) r.counts))
 one_alike l ls r h is q m d rests =
     let n = length l.ports in
     let many : length r.guards ≡ n = is.guards in
@@ -150,7 +150,7 @@ one_alike l ls r h is q m d rests =
     (is.rows ∙ idle_line n l.delay h is.wide (own_coming l ls h q) ∙ ap (λ k. replicate (l.delay * k) Idle) (sym many)))
 
 -- and all of them
-all_alike : (ls : List RepeaterLine) (rs : List State) (h : List (List Sym)) → LinesUp ls rs h → NoneIsComing ls h → All (λ r. r.mode ≡ mode.Idle) rs → AreLate ls rs → AllByRecursion RestsWhereIdle rs →
+all_alike : (ls : List RepeaterLine) (rs : List RepeaterDevice) (h : List (List Sym)) → LinesUp ls rs h → NoneIsComing ls h → All (λ r. r.mode ≡ mode.Idle) rs → AreLate ls rs → AllByRecursion RestsWhereIdle rs →
     map bare_state rs ≡ map bare_state (resumed_repeaters ls (flat_map (λ r. r.guards) rs) (flat_map (λ r. map (λ c. c.rest) r.counts) rs))
 all_alike [] [] h up q m d rests = refl
 all_alike [] (r ∷ rs) h up q m d rests = absurd up
@@ -163,12 +163,12 @@ all_alike (l ∷ ls) (r ∷ rs) h up q m d rests =
     let is = up.0 in
     let many : length own ≡ n = length-map r.counts (λ (c : Count). c.rest) ∙ is.counts in
     let first : bare_state r ≡ bare_state (resumed_state l.delay (take n (r.guards ++ gs)) (take n (own ++ ns))) =
-    one_alike l ls r h is q (All-head (λ (x : State). x.mode ≡ mode.Idle) r rs m) d.0 rests.0
+    one_alike l ls r h is q (All-head (λ (x : RepeaterDevice). x.mode ≡ mode.Idle) r rs m) d.0 rests.0
     ∙ ap₂ (λ (a : List Guard) (b : List ℕ). bare_state (resumed_state l.delay a b)) (sym (take_at r.guards gs n is.guards)) (sym (take_at own ns n many)) in
     let others : map bare_state rs ≡ map bare_state (resumed_repeaters ls (drop n (r.guards ++ gs)) (drop n (own ++ ns))) =
-    all_alike ls rs (map (drop n) h) up.1 (other_coming l ls h q) (All-tail (λ (x : State). x.mode ≡ mode.Idle) r rs m) d.1 rests.1
+    all_alike ls rs (map (drop n) h) up.1 (other_coming l ls h q) (All-tail (λ (x : RepeaterDevice). x.mode ≡ mode.Idle) r rs m) d.1 rests.1
     ∙ ap₂ (λ (a : List Guard) (b : List ℕ). map bare_state (resumed_repeaters ls a b)) (sym (drop_at r.guards gs n is.guards)) (sym (drop_at own ns n many)) in
-    ap₂ (λ (x : State) xs. x ∷ xs) first others
+    ap₂ (λ (x : RepeaterDevice) xs. x ∷ xs) first others
 
 pub repeaters_resumed : (plan : Plan) (t : ℕ) → LinesUp plan.layout.repeaters (net plan t).repeaters (net plan t).decided → NoneIsComing plan.layout.repeaters (net plan t).decided → All (λ r. r.mode ≡ mode.Idle) (net plan t).repeaters →
     map bare_state (net plan t).repeaters ≡ map bare_state (resumed_repeaters plan.layout.repeaters (flat_map (λ r. r.guards) (net plan t).repeaters) (flat_map (λ r. map (λ c. c.rest) r.counts) (net plan t).repeaters))

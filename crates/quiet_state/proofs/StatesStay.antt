@@ -14,7 +14,7 @@ use Rattle.mac_transmit.specs.Sender.{Sender, is_sending}
 use Rattle.port_partition.specs.Guard.{Guard}
 use Rattle.repeater_core.specs.declared.modes.Mode.TheVariants as mode
 use Rattle.repeater_core.specs.Counts.{Count, resting_count}
-use Rattle.repeater_core.specs.Step.{State}
+use Rattle.repeater_core.specs.Step.{RepeaterDevice}
 use Rattle.collision_log.specs.declared.row.Row.{Row}
 use Rattle.network.specs.declared.outputs.Taken.{Taken}
 use Rattle.network.proofs.DelayLines.{delays}
@@ -83,12 +83,12 @@ all_idle (l ∷ ls) gs rests = (refl, all_idle ls (drop (length l.ports) gs) (dr
 pub states_are_kept : StatesAreKept
 states_are_kept plan s h =
     let n = net_of plan s in (
-      same_state s.t s.t (map state_of n.senders) s.senders (flat_map (λ (r : State). r.guards) n.repeaters) s.guards (flat_map (λ (r : State). map (λ (c : Count). c.rest) r.counts) n.repeaters) s.rests s.rows s.rows s.captures s.captures
+      same_state s.t s.t (map state_of n.senders) s.senders (flat_map (λ (r : RepeaterDevice). r.guards) n.repeaters) s.guards (flat_map (λ (r : RepeaterDevice). map (λ (c : Count). c.rest) r.counts) n.repeaters) s.rests s.rows s.rows s.captures s.captures
           refl (senders_stay plan.layout.seed s.t 0 plan.queues s.senders h.senders) (guards_stay plan.layout.repeaters s.guards s.rests h.guards_many) (rests_stay plan.layout.repeaters s.guards s.rests h.rests_many) refl refl,
       record {
         senders = All-from_recursion (λ (x : Sender). is_sending x.phase ≡ false) n.senders (none_sends plan.layout.seed s.t 0 plan.queues s.senders h.senders);
         receivers = All-from_recursion IsStill n.receivers (all_still (most_octets (eqb plan.layout.format 2)) plan.layout.stations);
-        repeaters = All-from_recursion (λ (x : State). x.mode ≡ mode.Idle) n.repeaters (all_idle plan.layout.repeaters s.guards s.rests);
+        repeaters = All-from_recursion (λ (x : RepeaterDevice). x.mode ≡ mode.Idle) n.repeaters (all_idle plan.layout.repeaters s.guards s.rests);
         cables = λ q d l. tt;
         delays = λ e l. tt;
       },

@@ -8,7 +8,7 @@ use Rattle.manchester_line.specs.Line.{is_signal}
 use Rattle.mac_parameters.specs.Distances.{distance}
 use Rattle.mac_transmit.specs.Sender.{is_sending}
 use Rattle.repeater_core.specs.declared.modes.Mode.TheVariants as mode
-use Rattle.repeater_core.specs.Step.{State}
+use Rattle.repeater_core.specs.Step.{RepeaterDevice}
 use Rattle.layout.specs.declared.lines.PortLine.{PortLine}
 use Rattle.network.specs.Net.{Net}
 use Rattle.quiet_state.specs.Quiet.{IsStill}
@@ -33,7 +33,7 @@ IsOverBy t needs None = Unit {0}
 IsOverBy t needs (Some last) = last + needs < t
 
 -- The delay of each port in half bits, the ports of one repeater after those of the one before.
-abbrev pub line_delays : List State → List ℕ
+abbrev pub line_delays : List RepeaterDevice → List ℕ
 line_delays rs = flat_map (λ r. replicate (length r.guards) r.line.delay) rs
 
 -- The half bit is quiet as far as what is kept tells: no sender is sending, no receiver is deaf or has a reception

@@ -4,7 +4,7 @@ use Rattle.manchester_line.specs.declared.Sym.{Sym}
 use Rattle.manchester_line.specs.declared.Sym.TheVariants.{Idle}
 use Rattle.manchester_line.specs.Line.{is_signal}
 use Rattle.load_plan.specs.declared.plan.Plan.{Plan}
-use Rattle.mac_receive.specs.KeptReceiver.{Hears, Kept}
+use Rattle.mac_receive.specs.KeptReceiver.{Hears, KeptReception}
 use Rattle.mac_receive.specs.Receiver.{Receiving, receiver_step}
 use Rattle.network.specs.Net.{net}
 use Rattle.network.specs.Outputs.{half_bits, rows, captures}
@@ -55,7 +55,7 @@ StillAfterSilence =
 
 -- What is kept of a receiver tells so too.
 abbrev pub StillAsKept : Type 0
-StillAsKept = (r : Receiving) (k : Kept) → Hears r k → IsStill r ↔ ((k.deaf ≡ false) × (k.halves ≡ 0))
+StillAsKept = (r : Receiving) (k : KeptReception) → Hears r k → IsStill r ↔ ((k.deaf ≡ false) × (k.halves ≡ 0))
 
 -- The network of the plan can go on from the state of a quiet half bit.
 abbrev pub QuietStatesAreResumable : Type 0

@@ -10,7 +10,7 @@ use Rattle.mac_transmit.specs.Resuming.{state_of, resumed_sender}
 use Rattle.mac_transmit.specs.Sender.{Sender}
 use Rattle.mac_transmit.specs.declared.state.SenderState.{SenderState}
 use Rattle.port_partition.specs.Guard.{Guard}
-use Rattle.repeater_core.specs.Step.{State, resumed_state}
+use Rattle.repeater_core.specs.Step.{RepeaterDevice, resumed_state}
 use Rattle.network.specs.Net.{Net, net, new_net, next}
 use Rattle.network.specs.Outputs.{cut_rows, half_bits}
 use Rattle.network.specs.declared.outputs.Taken.{Taken}
@@ -50,7 +50,7 @@ resumed_senders seed t k _ _ = []
 
 -- These repeaters in mode Idle, with the guards and the rests of their ports, which stand one after another; all that
 -- they decided so far is Idle, and no output is under way.
-abbrev pub resumed_repeaters : List RepeaterLine → List Guard → List ℕ → List State
+abbrev pub resumed_repeaters : List RepeaterLine → List Guard → List ℕ → List RepeaterDevice
 resumed_repeaters [] guards rests = []
 resumed_repeaters (l ∷ ls) guards rests =
     resumed_state l.delay (take (length l.ports) guards) (take (length l.ports) rests)

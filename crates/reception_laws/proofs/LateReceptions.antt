@@ -10,7 +10,7 @@ use Rattle.manchester_line.specs.Line.{is_signal}
 use Rattle.collision_log.specs.declared.row.Row.{Row}
 use Rattle.collision_log.specs.declared.row.Body.{Body}
 use Rattle.mac_receive.specs.Receiver.{Receiving, new_receiving, quiet, extended, left_halves, receiver_step, receiver_after, receiver_bodies, with_event}
-use Rattle.mac_receive.specs.KeptReceiver.{Kept, Hears, IsReceiver, stepped}
+use Rattle.mac_receive.specs.KeptReceiver.{KeptReception, Hears, IsReceiver, stepped}
 use Rattle.mac_receive.proofs.StepsKeepMeaning.{hears_next, idle_state}
 use Rattle.network.specs.declared.outputs.Taken.{Taken}
 use Rattle.network.specs.Captures.{taken_by}
@@ -22,16 +22,16 @@ use Rattle.reception_laws.specs.LateReceptions.{IsAtRest, text_kept, with_text}
 use Rattle.reception_laws.specs.WholeReceptions.{IsAllSignal}
 use Rattle.reception_laws.proofs.ReceptionsHeard.{with_halves, new_awaits, text_on}
 
-abbrev stepped_all : Kept → List Sym → Kept
+abbrev stepped_all : KeptReception → List Sym → KeptReception
 stepped_all k [] = k
 stepped_all k (s ∷ ss) = stepped_all (stepped k s false) ss
 
-hears_all : (xs : List Sym) (r : Receiving) (k : Kept) → Hears r k → Hears (receiver_after r xs false) (stepped_all k xs)
+hears_all : (xs : List Sym) (r : Receiving) (k : KeptReception) → Hears r k → Hears (receiver_after r xs false) (stepped_all k xs)
 hears_all [] r k h = h
 hears_all (s ∷ ss) r k h = hears_all ss (receiver_step r s false).state (stepped k s false) (hears_next r k s false h)
 
 -- what is kept of one reception under way stands for the same receivers
-pub hears_alike : (q r : Receiving) (k k' : Kept) → Hears q k → Hears q k' → Hears r k → Hears r k'
+pub hears_alike : (q r : Receiving) (k k' : KeptReception) → Hears q k → Hears q k' → Hears r k → Hears r k'
 hears_alike q r k k' a b h =
     let some : 0 < length r.halves → 0 < length q.halves = λ p. omega (arith, a.count, h.count, p) in
     record {
@@ -46,20 +46,20 @@ hears_alike q r k k' a b h =
 pub text_hears : (lose most n : ℕ) (text : List Sym) → Hears (with_halves lose most text) (text_kept lose most text n)
 text_hears lose most n text = record { same_lose = refl; same_most = refl; same_deaf = refl; count = refl; decodes = λ p. refl }
 
-rest_hears : (k : Kept) → IsAtRest k → Hears (with_halves k.lose k.most []) k
+rest_hears : (k : KeptReception) → IsAtRest k → Hears (with_halves k.lose k.most []) k
 rest_hears k rest = record { same_lose = refl; same_most = refl; same_deaf = rest.hearing; count = rest.none; decodes = λ p. absurd (omega (arith, p)) }
 
-pub with_some : (k : Kept) (text : List Sym) → 0 < length text → with_text k text ≡ text_kept k.lose k.most text (k.steps + length text)
+pub with_some : (k : KeptReception) (text : List Sym) → 0 < length text → with_text k text ≡ text_kept k.lose k.most text (k.steps + length text)
 with_some k [] p = absurd (omega (arith, p))
 with_some k (s ∷ ss) p = refl
 
 -- with a text or without one it stands for a receiver with that text
-pub late_hears : (k : Kept) (text : List Sym) → IsAtRest k → Hears (with_halves k.lose k.most text) (with_text k text)
+pub late_hears : (k : KeptReception) (text : List Sym) → IsAtRest k → Hears (with_halves k.lose k.most text) (with_text k text)
 late_hears k [] rest = rest_hears k rest
 late_hears k (s ∷ ss) rest = text_hears k.lose k.most (k.steps + length (s ∷ ss)) (s ∷ ss)
 
 -- so it does after more of the text
-pub late_more : (k : Kept) (text piece : List Sym) (r : Receiving) → IsAtRest k → IsAllSignal piece → Hears r (with_text k text) → Hears (receiver_after r piece false) (with_text k (text ++ piece))
+pub late_more : (k : KeptReception) (text piece : List Sym) (r : Receiving) → IsAtRest k → IsAllSignal piece → Hears r (with_text k text) → Hears (receiver_after r piece false) (with_text k (text ++ piece))
 late_more k text [] r rest all h = let P : List Sym → Type 0 = λ xs. Hears r (with_text k xs) in subst P (sym (append-nil text)) h
 late_more k text (p ∷ ps) r rest all h =
     let piece : List Sym = p ∷ ps in
@@ -72,7 +72,7 @@ late_more k text (p ∷ ps) r rest all h =
     (hears_all piece r (with_text k text) h)
 
 -- once the text is read it stands for the same receivers
-pub late_read : (k k' : Kept) (text : List Sym) (r : Receiving) → IsAtRest k → IsAllSignal text → ((q : Receiving) → Hears q k → Hears (receiver_after q text false) k') → Hears r (with_text k text) → Hears r k'
+pub late_read : (k k' : KeptReception) (text : List Sym) (r : Receiving) → IsAtRest k → IsAllSignal text → ((q : Receiving) → Hears q k → Hears (receiver_after q text false) k') → Hears r (with_text k text) → Hears r k'
 late_read k k' [] r rest all read h = read r h
 late_read k k' (s ∷ ss) r rest all read h =
     let text : List Sym = s ∷ ss in
@@ -82,32 +82,32 @@ late_read k k' (s ∷ ss) r rest all read h =
     hears_alike q r (with_text k text) k' (late_hears k text rest) (subst P on (read (with_halves k.lose k.most []) (rest_hears k rest))) h
 
 -- it is at rest where none of its reception is read
-pub rest_of : (k : Kept) (text : List Sym) → (0 < length text → IsAtRest k) → k.halves ≡ 0 → (with_text k text).deaf ≡ false → IsAtRest k
+pub rest_of : (k : KeptReception) (text : List Sym) → (0 < length text → IsAtRest k) → k.halves ≡ 0 → (with_text k text).deaf ≡ false → IsAtRest k
 rest_of k [] late none awake = record { hearing = awake; none = none }
 rest_of k (s ∷ ss) late none awake = late (omega arith)
 
-pub late_steps : (k : Kept) (text : List Sym) → (with_text k text).steps ≡ k.steps + length text
+pub late_steps : (k : KeptReception) (text : List Sym) → (with_text k text).steps ≡ k.steps + length text
 late_steps k [] = omega arith
 late_steps k (s ∷ ss) = refl
 
-pub late_halves : (k : Kept) (text : List Sym) → (0 < length text → IsAtRest k) → (with_text k text).halves ≡ k.halves + length text
+pub late_halves : (k : KeptReception) (text : List Sym) → (0 < length text → IsAtRest k) → (with_text k text).halves ≡ k.halves + length text
 late_halves k [] late = omega arith
 late_halves k (s ∷ ss) late = let none : k.halves ≡ 0 = (late (omega arith)).none in omega (arith, none)
 
-pub late_lose : (k : Kept) (text : List Sym) → (with_text k text).lose ≡ k.lose
+pub late_lose : (k : KeptReception) (text : List Sym) → (with_text k text).lose ≡ k.lose
 late_lose k [] = refl
 late_lose k (s ∷ ss) = refl
 
-pub late_most : (k : Kept) (text : List Sym) → (with_text k text).most ≡ k.most
+pub late_most : (k : KeptReception) (text : List Sym) → (with_text k text).most ≡ k.most
 late_most k [] = refl
 late_most k (s ∷ ss) = refl
 
-pub late_deaf : (k : Kept) (text : List Sym) → (0 < length text → IsAtRest k) → (with_text k text).deaf ≡ k.deaf
+pub late_deaf : (k : KeptReception) (text : List Sym) → (0 < length text → IsAtRest k) → (with_text k text).deaf ≡ k.deaf
 late_deaf k [] late = refl
 late_deaf k (s ∷ ss) late = sym (late (omega arith)).hearing
 
 -- what is dropped leaves nothing but whether it is deaf
-pub still_hears : (r : Receiving) (k k' : Kept) (d : Bool) → Hears r k → k'.lose ≡ k.lose → k'.most ≡ k.most → k'.deaf ≡ d → k'.halves ≡ 0 → Hears (record r { deaf = d; halves = [] }) k'
+pub still_hears : (r : Receiving) (k k' : KeptReception) (d : Bool) → Hears r k → k'.lose ≡ k.lose → k'.most ≡ k.most → k'.deaf ≡ d → k'.halves ≡ 0 → Hears (record r { deaf = d; halves = [] }) k'
 still_hears r k k' d h lose most deaf none =
     record {
       same_lose = lose ∙ h.same_lose;
@@ -137,7 +137,7 @@ after_limits (s ∷ ss) r sending =
     (rest.0 ∙ one.0, rest.1 ∙ one.1)
 
 -- what goes on of what is kept, where the receiver does so by these half bits: its limits, and that it stands for a receiver
-pub goes_on : (xs : List Sym) (sending : Bool) (k k' : Kept) → IsReceiver k → ((r : Receiving) → Hears r k → Hears (receiver_after r xs sending) k') → (k'.lose ≡ k.lose) × (k'.most ≡ k.most) × IsReceiver k'
+pub goes_on : (xs : List Sym) (sending : Bool) (k k' : KeptReception) → IsReceiver k → ((r : Receiving) → Hears r k → Hears (receiver_after r xs sending) k') → (k'.lose ≡ k.lose) × (k'.most ≡ k.most) × IsReceiver k'
 goes_on xs sending k k' one on =
     let q = one.0 in
     let before : Hears q k = one.1 in
@@ -159,7 +159,7 @@ idle_after_all (suc n) r =
     ∙ idle_after_all n (record r { deaf = false; halves = [] })
 
 -- what stands for a receiver that has a text stands for one that has it after any half bits
-pub text_of : (k : Kept) (text : List Sym) (lose most : ℕ) (r : Receiving) → 0 < length text → k.lose ≡ lose → k.most ≡ most → Hears r (with_text k text) → Hears r (text_kept lose most text 0)
+pub text_of : (k : KeptReception) (text : List Sym) (lose most : ℕ) (r : Receiving) → 0 < length text → k.lose ≡ lose → k.most ≡ most → Hears r (with_text k text) → Hears r (text_kept lose most text 0)
 text_of k [] lose most r p el em h = absurd (omega (arith, p))
 text_of k (s ∷ ss) lose most r p el em h =
     record {
@@ -171,7 +171,7 @@ text_of k (s ∷ ss) lose most r p el em h =
     }
 
 -- without an unread symbol it keeps what it had
-pub read_whole : (k : Kept) (symbols : List Sym) (n : ℕ) → n ≡ 0 → with_text k (take n symbols) ≡ k
+pub read_whole : (k : KeptReception) (symbols : List Sym) (n : ℕ) → n ≡ 0 → with_text k (take n symbols) ≡ k
 read_whole k symbols zero e = refl
 read_whole k symbols (suc n) e = absurd (omega (arith, e))
 
@@ -194,10 +194,10 @@ with_nothing (suc k) (c ∷ cs) l = ap (λ x. c ∷ x) (with_nothing k cs (omega
 pub no_capture : (t k : ℕ) (e : Option Body) (os : List ℕ) (cs : List (List Taken)) → k < length cs → e ≡ None → cs ≡ captures_with k (taken_by t e os) cs
 no_capture t k e os cs l is = sym (ap (λ x. captures_with k (taken_by t x os) cs) is ∙ with_nothing k cs l)
 
-same_demand : (r : Receiving) (k : Kept) (n most : ℕ) → Hears r k → r.most ≡ most → receiver_demand n k ≡ reception_demand most (length r.halves) n
+same_demand : (r : Receiving) (k : KeptReception) (n most : ℕ) → Hears r k → r.most ≡ most → receiver_demand n k ≡ reception_demand most (length r.halves) n
 same_demand r k n most h e = ap₂ (λ m c. reception_demand m c n) (h.same_most ∙ e) h.count
 
-pub no_need : (r : Receiving) (k k' : Kept) (s : Sym) (sending : Bool) (n : ℕ) (other : Demand) (room : Room) → Hears r k → Hears (receiver_step r s sending).state k' → (receiver_step r s sending).event ≡ None
+pub no_need : (r : Receiving) (k k' : KeptReception) (s : Sym) (sending : Bool) (n : ℕ) (other : Demand) (room : Room) → Hears r k → Hears (receiver_step r s sending).state k' → (receiver_step r s sending).event ≡ None
     → Covers (both_demands other (receiver_demand (suc n) k)) room → Covers (both_demands other (receiver_demand n k')) room
 no_need r k k' s sending n other room h h' none a =
     let most = (step_limits r s sending).1 in
@@ -213,7 +213,7 @@ no_need r k k' s sending n other room h h' none a =
     })
 
 -- where it reads a reception half bit by half bit, no symbol of it is unread
-pub none_unread : (k : Kept) (n : ℕ) → (0 < n → IsAtRest k) → 0 < k.halves → n ≡ 0
+pub none_unread : (k : KeptReception) (n : ℕ) → (0 < n → IsAtRest k) → 0 < k.halves → n ≡ 0
 none_unread k zero late some = refl
 none_unread k (suc n) late some = let none : k.halves ≡ 0 = (late (omega arith)).none in absurd (omega (arith, none, some))
 
@@ -221,11 +221,11 @@ none_unread k (suc n) late some = let none : k.halves ≡ 0 = (late (omega arith
 pub unread_length : (symbols : List Sym) (n most : ℕ) → length symbols ≡ most → n ≤ most → length (take n symbols) ≡ n
 unread_length symbols n most size few = length-take-le n symbols (omega (arith, size, few))
 
-pub unread_rest : (k : Kept) (symbols : List Sym) (n : ℕ) → (0 < n → IsAtRest k) → 0 < length (take n symbols) → IsAtRest k
+pub unread_rest : (k : KeptReception) (symbols : List Sym) (n : ℕ) → (0 < n → IsAtRest k) → 0 < length (take n symbols) → IsAtRest k
 unread_rest k symbols zero late p = absurd (omega (arith, p))
 unread_rest k symbols (suc n) late p = late (omega arith)
 
-pub unread_deaf : (k : Kept) (n : ℕ) → (0 < n → IsAtRest k) → k.deaf ≡ true → n ≡ 0
+pub unread_deaf : (k : KeptReception) (n : ℕ) → (0 < n → IsAtRest k) → k.deaf ≡ true → n ≡ 0
 unread_deaf k zero late deaf = refl
 unread_deaf k (suc n) late deaf = absurd (true≢false (sym deaf ∙ (late (omega arith)).hearing))
 
@@ -274,5 +274,5 @@ after_deaf [] r h = h
 after_deaf (s ∷ ss) r h = after_deaf ss (receiver_step r s false).state (step_deaf r s h)
 
 -- without sending it doesn't turn deaf
-pub stays_awake : (xs : List Sym) (k k' : Kept) → IsReceiver k → k.deaf ≡ false → ((r : Receiving) → Hears r k → Hears (receiver_after r xs false) k') → k'.deaf ≡ false
+pub stays_awake : (xs : List Sym) (k k' : KeptReception) → IsReceiver k → k.deaf ≡ false → ((r : Receiving) → Hears r k → Hears (receiver_after r xs false) k') → k'.deaf ≡ false
 stays_awake xs k k' one awake on = (on one.0 one.1).same_deaf ∙ after_deaf xs one.0 (sym one.1.same_deaf ∙ awake)

@@ -11,7 +11,7 @@ use Rattle.collision_log.specs.declared.row.Body.TheVariants.{Sent, Collided, Gi
 use Rattle.collision_log.specs.declared.row.Body.TheVariants as body
 use Rattle.collision_log.specs.declared.row.Why.TheVariants as why
 use Rattle.mac_receive.specs.Receiver.{Receiving, Reception, new_receiving, quiet, reception_ended, receiver_step, receiver_after}
-use Rattle.mac_receive.specs.KeptReceiver.{Kept, Hears}
+use Rattle.mac_receive.specs.KeptReceiver.{KeptReception, Hears}
 use Rattle.mac_receive.proofs.StepsKeepMeaning.{idle_state}
 use Rattle.network.specs.Captures.{taken_by}
 use Rattle.window_room.specs.NeededRoom.{Covers, Demand, IsDemandWithin, both_demands, event_demand, reception_demand}
@@ -25,7 +25,7 @@ use Rattle.reception_laws.proofs.ReceptionsHeard.{with_halves, new_awaits, text_
 use Rattle.reception_laws.proofs.ShortReceptions.{short_row}
 
 -- what a new receiver keeps that has heard the text stands for the same receivers
-pub heard_hears : (lose most : ℕ) (text : List Sym) (k : Kept) (r : Receiving) → IsAllSignal text → Hears (receiver_after (new_receiving lose most) text false) k → Hears r (text_kept lose most text 0) → Hears r k
+pub heard_hears : (lose most : ℕ) (text : List Sym) (k : KeptReception) (r : Receiving) → IsAllSignal text → Hears (receiver_after (new_receiving lose most) text false) k → Hears r (text_kept lose most text 0) → Hears r k
 heard_hears lose most text k r all h is =
     let on : receiver_after (new_receiving lose most) text false ≡ with_halves lose most text = text_on (new_receiving lose most) [] text (new_awaits lose most) all in
     let P : Receiving → Type 0 = λ q. Hears q k in

@@ -6,17 +6,17 @@ use Rattle.manchester_line.specs.declared.Sym.TheVariants.{Idle}
 use Rattle.manchester_line.specs.Decoding.{new_decoding, all_pushed}
 use Rattle.collision_log.specs.declared.row.Body.TheVariants.{Received}
 use Rattle.mac_receive.specs.Receiver.{Receiving, left_halves, receiver_step}
-use Rattle.mac_receive.specs.KeptReceiver.{Kept, Hears}
+use Rattle.mac_receive.specs.KeptReceiver.{KeptReception, Hears}
 use Rattle.reception_laws.specs.WholeReceptions.{TextVerdict}
 
 -- What is kept stands for a receiver that isn't deaf, with no reception under way (4.2.4, profile).
-pub record IsAtRest (k : Kept) : Type 0 where
+pub record IsAtRest (k : KeptReception) : Type 0 where
   pub hearing : k.deaf ≡ false
   pub none : k.halves ≡ 0
 
 -- What a receiver keeps that has heard this text as its reception under way, after so many half bits in all: it loses
 -- so many bits, and takes frames of so many octets at most before the check sequence (4.2.4, profile).
-abbrev pub text_kept : ℕ → ℕ → List Sym → ℕ → Kept
+abbrev pub text_kept : ℕ → ℕ → List Sym → ℕ → KeptReception
 text_kept lose most text steps =
     record {
       lose = lose;
@@ -29,7 +29,7 @@ text_kept lose most text steps =
 
 -- What a receiver at rest keeps once it has read this text, one symbol a half bit; without a text it keeps what it had
 -- (4.2.4, profile).
-abbrev pub with_text : Kept → List Sym → Kept
+abbrev pub with_text : KeptReception → List Sym → KeptReception
 with_text k [] = k
 with_text k (s ∷ ss) = text_kept k.lose k.most (s ∷ ss) (k.steps + length (s ∷ ss))
 

@@ -33,12 +33,12 @@ pub struct LateReceiver {
 impl Model for LateReceiver {
     ghost use Rattle.std.specs.Prelude.{◌≡◌, ◌+◌, ◌<◌, ◌≤◌, length, take};
     ghost use Rattle.mac_parameters.specs.Parameters.{IsMost, most_half_bits};
-    ghost use Rattle.mac_receive.specs.KeptReceiver.{Kept, IsReceiver};
+    ghost use Rattle.mac_receive.specs.KeptReceiver.{KeptReception, IsReceiver};
     ghost use Rattle.reception_laws.specs.declared.teller.TheConstants.{LONGEST_TEXT};
     ghost use Rattle.reception_laws.specs.LateReceptions.{IsAtRest, with_text};
     ghost use Rattle.reception_laws.specs.WholeReceptions.{IsAllSignal};
 
-    ghost Value = { Kept };
+    ghost Value = { KeptReception };
 
     ghost view = { λ s. with_text s.receiver (take s.unread s.text.items) };
 

@@ -17,7 +17,7 @@ use Rattle.repeater_core.specs.Modes.{IsMode, count_of, jams_of, activity_from, 
 use Rattle.repeater_core.specs.Counts.{Count, Choice, choice, choice_awake, choices_from, resting_count}
 use Rattle.repeater_core.specs.Delayed.{Delayed, moved_on}
 use Rattle.repeater_core.specs.Laws.{HasNoClash, SendsNothing, IsLongFor, count_at, AreLong, RestWithoutOutput, Repeats, EndsLong}
-use Rattle.repeater_core.specs.Step.{State, IsState, guards_after, mode_next, chosen, SignalsAreRepeated}
+use Rattle.repeater_core.specs.Step.{RepeaterDevice, IsState, guards_after, mode_next, chosen, SignalsAreRepeated}
 use Rattle.repeater_core.proofs.SendsToOthers.{choose, IsWishFor, wish_is, IsRepeatable, repeatable, hears_as, Has, active, mode_sends, sends_to_others}
 use Rattle.repeater_core.proofs.OutputIsLong.{output_is_long}
 
@@ -88,7 +88,7 @@ pub length_choices : (mode : Mode) (ss : List Sym) (k : ℕ) (cs : List Count) �
 length_choices mode ss k [] = refl
 length_choices mode ss k (c ∷ cs) = ap suc (length_choices mode ss (k + 1) cs)
 
-pub length_chosen : (hears : List Sym) (r : State) → length (chosen hears r) ≡ length r.counts
+pub length_chosen : (hears : List Sym) (r : RepeaterDevice) → length (chosen hears r) ≡ length r.counts
 unfolding chosen
 length_chosen hears r = length_choices (mode_next hears r) hears 0 r.counts
 
@@ -162,7 +162,7 @@ no_output_kept mode ss k (c ∷ cs) zero = no_output_choice (wish_of mode ss k) 
 no_output_kept mode ss k (c ∷ cs) (suc q) = no_output_kept mode ss (k + 1) cs q
 
 -- a step from its parts
-pub step_state : (mode : Mode) (guards : List Guard) (counts : List Count) (line : Delayed) (ss : List Sym) (r : State)
+pub step_state : (mode : Mode) (guards : List Guard) (counts : List Count) (line : Delayed) (ss : List Sym) (r : RepeaterDevice)
     → mode ≡ mode_after r.mode (activity_from 0 r.guards ss) → length guards ≡ length r.guards → counts ≡ map (λ c. c.count) (choices_from mode ss 0 r.counts)
     → line ≡ moved_on (map (λ c. c.symbol) (choices_from mode ss 0 r.counts)) r.line → IsState r
     → IsState (record { mode = mode; guards = guards; counts = counts; line = line })

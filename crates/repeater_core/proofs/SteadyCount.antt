@@ -20,7 +20,7 @@ use Rattle.repeater_core.specs.Limits.{most_calm}
 use Rattle.repeater_core.specs.Modes.{activity_from, joined, mode_after, wish_of}
 use Rattle.repeater_core.specs.Counts.{Count, Choice, choice, choice_awake, choices_from}
 use Rattle.repeater_core.specs.SilentParts.{sends_to}
-use Rattle.repeater_core.specs.Step.{State, IsState, mode_next, chosen, after, emitted_by, decided_by, is_closing, is_opening, mask_from}
+use Rattle.repeater_core.specs.Step.{RepeaterDevice, IsState, mode_next, chosen, after, emitted_by, decided_by, is_closing, is_opening, mask_from}
 use Rattle.repeater_core.specs.Delayed.{Delayed}
 use Rattle.repeater_core.specs.Steady.{mode_on, mode_steady, port_steady, ports_steady, sent_from, IsSteadyStep, IsSteady, Kind, kind_of, kinds_of, at_each, guard_by, count_by, HaveNoEvents}
 use Rattle.repeater_core.proofs.SendsToOthers.{choose, IsRepeatable, repeatable, hears_as, carrier}
@@ -162,7 +162,7 @@ active_same n k (x ∷ hs) (b ∷ bs) (g ∷ gs) l m h =
     (active_same n (k + 1) hs bs gs (omega arith) (omega arith) h.1)
 
 -- what the count of steady half bits rests on
-pub record Fits (hears : List Sym) (emitting : List Bool) (a : Activity) (n : ℕ) (r : State) : Type 0 where
+pub record Fits (hears : List Sym) (emitting : List Bool) (a : Activity) (n : ℕ) (r : RepeaterDevice) : Type 0 where
   pub state : IsState r
   pub hears_len : length hears ≡ length r.guards
   pub emits_len : length emitting ≡ length r.guards
@@ -173,23 +173,23 @@ pub record Fits (hears : List Sym) (emitting : List Bool) (a : Activity) (n : �
   pub rows : RowsAre emitting n r.line
   pub past : r.line.delay < n → sent_from r.mode 0 r.counts ≡ emitting
 
-fits_mode : (hears : List Sym) (emitting : List Bool) (a : Activity) (n : ℕ) (r : State) → Fits hears emitting a (suc n) r → mode_next hears r ≡ mode_on r.mode
+fits_mode : (hears : List Sym) (emitting : List Bool) (a : Activity) (n : ℕ) (r : RepeaterDevice) → Fits hears emitting a (suc n) r → mode_next hears r ≡ mode_on r.mode
 unfolding mode_next
 fits_mode hears emitting a n r f = ap (mode_after r.mode) f.active ∙ mode_stays r.mode a (let m = f.mode_fits in omega arith)
 
-fits_wish : (hears : List Sym) (emitting : List Bool) (a : Activity) (n : ℕ) (r : State) → Fits hears emitting a (suc n) r → (q : ℕ) → is_signal (wish_of (mode_on r.mode) hears q) ≡ sends_to r.mode q
+fits_wish : (hears : List Sym) (emitting : List Bool) (a : Activity) (n : ℕ) (r : RepeaterDevice) → Fits hears emitting a (suc n) r → (q : ℕ) → is_signal (wish_of (mode_on r.mode) hears q) ≡ sends_to r.mode q
 unfolding mode_next
 fits_wish hears emitting a n r f = λ q.
     let m : mode_after r.mode (activity_from 0 r.guards hears) ≡ mode_on r.mode = fits_mode hears emitting a n r f in
     wish_signal (mode_on r.mode) hears q (subst (IsRepeatable hears) m (repeatable hears r.mode (activity_from 0 r.guards hears) (hears_as 0 r.guards hears))) ∙ sends_same r.mode q
 
-fits_emits : (hears : List Sym) (emitting : List Bool) (a : Activity) (n : ℕ) (r : State) → Fits hears emitting a (suc n) r → map is_signal (emitted_by r) ≡ emitting
+fits_emits : (hears : List Sym) (emitting : List Bool) (a : Activity) (n : ℕ) (r : RepeaterDevice) → Fits hears emitting a (suc n) r → map is_signal (emitted_by r) ≡ emitting
 fits_emits hears emitting a n r f =
     let none : 0 * r.line.ports ≡ 0 = omega arith in
     let some = f.state.some_delay in
     ap (λ i. map is_signal (take r.line.ports (drop i r.line.rows))) (sym none) ∙ f.rows 0 (omega arith) (omega arith)
 
-fits_step : (hears : List Sym) (emitting : List Bool) (a : Activity) (n : ℕ) (r : State) → Fits hears emitting a (suc n) r → IsSteadyStep hears emitting (sent_from r.mode 0 r.counts) r
+fits_step : (hears : List Sym) (emitting : List Bool) (a : Activity) (n : ℕ) (r : RepeaterDevice) → Fits hears emitting a (suc n) r → IsSteadyStep hears emitting (sent_from r.mode 0 r.counts) r
 unfolding chosen
 fits_step hears emitting a n r f =
     let m = fits_mode hears emitting a n r f in
@@ -211,7 +211,7 @@ kinds_fit [] bs l = refl
 kinds_fit (h ∷ hs) [] l = absurd (omega arith)
 kinds_fit (h ∷ hs) (b ∷ bs) l = ap suc (kinds_fit hs bs (omega arith))
 
-line_next : (hears : List Sym) (emitting : List Bool) (a : Activity) (n : ℕ) (r : State) → Fits hears emitting a (suc n) r → RowsAre emitting n (after hears r).line
+line_next : (hears : List Sym) (emitting : List Bool) (a : Activity) (n : ℕ) (r : RepeaterDevice) → Fits hears emitting a (suc n) r → RowsAre emitting n (after hears r).line
 line_next hears emitting a n r f =
     let some = f.state.some_delay in
     rows_on emitting n r.line (decided_by hears r) (omega arith) (f.state.rows_len ∙ ap (λ p. r.line.delay * p) (sym f.state.line_ports)) (length_decided r hears f.state ∙ sym f.state.line_ports)
@@ -221,7 +221,7 @@ flags_next : (n : ℕ) (m : Mode) (q : ℕ) (cs : List Count) → 0 < n → suc 
 flags_next zero m q cs some l = absurd (omega arith)
 flags_next (suc n) m q cs some l = flags_same n m q cs l
 
-fits_next : (hears : List Sym) (emitting : List Bool) (a : Activity) (n : ℕ) (r : State) → Fits hears emitting a (suc n) r → Fits hears emitting a n (after hears r)
+fits_next : (hears : List Sym) (emitting : List Bool) (a : Activity) (n : ℕ) (r : RepeaterDevice) → Fits hears emitting a (suc n) r → Fits hears emitting a n (after hears r)
 fits_next hears emitting a n r f =
     let flags = sent_from r.mode 0 r.counts in
     let once = steady_once hears emitting flags r (fits_step hears emitting a n r f) in
@@ -235,11 +235,11 @@ fits_next hears emitting a n r f =
       mode_fits = mode_falls n r.mode a f.mode_fits;
       ports = subst (λ x. n ≤ x) (sym (ports_same r.mode 0 (at_each count_by flags r.counts))) (ports_fall n r.mode 0 r.counts f.ports);
       guards = calm_falls n kinds r.guards f.guards;
-      rows = subst (λ (d : Delayed). RowsAre emitting n d) (ap (λ (x : State). x.line) once) (line_next hears emitting a n r f);
+      rows = subst (λ (d : Delayed). RowsAre emitting n d) (ap (λ (x : RepeaterDevice). x.line) once) (line_next hears emitting a n r f);
       past = λ l. flags_next n r.mode 0 r.counts (omega arith) f.ports ∙ f.past (omega arith);
     })
 
-fits_steady : (n : ℕ) (hears : List Sym) (emitting flags : List Bool) (a : Activity) (r : State) → flags ≡ sent_from r.mode 0 r.counts → Fits hears emitting a n r
+fits_steady : (n : ℕ) (hears : List Sym) (emitting flags : List Bool) (a : Activity) (r : RepeaterDevice) → flags ≡ sent_from r.mode 0 r.counts → Fits hears emitting a n r
     → (k : ℕ) → k < n → IsSteadyStep hears emitting flags (iterate (after hears) k r)
 fits_steady zero hears emitting flags a r e f k l = absurd (omega arith)
 fits_steady (suc n) hears emitting flags a r e f zero l = subst (λ bs. IsSteadyStep hears emitting bs r) (sym e) (fits_step hears emitting a n r f)
@@ -247,16 +247,16 @@ fits_steady (suc zero) hears emitting flags a r e f (suc k) l = absurd (omega ar
 fits_steady (suc (suc n)) hears emitting flags a r e f (suc k) l =
     let once = steady_once hears emitting (sent_from r.mode 0 r.counts) r (fits_step hears emitting a (suc n) r f) in
     fits_steady (suc n) hears emitting flags a (after hears r)
-    (e ∙ sym (flags_same n r.mode 0 r.counts f.ports) ∙ sym (ap (λ (x : State). sent_from x.mode 0 x.counts) once))
+    (e ∙ sym (flags_same n r.mode 0 r.counts f.ports) ∙ sym (ap (λ (x : RepeaterDevice). sent_from x.mode 0 x.counts) once))
     (fits_next hears emitting a (suc n) r f) k (omega arith)
 
-pub steady_for : (n : ℕ) (hears : List Sym) (a : Activity) (r : State) → Fits hears (map is_signal (emitted_by r)) a n r → IsSteady hears r n
+pub steady_for : (n : ℕ) (hears : List Sym) (a : Activity) (r : RepeaterDevice) → Fits hears (map is_signal (emitted_by r)) a n r → IsSteady hears r n
 steady_for zero hears a r f = λ k l. absurd (omega arith)
 steady_for (suc n) hears a r f =
     fits_steady (suc n) hears (map is_signal (emitted_by r)) (map is_signal (decided_by hears r)) a r (fits_step hears (map is_signal (emitted_by r)) a n r f).decides f
 
 -- from what the parts tell
-pub fits : (n : ℕ) (hears es : List Sym) (r : State) → IsState r → length hears ≡ length r.guards → es ≡ emitted_by r → n ≤ mode_steady r.mode (activity_from 0 r.guards hears) → n ≤ ports_steady r.mode 0 r.counts
+pub fits : (n : ℕ) (hears es : List Sym) (r : RepeaterDevice) → IsState r → length hears ≡ length r.guards → es ≡ emitted_by r → n ≤ mode_steady r.mode (activity_from 0 r.guards hears) → n ≤ ports_steady r.mode 0 r.counts
     → HaveNoEvents n hears es r.guards → RowsAre (map is_signal es) n r.line → (r.line.delay < n → sent_from r.mode 0 r.counts ≡ map is_signal es) → IsSteady hears r n
 fits n hears es r h l e m p g rows past =
     steady_for n hears (activity_from 0 r.guards hears) r (record {

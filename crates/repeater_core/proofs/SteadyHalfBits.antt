@@ -13,7 +13,7 @@ use Rattle.repeater_core.specs.declared.modes.Mode.TheVariants.{Idle, Repeat, Ex
 use Rattle.repeater_core.specs.Modes.{wish_of}
 use Rattle.repeater_core.specs.Counts.{Count, Choice, choice, choice_awake, choices_from, resting_count}
 use Rattle.repeater_core.specs.Delayed.{moved_on}
-use Rattle.repeater_core.specs.Step.{State, mode_next, chosen, after, emitted_by, guards_after, collides, mask_from}
+use Rattle.repeater_core.specs.Step.{RepeaterDevice, mode_next, chosen, after, emitted_by, guards_after, collides, mask_from}
 use Rattle.repeater_core.specs.Steady.{mode_on, IsSteadyStep, sent_text, texted, kind_of, kinds_of, at_each, guard_by, count_by, line_later}
 use Rattle.repeater_core.proofs.SendsToOthers.{choose}
 use Rattle.repeater_core.proofs.CalmIsExact.{same_state}
@@ -122,7 +122,7 @@ counts_by_text mode hears q p (c ∷ cs) z =
     ap₂ ◌∷◌ (choice_count (wish_of mode hears q) c o.0) (counts_by_text mode hears (q + 1) (p + 1) cs o.1)
 
 -- the state after a steady half bit, part by part
-abbrev pub steady_parts : List Sym → List Bool → List Bool → State → State
+abbrev pub steady_parts : List Sym → List Bool → List Bool → RepeaterDevice → RepeaterDevice
 steady_parts hears emitting deciding r = record {
   mode = mode_on r.mode;
   guards = at_each guard_by (kinds_of hears emitting) r.guards;
@@ -130,7 +130,7 @@ steady_parts hears emitting deciding r = record {
   line = moved_on (texted deciding (sent_text (mode_on r.mode) hears)) r.line;
 }
 
-pub steady_once : (hears : List Sym) (emitting deciding : List Bool) (r : State) → IsSteadyStep hears emitting deciding r → after hears r ≡ steady_parts hears emitting deciding r
+pub steady_once : (hears : List Sym) (emitting deciding : List Bool) (r : RepeaterDevice) → IsSteadyStep hears emitting deciding r → after hears r ≡ steady_parts hears emitting deciding r
 unfolding chosen
 steady_once hears emitting deciding r s =
     same_state (after hears r) (steady_parts hears emitting deciding r) s.mode
@@ -139,7 +139,7 @@ steady_once hears emitting deciding r s =
     (ap (λ xs. moved_on xs r.line) (decides_text (mode_next hears r) hears 0 r.counts ∙ ap₂ texted s.decides (ap (λ m. sent_text m hears) s.mode)))
 
 -- the state after n steady half bits, part by part
-abbrev pub steady_later : List Sym → List Bool → List Bool → ℕ → State → State
+abbrev pub steady_later : List Sym → List Bool → List Bool → ℕ → RepeaterDevice → RepeaterDevice
 steady_later hears emitting deciding n r = record {
   mode = iterate mode_on n r.mode;
   guards = iterate (at_each guard_by (kinds_of hears emitting)) n r.guards;
@@ -147,7 +147,7 @@ steady_later hears emitting deciding n r = record {
   line = line_later hears deciding n r.mode r.line;
 }
 
-pub steady_is : (n : ℕ) (hears : List Sym) (emitting deciding : List Bool) (r : State)
+pub steady_is : (n : ℕ) (hears : List Sym) (emitting deciding : List Bool) (r : RepeaterDevice)
     → ((k : ℕ) → k < n → IsSteadyStep hears emitting deciding (iterate (after hears) k r)) → iterate (after hears) n r ≡ steady_later hears emitting deciding n r
 steady_is zero hears emitting deciding r s = refl
 steady_is (suc n) hears emitting deciding r s =

@@ -15,7 +15,7 @@ use Rattle.repeater_core.specs.Modes.{activity_from, mode_after, wish_of}
 use Rattle.repeater_core.specs.Counts.{Count, choice, choices_from}
 use Rattle.repeater_core.specs.Delayed.{oldest}
 use Rattle.repeater_core.specs.SilentParts.{sends_to}
-use Rattle.repeater_core.specs.Step.{State, IsState, mode_next, chosen, after, emitted_by, decided_by, mask_from}
+use Rattle.repeater_core.specs.Step.{RepeaterDevice, IsState, mode_next, chosen, after, emitted_by, decided_by, mask_from}
 use Rattle.repeater_core.specs.Steady.{mode_on, mode_steady, port_steady, ports_steady, sent_from, AreAlikeRows, IsSteadyStep, IsSteady, at_each, count_by, sent_text, texted, line_later, HaveNoEvents, RunsWithin}
 use Rattle.repeater_core.proofs.SendsToOthers.{IsRepeatable, repeatable, hears_as}
 use Rattle.repeater_core.proofs.CalmIsExact.{length_emitted}
@@ -31,20 +31,20 @@ mode_some m a e = grind (arith, nat_tests)
 mode_rises : (n : ℕ) (m : Mode) (a : Activity) → 0 < mode_steady m a → n ≤ mode_steady (mode_on m) a → suc n ≤ most_calm → suc n ≤ mode_steady m a
 mode_rises n m a l b few = grind (arith, nat_tests)
 
-one_steady : (hears : List Sym) (emitting deciding : List Bool) (r : State) → IsSteadyStep hears emitting deciding r
+one_steady : (hears : List Sym) (emitting deciding : List Bool) (r : RepeaterDevice) → IsSteadyStep hears emitting deciding r
     → (k : ℕ) → k < 1 → IsSteadyStep hears (map is_signal (emitted_by r)) (map is_signal (decided_by hears r)) (iterate (after hears) k r)
 one_steady hears emitting deciding r s zero b =
     subst (λ x. IsSteadyStep hears x (map is_signal (decided_by hears r)) r) (sym s.emits) (subst (λ x. IsSteadyStep hears emitting x r) (sym s.decides) s)
 one_steady hears emitting deciding r s (suc k) b = absurd (omega arith)
 
-pub active_stays : (hears : List Sym) (emitting deciding : List Bool) (r : State) → IsState r → length hears ≡ length r.guards → IsSteadyStep hears emitting deciding r
+pub active_stays : (hears : List Sym) (emitting deciding : List Bool) (r : RepeaterDevice) → IsState r → length hears ≡ length r.guards → IsSteadyStep hears emitting deciding r
     → activity_from 0 (after hears r).guards hears ≡ activity_from 0 r.guards hears
 active_stays hears emitting deciding r h l s =
     ap (λ gs. activity_from 0 gs hears) (guards_by_kind r.guards hears (emitted_by r))
     ∙ active_same 0 0 hears (map is_signal (emitted_by r)) r.guards l (length-map (emitted_by r) is_signal ∙ length_emitted r h)
     (calm_by 1 hears (emitted_by r) r.guards l (length_emitted r h) (have_no_events 1 r hears h l (one_steady hears emitting deciding r s)))
 
-mode_needs : (n : ℕ) (hears : List Sym) (emitting deciding : List Bool) (r : State) → IsState r → length hears ≡ length r.guards
+mode_needs : (n : ℕ) (hears : List Sym) (emitting deciding : List Bool) (r : RepeaterDevice) → IsState r → length hears ≡ length r.guards
     → ((k : ℕ) → k < n → IsSteadyStep hears emitting deciding (iterate (after hears) k r)) → n ≤ most_calm → n ≤ mode_steady r.mode (activity_from 0 r.guards hears)
 unfolding mode_next
 mode_needs zero hears emitting deciding r h l s few = omega arith
@@ -107,44 +107,44 @@ sends_later : (k : ℕ) (m : Mode) (q : ℕ) → sends_to (iterate mode_on k m) 
 sends_later zero m q = refl
 sends_later (suc k) m q = sends_later k (mode_on m) q ∙ sends_same m q
 
-mode_at : (n k : ℕ) (r : State) (hears : List Sym) → IsSteady hears r n → k < n → mode_next hears (iterate (after hears) k r) ≡ mode_on (iterate mode_on k r.mode)
-mode_at n k r hears s b = (s k b).mode ∙ ap (λ (y : State). mode_on y.mode) (at_k n k r hears s b)
+mode_at : (n k : ℕ) (r : RepeaterDevice) (hears : List Sym) → IsSteady hears r n → k < n → mode_next hears (iterate (after hears) k r) ≡ mode_on (iterate mode_on k r.mode)
+mode_at n k r hears s b = (s k b).mode ∙ ap (λ (y : RepeaterDevice). mode_on y.mode) (at_k n k r hears s b)
 
-pub repeats : (hears : List Sym) (x : State) → IsRepeatable hears (mode_next hears x)
+pub repeats : (hears : List Sym) (x : RepeaterDevice) → IsRepeatable hears (mode_next hears x)
 unfolding mode_next
 repeats hears x = repeatable hears x.mode (activity_from 0 x.guards hears) (hears_as 0 x.guards hears)
 
-wish_at : (n k q : ℕ) (r : State) (hears : List Sym) → IsSteady hears r n → k < n → is_signal (wish_of (mode_next hears (iterate (after hears) k r)) hears q) ≡ sends_to r.mode q
+wish_at : (n k q : ℕ) (r : RepeaterDevice) (hears : List Sym) → IsSteady hears r n → k < n → is_signal (wish_of (mode_next hears (iterate (after hears) k r)) hears q) ≡ sends_to r.mode q
 wish_at n k q r hears s b =
     let x = iterate (after hears) k r in
     wish_signal (mode_next hears x) hears q (repeats hears x)
     ∙ ap (λ m. sends_to m q) (mode_at n k r hears s b) ∙ sends_same (iterate mode_on k r.mode) q ∙ sends_later k r.mode q
 
-halted_at : (n k : ℕ) (r : State) (hears : List Sym) → IsState r → IsSteady hears r n → k < n
+halted_at : (n k : ℕ) (r : RepeaterDevice) (hears : List Sym) → IsState r → IsSteady hears r n → k < n
     → mask_from 0 (map (λ c. c.halted) (choices_from (mode_next hears (iterate (after hears) k r)) hears 0 (at_each (λ x c. iterate (count_by x) k c) (map is_signal (decided_by hears r)) r.counts))) ≡ 0
 unfolding chosen
 halted_at n k r hears h s b =
     ap (λ cs. mask_from 0 (map (λ c. c.halted) (choices_from (mode_next hears (iterate (after hears) k r)) hears 0 cs))) (sym (counts_at n k r hears h s b)) ∙ (s k b).none_halted
 
-ports_are : (n : ℕ) (r : State) (hears : List Sym) → IsState r → RunsWithin r.counts → IsSteady hears r n → n ≤ most_calm → n ≤ ports_steady r.mode 0 r.counts
+ports_are : (n : ℕ) (r : RepeaterDevice) (hears : List Sym) → IsState r → RunsWithin r.counts → IsSteady hears r n → n ≤ most_calm → n ≤ ports_steady r.mode 0 r.counts
 ports_are n r hears h runs s few =
     ports_need n 0 0 r.mode (λ k. mode_next hears (iterate (after hears) k r)) hears (map is_signal (decided_by hears r)) r.counts
     (length-map (decided_by hears r) is_signal ∙ length_decided r hears h ∙ sym h.counts_len) few runs
     (λ k q b. wish_at n k q r hears s b) (λ k b. sent_at_k n k r hears h s b) (λ k b. halted_at n k r hears h s b)
 
 -- the delay line
-pub emitted_later : (k : ℕ) (hears : List Sym) (r : State) → IsState r → length hears ≡ length r.guards → k < r.line.delay
+pub emitted_later : (k : ℕ) (hears : List Sym) (r : RepeaterDevice) → IsState r → length hears ≡ length r.guards → k < r.line.delay
     → emitted_by (iterate (after hears) k r) ≡ take r.line.ports (drop (k * r.line.ports) r.line.rows)
 emitted_later zero hears r h l b = let none : 0 * r.line.ports ≡ 0 = omega arith in ap (λ i. take r.line.ports (drop i r.line.rows)) (sym none)
 emitted_later (suc k) hears r h l b =
     emitted_later k hears (after hears r) (state_after r hears h l) (l ∙ sym (ports_after r hears h l)) (omega arith)
     ∙ row_on (suc k) k r.line.ports r.line.delay r.line.rows (decided_by hears r) (h.rows_len ∙ ap (λ p. r.line.delay * p) (sym h.line_ports)) (omega arith) (omega arith)
 
-rows_are : (n : ℕ) (hears : List Sym) (r : State) → IsState r → length hears ≡ length r.guards → IsSteady hears r n → n ≤ r.line.delay → AreAlikeRows n r.line
+rows_are : (n : ℕ) (hears : List Sym) (r : RepeaterDevice) → IsState r → length hears ≡ length r.guards → IsSteady hears r n → n ≤ r.line.delay → AreAlikeRows n r.line
 rows_are n hears r h l s few = λ k b. ap (map is_signal) (sym (emitted_later k hears r h l (omega arith))) ∙ (s k b).emits
 
 -- past the delay what was decided in the first of them is emitted
-emitted_past : (d : ℕ) (hears : List Sym) (r : State) → IsState r → length hears ≡ length r.guards → r.line.delay ≡ suc d → emitted_by (iterate (after hears) (suc d) r) ≡ decided_by hears r
+emitted_past : (d : ℕ) (hears : List Sym) (r : RepeaterDevice) → IsState r → length hears ≡ length r.guards → r.line.delay ≡ suc d → emitted_by (iterate (after hears) (suc d) r) ≡ decided_by hears r
 emitted_past d hears r h l more =
     let p = r.line.ports in
     let last : d ≡ r.line.delay - 1 = omega arith in
@@ -152,11 +152,11 @@ emitted_past d hears r h l more =
     ∙ ap (λ i. take p (drop (i * p) (drop p r.line.rows ++ decided_by hears r))) last
     ∙ row_last p r.line.delay r.line.rows (decided_by hears r) (omega arith) (h.rows_len ∙ ap (λ p. r.line.delay * p) (sym h.line_ports)) (length_decided r hears h ∙ sym h.line_ports)
 
-sent_first : (n : ℕ) (hears : List Sym) (r : State) → IsSteady hears r n → 0 < n → 0 < ports_steady r.mode 0 r.counts → map is_signal (decided_by hears r) ≡ sent_from r.mode 0 r.counts
+sent_first : (n : ℕ) (hears : List Sym) (r : RepeaterDevice) → IsSteady hears r n → 0 < n → 0 < ports_steady r.mode 0 r.counts → map is_signal (decided_by hears r) ≡ sent_from r.mode 0 r.counts
 unfolding chosen
 sent_first n hears r s b some = decides_flags r.mode (mode_next hears r) hears 0 r.counts (λ q. wish_at n 0 q r hears s b) some
 
-sent_past : (n : ℕ) (hears : List Sym) (r : State) → IsState r → length hears ≡ length r.guards → 0 < ports_steady r.mode 0 r.counts → IsSteady hears r n → r.line.delay < n
+sent_past : (n : ℕ) (hears : List Sym) (r : RepeaterDevice) → IsState r → length hears ≡ length r.guards → 0 < ports_steady r.mode 0 r.counts → IsSteady hears r n → r.line.delay < n
     → sent_from r.mode 0 r.counts ≡ map is_signal (emitted_by r)
 sent_past n hears r h l some s b =
     let d = r.line.delay - 1 in
@@ -164,7 +164,7 @@ sent_past n hears r h l some s b =
     sym (sent_first n hears r s (omega arith) some) ∙ ap (map is_signal) (sym (emitted_past d hears r h l more)) ∙ (s (suc d) (omega arith)).emits
 
 -- one half bit more isn't steady
-pub no_more : (n modes ports guards rows : ℕ) (hears es : List Sym) (r : State) → IsState r → length hears ≡ length r.guards → es ≡ emitted_by r → RunsWithin r.counts
+pub no_more : (n modes ports guards rows : ℕ) (hears es : List Sym) (r : RepeaterDevice) → IsState r → length hears ≡ length r.guards → es ≡ emitted_by r → RunsWithin r.counts
     → n ≡ min (min (min modes ports) guards) rows → modes ≡ mode_steady r.mode (activity_from 0 r.guards hears) → ports ≡ ports_steady r.mode 0 r.counts
     → (guards < most_calm → ¬ HaveNoEvents (guards + 1) hears es r.guards) → (rows < r.line.delay → ¬ AreAlikeRows (rows + 1) r.line)
     → (r.line.delay ≤ rows → rows < most_calm → ¬ (sent_from r.mode 0 r.counts ≡ map is_signal es)) → n < most_calm → ¬ IsSteady hears r (n + 1)
@@ -184,14 +184,14 @@ no_more n modes ports guards rows hears es r h l e runs is m p g w o few s =
     ]
 
 -- what is emitted and decided in the last of them
-pub last_emitted : (n : ℕ) (r : State) (hears : List Sym) → IsSteady hears r n → 0 < n → emitted_by (iterate (after hears) (n - 1) r) ≡ oldest (line_later hears (map is_signal (decided_by hears r)) (n - 1) r.mode r.line)
+pub last_emitted : (n : ℕ) (r : RepeaterDevice) (hears : List Sym) → IsSteady hears r n → 0 < n → emitted_by (iterate (after hears) (n - 1) r) ≡ oldest (line_later hears (map is_signal (decided_by hears r)) (n - 1) r.mode r.line)
 last_emitted n r hears s l = ap emitted_by (at_k n (n - 1) r hears s (omega arith))
 
 on_more : (k : ℕ) (m : Mode) → mode_on (iterate mode_on k m) ≡ iterate mode_on (suc k) m
 on_more zero m = refl
 on_more (suc k) m = on_more k (mode_on m)
 
-pub last_decided : (n : ℕ) (r : State) (hears : List Sym) → IsSteady hears r n → 0 < n
+pub last_decided : (n : ℕ) (r : RepeaterDevice) (hears : List Sym) → IsSteady hears r n → 0 < n
     → decided_by hears (iterate (after hears) (n - 1) r) ≡ texted (map is_signal (decided_by hears r)) (sent_text (iterate mode_on n r.mode) hears)
 last_decided n r hears s l =
     let x = iterate (after hears) (n - 1) r in

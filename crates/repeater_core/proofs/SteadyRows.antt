@@ -19,7 +19,7 @@ use Rattle.repeater_core.specs.declared.modes.Activity.TheVariants.{Nobody, One,
 use Rattle.repeater_core.specs.Modes.{joined, activity_at, activity_from, mode_after, next_count, wish_of}
 use Rattle.repeater_core.specs.Counts.{Count, choice, choices_from}
 use Rattle.repeater_core.specs.Delayed.{Delayed, moved_on}
-use Rattle.repeater_core.specs.Step.{State, IsState, mode_next, chosen, after, emitted_by, decided_by, guard_events, is_closing, is_opening, mask_from}
+use Rattle.repeater_core.specs.Step.{RepeaterDevice, IsState, mode_next, chosen, after, emitted_by, decided_by, guard_events, is_closing, is_opening, mask_from}
 use Rattle.repeater_core.specs.Steady.{mode_on, IsSteadyStep, IsSteady, sent_text, texted, Kind, kind_of, kinds_of, at_each, guard_by, count_by}
 use Rattle.repeater_core.specs.Classes.{class_of, after_rows, text_for, texts_after, line_with, IsSource, IsOfSource, AreHeardAs, AreSteadyRows, DecideTexts, EmitRows}
 use Rattle.repeater_core.proofs.SteadyHalfBits.{each_later, steady_once}
@@ -141,39 +141,39 @@ halted_like m xs ys q (c ∷ cs) e =
     (halted_like m xs ys (q + 1) cs e)
 
 -- two repeaters that differ by nothing but the levels of what is not yet emitted
-pub record Like (r x : State) : Type 0 where
+pub record Like (r x : RepeaterDevice) : Type 0 where
   pub mode_same : x.mode ≡ r.mode
   pub guards_same : x.guards ≡ r.guards
   pub counts_same : x.counts ≡ r.counts
   pub ports_same : x.line.ports ≡ r.line.ports
   pub flags_same : map is_signal x.line.rows ≡ map is_signal r.line.rows
 
-pub like_self : (r : State) → Like r r
+pub like_self : (r : RepeaterDevice) → Like r r
 like_self r = record { mode_same = refl; guards_same = refl; counts_same = refl; ports_same = refl; flags_same = refl }
 
-mode_like : (hears row : List Sym) (r x : State) → Like r x → map class_of row ≡ map class_of hears → mode_next row x ≡ mode_next hears r
+mode_like : (hears row : List Sym) (r x : RepeaterDevice) → Like r x → map class_of row ≡ map class_of hears → mode_next row x ≡ mode_next hears r
 unfolding mode_next
 mode_like hears row r x k e = ap₂ (λ m gs. mode_after m (activity_from 0 gs row)) k.mode_same k.guards_same ∙ active_like r.mode 0 r.guards row hears e
 
-emitted_like : (r x : State) → Like r x → map is_signal (emitted_by x) ≡ map is_signal (emitted_by r)
+emitted_like : (r x : RepeaterDevice) → Like r x → map is_signal (emitted_by x) ≡ map is_signal (emitted_by r)
 emitted_like r x k = sym (take-map is_signal x.line.ports x.line.rows) ∙ ap₂ take k.ports_same k.flags_same ∙ take-map is_signal r.line.ports r.line.rows
 
-decided_like : (hears row : List Sym) (r x : State) → Like r x → map class_of row ≡ map class_of hears → map is_signal (decided_by row x) ≡ map is_signal (decided_by hears r)
+decided_like : (hears row : List Sym) (r x : RepeaterDevice) → Like r x → map class_of row ≡ map class_of hears → map is_signal (decided_by row x) ≡ map is_signal (decided_by hears r)
 unfolding chosen
 decided_like hears row r x k e =
     ap₂ (λ m cs. map is_signal (map (λ c. c.symbol) (choices_from m row 0 cs))) (mode_like hears row r x k e) k.counts_same ∙ symbols_like (mode_next hears r) row hears 0 r.counts e
 
-halts_like : (hears row : List Sym) (r x : State) → Like r x → map class_of row ≡ map class_of hears → map (λ c. c.halted) (chosen row x) ≡ map (λ c. c.halted) (chosen hears r)
+halts_like : (hears row : List Sym) (r x : RepeaterDevice) → Like r x → map class_of row ≡ map class_of hears → map (λ c. c.halted) (chosen row x) ≡ map (λ c. c.halted) (chosen hears r)
 unfolding chosen
 halts_like hears row r x k e =
     ap₂ (λ m cs. map (λ c. c.halted) (choices_from m row 0 cs)) (mode_like hears row r x k e) k.counts_same ∙ halted_like (mode_next hears r) row hears 0 r.counts e
 
-events_like : (hears row : List Sym) (r x : State) → Like r x → map class_of row ≡ map class_of hears → guard_events x.guards row (emitted_by x) ≡ guard_events r.guards hears (emitted_by r)
+events_like : (hears row : List Sym) (r x : RepeaterDevice) → Like r x → map class_of row ≡ map class_of hears → guard_events x.guards row (emitted_by x) ≡ guard_events r.guards hears (emitted_by r)
 events_like hears row r x k e =
     events_by_kind x.guards row (emitted_by x) ∙ ap₂ (λ gs bs. events_by (kinds_of row bs) gs) k.guards_same (emitted_like r x k)
     ∙ ap (λ ks. events_by ks r.guards) (kinds_like row hears (map is_signal (emitted_by r)) e) ∙ sym (events_by_kind r.guards hears (emitted_by r))
 
-pub step_like : (hears row : List Sym) (emitting deciding : List Bool) (r x : State) → Like r x → map class_of row ≡ map class_of hears → IsSteadyStep hears emitting deciding r → IsSteadyStep row emitting deciding x
+pub step_like : (hears row : List Sym) (emitting deciding : List Bool) (r x : RepeaterDevice) → Like r x → map class_of row ≡ map class_of hears → IsSteadyStep hears emitting deciding r → IsSteadyStep row emitting deciding x
 step_like hears row emitting deciding r x k e s =
     let events = events_like hears row r x k e in
     record {
@@ -189,14 +189,14 @@ flags_moved : (xs ys ds es : List Sym) (p q : ℕ) → p ≡ q → map is_signal
 flags_moved xs ys ds es p q e f g =
     map-append is_signal (drop p xs) ds ∙ ap₂ ◌++◌ (sym (drop-map is_signal p xs) ∙ ap₂ drop e f ∙ drop-map is_signal q ys) g ∙ sym (map-append is_signal (drop q ys) es)
 
-pub after_like : (hears row : List Sym) (emitting deciding : List Bool) (r x : State) → Like r x → map class_of row ≡ map class_of hears → IsSteadyStep hears emitting deciding r → Like (after hears r) (after row x)
+pub after_like : (hears row : List Sym) (emitting deciding : List Bool) (r x : RepeaterDevice) → Like r x → map class_of row ≡ map class_of hears → IsSteadyStep hears emitting deciding r → Like (after hears r) (after row x)
 after_like hears row emitting deciding r x k e s =
     let then = steady_once row emitting deciding x (step_like hears row emitting deciding r x k e s) in
     let first = steady_once hears emitting deciding r s in
     record {
       mode_same = mode_like hears row r x k e;
-      guards_same = ap (λ (y : State). y.guards) then ∙ ap₂ (λ ks gs. at_each guard_by ks gs) (kinds_like row hears emitting e) k.guards_same ∙ sym (ap (λ (y : State). y.guards) first);
-      counts_same = ap (λ (y : State). y.counts) then ∙ ap (at_each count_by deciding) k.counts_same ∙ sym (ap (λ (y : State). y.counts) first);
+      guards_same = ap (λ (y : RepeaterDevice). y.guards) then ∙ ap₂ (λ ks gs. at_each guard_by ks gs) (kinds_like row hears emitting e) k.guards_same ∙ sym (ap (λ (y : RepeaterDevice). y.guards) first);
+      counts_same = ap (λ (y : RepeaterDevice). y.counts) then ∙ ap (at_each count_by deciding) k.counts_same ∙ sym (ap (λ (y : RepeaterDevice). y.counts) first);
       ports_same = k.ports_same;
       flags_same = flags_moved x.line.rows r.line.rows (decided_by row x) (decided_by hears r) x.line.ports r.line.ports k.ports_same k.flags_same (decided_like hears row r x k e);
     }
@@ -205,7 +205,7 @@ after_like hears row emitting deciding r x k e s =
 abbrev pub OfClasses : List Sym → List (List Sym) → Type 0
 OfClasses hears rows = AllByRecursion (λ row. map class_of row ≡ map class_of hears) rows
 
-pub steps_rows : (rows : List (List Sym)) (hears : List Sym) (emitting deciding : List Bool) (r x : State) → Like r x → OfClasses hears rows
+pub steps_rows : (rows : List (List Sym)) (hears : List Sym) (emitting deciding : List Bool) (r x : RepeaterDevice) → Like r x → OfClasses hears rows
     → ((k : ℕ) → k < length rows → IsSteadyStep hears emitting deciding (iterate (after hears) k r))
     → (k : ℕ) → k < length rows → IsSteadyStep (get_or rows k []) emitting deciding (after_rows (take k rows) x)
 steps_rows [] hears emitting deciding r x y a s k l = absurd (omega arith)
@@ -230,7 +230,7 @@ source_on (TxClash i) s heard row rows e = tt
 source_on (OnePort n i) s heard row rows e = tt
 
 -- the state after n half bits that are steady by their classes, part by part
-abbrev pub rows_later : List Sym → List Bool → List Bool → List Sym → ℕ → State → State
+abbrev pub rows_later : List Sym → List Bool → List Bool → List Sym → ℕ → RepeaterDevice → RepeaterDevice
 rows_later hears emitting deciding heard n r = record {
   mode = iterate mode_on n r.mode;
   guards = iterate (at_each guard_by (kinds_of hears emitting)) n r.guards;
@@ -239,7 +239,7 @@ rows_later hears emitting deciding heard n r = record {
 }
 
 -- and after one, in which the port that is repeated hears s
-abbrev row_parts : List Sym → List Bool → List Bool → Sym → State → State
+abbrev row_parts : List Sym → List Bool → List Bool → Sym → RepeaterDevice → RepeaterDevice
 row_parts hears emitting deciding s r = record {
   mode = mode_on r.mode;
   guards = at_each guard_by (kinds_of hears emitting) r.guards;
@@ -247,7 +247,7 @@ row_parts hears emitting deciding s r = record {
   line = moved_on (texted deciding (text_for (mode_on r.mode) s)) r.line;
 }
 
-abbrev row_by : List Kind → List Bool → Sym → State → State
+abbrev row_by : List Kind → List Bool → Sym → RepeaterDevice → RepeaterDevice
 row_by kinds deciding text r = record {
   mode = mode_on r.mode;
   guards = at_each guard_by kinds r.guards;
@@ -255,13 +255,13 @@ row_by kinds deciding text r = record {
   line = moved_on (texted deciding text) r.line;
 }
 
-row_once : (hears row heard : List Sym) (rows : List (List Sym)) (s : Sym) (emitting deciding : List Bool) (x : State) → map class_of row ≡ map class_of hears → IsSource x.mode (s ∷ heard) (row ∷ rows)
+row_once : (hears row heard : List Sym) (rows : List (List Sym)) (s : Sym) (emitting deciding : List Bool) (x : RepeaterDevice) → map class_of row ≡ map class_of hears → IsSource x.mode (s ∷ heard) (row ∷ rows)
     → IsSteadyStep row emitting deciding x → after row x ≡ row_parts hears emitting deciding s x
 row_once hears row heard rows s emitting deciding x e src step =
     steady_once row emitting deciding x step
     ∙ ap₂ (λ ks t. row_by ks deciding t x) (kinds_like row hears emitting e) (text_is x.mode s heard row rows src)
 
-pub rows_are : (rows : List (List Sym)) (heard hears : List Sym) (emitting deciding : List Bool) (r x : State) → Like r x → length rows ≡ length heard → OfClasses hears rows → IsSource x.mode heard rows
+pub rows_are : (rows : List (List Sym)) (heard hears : List Sym) (emitting deciding : List Bool) (r x : RepeaterDevice) → Like r x → length rows ≡ length heard → OfClasses hears rows → IsSource x.mode heard rows
     → ((k : ℕ) → k < length rows → IsSteadyStep hears emitting deciding (iterate (after hears) k r)) → after_rows rows x ≡ rows_later hears emitting deciding heard (length rows) x
 rows_are [] [] hears emitting deciding r x y n a src s = refl
 rows_are [] (h ∷ heard) hears emitting deciding r x y n a src s = absurd (omega arith)
@@ -273,7 +273,7 @@ rows_are (row ∷ rows) (h ∷ heard) hears emitting deciding r x y n a src s =
     (subst (λ m. IsSource m heard rows) (sym step.mode) (source_on x.mode h heard row rows src)) (λ k l. s (suc k) (omega arith))
     ∙ ap (rows_later hears emitting deciding heard (length rows)) (row_once hears row heard rows h emitting deciding x a.0 src step)
 
-pub texts_rows : (rows : List (List Sym)) (heard hears : List Sym) (emitting deciding : List Bool) (r x : State) → Like r x → length rows ≡ length heard → OfClasses hears rows → IsSource x.mode heard rows
+pub texts_rows : (rows : List (List Sym)) (heard hears : List Sym) (emitting deciding : List Bool) (r x : RepeaterDevice) → Like r x → length rows ≡ length heard → OfClasses hears rows → IsSource x.mode heard rows
     → ((k : ℕ) → k < length rows → IsSteadyStep hears emitting deciding (iterate (after hears) k r))
     → (k : ℕ) → k < length rows → decided_by (get_or rows k []) (after_rows (take k rows) x) ≡ texted deciding (get_or (texts_after x.mode heard) k sy.Idle)
 texts_rows [] heard hears emitting deciding r x y n a src s k l = absurd (omega arith)
@@ -291,7 +291,7 @@ texts_rows (row ∷ rows) (h ∷ heard) hears emitting deciding r x y n a src s 
 row_length : (row hears : List Sym) → map class_of row ≡ map class_of hears → length row ≡ length hears
 row_length row hears e = sym (length-map row class_of) ∙ ap length e ∙ length-map hears class_of
 
-pub emits_rows : (rows : List (List Sym)) (hears : List Sym) (r : State) → IsState r → length hears ≡ length r.guards → OfClasses hears rows
+pub emits_rows : (rows : List (List Sym)) (hears : List Sym) (r : RepeaterDevice) → IsState r → length hears ≡ length r.guards → OfClasses hears rows
     → (k : ℕ) → k < length rows → k < r.line.delay → emitted_by (after_rows (take k rows) r) ≡ take r.line.ports (drop (k * r.line.ports) r.line.rows)
 emits_rows [] hears r h l a k b d = absurd (omega arith)
 emits_rows (row ∷ rows) hears r h l a zero b d = let none : 0 * r.line.ports ≡ 0 = omega arith in ap (λ i. take r.line.ports (drop i r.line.rows)) (sym none)
@@ -300,13 +300,13 @@ emits_rows (row ∷ rows) hears r h l a (suc k) b d =
     emits_rows rows hears (after row r) (state_after r row h n) (l ∙ sym (ports_after r row h n)) a.1 k (omega arith) (omega arith)
     ∙ row_on (suc k) k r.line.ports r.line.delay r.line.rows (decided_by row r) (h.rows_len ∙ ap (λ p. r.line.delay * p) (sym h.line_ports)) (omega arith) (omega arith)
 
-pub state_rows : (rows : List (List Sym)) (hears : List Sym) (r : State) → IsState r → length hears ≡ length r.guards → OfClasses hears rows → IsState (after_rows rows r)
+pub state_rows : (rows : List (List Sym)) (hears : List Sym) (r : RepeaterDevice) → IsState r → length hears ≡ length r.guards → OfClasses hears rows → IsState (after_rows rows r)
 state_rows [] hears r h l a = h
 state_rows (row ∷ rows) hears r h l a =
     let n : length row ≡ length r.guards = row_length row hears a.0 ∙ l in
     state_rows rows hears (after row r) (state_after r row h n) (l ∙ sym (ports_after r row h n)) a.1
 
-pub ports_rows : (rows : List (List Sym)) (hears : List Sym) (r : State) → IsState r → length hears ≡ length r.guards → OfClasses hears rows → length (after_rows rows r).guards ≡ length r.guards
+pub ports_rows : (rows : List (List Sym)) (hears : List Sym) (r : RepeaterDevice) → IsState r → length hears ≡ length r.guards → OfClasses hears rows → length (after_rows rows r).guards ≡ length r.guards
 ports_rows [] hears r h l a = refl
 ports_rows (row ∷ rows) hears r h l a =
     let n : length row ≡ length r.guards = row_length row hears a.0 ∙ l in
@@ -351,33 +351,33 @@ heard_rows (TxClash i) hears heard h o = (map (λ s. hears) heard, record { coun
 heard_rows (OnePort n i) hears heard h o = (map (λ s. hears) heard, record { count = length-map heard _; classes = same_rows heard hears; source = tt })
 
 -- the state after steady half bits, from its parts
-abbrev pub later_by : List Sym → List Sym → State → State
+abbrev pub later_by : List Sym → List Sym → RepeaterDevice → RepeaterDevice
 later_by hears heard r = rows_later hears (map is_signal (emitted_by r)) (map is_signal (decided_by hears r)) heard (length heard) r
 
-pub state_is : (rows : List (List Sym)) (hears heard : List Sym) (r : State) → IsSteady hears r (length heard) → AreHeardAs hears r.mode heard rows → later_by hears heard r ≡ after_rows rows r
+pub state_is : (rows : List (List Sym)) (hears heard : List Sym) (r : RepeaterDevice) → IsSteady hears r (length heard) → AreHeardAs hears r.mode heard rows → later_by hears heard r ≡ after_rows rows r
 state_is rows hears heard r s a =
     let n = a.count in
     sym (rows_are rows heard hears (map is_signal (emitted_by r)) (map is_signal (decided_by hears r)) r r (like_self r) n a.classes a.source (λ k l. s k (omega arith))
     ∙ ap (λ n. rows_later hears (map is_signal (emitted_by r)) (map is_signal (decided_by hears r)) heard n r) n)
 
-pub steps_are : (rows : List (List Sym)) (hears heard : List Sym) (r : State) → IsSteady hears r (length heard) → AreHeardAs hears r.mode heard rows
+pub steps_are : (rows : List (List Sym)) (hears heard : List Sym) (r : RepeaterDevice) → IsSteady hears r (length heard) → AreHeardAs hears r.mode heard rows
     → AreSteadyRows rows (map is_signal (emitted_by r)) (map is_signal (decided_by hears r)) r
 steps_are rows hears heard r s a =
     let n = a.count in
     steps_rows rows hears (map is_signal (emitted_by r)) (map is_signal (decided_by hears r)) r r (like_self r) a.classes (λ k l. s k (omega arith))
 
-pub decisions_are : (rows : List (List Sym)) (hears heard texts : List Sym) (r : State) → texts ≡ texts_after r.mode heard → IsSteady hears r (length heard) → AreHeardAs hears r.mode heard rows
+pub decisions_are : (rows : List (List Sym)) (hears heard texts : List Sym) (r : RepeaterDevice) → texts ≡ texts_after r.mode heard → IsSteady hears r (length heard) → AreHeardAs hears r.mode heard rows
     → DecideTexts rows (map is_signal (decided_by hears r)) texts r
 decisions_are rows hears heard texts r e s a = λ k l.
     let n = a.count in
     texts_rows rows heard hears (map is_signal (emitted_by r)) (map is_signal (decided_by hears r)) r r (like_self r) n a.classes a.source (λ k l. s k (omega arith)) k l
     ∙ ap (λ ts. texted (map is_signal (decided_by hears r)) (get_or ts k sy.Idle)) (sym e)
 
-pub emissions_are : (rows : List (List Sym)) (hears heard : List Sym) (r : State) → IsState r → length hears ≡ length r.guards → AreHeardAs hears r.mode heard rows → EmitRows rows r
+pub emissions_are : (rows : List (List Sym)) (hears heard : List Sym) (r : RepeaterDevice) → IsState r → length hears ≡ length r.guards → AreHeardAs hears r.mode heard rows → EmitRows rows r
 emissions_are rows hears heard r h l a = emits_rows rows hears r h l a.classes
 
 -- what is sent is a signal in each of them, or in none
-pub texts_alike : (hears heard : List Sym) (r : State) → IsState r → length hears ≡ length r.guards → 0 < length heard → IsOfSource r.mode hears heard → IsSteady hears r (length heard)
+pub texts_alike : (hears heard : List Sym) (r : RepeaterDevice) → IsState r → length hears ≡ length r.guards → 0 < length heard → IsOfSource r.mode hears heard → IsSteady hears r (length heard)
     → (k : ℕ) → k < length heard → map is_signal (texted (map is_signal (decided_by hears r)) (get_or (texts_after r.mode heard) k sy.Idle)) ≡ map is_signal (decided_by hears r)
 texts_alike hears heard r h l some o s = λ k b.
     let x = heard_rows r.mode hears heard (subst (IsRepeatable hears) (s 0 some).mode (repeats hears r)) o in
@@ -385,15 +385,15 @@ texts_alike hears heard r h l some o s = λ k b.
     let c : k < length x.0 = omega arith in
     ap (map is_signal) (sym (decisions_are x.0 hears heard (texts_after r.mode heard) r refl s x.1 k c)) ∙ (steps_are x.0 hears heard r s x.1 k c).decides
 
-pub later_state : (hears heard : List Sym) (r : State) → IsState r → length hears ≡ length r.guards → 0 < length heard → IsOfSource r.mode hears heard → IsSteady hears r (length heard) → IsState (later_by hears heard r)
+pub later_state : (hears heard : List Sym) (r : RepeaterDevice) → IsState r → length hears ≡ length r.guards → 0 < length heard → IsOfSource r.mode hears heard → IsSteady hears r (length heard) → IsState (later_by hears heard r)
 later_state hears heard r h l some o s =
     let x = heard_rows r.mode hears heard (subst (IsRepeatable hears) (s 0 some).mode (repeats hears r)) o in
     subst IsState (sym (state_is x.0 hears heard r s x.1)) (state_rows x.0 hears r h l x.1.classes)
 
-pub leapt_classes : (hears heard : List Sym) (r : State) (mode : Mode) (guards : List Guard) (counts : List Count) (line : Delayed) → IsState r → length hears ≡ length r.guards
+pub leapt_classes : (hears heard : List Sym) (r : RepeaterDevice) (mode : Mode) (guards : List Guard) (counts : List Count) (line : Delayed) → IsState r → length hears ≡ length r.guards
     → mode ≡ iterate mode_on (length heard) r.mode → guards ≡ at_each (λ x g. iterate (guard_by x) (length heard) g) (kinds_of hears (map is_signal (emitted_by r))) r.guards
     → counts ≡ at_each (λ x c. iterate (count_by x) (length heard) c) (map is_signal (decided_by hears r)) r.counts → line ≡ line_with (map is_signal (decided_by hears r)) (texts_after r.mode heard) r.line
-    → ◌≡◌ {A = State} (record { mode = mode; guards = guards; counts = counts; line = line }) (later_by hears heard r)
+    → ◌≡◌ {A = RepeaterDevice} (record { mode = mode; guards = guards; counts = counts; line = line }) (later_by hears heard r)
 leapt_classes hears heard r mode guards counts line h l m g c e =
     let emitting = map is_signal (emitted_by r) in
     let deciding = map is_signal (decided_by hears r) in
@@ -403,7 +403,7 @@ leapt_classes hears heard r mode guards counts line h l m g c e =
     e
 
 -- no half bits
-pub no_rows : (rows : List (List Sym)) (r : State) → length rows ≡ 0 → r ≡ after_rows rows r
+pub no_rows : (rows : List (List Sym)) (r : RepeaterDevice) → length rows ≡ 0 → r ≡ after_rows rows r
 no_rows [] r n = refl
 no_rows (row ∷ rows) r n = absurd (omega arith)
 

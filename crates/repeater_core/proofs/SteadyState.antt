@@ -14,7 +14,7 @@ use Rattle.repeater_core.specs.declared.modes.Mode.{Mode}
 use Rattle.repeater_core.specs.Modes.{IsMode, wish_of}
 use Rattle.repeater_core.specs.Counts.{Count, Choice, choice, choice_awake, choices_from, resting_count}
 use Rattle.repeater_core.specs.Delayed.{Delayed, moved_on}
-use Rattle.repeater_core.specs.Step.{State, IsState, mode_next, chosen, after, emitted_by, decided_by, guards_after, guard_events, collides, is_closing, is_opening, mask_from}
+use Rattle.repeater_core.specs.Step.{RepeaterDevice, IsState, mode_next, chosen, after, emitted_by, decided_by, guards_after, guard_events, collides, is_closing, is_opening, mask_from}
 use Rattle.repeater_core.specs.Steady.{mode_on, IsSteady, sent_text, texted, Kind, kind_of, kinds_of, at_each, guard_by, count_by, line_later, HaveNoEvents, IsSentFor, AreSentFor}
 use Rattle.repeater_core.proofs.SendsToOthers.{choose}
 use Rattle.repeater_core.proofs.CalmIsExact.{same_state, length_emitted}
@@ -104,92 +104,92 @@ sent_ports n zero p ms hears (b ∷ bs) (c ∷ cs) d pos l m h = sent_for n (λ 
 sent_ports n (suc q) p ms hears (b ∷ bs) (c ∷ cs) d pos l m h = sent_ports n q (p + 1) ms hears bs cs d pos (omega arith) (omega arith) (λ k x. ap (drop 1) (h k x))
 
 -- the state after half bits in which the ports hear the same symbols
-pub state_after : (r : State) (hears : List Sym) → IsState r → length hears ≡ length r.guards → IsState (after hears r)
+pub state_after : (r : RepeaterDevice) (hears : List Sym) → IsState r → length hears ≡ length r.guards → IsState (after hears r)
 unfolding mode_next chosen
 state_after r hears h l =
     step_state (mode_next hears r) (guards_after r.guards hears (emitted_by r)) (map (λ c. c.count) (chosen hears r)) (moved_on (decided_by hears r) r.line) hears r
     refl (length_guards r.guards hears (emitted_by r) l (length_emitted r h)) refl refl h
 
-pub ports_after : (r : State) (hears : List Sym) → IsState r → length hears ≡ length r.guards → length (after hears r).guards ≡ length r.guards
+pub ports_after : (r : RepeaterDevice) (hears : List Sym) → IsState r → length hears ≡ length r.guards → length (after hears r).guards ≡ length r.guards
 ports_after r hears h l = length_guards r.guards hears (emitted_by r) l (length_emitted r h)
 
-pub state_later : (n : ℕ) (r : State) (hears : List Sym) → IsState r → length hears ≡ length r.guards → IsState (iterate (after hears) n r)
+pub state_later : (n : ℕ) (r : RepeaterDevice) (hears : List Sym) → IsState r → length hears ≡ length r.guards → IsState (iterate (after hears) n r)
 state_later zero r hears h l = h
 state_later (suc n) r hears h l = state_later n (after hears r) hears (state_after r hears h l) (l ∙ sym (ports_after r hears h l))
 
-pub ports_later : (n : ℕ) (r : State) (hears : List Sym) → IsState r → length hears ≡ length r.guards → length (iterate (after hears) n r).guards ≡ length r.guards
+pub ports_later : (n : ℕ) (r : RepeaterDevice) (hears : List Sym) → IsState r → length hears ≡ length r.guards → length (iterate (after hears) n r).guards ≡ length r.guards
 ports_later zero r hears h l = refl
 ports_later (suc n) r hears h l = ports_later n (after hears r) hears (state_after r hears h l) (l ∙ sym (ports_after r hears h l)) ∙ ports_after r hears h l
 
 -- what the leaps need
-pub length_decided : (r : State) (hears : List Sym) → IsState r → length (decided_by hears r) ≡ length r.guards
+pub length_decided : (r : RepeaterDevice) (hears : List Sym) → IsState r → length (decided_by hears r) ≡ length r.guards
 unfolding chosen
 length_decided r hears h = length-map (chosen hears r) (λ c. c.symbol) ∙ length_choices (mode_next hears r) hears 0 r.counts ∙ h.counts_len
 
-pub at_k : (n k : ℕ) (r : State) (hears : List Sym) → IsSteady hears r n → k < n → iterate (after hears) k r ≡ steady_later hears (map is_signal (emitted_by r)) (map is_signal (decided_by hears r)) k r
+pub at_k : (n k : ℕ) (r : RepeaterDevice) (hears : List Sym) → IsSteady hears r n → k < n → iterate (after hears) k r ≡ steady_later hears (map is_signal (emitted_by r)) (map is_signal (decided_by hears r)) k r
 at_k n k r hears s l = steady_is k hears (map is_signal (emitted_by r)) (map is_signal (decided_by hears r)) r (λ i m. s i (omega arith))
 
-pub first_decided : (n : ℕ) (r : State) (hears : List Sym) → IsSteady hears r n → 0 < n → map (λ c. c.symbol) (choices_from (mode_on r.mode) hears 0 r.counts) ≡ decided_by hears r
+pub first_decided : (n : ℕ) (r : RepeaterDevice) (hears : List Sym) → IsSteady hears r n → 0 < n → map (λ c. c.symbol) (choices_from (mode_on r.mode) hears 0 r.counts) ≡ decided_by hears r
 unfolding chosen
 first_decided n r hears s l = ap (λ m. map (λ c. c.symbol) (choices_from m hears 0 r.counts)) (sym (s 0 l).mode)
 
-guards_at : (n k : ℕ) (r : State) (hears : List Sym) → IsState r → length hears ≡ length r.guards → IsSteady hears r n → k < n
+guards_at : (n k : ℕ) (r : RepeaterDevice) (hears : List Sym) → IsState r → length hears ≡ length r.guards → IsSteady hears r n → k < n
     → (iterate (after hears) k r).guards ≡ at_each (λ x g. iterate (guard_by x) k g) (kinds_of hears (map is_signal (emitted_by r))) r.guards
 guards_at n k r hears h l s b =
-    ap (λ (x : State). x.guards) (at_k n k r hears s b)
+    ap (λ (x : RepeaterDevice). x.guards) (at_k n k r hears s b)
     ∙ each_later guard_by k (kinds_of hears (map is_signal (emitted_by r))) r.guards (kinds_length hears (emitted_by r) (length_emitted r h ∙ sym l) ∙ l)
 
-events_at : (n k : ℕ) (r : State) (hears : List Sym) → IsState r → length hears ≡ length r.guards → IsSteady hears r n → k < n
+events_at : (n k : ℕ) (r : RepeaterDevice) (hears : List Sym) → IsState r → length hears ≡ length r.guards → IsSteady hears r n → k < n
     → guard_events (iterate (after hears) k r).guards hears (emitted_by (iterate (after hears) k r))
     ≡ events_by (kinds_of hears (map is_signal (emitted_by r))) (at_each (λ x g. iterate (guard_by x) k g) (kinds_of hears (map is_signal (emitted_by r))) r.guards)
 events_at n k r hears h l s b =
     events_by_kind (iterate (after hears) k r).guards hears (emitted_by (iterate (after hears) k r))
     ∙ ap₂ (λ bs gs. events_by (kinds_of hears bs) gs) (s k b).emits (guards_at n k r hears h l s b)
 
-pub have_no_events : (n : ℕ) (r : State) (hears : List Sym) → IsState r → length hears ≡ length r.guards → IsSteady hears r n → HaveNoEvents n hears (emitted_by r) r.guards
+pub have_no_events : (n : ℕ) (r : RepeaterDevice) (hears : List Sym) → IsState r → length hears ≡ length r.guards → IsSteady hears r n → HaveNoEvents n hears (emitted_by r) r.guards
 have_no_events n r hears h l s =
     guards_calm n hears (emitted_by r) r.guards l (length_emitted r h)
     (λ k b. ap (λ xs. mask_from 0 (map is_closing xs)) (sym (events_at n k r hears h l s b)) ∙ (s k b).none_closes)
     (λ k b. ap (λ xs. mask_from 0 (map is_opening xs)) (sym (events_at n k r hears h l s b)) ∙ (s k b).none_opens)
 
-pub counts_at : (n k : ℕ) (r : State) (hears : List Sym) → IsState r → IsSteady hears r n → k < n
+pub counts_at : (n k : ℕ) (r : RepeaterDevice) (hears : List Sym) → IsState r → IsSteady hears r n → k < n
     → (iterate (after hears) k r).counts ≡ at_each (λ x c. iterate (count_by x) k c) (map is_signal (decided_by hears r)) r.counts
 counts_at n k r hears h s b =
-    ap (λ (x : State). x.counts) (at_k n k r hears s b)
+    ap (λ (x : RepeaterDevice). x.counts) (at_k n k r hears s b)
     ∙ each_later count_by k (map is_signal (decided_by hears r)) r.counts (length-map (decided_by hears r) is_signal ∙ length_decided r hears h ∙ sym h.counts_len)
 
-pub sent_at_k : (n k : ℕ) (r : State) (hears : List Sym) → IsState r → IsSteady hears r n → k < n
+pub sent_at_k : (n k : ℕ) (r : RepeaterDevice) (hears : List Sym) → IsState r → IsSteady hears r n → k < n
     → map is_signal (map (λ c. c.symbol) (choices_from (mode_next hears (iterate (after hears) k r)) hears 0 (at_each (λ x c. iterate (count_by x) k c) (map is_signal (decided_by hears r)) r.counts))) ≡ map is_signal (decided_by hears r)
 unfolding chosen
 sent_at_k n k r hears h s b =
     ap (λ cs. map is_signal (map (λ c. c.symbol) (choices_from (mode_next hears (iterate (after hears) k r)) hears 0 cs))) (sym (counts_at n k r hears h s b)) ∙ (s k b).decides
 
-pub are_sent : (n : ℕ) (r : State) (hears : List Sym) → IsState r → 0 < n → IsSteady hears r n → AreSentFor n (decided_by hears r) r.counts
+pub are_sent : (n : ℕ) (r : RepeaterDevice) (hears : List Sym) → IsState r → 0 < n → IsSteady hears r n → AreSentFor n (decided_by hears r) r.counts
 are_sent n r hears h pos s = λ q l.
     let lb : length (map is_signal (decided_by hears r)) ≡ length r.counts = length-map (decided_by hears r) is_signal ∙ length_decided r hears h ∙ sym h.counts_len in
     let ld : q < length (decided_by hears r) = (let e = length_decided r hears h in let f = h.counts_len in omega arith) in
     subst (λ b. IsSentFor n b (get_or r.counts q (resting_count 0))) (get_or-map is_signal (decided_by hears r) q sy.Idle false ld)
     (sent_ports n q 0 (λ k. mode_next hears (iterate (after hears) k r)) hears (map is_signal (decided_by hears r)) r.counts (resting_count 0) pos lb l (λ k b. sent_at_k n k r hears h s b))
 
-pub modes_are : (n : ℕ) (r : State) (hears : List Sym) → IsState r → length hears ≡ length r.guards → IsSteady hears r n → (k : ℕ) → k < n → IsMode (iterate mode_on k r.mode)
-modes_are n r hears h l s k b = subst IsMode (ap (λ (x : State). x.mode) (at_k n k r hears s b)) (state_later k r hears h l).mode_counts
+pub modes_are : (n : ℕ) (r : RepeaterDevice) (hears : List Sym) → IsState r → length hears ≡ length r.guards → IsSteady hears r n → (k : ℕ) → k < n → IsMode (iterate mode_on k r.mode)
+modes_are n r hears h l s k b = subst IsMode (ap (λ (x : RepeaterDevice). x.mode) (at_k n k r hears s b)) (state_later k r hears h l).mode_counts
 
-pub texts_at : (k : ℕ) (r : State) (hears : List Sym) → decided_by hears r ≡ texted (map is_signal (decided_by hears r)) (sent_text (mode_next hears r) hears)
+pub texts_at : (k : ℕ) (r : RepeaterDevice) (hears : List Sym) → decided_by hears r ≡ texted (map is_signal (decided_by hears r)) (sent_text (mode_next hears r) hears)
 unfolding chosen
 texts_at k r hears = decides_text (mode_next hears r) hears 0 r.counts
 
-pub texts_are : (n : ℕ) (r : State) (hears : List Sym) → IsSteady hears r n → (k : ℕ) → k < n
+pub texts_are : (n : ℕ) (r : RepeaterDevice) (hears : List Sym) → IsSteady hears r n → (k : ℕ) → k < n
     → map is_signal (texted (map is_signal (decided_by hears r)) (sent_text (mode_on (iterate mode_on k r.mode)) hears)) ≡ map is_signal (decided_by hears r)
 texts_are n r hears s k b =
     let x = iterate (after hears) k r in
-    let mode : mode_next hears x ≡ mode_on (iterate mode_on k r.mode) = (s k b).mode ∙ ap (λ (y : State). mode_on y.mode) (at_k n k r hears s b) in
+    let mode : mode_next hears x ≡ mode_on (iterate mode_on k r.mode) = (s k b).mode ∙ ap (λ (y : RepeaterDevice). mode_on y.mode) (at_k n k r hears s b) in
     ap (map is_signal) (sym (texts_at k x hears ∙ ap₂ (λ bs m. texted bs (sent_text m hears)) (s k b).decides mode)) ∙ (s k b).decides
 
 -- the state after steady half bits, from the parts that the leaps give
-pub leapt : (n : ℕ) (r : State) (hears : List Sym) (mode : Mode) (guards : List Guard) (counts : List Count) (line : Delayed) → IsState r → length hears ≡ length r.guards → IsSteady hears r n
+pub leapt : (n : ℕ) (r : RepeaterDevice) (hears : List Sym) (mode : Mode) (guards : List Guard) (counts : List Count) (line : Delayed) → IsState r → length hears ≡ length r.guards → IsSteady hears r n
     → mode ≡ iterate mode_on n r.mode → guards ≡ at_each (λ x g. iterate (guard_by x) n g) (kinds_of hears (map is_signal (emitted_by r))) r.guards
     → counts ≡ at_each (λ x c. iterate (count_by x) n c) (map is_signal (decided_by hears r)) r.counts → line ≡ line_later hears (map is_signal (decided_by hears r)) n r.mode r.line
-    → ◌≡◌ {A = State} (record { mode = mode; guards = guards; counts = counts; line = line }) (iterate (after hears) n r)
+    → ◌≡◌ {A = RepeaterDevice} (record { mode = mode; guards = guards; counts = counts; line = line }) (iterate (after hears) n r)
 leapt n r hears mode guards counts line h l s m g c e =
     let emitting = map is_signal (emitted_by r) in
     let deciding = map is_signal (decided_by hears r) in

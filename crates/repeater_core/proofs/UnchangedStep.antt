@@ -13,7 +13,7 @@ use Rattle.repeater_core.specs.Counts.{Count, resting_count}
 use Rattle.repeater_core.specs.Delayed.{Delayed}
 use Rattle.repeater_core.specs.Laws.{HasNoClash, Repeats, EndsLong}
 use Rattle.repeater_core.specs.SilentParts.{ports_calm, any_opens, silent_guard, silent_count, silent_mode, silent_line, is_unchanged}
-use Rattle.repeater_core.specs.Step.{State, IsState, mode_next, chosen, after, emitted_by, decided_by, resting_by, clash_begins, closed_mask, opened_mask, halted_mask}
+use Rattle.repeater_core.specs.Step.{RepeaterDevice, IsState, mode_next, chosen, after, emitted_by, decided_by, resting_by, clash_begins, closed_mask, opened_mask, halted_mask}
 use Rattle.repeater_core.specs.Calm.{silent_symbols, silent_step, IsUnchanged}
 use Rattle.repeater_core.proofs.Lawful.{repeats, ends_long, no_clash, no_clash_emitted}
 use Rattle.repeater_core.proofs.DelayLineCalm.{IsLine, calm_all, front_of_all, row_within}
@@ -21,19 +21,19 @@ use Rattle.repeater_core.proofs.SilentPorts.{idles, idle_is}
 use Rattle.repeater_core.proofs.CalmIsExact.{HasCalm, same_state, state_line, is_uneventful, step_is, silent_parts, emits_silent, decided_silent}
 
 -- the laws
-pub law_repeats : (r : State) (ss ds : List Sym) → length ss ≡ length r.guards → ds ≡ decided_by ss r → Repeats (map (λ g. g.closed) r.guards) ss (resting_by ss r) ds
+pub law_repeats : (r : RepeaterDevice) (ss ds : List Sym) → length ss ≡ length r.guards → ds ≡ decided_by ss r → Repeats (map (λ g. g.closed) r.guards) ss (resting_by ss r) ds
 unfolding mode_next chosen
 law_repeats r ss ds l d = subst (Repeats (map (λ g. g.closed) r.guards) ss (resting_by ss r)) (sym d) (repeats r.guards ss r.mode r.counts l)
 
-pub law_ends_long : (r : State) (ss ds : List Sym) → IsState r → ds ≡ decided_by ss r → EndsLong r.counts ds
+pub law_ends_long : (r : RepeaterDevice) (ss ds : List Sym) → IsState r → ds ≡ decided_by ss r → EndsLong r.counts ds
 unfolding mode_next chosen
 law_ends_long r ss ds h d = subst (EndsLong r.counts) (sym d) (ends_long r.mode r.guards ss r.counts h.long h.rest_without_output)
 
-pub law_no_clash : (r : State) (ss ds : List Sym) → ds ≡ decided_by ss r → HasNoClash ds
+pub law_no_clash : (r : RepeaterDevice) (ss ds : List Sym) → ds ≡ decided_by ss r → HasNoClash ds
 unfolding mode_next chosen
 law_no_clash r ss ds d = subst HasNoClash (sym d) (no_clash r.mode r.guards ss r.counts)
 
-pub law_no_clash_emitted : (r : State) (es : List Sym) → IsState r → es ≡ emitted_by r → HasNoClash es
+pub law_no_clash_emitted : (r : RepeaterDevice) (es : List Sym) → IsState r → es ≡ emitted_by r → HasNoClash es
 law_no_clash_emitted r es h e = subst HasNoClash (sym e) (no_clash_emitted r.line.ports r.line.rows h.no_clash)
 
 -- a guard that a silent half bit leaves as it is
@@ -72,17 +72,17 @@ line_stays d h i =
     length-append (drop d.ports d.rows) (replicate d.ports sy.Idle) ∙ (let a = length-drop d.ports d.rows in let b = length-replicate d.ports sy.Idle in let w = row_within d h in omega arith) in
     ap (λ xs. record d { rows = xs }) (idle_is new idle ∙ ap (λ n. replicate n sy.Idle) len ∙ sym (idle_is d.rows i))
 
-unchanged_has_calm : (r : State) → IsUnchanged r → HasCalm r
+unchanged_has_calm : (r : RepeaterDevice) → IsUnchanged r → HasCalm r
 unchanged_has_calm r s =
     let ports = ap (λ m. ports_calm m 0 r.counts) s.mode ∙ idle_ports 0 r.counts in
     let line = calm_all r.line (front_of_all r.line.rows s.rows) in
     record { shut = guards_shut r.guards s.guards; ports = omega arith; line = omega arith }
 
-unchanged_step : (r : State) → IsState r → IsUnchanged r → silent_parts r ≡ r
+unchanged_step : (r : RepeaterDevice) → IsState r → IsUnchanged r → silent_parts r ≡ r
 unchanged_step r h s = same_state (silent_parts r) r (ap silent_mode s.mode ∙ sym s.mode) (guards_stay r.guards s.guards) (counts_stay r.counts s.counts) (line_stays r.line (state_line r h) s.rows)
 
 -- the step of a repeater that a silent half bit leaves as it is
-pub record IsUnchangedStep (ss : List Sym) (r : State) (es ds : List Sym) : Type 0 where
+pub record IsUnchangedStep (ss : List Sym) (r : RepeaterDevice) (es ds : List Sym) : Type 0 where
   pub state : r ≡ after ss r
   pub emits : es ≡ emitted_by r
   pub decided : ds ≡ decided_by ss r
@@ -91,7 +91,7 @@ pub record IsUnchangedStep (ss : List Sym) (r : State) (es ds : List Sym) : Type
   pub opened : 0 ≡ opened_mask ss r
   pub halted : 0 ≡ halted_mask ss r
 
-unchanged_in_silence : (r : State) (es ds : List Sym) → IsState r → IsUnchanged r → es ≡ idles r.guards → ds ≡ idles r.guards → IsUnchangedStep (silent_symbols r) r es ds
+unchanged_in_silence : (r : RepeaterDevice) (es ds : List Sym) → IsState r → IsUnchanged r → es ≡ idles r.guards → ds ≡ idles r.guards → IsUnchangedStep (silent_symbols r) r es ds
 unfolding silent_step
 unchanged_in_silence r es ds h s e d =
     let calm = unchanged_has_calm r s in
@@ -106,5 +106,5 @@ unchanged_in_silence r es ds h s e d =
       halted = sym uneventful.none_halted;
     }
 
-pub unchanged_is : (ss : List Sym) (r : State) (es ds : List Sym) → IsState r → IsUnchanged r → All (λ s. s ≡ sy.Idle) ss → length ss ≡ length r.guards → es ≡ idles r.guards → ds ≡ idles r.guards → IsUnchangedStep ss r es ds
+pub unchanged_is : (ss : List Sym) (r : RepeaterDevice) (es ds : List Sym) → IsState r → IsUnchanged r → All (λ s. s ≡ sy.Idle) ss → length ss ≡ length r.guards → es ≡ idles r.guards → ds ≡ idles r.guards → IsUnchangedStep ss r es ds
 unchanged_is ss r es ds h s i l e d = subst (λ xs. IsUnchangedStep xs r es ds) (sym (idle_is ss i ∙ ap (λ n. replicate n sy.Idle) l)) (unchanged_in_silence r es ds h s e d)

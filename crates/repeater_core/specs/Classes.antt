@@ -9,7 +9,7 @@ use Rattle.manchester_line.specs.Line.{preamble_at, jam_at}
 use Rattle.repeater_core.specs.declared.modes.Mode.{Mode}
 use Rattle.repeater_core.specs.declared.modes.Mode.TheVariants.{Idle, Repeat, Extend, RxClash, TxClash, OnePort}
 use Rattle.repeater_core.specs.Delayed.{Delayed, moved_on}
-use Rattle.repeater_core.specs.Step.{State, after, emitted_by, decided_by}
+use Rattle.repeater_core.specs.Step.{RepeaterDevice, after, emitted_by, decided_by}
 use Rattle.repeater_core.specs.Steady.{mode_on, texted, IsSteady, IsSteadyStep}
 
 -- the class of a symbol, named by one symbol of it: Idle, a signal of either level, or Clash
@@ -19,7 +19,7 @@ class_of sym.Clash = sym.Clash
 class_of s = sym.Hi
 
 -- the state after half bits in which the ports hear these rows of a symbol a port, the first one first
-abbrev pub after_rows : List (List Sym) → State → State
+abbrev pub after_rows : List (List Sym) → RepeaterDevice → RepeaterDevice
 after_rows [] r = r
 after_rows (row ∷ rows) r = after_rows rows (after row r)
 
@@ -65,13 +65,13 @@ line_with deciding (text ∷ texts) d = line_with deciding texts (moved_on (text
 
 -- each half bit of these rows is steady: the ports emit and are sent signals as told, the mode changes by its counts
 -- alone, and no port is closed, opened or halted
-abbrev pub AreSteadyRows : List (List Sym) → List Bool → List Bool → State → Type 0
+abbrev pub AreSteadyRows : List (List Sym) → List Bool → List Bool → RepeaterDevice → Type 0
 AreSteadyRows rows emitting deciding r =
     (k : ℕ) → k < length rows
     → IsSteadyStep (slice_index_or rows k []) emitting deciding (after_rows (take k rows) r)
 
 -- in each half bit of these rows its text is decided for the ports that are sent a signal, and Idle for the others
-abbrev pub DecideTexts : List (List Sym) → List Bool → List Sym → State → Type 0
+abbrev pub DecideTexts : List (List Sym) → List Bool → List Sym → RepeaterDevice → Type 0
 DecideTexts rows deciding texts r =
     (k : ℕ) → k < length rows
     → decided_by (slice_index_or rows k []) (after_rows (take k rows) r)
@@ -79,7 +79,7 @@ DecideTexts rows deciding texts r =
 
 -- in each half bit of these rows within the delay the ports emit what was decided and not yet emitted before all of
 -- them
-abbrev pub EmitRows : List (List Sym) → State → Type 0
+abbrev pub EmitRows : List (List Sym) → RepeaterDevice → Type 0
 EmitRows rows r =
     (k : ℕ) → k < length rows → k < r.line.delay
     → emitted_by (after_rows (take k rows) r) ≡ take r.line.ports (drop (k * r.line.ports) r.line.rows)
@@ -88,6 +88,6 @@ EmitRows rows r =
 -- that are left are steady, also with other symbols of those classes
 abbrev pub SteadinessLasts : Type 0
 SteadinessLasts =
-    (hears row : List Sym) (rows : List (List Sym)) (r : State) (n : ℕ)
+    (hears row : List Sym) (rows : List (List Sym)) (r : RepeaterDevice) (n : ℕ)
     → AllByRecursion (λ row. map class_of row ≡ map class_of hears) rows → map class_of row ≡ map class_of hears
     → IsSteady hears r (length rows + n) → IsSteady row (after_rows rows r) n

@@ -17,7 +17,7 @@ use Rattle.repeater_core.specs.Modes.{next_count}
 use Rattle.repeater_core.specs.Counts.{Count, resting_count}
 use Rattle.repeater_core.specs.Delayed.{Delayed, moved_on, oldest}
 use Rattle.repeater_core.specs.SilentParts.{silent_count, sends_to}
-use Rattle.repeater_core.specs.Step.{State, collides, mode_next, after, emitted_by, decided_by, closed_mask, opened_mask, halted_mask}
+use Rattle.repeater_core.specs.Step.{RepeaterDevice, collides, mode_next, after, emitted_by, decided_by, closed_mask, opened_mask, halted_mask}
 
 -- the mode after a half bit in which it changes by its counts alone
 abbrev pub mode_on : Mode → Mode
@@ -30,7 +30,7 @@ mode_on (OnePort n i) = OnePort n (next_count i)
 
 -- a steady half bit: the mode changes by its counts alone, the ports emit and are sent signals as told, and no port is
 -- closed, opened or halted
-pub record IsSteadyStep (hears : List Sym) (emitting deciding : List Bool) (r : State) : Type 0 where
+pub record IsSteadyStep (hears : List Sym) (emitting deciding : List Bool) (r : RepeaterDevice) : Type 0 where
   pub mode : mode_next hears r ≡ mode_on r.mode
   pub emits : map is_signal (emitted_by r) ≡ emitting
   pub decides : map is_signal (decided_by hears r) ≡ deciding
@@ -40,7 +40,7 @@ pub record IsSteadyStep (hears : List Sym) (emitting deciding : List Bool) (r : 
 
 -- the next n half bits in which the ports hear these symbols are steady, and the ports emit and are sent signals in all
 -- of them as in the first
-abbrev pub IsSteady : List Sym → State → ℕ → Type 0
+abbrev pub IsSteady : List Sym → RepeaterDevice → ℕ → Type 0
 IsSteady hears r n =
     (k : ℕ) → k < n
     → IsSteadyStep hears (map is_signal (emitted_by r)) (map is_signal (decided_by hears r)) (iterate (after hears) k r)

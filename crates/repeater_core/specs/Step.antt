@@ -16,14 +16,14 @@ use Rattle.repeater_core.specs.Laws.{HasNoClash, AreLong, RestWithoutOutput, Rep
 use Rattle.repeater_core.specs.Delayed.{Delayed, oldest, moved_on}
 
 -- a repeater: its mode, a guard and the counts of each port, and what is decided and not yet emitted
-pub record State : Type 0 where
+pub record RepeaterDevice : Type 0 where
   pub mode : Mode
   pub guards : List Guard
   pub counts : List Count
   pub line : Delayed
 
 -- a repeater of so many ports, with so many half bits of delay, before its first half bit
-abbrev pub new_state : ℕ → ℕ → State
+abbrev pub new_state : ℕ → ℕ → RepeaterDevice
 new_state ports delay = record {
   mode = Idle;
   guards = replicate ports new_guard;
@@ -33,7 +33,7 @@ new_state ports delay = record {
 
 -- a repeater with these guards whose ports rest for so many half bits more, in mode Idle, with all decisions so far
 -- Idle
-abbrev pub resumed_state : ℕ → List Guard → List ℕ → State
+abbrev pub resumed_state : ℕ → List Guard → List ℕ → RepeaterDevice
 resumed_state delay guards rests = record {
   mode = Idle;
   guards = guards;
@@ -42,23 +42,23 @@ resumed_state delay guards rests = record {
 }
 
 -- the mode after a half bit in which the ports hear these symbols
-unfoldable pub mode_next : List Sym → State → Mode
+unfoldable pub mode_next : List Sym → RepeaterDevice → Mode
 mode_next hears r = mode_after r.mode (activity_from 0 r.guards hears)
 
 -- what is decided for each port, with its counts after
-unfoldable pub chosen : List Sym → State → List Choice
+unfoldable pub chosen : List Sym → RepeaterDevice → List Choice
 chosen hears r = choices_from (mode_next hears r) hears 0 r.counts
 
 -- whether each port rests
-abbrev pub resting_by : List Sym → State → List Bool
+abbrev pub resting_by : List Sym → RepeaterDevice → List Bool
 resting_by hears r = map (λ c. c.rests) (chosen hears r)
 
 -- the symbol that is decided for each port
-abbrev pub decided_by : List Sym → State → List Sym
+abbrev pub decided_by : List Sym → RepeaterDevice → List Sym
 decided_by hears r = map (λ c. c.symbol) (chosen hears r)
 
 -- what each port emits: what was decided for it `delay` half bits ago
-abbrev pub emitted_by : State → List Sym
+abbrev pub emitted_by : RepeaterDevice → List Sym
 emitted_by r = oldest r.line
 
 -- a port collides where it hears a clash, or hears a signal while it emits one
@@ -78,7 +78,7 @@ guard_events (g ∷ gs) (h ∷ hs) (e ∷ es) = event_of g (is_signal h) (collid
 guard_events _ _ _ = []
 
 -- the state after a half bit in which the ports hear these symbols
-abbrev pub after : List Sym → State → State
+abbrev pub after : List Sym → RepeaterDevice → RepeaterDevice
 after hears r = record {
   mode = mode_next hears r;
   guards = guards_after r.guards hears (emitted_by r);
@@ -102,24 +102,24 @@ mask_from p [] = 0
 mask_from p (b ∷ bs) = (if b then 2 ^ p else 0) + mask_from (p + 1) bs
 
 -- whether a collision of ports begins
-abbrev pub clash_begins : List Sym → State → Bool
+abbrev pub clash_begins : List Sym → RepeaterDevice → Bool
 clash_begins hears r = is_tx_clash (mode_next hears r) && not (is_tx_clash r.mode)
 
 -- the ports that are closed now, as a mask (partition)
-abbrev pub closed_mask : List Sym → State → ℕ
+abbrev pub closed_mask : List Sym → RepeaterDevice → ℕ
 closed_mask hears r = mask_from 0 (map is_closing (guard_events r.guards hears (emitted_by r)))
 
 -- the ports that open now, as a mask (reconnection)
-abbrev pub opened_mask : List Sym → State → ℕ
+abbrev pub opened_mask : List Sym → RepeaterDevice → ℕ
 opened_mask hears r = mask_from 0 (map is_opening (guard_events r.guards hears (emitted_by r)))
 
 -- the ports that are halted now, as a mask (jabber lockup protection)
-abbrev pub halted_mask : List Sym → State → ℕ
+abbrev pub halted_mask : List Sym → RepeaterDevice → ℕ
 halted_mask hears r = mask_from 0 (map (λ c. c.halted) (chosen hears r))
 
 -- the ports and the delay of a repeater, how far its mode's counts go, that its lists are as long as they must be, that
 -- no clash is stored, that each output is as long as the mode tells, and that a port that rests has none
-pub record IsState (r : State) : Type 0 where
+pub record IsState (r : RepeaterDevice) : Type 0 where
   pub two_ports : 2 ≤ length r.guards
   pub ports_at_most : length r.guards ≤ most_ports
   pub counts_len : length r.counts ≡ length r.guards
@@ -135,5 +135,5 @@ pub record IsState (r : State) : Type 0 where
 -- Whatever its ports hear, a repeater repeats it: what is decided for every other port that does not rest is not Idle.
 abbrev pub SignalsAreRepeated : Type 0
 SignalsAreRepeated =
-    (r : State) (hears : List Sym) → length hears ≡ length r.guards
+    (r : RepeaterDevice) (hears : List Sym) → length hears ≡ length r.guards
     → Repeats (map (λ g. g.closed) r.guards) hears (resting_by hears r) (decided_by hears r)

@@ -9,7 +9,7 @@ ghost use Rattle.mac_parameters.specs.Parameters.{greatest_delay};
 ghost use Rattle.mac_parameters.specs.Parameters.{most_ports};
 ghost use Rattle.repeater_core.specs.declared.modes.Mode.TheVariants.{Idle};
 ghost use Rattle.repeater_core.specs.Counts.{resting_count};
-ghost use Rattle.repeater_core.specs.Step.{State, new_state, resumed_state, after, emitted_by, decided_by, clash_begins, closed_mask, opened_mask, halted_mask, resting_by};
+ghost use Rattle.repeater_core.specs.Step.{RepeaterDevice, new_state, resumed_state, after, emitted_by, decided_by, clash_begins, closed_mask, opened_mask, halted_mask, resting_by};
 ghost use Rattle.manchester_line.specs.declared.Sym.{Sym};
 ghost use Rattle.manchester_line.specs.Line.{is_signal};
 ghost use Rattle.repeater_core.specs.Steady.{IsSteady};
@@ -75,9 +75,9 @@ pub struct Repeater {
 }
 
 impl Model for Repeater {
-    ghost use Rattle.repeater_core.specs.Step.{State, IsState};
+    ghost use Rattle.repeater_core.specs.Step.{RepeaterDevice, IsState};
 
-    ghost Value = { State };
+    ghost Value = { RepeaterDevice };
 
     ghost view = { λ r. record { mode = r.mode; guards = r.guards.items; counts = r.counts.items; line = r.line } };
 

@@ -4,7 +4,7 @@ use Rattle.std.proofs.lemmas.Bool.Decides.{nat_tests}
 use Rattle.std.proofs.lemmas.Nat.{div-add-mod'}
 use Rattle.std.proofs.lemmas.List.{get_or-map}
 use Rattle.layout.specs.declared.lines.RepeaterLine.{RepeaterLine}
-use Rattle.repeater_core.specs.Step.{State, new_state}
+use Rattle.repeater_core.specs.Step.{RepeaterDevice, new_state}
 use Rattle.network.specs.Net.{new_repeater}
 use Rattle.manchester_line.specs.declared.Sym.TheVariants.{Idle}
 use Rattle.load_plan.specs.declared.plan.Plan.{Plan}
@@ -124,5 +124,5 @@ pub at_first : (plan : Plan) (i : ℕ) (r : RepeaterLine) → i < length plan.la
 at_first plan i r some is =
     let zero_is : 0 ≡ time plan 0 = omega arith in
     ap (λ x. let s : RepeaterState = record { t = 0; repeater = new_repeater x; rows = [] } in s) is
-    ∙ ap (λ (x : State). let s : RepeaterState = record { t = 0; repeater = x; rows = [] } in s) (sym (get_or-map new_repeater plan.layout.repeaters i r (new_state 0 0) some))
+    ∙ ap (λ (x : RepeaterDevice). let s : RepeaterState = record { t = 0; repeater = x; rows = [] } in s) (sym (get_or-map new_repeater plan.layout.repeaters i r (new_state 0 0) some))
     ∙ ap (repeater_at plan i) zero_is

@@ -16,7 +16,7 @@ use Rattle.repeater_core.specs.declared.modes.Mode.{Mode}
 use Rattle.repeater_core.specs.declared.modes.Activity.{Activity}
 use Rattle.repeater_core.specs.Counts.{Count, Choice, choice, choices_from}
 use Rattle.repeater_core.specs.Modes.{activity_from, mode_after, is_tx_clash, wish_of}
-use Rattle.repeater_core.specs.Step.{State, mode_next, chosen, emitted_by, decided_by, after, collides, guards_after, guard_events, clash_begins, closed_mask, opened_mask, halted_mask}
+use Rattle.repeater_core.specs.Step.{RepeaterDevice, mode_next, chosen, emitted_by, decided_by, after, collides, guards_after, guard_events, clash_begins, closed_mask, opened_mask, halted_mask}
 use Rattle.repeater_core.specs.declared.repeater.RepeaterEvents.{RepeaterEvents}
 use Rattle.repeater_core.proofs.Lawful.{length_chosen}
 use Rattle.network.proofs.PortFlags.{step_told}
@@ -133,7 +133,7 @@ ports_rows port (h ∷ hs) (e ∷ es) =
     omega (arith, rest, a, b, outer, inner, halts, events)
 
 -- a repeater, in a half bit
-pub rows_pay : (heard : List Sym) (s : State) → length heard ≡ length s.guards → length (emitted_by s) ≡ length s.guards → length s.counts ≡ length s.guards →
+pub rows_pay : (heard : List Sym) (s : RepeaterDevice) → length heard ≡ length s.guards → length (emitted_by s) ≡ length s.guards → length s.counts ≡ length s.guards →
     rows_apart * length (repeater_bodies heard s) + waits s ≤ waits (after heard s) + row_places (length s.guards)
 unfolding mode_next chosen
 rows_pay heard s lh le lc =
@@ -164,7 +164,7 @@ clash_most : (m : Mode) → clash_wait m ≤ rows_apart - 1
 clash_most m = grind arith
 
 -- no wait is longer than the half bits between two rows
-waits_most : (s : State) (ports : ℕ) → length s.guards ≡ ports → length s.counts ≡ ports → waits s ≤ (rows_apart - 1) * row_places ports
+waits_most : (s : RepeaterDevice) (ports : ℕ) → length s.guards ≡ ports → length s.counts ≡ ports → waits s ≤ (rows_apart - 1) * row_places ports
 waits_most s ports lg lc =
     let m = clash_most s.mode in
     let c = halts_wait s.counts in
@@ -194,7 +194,7 @@ room_left p m left room room' rows w w' e h pays kept =
     omega (arith, more)
 
 -- what a half bit of a repeater is known by: what its ports heard, emitted and were sent
-pub record HalfBit (heard emitted decided : List Sym) (ports : ℕ) (r s : State) : Type 0 where
+pub record HalfBit (heard emitted decided : List Sym) (ports : ℕ) (r s : RepeaterDevice) : Type 0 where
   pub heard_len : length heard ≡ ports
   pub emitted_len : length emitted ≡ ports
   pub decided_len : length decided ≡ ports
@@ -203,7 +203,7 @@ pub record HalfBit (heard emitted decided : List Sym) (ports : ℕ) (r s : State
   pub decides : decided ≡ decided_by heard r
   pub state : s ≡ after heard r
 
-module _ (heard emitted decided : List Sym) (ports : ℕ) (r s : State) (half : HalfBit heard emitted decided ports r s) where
+module _ (heard emitted decided : List Sym) (ports : ℕ) (r s : RepeaterDevice) (half : HalfBit heard emitted decided ports r s) where
   counts_len : length r.counts ≡ ports
   counts_len = sym (length_chosen heard r) ∙ sym (length-map (chosen heard r) (λ (c : Choice). c.symbol)) ∙ ap length (sym half.decides) ∙ half.decided_len
 
@@ -214,7 +214,7 @@ module _ (heard emitted decided : List Sym) (ports : ℕ) (r s : State) (half : 
   pays =
       let a = half.guards_len in
       let b = rows_pay heard r (half.heard_len ∙ sym a) (emitted_so ∙ sym a) (counts_len ∙ sym a) in
-      subst (λ (x : State). rows_apart * length (repeater_bodies heard r) + waits r ≤ waits x + row_places ports) (sym half.state)
+      subst (λ (x : RepeaterDevice). rows_apart * length (repeater_bodies heard r) + waits r ≤ waits x + row_places ports) (sym half.state)
       (subst (λ n. rows_apart * length (repeater_bodies heard r) + waits r ≤ waits (after heard r) + row_places n) a b)
 
   most : waits s ≤ (rows_apart - 1) * row_places ports
@@ -222,7 +222,7 @@ module _ (heard emitted decided : List Sym) (ports : ℕ) (r s : State) (half : 
       let a = half.guards_len in
       let guards = length-guards_after r.guards heard (emitted_by r) (half.heard_len ∙ sym a) (emitted_so ∙ sym a) ∙ a in
       let counts = length-map (chosen heard r) (λ (c : Choice). c.count) ∙ length_chosen heard r ∙ counts_len in
-      subst (λ (x : State). waits x ≤ (rows_apart - 1) * row_places ports) (sym half.state) (waits_most (after heard r) ports guards counts)
+      subst (λ (x : RepeaterDevice). waits x ≤ (rows_apart - 1) * row_places ports) (sym half.state) (waits_most (after heard r) ports guards counts)
 
   -- there is room for its rows, and room is left for those of the half bits after it
   pub rows_fit : (k n room : ℕ) → k < n → HasRowRoom ports (n - k) room r → length (repeater_bodies heard r) ≤ room
@@ -232,14 +232,14 @@ module _ (heard emitted decided : List Sym) (ports : ℕ) (r s : State) (half : 
   room_stays k n room room' l h kept = room_left (row_places ports) (n - (k + 1)) (n - k) room room' (length (repeater_bodies heard r)) (waits r) (waits s) (omega arith) h pays kept
 
 -- the same by what its step answered
-pub record Stepped (heard emitted decided : List Sym) (ports : ℕ) (r s : State) (e : RepeaterEvents) : Type 0 where
+pub record Stepped (heard emitted decided : List Sym) (ports : ℕ) (r s : RepeaterDevice) (e : RepeaterEvents) : Type 0 where
   pub half : HalfBit heard emitted decided ports r s
   pub clash : e.clash ≡ clash_begins heard r
   pub closed : e.closed ≡ closed_mask heard r
   pub opened : e.opened ≡ opened_mask heard r
   pub halted : e.halted ≡ halted_mask heard r
 
-module _ (heard emitted decided : List Sym) (ports : ℕ) (r s : State) (e : RepeaterEvents) (step : Stepped heard emitted decided ports r s e) where
+module _ (heard emitted decided : List Sym) (ports : ℕ) (r s : RepeaterDevice) (e : RepeaterEvents) (step : Stepped heard emitted decided ports r s e) where
   pub told : told_bodies ports e ≡ repeater_bodies heard r
   told = let h = step.half in step_told heard emitted decided r ports e h.heard_len h.emitted_len h.decided_len h.guards_len h.emits h.decides step.clash step.closed step.opened step.halted
 

@@ -12,7 +12,7 @@ use Rattle.port_partition.specs.declared.guard.GuardEvent.{GuardEvent}
 use Rattle.port_partition.specs.declared.guard.GuardEvent.TheVariants as event
 use Rattle.repeater_core.specs.Calm.{silent_symbols, silent_step, IsUneventful, IsCalm}
 use Rattle.repeater_core.specs.Counts.{Choice}
-use Rattle.repeater_core.specs.Step.{State, after, chosen, decided_by, emitted_by, guard_events, is_closing, is_opening, mask_from}
+use Rattle.repeater_core.specs.Step.{RepeaterDevice, after, chosen, decided_by, emitted_by, guard_events, is_closing, is_opening, mask_from}
 use Rattle.network.specs.Rows.{happened, guard_bodies, port_bodies, repeater_bodies, rows_of_bodies}
 use Rattle.network.specs.Times.{decided}
 use Rattle.net_parts.specs.Machines.{span}
@@ -48,13 +48,13 @@ no_port_bodies p port (x ∷ hs) (e ∷ es) h c o =
     (no_guard_body port e (flag_off p (is_closing e) (map is_closing es) c) (flag_off p (is_opening e) (map is_opening es) o))
     ∙ no_port_bodies (p + 1) (port + 1) hs es (flags_off p x hs h) (flags_off p (is_closing e) (map is_closing es) c) (flags_off p (is_opening e) (map is_opening es) o)
 
-no_bodies : (r : State) → IsUneventful r → repeater_bodies (silent_symbols r) r ≡ []
+no_bodies : (r : RepeaterDevice) → IsUneventful r → repeater_bodies (silent_symbols r) r ≡ []
 no_bodies r u =
     ap₂ (λ (b : Bool) xs. happened b Clash ++ xs) u.no_clash
     (no_port_bodies 0 1 (map (λ (c : Choice). c.halted) (chosen (silent_symbols r) r)) (guard_events r.guards (silent_symbols r) (emitted_by r)) u.none_halted u.none_closes u.none_opens)
 
 -- calm for fewer half bits
-pub calm_for_fewer : (m n : ℕ) (r : State) → m ≤ n → IsCalm r n → IsCalm r m
+pub calm_for_fewer : (m n : ℕ) (r : RepeaterDevice) → m ≤ n → IsCalm r n → IsCalm r m
 calm_for_fewer m n r h c = record { at_most = let most = c.at_most in omega (arith, most, h); uneventful = λ k l. c.uneventful k (omega (arith, l, h)) }
 
 map_idle : (f : ℕ → Sym) (es : List ℕ) → ((p : ℕ) → p < length es → f (get_or es p 0) ≡ Idle) → map f es ≡ replicate (length es) Idle
@@ -66,7 +66,7 @@ idle_at [] p all = refl
 idle_at (x ∷ xs) zero all = all 0 Idle (omega arith)
 idle_at (x ∷ xs) (suc p) all = idle_at xs p (λ k d l. all (suc k) d (omega (arith, l)))
 
-same_state : {t t' : ℕ} {r r' : State} {ws ws' : List Row} → t ≡ t' → r ≡ r' → ws ≡ ws' → ◌≡◌ {A = RepeaterState} (record { t = t; repeater = r; rows = ws }) (record { t = t'; repeater = r'; rows = ws' })
+same_state : {t t' : ℕ} {r r' : RepeaterDevice} {ws ws' : List Row} → t ≡ t' → r ≡ r' → ws ≡ ws' → ◌≡◌ {A = RepeaterState} (record { t = t; repeater = r; rows = ws }) (record { t = t'; repeater = r'; rows = ws' })
 same_state et er ew = λ i. record { t = et i; repeater = er i; rows = ew i }
 
 module _ (plan : Plan) (i : ℕ) (some : i < length plan.layout.repeaters) where
@@ -81,7 +81,7 @@ module _ (plan : Plan) (i : ℕ) (some : i < length plan.layout.repeaters) where
       map_idle (λ e. port_hears plan e t) es idle
       ∙ ap (λ n. replicate n Idle) (length-span (λ (e : ℕ). e) (edges_before plan.layout.repeaters i) (edges_in plan.layout.repeaters i) ∙ sym ((repeater_facts plan).guards i t some))
 
-  one_later : (t : ℕ) (r : State) → repeater_state plan i t ≡ r → IsUneventful r → ((p : ℕ) → p < length es → port_hears plan (get_or es p 0) t ≡ Idle)
+  one_later : (t : ℕ) (r : RepeaterDevice) → repeater_state plan i t ≡ r → IsUneventful r → ((p : ℕ) → p < length es → port_hears plan (get_or es p 0) t ≡ Idle)
       → repeater_at plan i (suc t) ≡ record { t = suc t; repeater = silent_step r; rows = (repeater_at plan i t).rows }
   unfolding silent_step
   one_later t r is u idle =
@@ -93,7 +93,7 @@ module _ (plan : Plan) (i : ℕ) (some : i < length plan.layout.repeaters) where
       ∙ same_state more (ap (λ x. after (silent_symbols x) x) is)
       (ap (λ x. s.rows ++ rows_of_bodies t device (repeater_bodies (silent_symbols x) x)) is ∙ ap (λ bs. s.rows ++ rows_of_bodies t device bs) (no_bodies r u) ∙ append-nil s.rows)
 
-  decided_now : (t : ℕ) (r : State) → repeater_state plan i t ≡ r → IsUneventful r → ((p : ℕ) → p < length es → port_hears plan (get_or es p 0) t ≡ Idle)
+  decided_now : (t : ℕ) (r : RepeaterDevice) → repeater_state plan i t ≡ r → IsUneventful r → ((p : ℕ) → p < length es → port_hears plan (get_or es p 0) t ≡ Idle)
       → (p : ℕ) → p < length es → decided plan (get_or es p 0) t ≡ Idle
   decided_now t r is u idle p h =
       let q = repeater_state plan i t in
@@ -103,7 +103,7 @@ module _ (plan : Plan) (i : ℕ) (some : i < length plan.layout.repeaters) where
       ∙ ap (λ x. get_or (decided_by (silent_symbols x) x) p Idle) is
       ∙ idle_at (decided_by (silent_symbols r) r) p u.decides
 
-  later : (m t : ℕ) (r : State) → repeater_state plan i t ≡ r → ((k : ℕ) → k < m → IsUneventful (iterate silent_step k r)) → PortsHearIdle plan es t m
+  later : (m t : ℕ) (r : RepeaterDevice) → repeater_state plan i t ≡ r → ((k : ℕ) → k < m → IsUneventful (iterate silent_step k r)) → PortsHearIdle plan es t m
       → repeater_at plan i (t + m) ≡ record { t = t + m; repeater = iterate silent_step m r; rows = (repeater_at plan i t).rows }
   later zero t r is u idle =
       let same : t + 0 ≡ t = omega arith in

@@ -7,11 +7,11 @@ use Rattle.manchester_line.specs.declared.Sym.TheVariants as sym
 use Rattle.manchester_line.specs.Line.{is_signal}
 use Rattle.repeater_core.specs.declared.modes.Mode.{Mode}
 use Rattle.repeater_core.specs.declared.modes.Mode.TheVariants.{Idle}
-use Rattle.repeater_core.specs.Step.{State, new_state, mode_next, chosen, after, emitted_by, decided_by}
+use Rattle.repeater_core.specs.Step.{RepeaterDevice, new_state, mode_next, chosen, after, emitted_by, decided_by}
 use Rattle.repeater_core.specs.Steady.{IsSteadyStep}
 use Rattle.repeater_engine.specs.KeptRepeaters.{IsKnownSteady}
 
-abbrev at_rest : State
+abbrev at_rest : RepeaterDevice
 at_rest = new_state 2 1
 
 abbrev no_signals : List Sym

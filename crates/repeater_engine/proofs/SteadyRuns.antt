@@ -14,7 +14,7 @@ use Rattle.repeater_core.specs.Classes.{after_rows, AreSteadyRows, DecideTexts}
 use Rattle.repeater_core.specs.Counts.{Choice}
 use Rattle.repeater_core.specs.Modes.{is_tx_clash}
 use Rattle.repeater_core.specs.Steady.{IsSteadyStep, mode_on, texted}
-use Rattle.repeater_core.specs.Step.{State, after, chosen, emitted_by, clash_begins, guard_events}
+use Rattle.repeater_core.specs.Step.{RepeaterDevice, after, chosen, emitted_by, clash_begins, guard_events}
 use Rattle.repeater_core.proofs.Lawful.{length_chosen}
 use Rattle.network.specs.Rows.{rows_of_bodies, repeater_bodies}
 use Rattle.network.proofs.PortFlags.{told_are, no_bits}
@@ -33,12 +33,12 @@ no_clash (mode.TxClash i) = refl
 no_clash (mode.OnePort n i) = refl
 
 -- a repeater of so many ports
-pub record HasPorts (ports : ℕ) (r : State) : Type 0 where
+pub record HasPorts (ports : ℕ) (r : RepeaterDevice) : Type 0 where
   pub guards : length r.guards ≡ ports
   pub counts : length r.counts ≡ ports
 
 module _ (ports : ℕ) (emitting deciding : List Bool) (wide : length emitting ≡ ports) where
-  module _ (row : List Sym) (r : State) (has : HasPorts ports r) (heard : length row ≡ ports) (steady : IsSteadyStep row emitting deciding r) where
+  module _ (row : List Sym) (r : RepeaterDevice) (has : HasPorts ports r) (heard : length row ≡ ports) (steady : IsSteadyStep row emitting deciding r) where
     emitted : length (emitted_by r) ≡ ports
     emitted = sym (length-map (emitted_by r) is_signal) ∙ ap length steady.emits ∙ wide
 
@@ -78,7 +78,7 @@ module _ (ports : ℕ) (emitting deciding : List Bool) (wide : length emitting �
       steady_run device rest next (next_ports row s.repeater has long.0 first) long.1 (λ k h. steady (suc k) (omega arith))
       ∙ ap₂ (λ (u : ℕ) (ws : List Row). let x : RepeaterState = record { t = u; repeater = after_rows rest next.repeater; rows = ws } in x) time kept
 
-  waits_fall : (rows : List (List Sym)) (r : State) → HasPorts ports r → AllByRecursion (λ row. length row ≡ ports) rows → AreSteadyRows rows emitting deciding r →
+  waits_fall : (rows : List (List Sym)) (r : RepeaterDevice) → HasPorts ports r → AllByRecursion (λ row. length row ≡ ports) rows → AreSteadyRows rows emitting deciding r →
       waits r ≤ waits (after_rows rows r) + length rows * row_places ports
   waits_fall [] r has long steady = omega arith
   waits_fall (row ∷ rest) r has long steady =
@@ -91,7 +91,7 @@ module _ (ports : ℕ) (emitting deciding : List Bool) (wide : length emitting �
       one_more j p w v x a b = let more : suc j * p ≡ p + j * p = (let s : suc j ≡ j + 1 = omega arith in ap (λ n. n * p) s ∙ omega arith) in omega (arith, more)
 
   -- the room for rows serves the half bits that are left
-  pub room_lasts : (rows : List (List Sym)) (r : State) → HasPorts ports r → AllByRecursion (λ row. length row ≡ ports) rows → AreSteadyRows rows emitting deciding r →
+  pub room_lasts : (rows : List (List Sym)) (r : RepeaterDevice) → HasPorts ports r → AllByRecursion (λ row. length row ≡ ports) rows → AreSteadyRows rows emitting deciding r →
       (left later room : ℕ) → left ≡ later + length rows → HasRowRoom ports left room r → HasRowRoom ports later room (after_rows rows r)
   room_lasts rows r has long steady left later room e h =
       let fall = waits_fall rows r has long steady in

@@ -5,7 +5,7 @@ use Rattle.manchester_line.specs.declared.Sym.{Sym}
 use Rattle.manchester_line.specs.declared.Sym.TheVariants.{Idle}
 use Rattle.load_plan.specs.declared.plan.Plan.{Plan}
 use Rattle.mac_parameters.specs.Parameters.{greatest_delay, most_ports}
-use Rattle.repeater_core.specs.Step.{State}
+use Rattle.repeater_core.specs.Step.{RepeaterDevice}
 use Rattle.repeater_core.specs.Steady.{IsSteady}
 use Rattle.window_room.specs.Rooms.{Room}
 use Rattle.network.specs.Times.{decided}
@@ -28,7 +28,7 @@ pub record KeptRepeater : Type 0 where
 
 -- Each port has its guard and its places for what it emits and is sent; there are as many places for what is sent in
 -- half bits that are made at once as a delay may have half bits; and a repeater has no captures (profile).
-pub record FitTogether (ports : ℕ) (r : State) (log : Room) (emitted decided sent : ℕ) : Type 0 where
+pub record FitTogether (ports : ℕ) (r : RepeaterDevice) (log : Room) (emitted decided sent : ℕ) : Type 0 where
   pub guards : length r.guards ≡ ports
   pub few : ports ≤ most_ports
   pub emitting : emitted ≡ ports
@@ -38,7 +38,7 @@ pub record FitTogether (ports : ℕ) (r : State) (log : Room) (emitted decided s
 
 -- What is kept of a repeater's steadiness: a row with a symbol for each port, and for how many half bits more it is
 -- known to be steady where its ports hear as in that row (profile).
-pub record IsKnownSteady (ports : ℕ) (r : State) (heard : List Sym) (steady : ℕ) : Type 0 where
+pub record IsKnownSteady (ports : ℕ) (r : RepeaterDevice) (heard : List Sym) (steady : ℕ) : Type 0 where
   pub hearing : length heard ≡ ports
   pub stays_steady : IsSteady heard r steady
 

@@ -6,7 +6,7 @@ use Rattle.port_partition.specs.Guard.{Guard}
 use Rattle.repeater_core.specs.declared.modes.Mode.{Mode}
 use Rattle.repeater_core.specs.declared.modes.Mode.TheVariants.{TxClash}
 use Rattle.repeater_core.specs.Counts.{Count}
-use Rattle.repeater_core.specs.Step.{State}
+use Rattle.repeater_core.specs.Step.{RepeaterDevice}
 
 -- The half bits from one row of a kind at a place to the next at least: a port that was just opened is closed again, at
 -- the soonest, by a row of collisions of one half bit each with one half bit between two of them (profile).
@@ -37,7 +37,7 @@ guard_wait g =
     else min (min (collisions_wait g) (partition_collision - 1 - g.clash_run)) (rows_apart - 1)
 
 -- All waits of a repeater together.
-abbrev pub waits : State → ℕ
+abbrev pub waits : RepeaterDevice → ℕ
 waits s = clash_wait s.mode + (sum_by halt_wait s.counts + sum_by guard_wait s.guards)
 
 -- The places of a repeater at which rows of one kind come: itself for its collisions, and each port both for its halts
@@ -50,5 +50,5 @@ abbrev pub most_rows : ℕ → ℕ → ℕ
 most_rows ports n = row_places ports * (n + (rows_apart - 1)) / rows_apart
 
 -- There is room for all rows that a repeater of so many ports may have in so many half bits more (profile).
-abbrev pub HasRowRoom : ℕ → ℕ → ℕ → State → Type 0
+abbrev pub HasRowRoom : ℕ → ℕ → ℕ → RepeaterDevice → Type 0
 HasRowRoom ports left room s = row_places ports * (left + (rows_apart - 1)) < rows_apart * (room + 1) + waits s

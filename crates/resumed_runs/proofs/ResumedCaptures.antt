@@ -16,7 +16,7 @@ use Rattle.network.specs.Outputs.{half_bits}
 use Rattle.network.specs.declared.outputs.Taken.{Taken}
 use Rattle.quiet_state.specs.Resumed.{captures_from, end_net, later_net, net_of}
 use Rattle.quiet_state.specs.declared.state.NetState.{NetState}
-use Rattle.run_checkpoint.specs.Entries.{Entry, captures_of_entries, is_length_of, is_reception, taken_by_station}
+use Rattle.run_checkpoint.specs.Entries.{StateRow, captures_of_entries, is_length_of, is_reception, taken_by_station}
 use Rattle.run_checkpoint.specs.Ranges.{is_body_in, is_row_in}
 use Rattle.run_checkpoint.specs.States.{AreEntriesAfter, IsStateOfPlan, entries_of_state}
 use Rattle.run_texts.proofs.ShortCaptures.{AreTaken, Captures, IsBounded, IsTaken, captures_next, most_bounded}
@@ -55,7 +55,7 @@ taken_if : (b : Bool) (t : ℕ) (x : Taken) (xs : List Taken) → (b ≡ true �
 taken_if true t x xs one all = All-cons (IsTaken t) x xs (one refl) all
 taken_if false t x xs one all = all
 
-taken_few : (plan : Plan) (t : ℕ) (senders : List SenderState) (before : List Row) (k : ℕ) (es : List Entry) → AreEntriesAfter plan t senders before es → AreTaken t (taken_by_station k es)
+taken_few : (plan : Plan) (t : ℕ) (senders : List SenderState) (before : List Row) (k : ℕ) (es : List StateRow) → AreEntriesAfter plan t senders before es → AreTaken t (taken_by_station k es)
 taken_few plan t senders before k [] h = All-nil (IsTaken t)
 taken_few plan t senders before k (e ∷ es) h =
     let known : IsIn plan t e.row = in_after plan t senders before e.row h.0.after in

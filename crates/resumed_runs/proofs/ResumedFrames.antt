@@ -19,7 +19,7 @@ use Rattle.network.specs.Outputs.{cut_rows, half_bits}
 use Rattle.network.specs.declared.outputs.Taken.{Taken}
 use Rattle.quiet_state.specs.Resumed.{end_net, later_net, net_of, resumed_senders, rows_from}
 use Rattle.quiet_state.specs.declared.state.NetState.{NetState}
-use Rattle.run_checkpoint.specs.Entries.{Entry, entries_of, is_reception, rows_of_entries}
+use Rattle.run_checkpoint.specs.Entries.{StateRow, entries_of, is_reception, rows_of_entries}
 use Rattle.layout.specs.NameOctets.{is_between}
 use Rattle.run_checkpoint.specs.Ranges.{do_all_end, does_end_frame, ended_frame, frames_ended, frames_in, is_body_in, is_row_after, is_row_in, is_there}
 use Rattle.run_checkpoint.specs.States.{AreEntriesAfter, AreSendersOf, IsStateOfPlan}
@@ -53,7 +53,7 @@ ends_counted k (row ∷ rows) =
     ap₂ (λ (a b : ℕ). a + b) (one_ended (eqb row.device k) row.body) (ends_counted k rows) ∙ sym (sum_by-cons (λ (r : Row). cond (does_end_frame k r) 1 0) row rows)
 
 -- the rows of a state are those of its entries
-back : (b : Bool) (row : Row) (rows : List Row) (one two : List ℕ) (es fs : List Entry) → rows_of_entries es ≡ rows → rows_of_entries fs ≡ rows
+back : (b : Bool) (row : Row) (rows : List Row) (one two : List ℕ) (es fs : List StateRow) → rows_of_entries es ≡ rows → rows_of_entries fs ≡ rows
     → rows_of_entries (cond b (record { row = row; octets = one } ∷ es) (record { row = row; octets = two } ∷ fs)) ≡ row ∷ rows
 back true row rows one two es fs e f = ap (λ xs. row ∷ xs) e
 back false row rows one two es fs e f = ap (λ xs. row ∷ xs) f
@@ -75,7 +75,7 @@ in_after plan t senders before row after =
     let three = and_parts _ _ two.0 in
     record { time = ltb-true row.t t three.0; range = two.1 }
 
-pub entries_in : (plan : Plan) (t : ℕ) (senders : List SenderState) (before : List Row) (es : List Entry) → AreEntriesAfter plan t senders before es → AllByRecursion (IsIn plan t) (rows_of_entries es)
+pub entries_in : (plan : Plan) (t : ℕ) (senders : List SenderState) (before : List Row) (es : List StateRow) → AreEntriesAfter plan t senders before es → AllByRecursion (IsIn plan t) (rows_of_entries es)
 entries_in plan t senders before [] h = tt
 entries_in plan t senders before (e ∷ es) h = (in_after plan t senders before e.row h.0.after, entries_in plan t senders (before ++ e.row ∷ []) es h.1)
 

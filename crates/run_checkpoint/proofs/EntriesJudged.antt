@@ -11,7 +11,7 @@ use Rattle.layout.specs.declared.lines.Layout.{Layout}
 use Rattle.load_plan.specs.declared.plan.Plan.{Plan}
 use Rattle.load_plan.proofs.PlansAreSound.{sound_of_plan}
 use Rattle.mac_transmit.specs.declared.state.SenderState.{SenderState}
-use Rattle.run_checkpoint.specs.Entries.{Entry, is_length_of, is_reception, lines_of_entries, lines_of_entry, rows_of_entries}
+use Rattle.run_checkpoint.specs.Entries.{StateRow, is_length_of, is_reception, lines_of_entries, lines_of_entry, rows_of_entries}
 use Rattle.run_checkpoint.specs.Judging.{judged_end, judged_entries, judged_line, judged_rest}
 use Rattle.run_checkpoint.specs.LineForms.{is_end_line, octets_form, row_form}
 use Rattle.run_checkpoint.specs.LineTexts.{end_line, line_of_octets, line_of_row_kept}
@@ -54,17 +54,17 @@ none_with (Opened port) other = refl
 none_with (Halted port) other = refl
 
 -- the rows of entries, and one more
-pub rows_snoc : (es : List Entry) (e : Entry) → rows_of_entries (es ++ e ∷ []) ≡ rows_of_entries es ++ e.row ∷ []
-rows_snoc es e = map-append (λ (x : Entry). x.row) es (e ∷ [])
+pub rows_snoc : (es : List StateRow) (e : StateRow) → rows_of_entries (es ++ e ∷ []) ≡ rows_of_entries es ++ e.row ∷ []
+rows_snoc es e = map-append (λ (x : StateRow). x.row) es (e ∷ [])
 
-abbrev Kept : Plan → ℕ → List SenderState → List Entry → List Entry → Type 0
+abbrev Kept : Plan → ℕ → List SenderState → List StateRow → List StateRow → Type 0
 Kept plan t senders told es = AreEntriesAfter plan t senders (rows_of_entries told) es
 
 -- one entry is told, and then the others
-told_more : (told : List Entry) (e : Entry) (es : List Entry) → (told ++ e ∷ []) ++ es ≡ told ++ e ∷ es
+told_more : (told : List StateRow) (e : StateRow) (es : List StateRow) → (told ++ e ∷ []) ++ es ≡ told ++ e ∷ es
 told_more told e es = append_assoc told (e ∷ []) es
 
-pub entries_again : (plan : Plan) (t : ℕ) (senders : List SenderState) (n : ℕ) (told es : List Entry) → Kept plan t senders told es → do_all_end 0 senders (rows_of_entries (told ++ es)) ≡ true
+pub entries_again : (plan : Plan) (t : ℕ) (senders : List SenderState) (n : ℕ) (told es : List StateRow) → Kept plan t senders told es → do_all_end 0 senders (rows_of_entries (told ++ es)) ≡ true
     → judged_entries plan t senders n told None (lines_of_entries plan.layout es ++ end_line ∷ []) ≡ Ok (told ++ es)
 entries_again plan t senders n told [] keeps ended =
     let all : told ++ [] ≡ told = append-nil told in
@@ -82,20 +82,20 @@ entries_again plan t senders n told (e ∷ es) keeps ended =
           rw (came, row_goes_on layout row, first, came, second) (next (n + 1 + 1))
       | inr other ↦
           let none : e.octets ≡ [] = no_octets row.body e.octets other after.length in
-          let same : ◌≡◌ {A = Entry} (record { row = row; octets = [] }) e = rw (← none) refl in
+          let same : ◌≡◌ {A = StateRow} (record { row = row; octets = [] }) e = rw (← none) refl in
           rw (other, row_goes_on layout row, first, other, same) (next (n + 1))
     ]
 
 -- entries that the lines tell
-pub record AreToldEntries (plan : Plan) (t : ℕ) (senders : List SenderState) (told : List Entry) (lines : List (List ℕ)) (all : List Entry) : Type 0 where
-  pub es : List Entry
+pub record AreToldEntries (plan : Plan) (t : ℕ) (senders : List SenderState) (told : List StateRow) (lines : List (List ℕ)) (all : List StateRow) : Type 0 where
+  pub es : List StateRow
   pub whole : all ≡ told ++ es
   pub keeps : AreEntriesAfter plan t senders (rows_of_entries told) es
   pub ended : do_all_end 0 senders (rows_of_entries all) ≡ true
   pub text : lines ≡ lines_of_entries plan.layout es ++ end_line ∷ []
 
 -- the octets of a row that was told, and the entries after it
-pub record AreDueEntries (plan : Plan) (t : ℕ) (senders : List SenderState) (told : List Entry) (row : Row) (lines : List (List ℕ)) (all : List Entry) : Type 0 where
+pub record AreDueEntries (plan : Plan) (t : ℕ) (senders : List SenderState) (told : List StateRow) (row : Row) (lines : List (List ℕ)) (all : List StateRow) : Type 0 where
   pub octets : List ℕ
   pub rest : List (List ℕ)
   pub length : is_length_of row.body (length octets) ≡ true
@@ -103,12 +103,12 @@ pub record AreDueEntries (plan : Plan) (t : ℕ) (senders : List SenderState) (t
   pub text : lines ≡ line_of_octets octets ∷ rest
   pub more : AreToldEntries plan t senders (told ++ record { row = row; octets = octets } ∷ []) rest all
 
-abbrev pub AreEntriesFound : Plan → ℕ → List SenderState → List Entry → Option Row → List (List ℕ) → List Entry → Type 0
+abbrev pub AreEntriesFound : Plan → ℕ → List SenderState → List StateRow → Option Row → List (List ℕ) → List StateRow → Type 0
 AreEntriesFound plan t senders told None lines all = AreToldEntries plan t senders told lines all
 AreEntriesFound plan t senders told (Some row) lines all = AreDueEntries plan t senders told row lines all
 
 -- the last line
-end_found : (plan : Plan) (t : ℕ) (senders : List SenderState) (n : ℕ) (told : List Entry) (lines : List (List ℕ)) (all : List Entry) → judged_end n senders told lines ≡ Ok all
+end_found : (plan : Plan) (t : ℕ) (senders : List SenderState) (n : ℕ) (told : List StateRow) (lines : List (List ℕ)) (all : List StateRow) → judged_end n senders told lines ≡ Ok all
     → AreToldEntries plan t senders told (end_line ∷ lines) all
 end_found plan t senders n told lines all h =
     elim (cases_Bool (do_all_end 0 senders (rows_of_entries told))) [
@@ -123,7 +123,7 @@ end_found plan t senders n told lines all h =
     at_end (l ∷ ls) is ended = cc is
 
 -- one entry in front of others
-entry_before : (plan : Plan) (t : ℕ) (senders : List SenderState) (told : List Entry) (e : Entry) (lines : List (List ℕ)) (all : List Entry) → IsEntryAfter plan t senders (rows_of_entries told) e
+entry_before : (plan : Plan) (t : ℕ) (senders : List SenderState) (told : List StateRow) (e : StateRow) (lines : List (List ℕ)) (all : List StateRow) → IsEntryAfter plan t senders (rows_of_entries told) e
     → AreToldEntries plan t senders (told ++ e ∷ []) lines all → AreToldEntries plan t senders told (lines_of_entry plan.layout e ++ lines) all
 entry_before plan t senders told e lines all is h =
     record {
@@ -141,7 +141,7 @@ lines_came layout row octets rest line lines came text more = rw (came, text, mo
 lines_bare : (layout : Layout) (row : Row) (lines : List (List ℕ)) (line : List ℕ) → is_reception row.body ≡ false → line ≡ line_of_row_kept layout row → lines_of_entry layout (record { row = row; octets = [] }) ++ lines ≡ line ∷ lines
 lines_bare layout row lines line bare text = rw (bare, text) refl
 
-pub entries_found : (plan : Plan) (t : ℕ) (senders : List SenderState) (n : ℕ) (told : List Entry) (due : Option Row) (lines : List (List ℕ)) (all : List Entry)
+pub entries_found : (plan : Plan) (t : ℕ) (senders : List SenderState) (n : ℕ) (told : List StateRow) (due : Option Row) (lines : List (List ℕ)) (all : List StateRow)
     → judged_entries plan t senders n told due lines ≡ Ok all → AreEntriesFound plan t senders told due lines all
 entries_found plan t senders n told None [] all h = cc h
 entries_found plan t senders n told (Some row) [] all h = cc h
@@ -171,12 +171,12 @@ entries_found plan t senders n told None (line ∷ lines) all h =
           elim (cases_Bool (is_reception r.0.body)) [
             | inl came ↦
                 let d = entries_found plan t senders (n + 1) told (Some r.0) lines all (rw came at r.2) in
-                let e : Entry = record { row = r.0; octets = d.octets } in
+                let e : StateRow = record { row = r.0; octets = d.octets } in
                 let b = entry_before plan t senders told e d.rest all (record { row = f.loggable; after = l.1; length = d.length; octets = d.bytes }) d.more in
                 let whole : lines_of_entry plan.layout e ++ d.rest ≡ line ∷ lines = lines_came plan.layout r.0 d.octets d.rest line lines came f.text d.text in
                 subst (λ (x : List (List ℕ)). AreToldEntries plan t senders told x all) whole b
             | inr bare ↦
-                let e : Entry = record { row = r.0; octets = [] } in
+                let e : StateRow = record { row = r.0; octets = [] } in
                 let d = entries_found plan t senders (n + 1) (told ++ e ∷ []) None lines all (rw bare at r.2) in
                 let b = entry_before plan t senders told e lines all (record { row = f.loggable; after = l.1; length = none_with r.0.body bare; octets = tt }) d in
                 let whole : lines_of_entry plan.layout e ++ lines ≡ line ∷ lines = lines_bare plan.layout r.0 lines line bare f.text in

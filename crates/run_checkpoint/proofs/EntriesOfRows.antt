@@ -6,27 +6,27 @@ use Rattle.std.proofs.lemmas.Bool.{cases_Bool, ne_eqb}
 use Rattle.std.proofs.lemmas.Bool.Decides.{Decides-eqb}
 use Rattle.collision_log.specs.declared.row.Row.{Row}
 use Rattle.network.specs.declared.outputs.Taken.{Taken}
-use Rattle.run_checkpoint.specs.Entries.{Entry, after_first, captures_of_entries, entries_of, first_octets, is_reception, rows_of_entries, taken_by_station}
+use Rattle.run_checkpoint.specs.Entries.{StateRow, after_first, captures_of_entries, entries_of, first_octets, is_reception, rows_of_entries, taken_by_station}
 
 -- the frame of an entry
-abbrev pub frame_of : Entry → Taken
+abbrev pub frame_of : StateRow → Taken
 frame_of e = record { t = e.row.t; octets = e.octets }
 
 pub same_eqb : (k : ℕ) → (k == k) ≡ true
 same_eqb k = (Decides-eqb k k).1 refl
 
 -- what its own station received
-pub own_frame : (e : Entry) (es : List Entry) → is_reception e.row.body ≡ true → taken_by_station e.row.device (e ∷ es) ≡ frame_of e ∷ taken_by_station e.row.device es
+pub own_frame : (e : StateRow) (es : List StateRow) → is_reception e.row.body ≡ true → taken_by_station e.row.device (e ∷ es) ≡ frame_of e ∷ taken_by_station e.row.device es
 own_frame e es came = rw (came, same_eqb e.row.device) refl
 
-pub other_frame : (k : ℕ) (e : Entry) (es : List Entry) → e.row.device ≢ k → taken_by_station k (e ∷ es) ≡ taken_by_station k es
+pub other_frame : (k : ℕ) (e : StateRow) (es : List StateRow) → e.row.device ≢ k → taken_by_station k (e ∷ es) ≡ taken_by_station k es
 other_frame k e es apart =
     elim (cases_Bool (is_reception e.row.body)) [
       | inl came ↦ rw (came, ne_eqb e.row.device k apart) refl
       | inr other ↦ rw other refl
     ]
 
-pub no_frame : (k : ℕ) (e : Entry) (es : List Entry) → is_reception e.row.body ≡ false → taken_by_station k (e ∷ es) ≡ taken_by_station k es
+pub no_frame : (k : ℕ) (e : StateRow) (es : List StateRow) → is_reception e.row.body ≡ false → taken_by_station k (e ∷ es) ≡ taken_by_station k es
 no_frame k e es other = rw other refl
 
 -- values over a range are the same
@@ -63,15 +63,15 @@ set_in f g n j same =
     ap (λ (i : ℕ). slice_set (map f (range_with_len 0 n)) j (g i)) z ∙ value_set f g 0 n j (λ k apart. same k (λ e. apart (sym z ∙ e)))
 
 -- a frame was received by one of so many stations, and no octets came with another row
-pub record IsWholeEntry (stations : ℕ) (e : Entry) : Type 0 where
+pub record IsWholeEntry (stations : ℕ) (e : StateRow) : Type 0 where
   pub station : is_reception e.row.body ≡ true → e.row.device < stations
   pub octets : is_reception e.row.body ≡ false → e.octets ≡ []
 
-abbrev pub AreWholeEntries : ℕ → List Entry → Type 0
+abbrev pub AreWholeEntries : ℕ → List StateRow → Type 0
 AreWholeEntries stations [] = Unit {0}
 AreWholeEntries stations (e ∷ es) = IsWholeEntry stations e × AreWholeEntries stations es
 
-abbrev entry_with : Row → List ℕ → Entry
+abbrev entry_with : Row → List ℕ → StateRow
 entry_with row octets = record { row = row; octets = octets }
 
 came_first : (row : Row) (rows : List Row) (w : List (List Taken)) → is_reception row.body ≡ true
@@ -82,7 +82,7 @@ bare_first : (row : Row) (rows : List Row) (w : List (List Taken)) → is_recept
 bare_first row rows w bare = rw bare refl
 
 -- entries are put together again
-pub entries_together : (stations : ℕ) (es : List Entry) → AreWholeEntries stations es → entries_of (rows_of_entries es) (captures_of_entries stations es) ≡ es
+pub entries_together : (stations : ℕ) (es : List StateRow) → AreWholeEntries stations es → entries_of (rows_of_entries es) (captures_of_entries stations es) ≡ es
 entries_together stations [] whole = refl
 entries_together stations (e ∷ es) whole =
     let d = e.row.device in
@@ -97,11 +97,11 @@ entries_together stations (e ∷ es) whole =
           set_in (λ k. taken_by_station k (e ∷ es)) (λ k. taken_by_station k es) stations d (λ k apart. other_frame k e es apart) in
           came_first e.row rows w came
           ∙ (ap (λ (o : Option (List Taken)). entry_with e.row (first_octets o) ∷ entries_of rows (slice_set w d (after_first o))) at
-          ∙ ap (λ (xs : List Entry). e ∷ xs) (ap (entries_of rows) taken ∙ more))
+          ∙ ap (λ (xs : List StateRow). e ∷ xs) (ap (entries_of rows) taken ∙ more))
       | inr other ↦
           let same : w ≡ captures_of_entries stations es = same_values (λ k. taken_by_station k (e ∷ es)) (λ k. taken_by_station k es) 0 stations (λ k. no_frame k e es other) in
           let none : e.octets ≡ [] = whole.0.octets other in
           bare_first e.row rows w other
           ∙ (ap (λ (os : List ℕ). entry_with e.row os ∷ entries_of rows w) (sym none)
-          ∙ ap (λ (xs : List Entry). e ∷ xs) (ap (entries_of rows) same ∙ more))
+          ∙ ap (λ (xs : List StateRow). e ∷ xs) (ap (entries_of rows) same ∙ more))
     ]

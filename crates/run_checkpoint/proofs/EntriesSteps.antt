@@ -11,13 +11,13 @@ use Rattle.collision_log.specs.declared.row.Row.{Row}
 use Rattle.load_plan.specs.declared.plan.Plan.{Plan}
 use Rattle.mac_transmit.specs.declared.state.SenderState.{SenderState}
 use Rattle.network.specs.declared.outputs.Taken.{Taken}
-use Rattle.run_checkpoint.specs.Entries.{Entry, captures_of_entries, is_reception, rows_of_entries, taken_by_station}
+use Rattle.run_checkpoint.specs.Entries.{StateRow, captures_of_entries, is_reception, rows_of_entries, taken_by_station}
 use Rattle.run_checkpoint.specs.Judging.{judged_end, judged_entries, judged_rest}
 use Rattle.run_checkpoint.specs.Progress.{IsToldOf, captures_after, count_after, ended_after, ended_counts}
 use Rattle.run_checkpoint.specs.Ranges.{do_all_end, does_end_frame, ended_frame, frames_ended, is_next_frame, last_row, queue_place}
 use Rattle.run_checkpoint.specs.TextLines.{onto_first_line, text_lines}
 use Rattle.run_checkpoint.specs.declared.fault.StateFault.TheVariants as fault
-use Rattle.run_checkpoint.specs.declared.told.Told.{Told}
+use Rattle.run_checkpoint.specs.declared.told.ToldSoFar.{ToldSoFar}
 use Rattle.run_checkpoint.proofs.EntriesJudged.{rows_snoc}
 use Rattle.run_checkpoint.proofs.EntriesOfRows.{same_eqb, same_values, set_in, value_in}
 
@@ -60,7 +60,7 @@ pub counted_more : (k : ℕ) (rows : List Row) (row : Row) → frames_ended k (r
 counted_more k rows row = sum_by_push (λ (x : Row). if does_end_frame k x then 1 else 0) rows row
 
 -- a frame more of a station
-taken_more : (k : ℕ) (es : List Entry) (e : Entry) → taken_by_station k (es ++ e ∷ []) ≡ taken_by_station k es ++ (if is_reception e.row.body && (e.row.device == k) then record { t = e.row.t; octets = e.octets } ∷ [] else [])
+taken_more : (k : ℕ) (es : List StateRow) (e : StateRow) → taken_by_station k (es ++ e ∷ []) ≡ taken_by_station k es ++ (if is_reception e.row.body && (e.row.device == k) then record { t = e.row.t; octets = e.octets } ∷ [] else [])
 taken_more k [] e = refl
 taken_more k (x ∷ xs) e =
     elim (cases_Bool (is_reception x.row.body && (x.row.device == k))) [
@@ -69,8 +69,8 @@ taken_more k (x ∷ xs) e =
     ]
 
 -- how far the rows were read
-pub record SoFar (plan : Plan) (t : ℕ) (senders : List SenderState) (first : ℕ) (octets : List ℕ) (told : Told) (number : ℕ) (rest : List ℕ) : Type 0 where
-  pub es : List Entry
+pub record SoFar (plan : Plan) (t : ℕ) (senders : List SenderState) (first : ℕ) (octets : List ℕ) (told : ToldSoFar) (number : ℕ) (rest : List ℕ) : Type 0 where
+  pub es : List StateRow
   pub told_of : IsToldOf (length senders) told es
   pub judged : judged_entries plan t senders first [] None (text_lines octets) ≡ judged_entries plan t senders number es None (text_lines rest)
   pub room : number + length rest ≤ first + length octets
@@ -81,9 +81,9 @@ set_past (x ∷ xs) zero v w le = absurd (omega (arith, le))
 set_past (x ∷ xs) (suc k) v w le = ap (λ (ys : List _). x ∷ ys) (set_past xs k v w (omega (arith, le)))
 
 -- the captures with one entry more
-captures_more : (stations : ℕ) (es : List Entry) (row : Row) (octets : List ℕ) → captures_of_entries stations (es ++ record { row = row; octets = octets } ∷ []) ≡ captures_after (captures_of_entries stations es) row octets
+captures_more : (stations : ℕ) (es : List StateRow) (row : Row) (octets : List ℕ) → captures_of_entries stations (es ++ record { row = row; octets = octets } ∷ []) ≡ captures_after (captures_of_entries stations es) row octets
 captures_more stations es row octets =
-    let e : Entry = record { row = row; octets = octets } in
+    let e : StateRow = record { row = row; octets = octets } in
     let one : Taken = record { t = row.t; octets = octets } in
     let f : ℕ → List Taken = λ k. taken_by_station k es in
     let g : ℕ → List Taken = λ k. taken_by_station k (es ++ e ∷ []) in
@@ -132,11 +132,11 @@ counts_more stations place rows row next = by_frame (ended_frame row.body) refl 
         sym (ap (slice_set (map f (range_with_len 0 stations)) row.device) (sym own) ∙ set_in f g stations row.device apart)
 
 -- one entry more is told
-pub told_more : (stations place : ℕ) (told new : Told) (es : List Entry) (row : Row) (octets : List ℕ) → IsToldOf stations told es → is_next_frame (frames_ended row.device told.rows) place (ended_frame row.body) ≡ true
+pub told_more : (stations place : ℕ) (told new : ToldSoFar) (es : List StateRow) (row : Row) (octets : List ℕ) → IsToldOf stations told es → is_next_frame (frames_ended row.device told.rows) place (ended_frame row.body) ≡ true
     → new.rows ≡ told.rows ++ row ∷ [] → new.captures.items ≡ captures_after told.captures.items row octets → new.ended.items ≡ ended_after told.ended.items row
     → IsToldOf stations new (es ++ record { row = row; octets = octets } ∷ [])
 told_more stations place told new es row octets h next rows captures ended =
-    let e : Entry = record { row = row; octets = octets } in
+    let e : StateRow = record { row = row; octets = octets } in
     let all : rows_of_entries (es ++ e ∷ []) ≡ rows_of_entries es ++ row ∷ [] = rows_snoc es e in
     record {
       rows = rows ∙ (ap (λ (xs : List Row). xs ++ row ∷ []) h.rows ∙ sym all);
@@ -173,7 +173,7 @@ pub one_other : (senders : List SenderState) (ended : List ℕ) (k : ℕ) (rows 
 one_other senders ended k rows lt is other = step_other k k senders rows lt (λ x. other (count_at ended (length senders) k rows lt is ∙ x))
 
 -- octets that follow the last line
-pub octets_follow : (n : ℕ) (senders : List SenderState) (es : List Entry) (rest : List ℕ) → do_all_end 0 senders (rows_of_entries es) ≡ true → (length rest == 0) ≡ false → judged_end n senders es (text_lines rest) ≡ Err (fault.BadLine (n + 1))
+pub octets_follow : (n : ℕ) (senders : List SenderState) (es : List StateRow) (rest : List ℕ) → do_all_end 0 senders (rows_of_entries es) ≡ true → (length rest == 0) ≡ false → judged_end n senders es (text_lines rest) ≡ Err (fault.BadLine (n + 1))
 octets_follow n senders es rest ended some = rw ended (after rest some)
   where
     line_more : (c : ℕ) (ls : List (List ℕ)) → judged_rest n es (onto_first_line c ls) ≡ Err (fault.BadLine (n + 1))

@@ -15,7 +15,7 @@ use Rattle.mac_parameters.specs.Parameters.{attempt_limit, check_sequence, least
 use Rattle.mac_transmit.specs.declared.state.SenderState.{SenderState}
 use Rattle.network.specs.declared.outputs.Taken.{Taken}
 use Rattle.quiet_state.specs.PlanStates.{HappensToRepeater, HappensToStation, IsRowOf, ended_frames, own_rows, received_sizes, taken_size}
-use Rattle.run_checkpoint.specs.Entries.{Entry, entries_of, is_length_of, is_reception, taken_by_station}
+use Rattle.run_checkpoint.specs.Entries.{StateRow, entries_of, is_length_of, is_reception, taken_by_station}
 use Rattle.run_checkpoint.specs.Ranges.{does_end_frame, ended_frame, frames_ended, frames_in, greatest_draw, is_body_in, is_in_order, is_next_frame, is_row_after, is_row_in, is_there, last_row, queue_place}
 use Rattle.run_checkpoint.specs.States.{AreEntriesAfter}
 use Rattle.run_checkpoint.proofs.EntriesOfRows.{frame_of, no_frame, other_frame, own_frame, same_eqb, set_in, value_in}
@@ -182,7 +182,7 @@ abbrev pub spread : Plan → (ℕ → List Taken) → List (List Taken)
 spread plan h = map h (range_with_len 0 (length plan.layout.stations))
 
 -- the entries follow, and tell the frames again
-pub record Told (plan : Plan) (t : ℕ) (senders : List SenderState) (before rows : List Row) (h : ℕ → List Taken) : Type 0 where
+pub record ToldSoFar (plan : Plan) (t : ℕ) (senders : List SenderState) (before rows : List Row) (h : ℕ → List Taken) : Type 0 where
   pub entries : AreEntriesAfter plan t senders before (entries_of rows (spread plan h))
   pub frames : (k : ℕ) → k < length plan.layout.stations → taken_by_station k (entries_of rows (spread plan h)) ≡ h k
 
@@ -343,7 +343,7 @@ frame_is y t is = rw (← is) refl
 size_of : (body : Body) (n : ℕ) (octets : List ℕ) → body ≡ Received n → length octets + check_sequence ≡ n → is_length_of body (length octets) ≡ true
 size_of body n octets is long = ap (λ (b : Body). is_length_of b (length octets)) is ∙ rw long (same_eqb n)
 
-pub tells : (plan : Plan) (t : ℕ) (senders : List SenderState) (before : List Row) (last : Option Row) (rows : List Row) (h : ℕ → List Taken) → Follow plan t senders before last rows h → Told plan t senders before rows h
+pub tells : (plan : Plan) (t : ℕ) (senders : List SenderState) (before : List Row) (last : Option Row) (rows : List Row) (h : ℕ → List Taken) → Follow plan t senders before last rows h → ToldSoFar plan t senders before rows h
 tells plan t senders before last [] h f = record { entries = tt; frames = λ k l. no_frames (h k) (f.received k l) }
 tells plan t senders before last (row ∷ rows) h f =
     let s = length plan.layout.stations in
@@ -351,7 +351,7 @@ tells plan t senders before last (row ∷ rows) h f =
     elim (cases_Bool (is_reception row.body)) [
       | inr other ↦
           let r = tells plan t senders (before ++ row ∷ []) (Some row) rows h (follow_more plan t senders before last row rows h f other) in
-          let e : Entry = record { row = row; octets = [] } in
+          let e : StateRow = record { row = row; octets = [] } in
           let es = entries_of rows (spread plan h) in
           let all : entries_of (row ∷ rows) (spread plan h) ≡ e ∷ es = rw other refl in
           record {
@@ -364,7 +364,7 @@ tells plan t senders before last (row ∷ rows) h f =
           let low = station_of plan t row f.each.0 (inr came) in
           let x = first_frame row.t c.octets _ (h d) (rw (same_eqb d, c.is) at (f.received d low)) in
           let h' = left_of h d x.more in
-          let e : Entry = record { row = row; octets = x.one.octets } in
+          let e : StateRow = record { row = row; octets = x.one.octets } in
           let at : slice_get (spread plan h) d ≡ Some (x.one ∷ x.more) = value_in h s d low ∙ ap Some x.is in
           let own : h' d ≡ x.more = rw (same_eqb d) refl in
           let set : slice_set (spread plan h) d x.more ≡ spread plan h' =

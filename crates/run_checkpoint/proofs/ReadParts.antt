@@ -13,7 +13,7 @@ use Rattle.network.specs.Outputs.{half_bits}
 use Rattle.network.specs.declared.outputs.Taken.{Taken}
 use Rattle.port_partition.specs.Guard.{Guard}
 use Rattle.quiet_state.specs.declared.state.NetState.{NetState}
-use Rattle.run_checkpoint.specs.Entries.{Entry, captures_of_entries, rows_of_entries}
+use Rattle.run_checkpoint.specs.Entries.{StateRow, captures_of_entries, rows_of_entries}
 use Rattle.run_checkpoint.specs.Judging.{IsJudgement, first_guard_line, first_row_line, judged_after_time, judged_entries, judged_guards, judged_line, judged_lines, judged_senders, state_told, then_judged}
 use Rattle.run_checkpoint.specs.LineForms.{time_form}
 use Rattle.run_checkpoint.specs.Places.{NamedPort, all_ports}
@@ -41,10 +41,10 @@ pub guards_fault : (plan : Plan) (lines more : List (List ℕ)) (t : ℕ) (ss : 
     → judged_guards (first_guard_line plan) [] [] (all_ports plan.layout) more ≡ Err f → judged_after_time plan lines t ≡ Err f
 guards_fault plan lines more t ss f h g = rw (h, g) refl
 
-abbrev pub RowsTold : ℕ → Result (List Entry) StateFault → Result (List Row × List (List Taken)) StateFault
+abbrev pub RowsTold : ℕ → Result (List StateRow) StateFault → Result (List Row × List (List Taken)) StateFault
 RowsTold stations r = then_judged r (λ es. Ok (rows_of_entries es, captures_of_entries stations es))
 
-told_fault : (stations : ℕ) (r : Result (List Entry) StateFault) (f : StateFault) → RowsTold stations r ≡ Err f → r ≡ Err f
+told_fault : (stations : ℕ) (r : Result (List StateRow) StateFault) (f : StateFault) → RowsTold stations r ≡ Err f → r ≡ Err f
 told_fault stations (Ok es) f h = cc h
 told_fault stations (Err g) f h = cc h
 
@@ -53,13 +53,13 @@ pub entries_fault : (plan : Plan) (lines more rest : List (List ℕ)) (t : ℕ) 
     → RowsTold (length ss) (judged_entries plan t ss (first_row_line plan) [] None rest) ≡ Err f → judged_after_time plan lines t ≡ Err f
 entries_fault plan lines more rest t ss gs rs f h g e = rw (h, g, told_fault (length ss) (judged_entries plan t ss (first_row_line plan) [] None rest) f e) refl
 
-told_entries : (stations : ℕ) (r : Result (List Entry) StateFault) (rc : List Row × List (List Taken)) → RowsTold stations r ≡ Ok rc → (es : List Entry) × (r ≡ Ok es) × (rows_of_entries es ≡ rc.0) × (captures_of_entries stations es ≡ rc.1)
+told_entries : (stations : ℕ) (r : Result (List StateRow) StateFault) (rc : List Row × List (List Taken)) → RowsTold stations r ≡ Ok rc → (es : List StateRow) × (r ≡ Ok es) × (rows_of_entries es ≡ rc.0) × (captures_of_entries stations es ≡ rc.1)
 told_entries stations (Ok es) rc h =
     let e = same_ok (rows_of_entries es, captures_of_entries stations es) rc h in
     (es, refl, ap (λ (p : List Row × List (List Taken)). p.0) e, ap (λ (p : List Row × List (List Taken)). p.1) e)
 told_entries stations (Err g) rc h = cc h
 
-same_state : (plan : Plan) (t : ℕ) (ss : List SenderState) (gs : List Guard) (rs : List ℕ) (es : List Entry) (rows : List Row) (captures : List (List Taken)) → rows_of_entries es ≡ rows
+same_state : (plan : Plan) (t : ℕ) (ss : List SenderState) (gs : List Guard) (rs : List ℕ) (es : List StateRow) (rows : List Row) (captures : List (List Taken)) → rows_of_entries es ≡ rows
     → captures_of_entries (length plan.layout.stations) es ≡ captures
     → ◌≡◌ {A = Result NetState StateFault} (Ok (state_told plan t ss gs rs es)) (Ok (record { t = t; senders = ss; guards = gs; rests = rs; rows = rows; captures = captures }))
 same_state plan t ss gs rs es rows captures a b = rw (← a, ← b) refl

@@ -13,7 +13,7 @@ use Rattle.quiet_state.specs.Quiet.{IsQuiet}
 use Rattle.quiet_state.specs.Resumed.{state_at}
 use Rattle.quiet_state.specs.declared.state.NetState.{NetState}
 use Rattle.network.specs.Outputs.{half_bits}
-use Rattle.run_checkpoint.specs.Entries.{Entry, is_length_of, is_reception, rows_of_entries}
+use Rattle.run_checkpoint.specs.Entries.{StateRow, is_length_of, is_reception, rows_of_entries}
 use Rattle.run_checkpoint.specs.Judging.{IsJudgement, IsTextOfState, first_guard_line, first_row_line, judged_after_time, judged_end, judged_entries, judged_guards, judged_line, judged_lines, judged_rest, judged_senders, judged_state, most_state_octets, state_told, then_judged}
 use Rattle.run_checkpoint.specs.LineForms.{guard_form, is_end_line, octets_form, row_form, sender_form, time_form}
 use Rattle.run_checkpoint.specs.Places.{NamedPort, all_ports}
@@ -73,14 +73,14 @@ guards_lines n gs rs (p ∷ ps) (line ∷ lines) =
     then_lines (judged_line n (guard_form p.name p.port line) keeps) (λ (x : Guard × ℕ). judged_guards (n + 1) (gs ++ x.0 ∷ []) (rs ++ x.1 ∷ []) ps lines)
     (one_line n (guard_form p.name p.port line) keeps) (λ (x : Guard × ℕ). guards_lines (n + 1) (gs ++ x.0 ∷ []) (rs ++ x.1 ∷ []) ps lines)
 
-rest_lines : (n : ℕ) (told : List Entry) (lines : List (List ℕ)) → OfLines (judged_rest n told lines)
+rest_lines : (n : ℕ) (told : List StateRow) (lines : List (List ℕ)) → OfLines (judged_rest n told lines)
 rest_lines n told [] = tt
 rest_lines n told (line ∷ lines) = tt
 
-end_lines : (n : ℕ) (senders : List SenderState) (told : List Entry) (lines : List (List ℕ)) → OfLines (judged_end n senders told lines)
+end_lines : (n : ℕ) (senders : List SenderState) (told : List StateRow) (lines : List (List ℕ)) → OfLines (judged_end n senders told lines)
 end_lines n senders told lines = elim (cases_Bool (do_all_end 0 senders (rows_of_entries told))) [ inl ended ↦ rw ended (rest_lines n told lines) | inr other ↦ rw other tt ]
 
-entries_lines : (plan : Plan) (t : ℕ) (senders : List SenderState) (n : ℕ) (told : List Entry) (due : Option Row) (lines : List (List ℕ)) → OfLines (judged_entries plan t senders n told due lines)
+entries_lines : (plan : Plan) (t : ℕ) (senders : List SenderState) (n : ℕ) (told : List StateRow) (due : Option Row) (lines : List (List ℕ)) → OfLines (judged_entries plan t senders n told due lines)
 entries_lines plan t senders n told None [] = tt
 entries_lines plan t senders n told (Some row) [] = tt
 entries_lines plan t senders n told (Some row) (line ∷ lines) =
@@ -89,7 +89,7 @@ entries_lines plan t senders n told (Some row) (line ∷ lines) =
     (one_line n (octets_form line) keeps) (λ (octets : List ℕ). entries_lines plan t senders (n + 1) (told ++ record { row = row; octets = octets } ∷ []) None lines)
 entries_lines plan t senders n told None (line ∷ lines) =
     let keeps : Row → Bool = is_row_after plan t senders (rows_of_entries told) in
-    let next : Row → Result (List Entry) StateFault = λ row.
+    let next : Row → Result (List StateRow) StateFault = λ row.
     if is_reception row.body then judged_entries plan t senders (n + 1) told (Some row) lines
     else judged_entries plan t senders (n + 1) (told ++ record { row = row; octets = [] } ∷ []) None lines in
     let nexts : (row : Row) → OfLines (next row) = λ row.
@@ -103,8 +103,8 @@ after_lines plan lines t =
     then_lines (judged_senders 2 [] plan.layout.stations plan.queues lines) (after_senders plan t) (senders_lines 2 [] plan.layout.stations plan.queues lines) (λ (senders : List SenderState × List (List ℕ)).
     then_lines (judged_guards (first_guard_line plan) [] [] (all_ports plan.layout) senders.1) (after_guards plan t senders.0) (guards_lines (first_guard_line plan) [] [] (all_ports plan.layout) senders.1)
     (λ (guards : List Guard × List ℕ × List (List ℕ)).
-    then_lines (judged_entries plan t senders.0 (first_row_line plan) [] None guards.2) (λ (es : List Entry). Ok (state_told plan t senders.0 guards.0 guards.1 es))
-    (entries_lines plan t senders.0 (first_row_line plan) [] None guards.2) (λ (es : List Entry). tt)))
+    then_lines (judged_entries plan t senders.0 (first_row_line plan) [] None guards.2) (λ (es : List StateRow). Ok (state_told plan t senders.0 guards.0 guards.1 es))
+    (entries_lines plan t senders.0 (first_row_line plan) [] None guards.2) (λ (es : List StateRow). tt)))
 
 all_lines : (plan : Plan) (lines : List (List ℕ)) → OfLines (judged_lines plan lines)
 all_lines plan [] = tt

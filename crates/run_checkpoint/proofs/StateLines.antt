@@ -22,7 +22,7 @@ use Rattle.mac_transmit.specs.declared.state.SenderState.{SenderState}
 use Rattle.port_partition.specs.Guard.{Guard}
 use Rattle.quiet_state.specs.declared.state.NetState.{NetState}
 use Rattle.run_texts.specs.Texts.{line_of_row}
-use Rattle.run_checkpoint.specs.Entries.{Entry, is_reception, lines_of_entries, lines_of_entry}
+use Rattle.run_checkpoint.specs.Entries.{StateRow, is_reception, lines_of_entries, lines_of_entry}
 use Rattle.run_checkpoint.specs.LineTexts.{count_words, defer_words, end_line, hex_digit, hex_digits, line_of_guard, line_of_octets, line_of_row_kept, line_of_sender, line_of_time_kept, phase_words, yes_or_no}
 use Rattle.run_checkpoint.specs.Places.{NamedPort, all_ports, ports_named, ports_of_repeaters}
 use Rattle.run_checkpoint.specs.States.{entries_of_state, lines_of_guards, lines_of_senders, lines_of_state, text_of_state}
@@ -203,7 +203,7 @@ octets_lines : (b : Bool) (octets : List ℕ) → AreTextLines (if b then line_o
 octets_lines true octets = (octets_line octets, tt)
 octets_lines false octets = tt
 
-entries_lines : (layout : Layout) (es : List Entry) → IsSound layout → AreTextLines (lines_of_entries layout es)
+entries_lines : (layout : Layout) (es : List StateRow) → IsSound layout → AreTextLines (lines_of_entries layout es)
 entries_lines layout [] sound = tt
 entries_lines layout (e ∷ es) sound =
     text_lines_append (lines_of_entry layout e) (lines_of_entries layout es) (row_line layout e.row sound, octets_lines (is_reception e.row.body) e.octets) (entries_lines layout es sound)

@@ -14,7 +14,7 @@ use Rattle.network.specs.Outputs.{half_bits}
 use Rattle.network.specs.declared.outputs.Taken.{Taken}
 use Rattle.port_partition.specs.Guard.{Guard}
 use Rattle.quiet_state.specs.declared.state.NetState.{NetState}
-use Rattle.run_checkpoint.specs.Entries.{Entry, captures_of_entries, entries_of, is_reception, lines_of_entries, rows_of_entries}
+use Rattle.run_checkpoint.specs.Entries.{StateRow, captures_of_entries, entries_of, is_reception, lines_of_entries, rows_of_entries}
 use Rattle.run_checkpoint.specs.Judging.{IsTextOfState, first_guard_line, first_row_line, judged_after_time, judged_entries, judged_guards, judged_line, judged_lines, judged_senders, judged_state, most_state_octets, state_told}
 use Rattle.run_checkpoint.specs.LineForms.{time_form}
 use Rattle.run_checkpoint.specs.LineTexts.{end_line, line_of_time_kept}
@@ -46,7 +46,7 @@ by_station (Closed port) came = cc came
 by_station (Opened port) came = cc came
 by_station (Halted port) came = cc came
 
-whole_entries : (plan : Plan) (t : ℕ) (senders : List SenderState) (before : List Row) (es : List Entry) → AreEntriesAfter plan t senders before es → AreWholeEntries (length plan.layout.stations) es
+whole_entries : (plan : Plan) (t : ℕ) (senders : List SenderState) (before : List Row) (es : List StateRow) → AreEntriesAfter plan t senders before es → AreWholeEntries (length plan.layout.stations) es
 whole_entries plan t senders before [] h = tt
 whole_entries plan t senders before (e ∷ es) h = (
   record {
@@ -71,7 +71,7 @@ record AreLinesOf (plan : Plan) (lines : List (List ℕ)) (s : NetState) : Type 
   pub text : lines ≡ lines_of_state plan s
 
 -- what was told is a state, and its lines
-told_lines : (plan : Plan) (t : ℕ) (ss : List SenderState) (gs : List Guard) (rs : List ℕ) (es : List Entry) (line : List ℕ) (lines : List (List ℕ)) → t < half_bits plan → AreSendersOf plan.queues ss
+told_lines : (plan : Plan) (t : ℕ) (ss : List SenderState) (gs : List Guard) (rs : List ℕ) (es : List StateRow) (line : List ℕ) (lines : List (List ℕ)) → t < half_bits plan → AreSendersOf plan.queues ss
     → AreGuardsOf (all_ports plan.layout) gs rs → AreEntriesAfter plan t ss [] es → do_all_end 0 ss (rows_of_entries es) ≡ true → line ≡ line_of_time_kept t
     → lines ≡ lines_of_senders plan.layout.stations ss ++ (lines_of_guards (all_ports plan.layout) gs rs ++ (lines_of_entries plan.layout es ++ end_line ∷ []))
     → AreLinesOf plan (line ∷ lines) (state_told plan t ss gs rs es)
@@ -91,7 +91,7 @@ told_lines plan t ss gs rs es line lines soon senders guards entries ended time 
       text =
           ap (λ (x : List ℕ). x ∷ lines) time
           ∙ ap (λ (x : List (List ℕ)). line_of_time_kept t ∷ x) (whole
-          ∙ ap (λ (x : List Entry). lines_of_senders plan.layout.stations ss ++ (lines_of_guards (all_ports plan.layout) gs rs ++ (lines_of_entries plan.layout x ++ end_line ∷ []))) (sym together));
+          ∙ ap (λ (x : List StateRow). lines_of_senders plan.layout.stations ss ++ (lines_of_guards (all_ports plan.layout) gs rs ++ (lines_of_entries plan.layout x ++ end_line ∷ []))) (sym together));
     }
 
 lines_found : (plan : Plan) (lines : List (List ℕ)) (s : NetState) → judged_lines plan lines ≡ Ok s → AreLinesOf plan lines s
@@ -112,10 +112,10 @@ lines_found plan (line ∷ lines) s h =
     let is : state_told plan t f.more g.gs g.rs e.es ≡ s =
     ap (λ (x : List SenderState). state_told plan t x g.gs g.rs e.es) (sym f.all)
     ∙ (ap (λ (x : List Guard). state_told plan t b.0.0 x g.rs e.es) (sym g.guards)
-    ∙ (ap (λ (x : List ℕ). state_told plan t b.0.0 c.0.0 x e.es) (sym g.rests) ∙ (ap (λ (x : List Entry). state_told plan t b.0.0 c.0.0 c.0.1 x) (sym e.whole) ∙ same))) in
+    ∙ (ap (λ (x : List ℕ). state_told plan t b.0.0 c.0.0 x e.es) (sym g.rests) ∙ (ap (λ (x : List StateRow). state_told plan t b.0.0 c.0.0 c.0.1 x) (sym e.whole) ∙ same))) in
     let keeps' : AreEntriesAfter plan t f.more [] e.es = subst (λ (x : List SenderState). AreEntriesAfter plan t x [] e.es) f.all e.keeps in
     let ended : do_all_end 0 f.more (rows_of_entries e.es) ≡ true =
-    subst (λ (x : List SenderState). do_all_end 0 x (rows_of_entries e.es) ≡ true) f.all (subst (λ (x : List Entry). do_all_end 0 b.0.0 (rows_of_entries x) ≡ true) e.whole e.ended) in
+    subst (λ (x : List SenderState). do_all_end 0 x (rows_of_entries e.es) ≡ true) f.all (subst (λ (x : List StateRow). do_all_end 0 b.0.0 (rows_of_entries x) ≡ true) e.whole e.ended) in
     let whole : lines ≡ lines_of_senders plan.layout.stations f.more ++ (lines_of_guards (all_ports plan.layout) g.gs g.rs ++ (lines_of_entries plan.layout e.es ++ end_line ∷ [])) =
     f.text ∙ ap (λ (x : List (List ℕ)). lines_of_senders plan.layout.stations f.more ++ x) (g.text ∙ ap (λ (x : List (List ℕ)). lines_of_guards (all_ports plan.layout) g.gs g.rs ++ x) e.text) in
     let time : line ≡ line_of_time_kept t = time_text line t l.0 (omega (arith, soon, few_half_bits plan)) in

@@ -11,7 +11,7 @@ use Rattle.network.specs.declared.outputs.Taken.{Taken}
 use Rattle.run_checkpoint.specs.LineTexts.{line_of_octets, line_of_row_kept}
 
 -- a row, and the octets of the frame that was received with it, without its check sequence; none with other rows
-pub record Entry : Type 0 where
+pub record StateRow : Type 0 where
   pub row : Row
   pub octets : List ℕ
 
@@ -32,7 +32,7 @@ after_first None = []
 after_first (Some taken) = drop 1 taken
 
 -- the rows, each Received one with the octets of its station's next frame
-abbrev pub entries_of : List Row → List (List Taken) → List Entry
+abbrev pub entries_of : List Row → List (List Taken) → List StateRow
 entries_of [] waiting = []
 entries_of (row ∷ rows) waiting =
     if is_reception row.body then
@@ -41,7 +41,7 @@ entries_of (row ∷ rows) waiting =
     else record { row = row; octets = [] } ∷ entries_of rows waiting
 
 -- what a station received, by its entries
-abbrev pub taken_by_station : ℕ → List Entry → List Taken
+abbrev pub taken_by_station : ℕ → List StateRow → List Taken
 taken_by_station k [] = []
 taken_by_station k (e ∷ es) =
     if is_reception e.row.body && (e.row.device == k)
@@ -49,20 +49,20 @@ taken_by_station k (e ∷ es) =
     else taken_by_station k es
 
 -- what each of so many stations received, by the entries
-abbrev pub captures_of_entries : ℕ → List Entry → List (List Taken)
+abbrev pub captures_of_entries : ℕ → List StateRow → List (List Taken)
 captures_of_entries stations es = map (λ k. taken_by_station k es) (range_with_len 0 stations)
 
 -- the rows of entries
-abbrev pub rows_of_entries : List Entry → List Row
+abbrev pub rows_of_entries : List StateRow → List Row
 rows_of_entries es = map (λ e. e.row) es
 
 -- the lines of a row and of its octets, where there are any
-abbrev pub lines_of_entry : Layout → Entry → List (List ℕ)
+abbrev pub lines_of_entry : Layout → StateRow → List (List ℕ)
 lines_of_entry layout e =
     line_of_row_kept layout e.row ∷ (if is_reception e.row.body then line_of_octets e.octets ∷ [] else [])
 
 -- the lines of these entries
-abbrev pub lines_of_entries : Layout → List Entry → List (List ℕ)
+abbrev pub lines_of_entries : Layout → List StateRow → List (List ℕ)
 lines_of_entries layout es = flat_map (lines_of_entry layout) es
 
 -- whether so many octets, without a check sequence, are those of a frame that was received

@@ -9,7 +9,7 @@ use Rattle.mac_transmit.specs.declared.state.SenderState.{SenderState}
 use Rattle.network.specs.Outputs.{half_bits}
 use Rattle.port_partition.specs.Guard.{Guard}
 use Rattle.quiet_state.specs.declared.state.NetState.{NetState}
-use Rattle.run_checkpoint.specs.Entries.{Entry, captures_of_entries, is_length_of, is_reception, rows_of_entries}
+use Rattle.run_checkpoint.specs.Entries.{StateRow, captures_of_entries, is_length_of, is_reception, rows_of_entries}
 use Rattle.run_checkpoint.specs.LineForms.{guard_form, is_end_line, octets_form, row_form, sender_form, time_form}
 use Rattle.run_checkpoint.specs.Places.{NamedPort, all_ports}
 use Rattle.run_checkpoint.specs.Ranges.{do_all_end, is_guard_in, is_row_after, is_sender_in}
@@ -53,19 +53,19 @@ judged_guards n guards rests (port ∷ ports) (line ∷ lines) =
     (λ g. judged_guards (n + 1) (guards ++ g.0 ∷ []) (rests ++ g.1 ∷ []) ports lines)
 
 -- nothing follows the last line, which is line n
-abbrev pub judged_rest : ℕ → List Entry → List (List ℕ) → Result (List Entry) StateFault
+abbrev pub judged_rest : ℕ → List StateRow → List (List ℕ) → Result (List StateRow) StateFault
 judged_rest n told [] = Ok told
 judged_rest n told (line ∷ lines) = Err (fault.BadLine (n + 1))
 
 -- line n is the last one: the rows end as many frames of each sender as its place says, and nothing follows
-abbrev pub judged_end : ℕ → List SenderState → List Entry → List (List ℕ) → Result (List Entry) StateFault
+abbrev pub judged_end : ℕ → List SenderState → List StateRow → List (List ℕ) → Result (List StateRow) StateFault
 judged_end n senders told lines =
     if do_all_end 0 senders (rows_of_entries told) then judged_rest n told lines else Err (fault.BadValue n)
 
 -- the lines from line n on are those of rows before half bit t with the octets that were received, and the last line,
 -- after the rows that were told so far; after a row of a frame that was received its octets are due
-abbrev pub judged_entries : Plan → ℕ → List SenderState → ℕ → List Entry → Option Row → List (List ℕ)
-    → Result (List Entry) StateFault
+abbrev pub judged_entries : Plan → ℕ → List SenderState → ℕ → List StateRow → Option Row → List (List ℕ)
+    → Result (List StateRow) StateFault
 judged_entries plan t senders n told due [] = Err (fault.BadLine n)
 judged_entries plan t senders n told None (line ∷ lines) =
     if is_end_line line then judged_end n senders told lines
@@ -80,7 +80,7 @@ judged_entries plan t senders n told (Some row) (line ∷ lines) =
     judged_entries plan t senders (n + 1) (told ++ record { row = row; octets = octets } ∷ []) None lines)
 
 -- the state before half bit t that was told so
-abbrev pub state_told : Plan → ℕ → List SenderState → List Guard → List ℕ → List Entry → NetState
+abbrev pub state_told : Plan → ℕ → List SenderState → List Guard → List ℕ → List StateRow → NetState
 state_told plan t senders guards rests es =
     record {
       t = t;

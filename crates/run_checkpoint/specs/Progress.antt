@@ -5,19 +5,19 @@ use Rattle.collision_log.specs.declared.row.Row.{Row}
 use Rattle.load_plan.specs.declared.plan.Plan.{Plan}
 use Rattle.mac_transmit.specs.declared.state.SenderState.{SenderState}
 use Rattle.network.specs.declared.outputs.Taken.{Taken}
-use Rattle.run_checkpoint.specs.Entries.{Entry, captures_of_entries, is_reception, rows_of_entries}
+use Rattle.run_checkpoint.specs.Entries.{StateRow, captures_of_entries, is_reception, rows_of_entries}
 use Rattle.run_checkpoint.specs.Judging.{judged_entries}
 use Rattle.run_checkpoint.specs.Ranges.{ended_frame, frames_ended}
 use Rattle.run_checkpoint.specs.declared.fault.StateFault.{StateFault}
 use Rattle.run_checkpoint.specs.declared.fault.StateFault.TheVariants as fault
-use Rattle.run_checkpoint.specs.declared.told.Told.{Told}
+use Rattle.run_checkpoint.specs.declared.told.ToldSoFar.{ToldSoFar}
 
 -- how many frames of each of so many stations these rows end
 abbrev pub ended_counts : ℕ → List Row → List ℕ
 ended_counts stations rows = map (λ k. frames_ended k rows) (range_with_len 0 stations)
 
 -- the rows, captures and counts are those of these entries
-pub record IsToldOf (stations : ℕ) (told : Told) (es : List Entry) : Type 0 where
+pub record IsToldOf (stations : ℕ) (told : ToldSoFar) (es : List StateRow) : Type 0 where
   pub rows : told.rows ≡ rows_of_entries es
   pub captures : told.captures.items ≡ captures_of_entries stations es
   pub ended : told.ended.items ≡ ended_counts stations (rows_of_entries es)
@@ -29,8 +29,8 @@ IsJudgedOn next (Ok x) judged = judged ≡ next x
 IsJudgedOn next (Err f) judged = (judged ≡ Err f) ⊎ (f ≡ fault.OutOfMemory)
 
 -- the judgement of the lines from line n on after the line of a row
-abbrev pub judged_after_row : Plan → ℕ → List SenderState → ℕ → List Entry → Row → List (List ℕ)
-    → Result (List Entry) StateFault
+abbrev pub judged_after_row : Plan → ℕ → List SenderState → ℕ → List StateRow → Row → List (List ℕ)
+    → Result (List StateRow) StateFault
 judged_after_row plan t senders n told row lines =
     if is_reception row.body then judged_entries plan t senders n told (Some row) lines
     else judged_entries plan t senders n (told ++ record { row = row; octets = [] } ∷ []) None lines

@@ -12,7 +12,7 @@ use Rattle.mac_transmit.specs.declared.state.SenderState.{SenderState}
 use Rattle.network.specs.Outputs.{half_bits}
 use Rattle.port_partition.specs.Guard.{Guard, IsGuard}
 use Rattle.quiet_state.specs.declared.state.NetState.{NetState}
-use Rattle.run_checkpoint.specs.Entries.{Entry, captures_of_entries, entries_of, is_length_of, lines_of_entries}
+use Rattle.run_checkpoint.specs.Entries.{StateRow, captures_of_entries, entries_of, is_length_of, lines_of_entries}
 use Rattle.run_checkpoint.specs.LineTexts.{end_line, line_of_guard, line_of_sender, line_of_time_kept}
 use Rattle.run_checkpoint.specs.Places.{NamedPort, all_ports}
 use Rattle.run_checkpoint.specs.Ranges.{do_all_end, is_row_after}
@@ -31,7 +31,7 @@ AreGuardsOf _ _ _ = ⊥
 
 -- an entry that may follow these rows in a state of this plan before half bit t with these senders: of one of the
 -- plan's devices, in order, with numbers in range and, where a frame was received, as many octets as its row says
-pub record IsEntryAfter (plan : Plan) (t : ℕ) (senders : List SenderState) (before : List Row) (e : Entry)
+pub record IsEntryAfter (plan : Plan) (t : ℕ) (senders : List SenderState) (before : List Row) (e : StateRow)
     : Type 0 where
   pub row : IsLoggable plan.layout e.row
   pub after : is_row_after plan t senders before e.row ≡ true
@@ -39,13 +39,13 @@ pub record IsEntryAfter (plan : Plan) (t : ℕ) (senders : List SenderState) (be
   pub octets : AllByRecursion (λ octet. octet < 2 ^ 8) e.octets
 
 -- each entry may follow these rows and those of the entries before it
-abbrev pub AreEntriesAfter : Plan → ℕ → List SenderState → List Row → List Entry → Type 0
+abbrev pub AreEntriesAfter : Plan → ℕ → List SenderState → List Row → List StateRow → Type 0
 AreEntriesAfter plan t senders before [] = ⊤
 AreEntriesAfter plan t senders before (e ∷ es) =
     IsEntryAfter plan t senders before e × AreEntriesAfter plan t senders (before ++ e.row ∷ []) es
 
 -- the rows of a state, with the octets that its stations received
-abbrev pub entries_of_state : NetState → List Entry
+abbrev pub entries_of_state : NetState → List StateRow
 entries_of_state s = entries_of s.rows s.captures
 
 -- a state that a network of this plan may go on from: before a half bit of the run, with a sender for each station and

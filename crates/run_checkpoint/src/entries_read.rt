@@ -3,7 +3,7 @@ ghost use Rattle.std.specs.Prelude.{◌≡◌, ◌<◌, ◌≤◌, ◌+◌, ◌^
 ghost use Rattle.collision_log.specs.declared.row.Row.{Row};
 ghost use Rattle.load_plan.specs.declared.plan.Plan.{Plan};
 ghost use Rattle.mac_transmit.specs.declared.state.SenderState.{SenderState};
-ghost use Rattle.run_checkpoint.specs.Entries.{Entry, captures_of_entries, is_length_of, is_reception, rows_of_entries};
+ghost use Rattle.run_checkpoint.specs.Entries.{StateRow, captures_of_entries, is_length_of, is_reception, rows_of_entries};
 ghost use Rattle.run_checkpoint.specs.Judging.{judged_end, judged_entries, judged_line, then_judged};
 ghost use Rattle.run_checkpoint.specs.LineForms.{octets_form, row_form};
 ghost use Rattle.run_checkpoint.specs.Progress.{IsJudgedOn, IsToldOf, ended_counts, judged_after_row};
@@ -15,7 +15,7 @@ use crate::octets_line::octets_of;
 use crate::row_line::{is_end_line, row_of};
 use crate::row_order::{do_all_end, is_row_after};
 use crate::text_line::line_in_front;
-use crate::told::{Told, listed, nothing_told};
+use crate::told::{ToldSoFar, listed, nothing_told};
 use crate::waiting::is_reception;
 use collision_log::{Body, Row, Rows};
 use layout::Octets;
@@ -31,7 +31,7 @@ fn judged_row(
     plan: &Plan,
     t: u64,
     senders: &[SenderState],
-    told: &Told,
+    told: &ToldSoFar,
     number: u32,
     line: &[u8],
 ) -> Result<Row, StateFault>
@@ -92,7 +92,7 @@ fn octets_due<'a>(
     rest: &'a [u8],
 ) -> Result<Due<'a>, StateFault>
     requires { number + length rest.now < 2 ^ 32 }
-    ensures judged { (plan : Plan) (t : ℕ) (senders : List SenderState) (es : List Entry) →
+    ensures judged { (plan : Plan) (t : ℕ) (senders : List SenderState) (es : List StateRow) →
         IsJudgedOn (λ due. judged_entries plan t senders due.number (es ++ record { row = row.now; octets = due.octets } ∷ []) None (text_lines due.rest.now)) result
         (judged_after_row plan t senders number es row.now (text_lines rest.now)) }
     ensures room { IfOk result (λ due. due.number + length due.rest.now ≤ number + length rest.now) }
@@ -122,13 +122,13 @@ fn octets_due<'a>(
 fn told_at_end(
     alloc: Global,
     senders: &[SenderState],
-    told: Told,
+    told: ToldSoFar,
     number: u32,
     rest: &[u8],
 ) -> Result<(Rows, Captures), StateFault>
     requires many { length told.ended.items ≡ length senders.now }
     requires room { number + length rest.now < 2 ^ 32 }
-    ensures { (es : List Entry) → IsToldOf (length senders.now) told es →
+    ensures { (es : List StateRow) → IsToldOf (length senders.now) told es →
         IsJudgedOn (λ r. Ok r) result (then_judged (judged_end number senders.now es (text_lines rest.now)) (λ all. Ok (rows_of_entries all, captures_of_entries (length senders.now) all))) }
 {
     if !do_all_end(senders, told.ended.as_slice()) {

@@ -13,14 +13,14 @@ use std::alloc::Global;
 
 /// The rows so far, the frames that each station received, and how many frames of each have ended.
 #[derive(Drop)]
-pub struct Told {
+pub struct ToldSoFar {
     pub rows: Rows,
     pub captures: Vec<TakenList>,
     pub ended: Vec<u32>,
 }
 
 /// Nothing is told yet of so many stations.
-pub fn nothing_told(alloc: Global, stations: usize) -> Result<Told, OutOfMemory>
+pub fn nothing_told(alloc: Global, stations: usize) -> Result<ToldSoFar, OutOfMemory>
     ensures { IfOk result (λ told. IsToldOf stations told []) }
 {
     let mut captures = Vec::new(alloc);
@@ -29,7 +29,7 @@ pub fn nothing_told(alloc: Global, stations: usize) -> Result<Told, OutOfMemory>
         captures.push(TakenList::new(alloc))?;
         ended.push(0)?;
     }
-    Ok(Told {
+    Ok(ToldSoFar {
         rows: Rows::new(alloc),
         captures,
         ended,
@@ -76,7 +76,7 @@ fn note_frame(captures: &mut [TakenList], row: &Row, octets: Octets) -> Result<(
     add_taken(captures, row.device, Taken { t: row.t, octets })
 }
 
-impl Told {
+impl ToldSoFar {
     ghost use Rattle.std.specs.Prelude.{◌≡◌, ◌++◌, ◌∷◌, [], OnOk};
     ghost use Rattle.run_checkpoint.specs.Progress.{captures_after, ended_after};
 

@@ -8,7 +8,7 @@ use Rattle.collision_log.specs.declared.row.Row.{Row}
 use Rattle.load_plan.specs.declared.plan.Plan.{Plan}
 use Rattle.mac_receive.specs.Receiver.{Reception}
 use Rattle.mac_transmit.specs.Sender.{Sender, cut_of}
-use Rattle.repeater_core.specs.Step.{State}
+use Rattle.repeater_core.specs.Step.{RepeaterDevice}
 use Rattle.network.specs.Attempts.{sender_at}
 use Rattle.network.specs.Net.{each_repeater, net, ports_hear, receptions_in, stations_emit, stations_hear}
 use Rattle.network.specs.Outputs.{cut_rows, half_bits, rows}
@@ -72,7 +72,7 @@ bodies_frameless n t k i ports (b ∷ bs) h =
     cond_both (eqb k i) (ends_frame n b) 0 (λ m. m + times_ended n i (rows_of_bodies t k bs) ≡ 0) (λ _. omega (arith, ends, rest)) (λ _. omega (arith, rest))
 
 -- no row of a repeater ends a frame
-repeaters_frameless : (n t k i : ℕ) (hears : List Sym) (rs : List State) → times_ended n i (repeater_rows t k (each_repeater repeater_bodies hears rs)) ≡ 0
+repeaters_frameless : (n t k i : ℕ) (hears : List Sym) (rs : List RepeaterDevice) → times_ended n i (repeater_rows t k (each_repeater repeater_bodies hears rs)) ≡ 0
 repeaters_frameless n t k i hears [] = refl
 repeaters_frameless n t k i hears (r ∷ rs) =
     let here = take (length r.guards) hears in

@@ -18,7 +18,7 @@ use Rattle.mac_receive.specs.Receiver.{Receiving, Reception, extended, judged_ro
 use Rattle.port_partition.specs.declared.guard.GuardEvent.{GuardEvent}
 use Rattle.port_partition.specs.declared.guard.GuardEvent.TheVariants as event
 use Rattle.port_partition.specs.Guard.{Guard}
-use Rattle.repeater_core.specs.Step.{State, chosen, clash_begins, emitted_by, guard_events}
+use Rattle.repeater_core.specs.Step.{RepeaterDevice, chosen, clash_begins, emitted_by, guard_events}
 use Rattle.network.specs.Net.{receptions}
 use Rattle.network.specs.Rows.{guard_bodies, happened, port_bodies, repeater_bodies}
 use Rattle.log_meter.proofs.RowsOfRepeaters.{all_append}
@@ -113,7 +113,7 @@ ports_there ports port (h ∷ hs) (e ∷ es) least few =
     (guard_there ports port e within) (ports_there ports (port + 1) hs es (omega arith) (omega (arith, few))))
 
 -- what happens at a repeater with no more guards than it has ports
-pub repeater_there : (ports : ℕ) (hears : List Sym) (r : State) → length r.guards ≤ ports → AllByRecursion (IsAtRepeater ports) (repeater_bodies hears r)
+pub repeater_there : (ports : ℕ) (hears : List Sym) (r : RepeaterDevice) → length r.guards ≤ ports → AllByRecursion (IsAtRepeater ports) (repeater_bodies hears r)
 repeater_there ports hears r few =
     let es = guard_events r.guards hears (emitted_by r) in
     let hs : List Bool = map (λ c. c.halted) (chosen hears r) in

@@ -13,7 +13,7 @@ use Rattle.load_plan.specs.declared.plan.Plan.{Plan}
 use Rattle.mac_receive.specs.Receiver.{Reception}
 use Rattle.mac_transmit.specs.Sender.{Sender, SendOutcome, cut_of}
 use Rattle.port_partition.specs.Guard.{Guard, new_guard}
-use Rattle.repeater_core.specs.Step.{State, after, emitted_by, guards_after}
+use Rattle.repeater_core.specs.Step.{RepeaterDevice, after, emitted_by, guards_after}
 use Rattle.network.specs.Net.{each_repeater, net, new_repeater, ports_hear, receptions_in, rows_in, sendings_in, stations_emit, stations_hear}
 use Rattle.network.specs.Outputs.{cut_rows, half_bits, rows}
 use Rattle.network.specs.Rows.{repeater_bodies, repeater_rows, row_of, rows_of, rows_of_bodies}
@@ -82,7 +82,7 @@ cut_has plan t k = elim (cases_lt k (length plan.layout.stations)) [
 -- ---- rows of repeaters
 
 -- repeaters of a layout: each has no more guards than ports
-abbrev HavePorts : List State → List RepeaterLine → Type 0
+abbrev HavePorts : List RepeaterDevice → List RepeaterLine → Type 0
 HavePorts [] ls = Unit {0}
 HavePorts (r ∷ rs) [] = ⊥
 HavePorts (r ∷ rs) (l ∷ ls) = (length r.guards ≤ length l.ports) × HavePorts rs ls
@@ -97,7 +97,7 @@ guards_stay (g ∷ gs) [] es = omega arith
 guards_stay (g ∷ gs) (h ∷ hs) [] = omega arith
 guards_stay (g ∷ gs) (h ∷ hs) (e ∷ es) = omega (arith, guards_stay gs hs es)
 
-have_ports_after : (hears : List Sym) (rs : List State) (ls : List RepeaterLine) → HavePorts rs ls → HavePorts (each_repeater after hears rs) ls
+have_ports_after : (hears : List Sym) (rs : List RepeaterDevice) (ls : List RepeaterLine) → HavePorts rs ls → HavePorts (each_repeater after hears rs) ls
 have_ports_after hears [] ls h = tt
 have_ports_after hears (r ∷ rs) [] h = absurd h
 have_ports_after hears (r ∷ rs) (l ∷ ls) h =
@@ -116,7 +116,7 @@ bodies_have plan t k ports [] le has h = tt
 bodies_have plan t k ports (b ∷ bs) le has h =
     (repeater_has plan k b le (subst (λ n. is_counted n (port_named b) ≡ true) (sym has) h.0.counted), bodies_have plan t k ports bs le has h.1)
 
-repeaters_have : (plan : Plan) (t k : ℕ) (hears : List Sym) (rs : List State) (ls : List RepeaterLine) → length plan.layout.stations ≤ k
+repeaters_have : (plan : Plan) (t k : ℕ) (hears : List Sym) (rs : List RepeaterDevice) (ls : List RepeaterLine) → length plan.layout.stations ≤ k
     → ((i j : ℕ) → i ≡ k + j → slice_get plan.layout.repeaters (i - length plan.layout.stations) ≡ slice_get ls j) → HavePorts rs ls
     → AllByRecursion (IsHad plan) (repeater_rows t k (each_repeater repeater_bodies hears rs))
 repeaters_have plan t k hears [] ls le at h = tt

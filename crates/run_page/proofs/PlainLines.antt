@@ -9,8 +9,8 @@ use Rattle.layout.specs.declared.lines.PortLine.{PortLine}
 use Rattle.layout.specs.declared.lines.RepeaterLine.{RepeaterLine}
 use Rattle.layout.specs.declared.lines.SegmentLine.{SegmentLine}
 use Rattle.layout.specs.declared.lines.StationLine.{StationLine}
-use Rattle.layout.specs.declared.ways.Tap.{Tap}
-use Rattle.layout.specs.declared.ways.Tap.TheVariants.{Station, Port}
+use Rattle.layout.specs.declared.ways.Attachment.{Attachment}
+use Rattle.layout.specs.declared.ways.Attachment.TheVariants.{Station, Port}
 use Rattle.mac_parameters.specs.Parameters.{half_bits_a_bit}
 use Rattle.run_texts.specs.Texts.{line_of_row}
 use Rattle.tap_signals.specs.Taps.{taps_in_order}
@@ -73,7 +73,7 @@ kind_plain kind.Jam = words (codes "jam") refl
 kind_plain (kind.Repeat port) = joined (words (codes "repeat ") refl) (number (port + 1))
 kind_plain kind.Extend = words (codes "extend") refl
 
-tap_plain : (l : Layout) → IsSound l → (tap : Tap) → IsPlain (word_of_tap l tap)
+tap_plain : (l : Layout) → IsSound l → (tap : Attachment) → IsPlain (word_of_tap l tap)
 tap_plain l sound (Station k) =
     name_at (λ s. s.name) l.stations (recursion_from_All (λ s. IsName s.name) l.stations (All-weaker (IsSoundStation l.format (length l.segments)) (λ s. IsName s.name) (λ s h. h.name) l.stations sound.stations)) k
 tap_plain l sound (Port r p) =
@@ -88,7 +88,7 @@ stretches_plain : (word : List ℕ) → IsPlain word → (stretches : List Stret
 stretches_plain word h [] = nothing
 stretches_plain word h (s ∷ ss) = joined (signal_plain word h s) (stretches_plain word h ss)
 
-taps_plain : (l : Layout) → IsSound l → (taps : List Tap) (lists : List (List Stretch)) → IsPlain (lines_of_taps l taps lists)
+taps_plain : (l : Layout) → IsSound l → (taps : List Attachment) (lists : List (List Stretch)) → IsPlain (lines_of_taps l taps lists)
 taps_plain l sound [] lists = nothing
 taps_plain l sound (tap ∷ taps) [] = nothing
 taps_plain l sound (tap ∷ taps) (x ∷ lists) = joined (stretches_plain (word_of_tap l tap) (tap_plain l sound tap) x) (taps_plain l sound taps lists)

@@ -2,8 +2,8 @@
 -- of taps and kinds count from 0; the ports that are written count from 1.
 use Rattle.std.specs.Prelude.{ℕ, ◌+◌, List, [], ◌∷◌, ◌++◌, flat_map, slice_get, option_map, unwrap_or, codes, decimal}
 use Rattle.layout.specs.declared.lines.Layout.{Layout}
-use Rattle.layout.specs.declared.ways.Tap.{Tap}
-use Rattle.layout.specs.declared.ways.Tap.TheVariants.{Station, Port}
+use Rattle.layout.specs.declared.ways.Attachment.{Attachment}
+use Rattle.layout.specs.declared.ways.Attachment.TheVariants.{Station, Port}
 use Rattle.tap_signals.specs.Taps.{taps_in_order}
 use Rattle.tap_signals.specs.declared.kind.SignalKind.{SignalKind}
 use Rattle.tap_signals.specs.declared.kind.SignalKind.TheVariants.{Frame, Jam, Repeat, Extend}
@@ -25,7 +25,7 @@ abbrev pub repeater_name : Layout → ℕ → List ℕ
 repeater_name l r = unwrap_or (option_map (λ r. r.name) (slice_get l.repeaters r)) []
 
 -- The word that names a tap: the station's name, or that of the repeater and, after a colon, the port's number, from 1.
-abbrev pub word_of_tap : Layout → Tap → List ℕ
+abbrev pub word_of_tap : Layout → Attachment → List ℕ
 word_of_tap l (Station k) = station_name l k
 word_of_tap l (Port r p) = repeater_name l r ++ codes ":" ++ decimal (p + 1)
 
@@ -36,7 +36,7 @@ signal_line word s =
     ++ kind_words s.kind ++ codes "\n"
 
 -- The lines of these taps, each with its own stretches, in order.
-abbrev pub lines_of_taps : Layout → List Tap → List (List Stretch) → List ℕ
+abbrev pub lines_of_taps : Layout → List Attachment → List (List Stretch) → List ℕ
 lines_of_taps l (tap ∷ taps) (stretches ∷ lists) =
     flat_map (signal_line (word_of_tap l tap)) stretches ++ lines_of_taps l taps lists
 lines_of_taps l _ _ = []

@@ -2,12 +2,12 @@
 ghost use Rattle.std.specs.Prelude.{◌≡◌, ◌<◌, ◌^◌, ◌++◌, OnOk, flat_map, length, map};
 ghost use Rattle.std.specs.List.{range_with_len};
 ghost use Rattle.layout.specs.Sound.{IsSound};
-ghost use Rattle.layout.specs.declared.ways.Tap.TheVariants.{Port, Station};
+ghost use Rattle.layout.specs.declared.ways.Attachment.TheVariants.{Port, Station};
 ghost use Rattle.tap_signals.specs.Taps.{taps_in_order};
 ghost use Rattle.run_page.specs.SignalLines.{kind_words, lines_of_taps, signal_line, signal_lines, word_of_tap};
 
 use crate::names::{add_number, name_of_repeater, name_of_station};
-use layout::{Layout, Tap};
+use layout::{Attachment, Layout};
 use lists::{List, OutOfMemory};
 use tap_signals::{SignalKind, Stretch, Stretches};
 
@@ -27,12 +27,15 @@ fn add_kind(text: &mut List<u8>, kind: SignalKind) -> Result<(), OutOfMemory>
 }
 
 /// Puts the word that names a tap at the end of a text.
-fn add_tap(text: &mut List<u8>, layout: &Layout, tap: Tap) -> Result<(), OutOfMemory>
+fn add_tap(text: &mut List<u8>, layout: &Layout, tap: Attachment) -> Result<(), OutOfMemory>
     ensures { OnOk result (text.new ≡ text.old ++ word_of_tap layout.now tap) }
 {
     match tap {
-        Tap::Station(station) => text.extend(name_of_station(layout, station as usize).as_bytes()),
-        Tap::Port { repeater, port } => {
+        Attachment::Station(station) => text.extend(name_of_station(
+            layout,
+            station as usize,
+        ).as_bytes()),
+        Attachment::Port { repeater, port } => {
             text.extend(name_of_repeater(layout, repeater as usize).as_bytes())?;
             text.extend(b":")?;
             add_number(text, u64::from(port) + 1)
@@ -45,7 +48,7 @@ fn add_tap(text: &mut List<u8>, layout: &Layout, tap: Tap) -> Result<(), OutOfMe
 fn add_signal(
     text: &mut List<u8>,
     layout: &Layout,
-    tap: Tap,
+    tap: Attachment,
     stretch: Stretch,
 ) -> Result<(), OutOfMemory>
     ensures { OnOk result (text.new ≡ text.old ++ signal_line (word_of_tap layout.now tap) stretch) }
@@ -65,7 +68,7 @@ fn add_signal(
 fn add_tap_signals(
     text: &mut List<u8>,
     layout: &Layout,
-    tap: Tap,
+    tap: Attachment,
     stretches: &[Stretch],
 ) -> Result<(), OutOfMemory>
     ensures { OnOk result (text.new ≡ text.old ++ flat_map (signal_line (word_of_tap layout.now tap)) stretches.now) }
@@ -87,7 +90,7 @@ fn add_station_signals(
         ++ lines_of_taps layout.now (map Station (range_with_len 0 (length lists.now))) lists.now) }
 {
     'lists: for k in 0..lists.len() {
-        let tap = Tap::Station(k as u32);
+        let tap = Attachment::Station(k as u32);
         add_tap_signals(text, layout, tap, lists[k].as_slice())?;
     }
     Ok(())
@@ -105,7 +108,7 @@ fn add_port_signals(
         ++ lines_of_taps layout.now (map (Port repeater) (range_with_len 0 (length lists.now))) lists.now) }
 {
     'lists: for k in 0..lists.len() {
-        let tap = Tap::Port {
+        let tap = Attachment::Port {
             repeater,
             port: k as u32,
         };

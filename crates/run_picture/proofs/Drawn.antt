@@ -8,7 +8,7 @@ use Rattle.layout.specs.declared.lines.Layout.{Layout}
 use Rattle.layout.specs.declared.lines.PortLine.{PortLine}
 use Rattle.layout.specs.declared.lines.RepeaterLine.{RepeaterLine}
 use Rattle.layout.specs.declared.lines.StationLine.{StationLine}
-use Rattle.layout.specs.declared.ways.Tap.TheVariants.{Port}
+use Rattle.layout.specs.declared.ways.Attachment.TheVariants.{Port}
 use Rattle.log_meter.specs.declared.line.LogLine.{LogLine}
 use Rattle.run_picture.specs.Axis.{axis}
 use Rattle.run_picture.specs.Bands.{bands_text}

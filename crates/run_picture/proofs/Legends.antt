@@ -14,8 +14,8 @@ use Rattle.run_picture.specs.Lanes.{page_of}
 use Rattle.run_picture.specs.Legend.{entries, entry, legend}
 use Rattle.run_picture.specs.Marks.{marks}
 use Rattle.run_picture.specs.Pictures.{picture_on}
-use Rattle.run_picture.specs.declared.kinds.Kind.{Kind}
-use Rattle.run_picture.specs.declared.kinds.Kind.TheVariants.{Bar, Front, Point}
+use Rattle.run_picture.specs.declared.kinds.ShapeKind.{ShapeKind}
+use Rattle.run_picture.specs.declared.kinds.ShapeKind.TheVariants.{Bar, Front, Point}
 use Rattle.run_picture.specs.declared.lanes.Page.{Page}
 use Rattle.run_picture.specs.declared.signs.Outcome.TheVariants as outcome
 use Rattle.run_picture.specs.declared.signs.Sign.TheVariants as the_sign
@@ -23,7 +23,7 @@ use Rattle.run_picture.specs.declared.window.Window.{Window}
 use Rattle.run_picture.proofs.Drawn.{Has, in_first, in_second, whole}
 
 -- every kind is among them
-every : (kind : Kind) → Contains every_kind kind
+every : (kind : ShapeKind) → Contains every_kind kind
 every (Bar outcome.Sent) = (0, omega arith, refl)
 every (Bar outcome.Collided) = (1, omega arith, refl)
 every (Bar outcome.GivenUp) = (2, omega arith, refl)
@@ -38,26 +38,26 @@ every (Point the_sign.Opened) = (10, omega arith, refl)
 every (Point the_sign.Halted) = (11, omega arith, refl)
 
 -- an entry of a kind stands in a text
-abbrev HasOne : List ℕ → Kind → Type 0
+abbrev HasOne : List ℕ → ShapeKind → Type 0
 HasOne text kind = (n : ℕ) × Has text (entry n kind)
 
 -- it stands in what has one entry more in front, or hasn't
-behind : (n : ℕ) (first kind : Kind) (rest : List Kind) (b : Bool) → ((m : ℕ) → HasOne (entries m rest) kind) → HasOne (entries n (cond b (first ∷ rest) rest)) kind
+behind : (n : ℕ) (first kind : ShapeKind) (rest : List ShapeKind) (b : Bool) → ((m : ℕ) → HasOne (entries m rest) kind) → HasOne (entries n (cond b (first ∷ rest) rest)) kind
 behind n first kind rest true more =
     let h = more (n + 1) in
     (h.0, in_second (entry n first) (entries (n + 1) rest) (entry h.0 kind) h.1)
 behind n first kind rest false more = more n
 
-in_front : (n : ℕ) (kind : Kind) (rest : List Kind) (b : Bool) → b ≡ true → HasOne (entries n (cond b (kind ∷ rest) rest)) kind
+in_front : (n : ℕ) (kind : ShapeKind) (rest : List ShapeKind) (b : Bool) → b ≡ true → HasOne (entries n (cond b (kind ∷ rest) rest)) kind
 in_front n kind rest true holds = (n, in_first (entry n kind) (entries (n + 1) rest) (entry n kind) (whole (entry n kind)))
 in_front n kind rest false holds = absurd (true≢false (sym holds))
 
 -- the entry of a kind that is kept
-first_kept : (p : Kind → Bool) (n : ℕ) (first : Kind) (kinds : List Kind) (kind : Kind) → first ≡ kind → p kind ≡ true → HasOne (entries n (filter p (first ∷ kinds))) kind
+first_kept : (p : ShapeKind → Bool) (n : ℕ) (first : ShapeKind) (kinds : List ShapeKind) (kind : ShapeKind) → first ≡ kind → p kind ≡ true → HasOne (entries n (filter p (first ∷ kinds))) kind
 first_kept p n first kinds kind same holds =
-    subst (λ (z : Kind). HasOne (entries n (filter p (z ∷ kinds))) kind) (sym same) (in_front n kind (filter p kinds) (p kind) holds)
+    subst (λ (z : ShapeKind). HasOne (entries n (filter p (z ∷ kinds))) kind) (sym same) (in_front n kind (filter p kinds) (p kind) holds)
 
-kept : (p : Kind → Bool) (kind : Kind) → p kind ≡ true → (n : ℕ) (kinds : List Kind) (k : ℕ) → k < length kinds → slice_index_or kinds k kind ≡ kind → HasOne (entries n (filter p kinds)) kind
+kept : (p : ShapeKind → Bool) (kind : ShapeKind) → p kind ≡ true → (n : ℕ) (kinds : List ShapeKind) (k : ℕ) → k < length kinds → slice_index_or kinds k kind ≡ kind → HasOne (entries n (filter p kinds)) kind
 kept p kind holds n [] k within at = absurd (omega (arith, within))
 kept p kind holds n (first ∷ kinds) zero within at = first_kept p n first kinds kind at holds
 kept p kind holds n (first ∷ kinds) (suc k) within at =
@@ -80,13 +80,13 @@ one_has : (p : LogLine → Bool) (lines : List LogLine) (line : LogLine) (k : �
 one_has p lines line k within at holds = list_any_at p lines k line within (ap p at ∙ holds)
 
 -- what is kept was asked for
-kept_step : (p : Kind → Bool) (first kind : Kind) (rest : List Kind) (b : Bool) → p first ≡ b → ((j : ℕ) → j < length rest → slice_index_or rest j kind ≡ kind → p kind ≡ true)
+kept_step : (p : ShapeKind → Bool) (first kind : ShapeKind) (rest : List ShapeKind) (b : Bool) → p first ≡ b → ((j : ℕ) → j < length rest → slice_index_or rest j kind ≡ kind → p kind ≡ true)
     → (k : ℕ) → k < length (cond b (first ∷ rest) rest) → slice_index_or (cond b (first ∷ rest) rest) k kind ≡ kind → p kind ≡ true
 kept_step p first kind rest true is more zero within at = subst (λ z. p z ≡ true) at is
 kept_step p first kind rest true is more (suc k) within at = more k (omega arith) at
 kept_step p first kind rest false is more k within at = more k within at
 
-kept_holds : (p : Kind → Bool) (kinds : List Kind) (kind : Kind) (k : ℕ) → k < length (filter p kinds) → slice_index_or (filter p kinds) k kind ≡ kind → p kind ≡ true
+kept_holds : (p : ShapeKind → Bool) (kinds : List ShapeKind) (kind : ShapeKind) (k : ℕ) → k < length (filter p kinds) → slice_index_or (filter p kinds) k kind ≡ kind → p kind ≡ true
 kept_holds p [] kind k within at = absurd (omega arith)
 kept_holds p (first ∷ kinds) kind k within at = kept_step p first kind (filter p kinds) (p first) refl (kept_holds p kinds kind) k within at
 

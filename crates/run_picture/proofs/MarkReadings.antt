@@ -7,7 +7,7 @@ use Rattle.collision_log.specs.declared.row.Body.TheVariants as body
 use Rattle.layout.specs.NameOctets.{is_name_octet}
 use Rattle.layout.specs.declared.lines.Layout.{Layout}
 use Rattle.layout.specs.declared.lines.PortLine.{PortLine}
-use Rattle.layout.specs.declared.ways.Tap.TheVariants.{Station, Port}
+use Rattle.layout.specs.declared.ways.Attachment.TheVariants.{Station, Port}
 use Rattle.log_meter.specs.Lines.{IsLogLine}
 use Rattle.log_meter.specs.declared.line.LogLine.{LogLine}
 use Rattle.run_picture.specs.Markup.{TagReader}

@@ -17,7 +17,7 @@ use Rattle.run_picture.specs.Signs.{bar, left_of_bar, right_of_bar, sending_word
 use Rattle.run_picture.specs.Sizes.{half_bits_a_microsecond, half_bits_a_tenth}
 use Rattle.run_picture.specs.Times.{x_of}
 use Rattle.run_picture.specs.Waves.{is_seen, points_of_wave, seen_wave, wave}
-use Rattle.run_picture.specs.declared.kinds.Kind.{Kind}
+use Rattle.run_picture.specs.declared.kinds.ShapeKind.{ShapeKind}
 use Rattle.run_picture.specs.declared.lanes.Lane.{Lane}
 use Rattle.run_picture.specs.declared.signs.Outcome.{Outcome}
 use Rattle.run_picture.specs.declared.signs.Sign.{Sign}
@@ -66,7 +66,7 @@ ground_leads ts height =
     (number_in_value (codes "svg" ∷ []) ts (codes "path") height))
     (fixed (in_value (codes "svg" ∷ []) ts (codes "path")) (between (codes "svg" ∷ []) ts) (codes "h-133000z' fill='#ffffff'/>\n") refl)
 
-entry_shape_leads : (ts : List (List ℕ)) (n : ℕ) (kind : Kind) → Leads (between (codes "svg" ∷ []) ts) (entry_shape n kind) (between (codes "svg" ∷ []) ts)
+entry_shape_leads : (ts : List (List ℕ)) (n : ℕ) (kind : ShapeKind) → Leads (between (codes "svg" ∷ []) ts) (entry_shape n kind) (between (codes "svg" ∷ []) ts)
 unfolding entry_shape is_name_octet
 entry_shape_leads ts n kind =
     go_on (go_on (go_on (go_on (go_on (go_on (go_on (fixed (between (codes "svg" ∷ []) ts) (in_value (codes "svg" ∷ []) ts (codes "path")) (codes "<path class='") refl)
@@ -78,7 +78,7 @@ entry_shape_leads ts n kind =
     (plain_in_value (codes "svg" ∷ []) ts (codes "path") (kind_path kind) (kind_path_plain kind)))
     (fixed (in_value (codes "svg" ∷ []) ts (codes "path")) (between (codes "svg" ∷ []) ts) (codes "'/>") refl)
 
-entry_name_leads : (ts : List (List ℕ)) (n : ℕ) (kind : Kind) → Leads (between (codes "svg" ∷ []) ts) (entry_name n kind) (between (codes "svg" ∷ []) ts)
+entry_name_leads : (ts : List (List ℕ)) (n : ℕ) (kind : ShapeKind) → Leads (between (codes "svg" ∷ []) ts) (entry_name n kind) (between (codes "svg" ∷ []) ts)
 unfolding entry_name is_name_octet
 entry_name_leads ts n kind =
     go_on (go_on (go_on (go_on (go_on (go_on (fixed (between (codes "svg" ∷ []) ts) (in_value (codes "svg" ∷ []) ts (codes "text")) (codes "<text x='-26000' dx='") refl)
@@ -89,7 +89,7 @@ entry_name_leads ts n kind =
     (plain_between (codes "text" ∷ codes "svg" ∷ []) ts (kind_name kind) refl (kind_name_plain kind)))
     (fixed (between (codes "text" ∷ codes "svg" ∷ []) ts) (between (codes "svg" ∷ []) ts) (codes "</text>\n") refl)
 
-pub entries_lead : (ts : List (List ℕ)) (n : ℕ) (kinds : List Kind) → Leads (between (codes "svg" ∷ []) ts) (entries n kinds) (between (codes "svg" ∷ []) ts)
+pub entries_lead : (ts : List (List ℕ)) (n : ℕ) (kinds : List ShapeKind) → Leads (between (codes "svg" ∷ []) ts) (entries n kinds) (between (codes "svg" ∷ []) ts)
 entries_lead ts n [] = nothing (between (codes "svg" ∷ []) ts)
 entries_lead ts n (kind ∷ kinds) = go_on (go_on (entry_shape_leads ts n kind) (entry_name_leads ts n kind)) (entries_lead ts (n + 1) kinds)
 

@@ -17,8 +17,8 @@ use Rattle.run_picture.specs.Signs.{sending_word, sign_path, sign_word}
 use Rattle.run_picture.specs.Sizes.{longest_large_name, plot_width}
 use Rattle.run_picture.specs.Times.{place_of_time, x_of}
 use Rattle.run_picture.specs.Waves.{point_of_wave, points_of_wave}
-use Rattle.run_picture.specs.declared.kinds.Kind.{Kind}
-use Rattle.run_picture.specs.declared.kinds.Kind.TheVariants.{Bar, Front, Point}
+use Rattle.run_picture.specs.declared.kinds.ShapeKind.{ShapeKind}
+use Rattle.run_picture.specs.declared.kinds.ShapeKind.TheVariants.{Bar, Front, Point}
 use Rattle.run_picture.specs.declared.lanes.Lane.{Lane}
 use Rattle.run_picture.specs.declared.signs.Outcome.{Outcome}
 use Rattle.run_picture.specs.declared.signs.Outcome.TheVariants as outcome
@@ -51,7 +51,7 @@ sending_word_plain outcome.Collided = refl
 sending_word_plain outcome.GivenUp = refl
 sending_word_plain outcome.Cut = refl
 
-pub kind_word_plain : (kind : Kind) → is_plain (kind_word kind) ≡ true
+pub kind_word_plain : (kind : ShapeKind) → is_plain (kind_word kind) ≡ true
 kind_word_plain (Bar ending) = sending_word_plain ending
 kind_word_plain Front = refl
 kind_word_plain (Point mark) = sign_word_plain mark
@@ -71,7 +71,7 @@ sign_name_plain the_sign.Closed = refl
 sign_name_plain the_sign.Opened = refl
 sign_name_plain the_sign.Halted = refl
 
-pub kind_name_plain : (kind : Kind) → is_plain (kind_name kind) ≡ true
+pub kind_name_plain : (kind : ShapeKind) → is_plain (kind_name kind) ≡ true
 kind_name_plain (Bar ending) = ending_name_plain ending
 kind_name_plain Front = refl
 kind_name_plain (Point mark) = sign_name_plain mark
@@ -85,7 +85,7 @@ sign_entry_plain the_sign.Closed = refl
 sign_entry_plain the_sign.Opened = refl
 sign_entry_plain the_sign.Halted = refl
 
-pub kind_path_plain : (kind : Kind) → is_plain (kind_path kind) ≡ true
+pub kind_path_plain : (kind : ShapeKind) → is_plain (kind_path kind) ≡ true
 kind_path_plain (Bar ending) = refl
 kind_path_plain Front = refl
 kind_path_plain (Point mark) = sign_entry_plain mark

@@ -9,8 +9,8 @@ use Rattle.layout.specs.declared.lines.Layout.{Layout}
 use Rattle.layout.specs.declared.lines.RepeaterLine.{RepeaterLine}
 use Rattle.layout.specs.declared.lines.SegmentLine.{SegmentLine}
 use Rattle.layout.specs.declared.lines.StationLine.{StationLine}
-use Rattle.layout.specs.declared.ways.Tap.{Tap}
-use Rattle.layout.specs.declared.ways.Tap.TheVariants.{Station, Port}
+use Rattle.layout.specs.declared.ways.Attachment.{Attachment}
+use Rattle.layout.specs.declared.ways.Attachment.TheVariants.{Station, Port}
 use Rattle.log_meter.specs.Lines.{IsLogLine}
 use Rattle.log_meter.specs.declared.line.LogLine.{LogLine}
 use Rattle.run_picture.specs.Bands.{bands_text, lane_text, name_at_station, name_of_port, name_of_tap}
@@ -59,7 +59,7 @@ port_plain segments (row ∷ rs) h zero p =
 port_plain segments (row ∷ rs) h (suc r) p = port_plain segments rs h.1 r p
 
 -- the name of a tap
-tap_plain : (l : Layout) → IsSound l → (tap : Tap) → is_plain (name_of_tap l tap) ≡ true
+tap_plain : (l : Layout) → IsSound l → (tap : Attachment) → is_plain (name_of_tap l tap) ≡ true
 tap_plain l sound (Station k) =
     station_plain l.format (length l.segments) l.stations (recursion_from_All (IsSoundStation l.format (length l.segments)) l.stations sound.stations) k
 tap_plain l sound (Port r p) =

@@ -5,8 +5,8 @@ use Rattle.layout.specs.declared.lines.Layout.{Layout}
 use Rattle.layout.specs.declared.lines.RepeaterLine.{RepeaterLine}
 use Rattle.layout.specs.declared.lines.SegmentLine.{SegmentLine}
 use Rattle.layout.specs.declared.lines.StationLine.{StationLine}
-use Rattle.layout.specs.declared.ways.Tap.{Tap}
-use Rattle.layout.specs.declared.ways.Tap.TheVariants.{Station, Port}
+use Rattle.layout.specs.declared.ways.Attachment.{Attachment}
+use Rattle.layout.specs.declared.ways.Attachment.TheVariants.{Station, Port}
 use Rattle.run_picture.specs.Sizes.{longest_large_name}
 use Rattle.run_picture.specs.declared.lanes.Band.{Band}
 use Rattle.run_picture.specs.declared.lanes.Lane.{Lane}
@@ -31,12 +31,12 @@ name_of_port None p = []
 name_of_port (Some repeater) p = port_name repeater.name (p + 1)
 
 -- the name of a tap
-abbrev pub name_of_tap : Layout → Tap → List ℕ
+abbrev pub name_of_tap : Layout → Attachment → List ℕ
 name_of_tap l (Station k) = name_at_station (slice_get l.stations k)
 name_of_tap l (Port r p) = name_of_port (slice_get l.repeaters r) p
 
 -- the name of the device of a tap
-abbrev pub name_of_device : Layout → Tap → List ℕ
+abbrev pub name_of_device : Layout → Attachment → List ℕ
 name_of_device l (Station k) = name_at_station (slice_get l.stations k)
 name_of_device l (Port r p) = name_at_repeater (slice_get l.repeaters r)
 

@@ -8,8 +8,8 @@ use Rattle.layout.specs.declared.lines.PortLine.{PortLine}
 use Rattle.layout.specs.declared.lines.RepeaterLine.{RepeaterLine}
 use Rattle.layout.specs.declared.lines.StationLine.{StationLine}
 use Rattle.layout.specs.Sound.{IsSound}
-use Rattle.layout.specs.declared.ways.Tap.{Tap}
-use Rattle.layout.specs.declared.ways.Tap.TheVariants.{Station, Port}
+use Rattle.layout.specs.declared.ways.Attachment.{Attachment}
+use Rattle.layout.specs.declared.ways.Attachment.TheVariants.{Station, Port}
 use Rattle.log_meter.specs.declared.line.LogLine.{LogLine}
 use Rattle.run_picture.specs.Kinds.{does_draw, drawn_kinds, every_kind}
 use Rattle.run_picture.specs.Lanes.{page_of}
@@ -17,7 +17,7 @@ use Rattle.run_picture.specs.Legend.{entry}
 use Rattle.run_picture.specs.Marks.{lane_of, lanes_of_segment, title_of}
 use Rattle.run_picture.specs.Pictures.{picture_of}
 use Rattle.run_picture.specs.Strangers.{number_of_repeater, number_of_station}
-use Rattle.run_picture.specs.declared.kinds.Kind.{Kind}
+use Rattle.run_picture.specs.declared.kinds.ShapeKind.{ShapeKind}
 use Rattle.run_picture.specs.declared.lanes.Lane.{Lane}
 
 -- how far right half bit t lies in a picture of the half bits from `from` to below `to`, which is 100,000 wide
@@ -129,14 +129,14 @@ PortsHaveSigns =
     → HasInMark (picture_of l lines from to) line (sign_element word (place_of_half_bit from to line.t) lane.y)
 
 -- the entry of a kind stands in a text
-pub record HasEntry (text : List ℕ) (kind : Kind) : Type 0 where
+pub record HasEntry (text : List ℕ) (kind : ShapeKind) : Type 0 where
   pub number : ℕ
   pub before : List ℕ
   pub after : List ℕ
   pub stands : text ≡ before ++ entry number kind ++ after
 
 -- one of these lines has a mark with a shape of this kind in a picture of the half bits from `from` to below `to`
-pub record IsDrawnByLine (lines : List LogLine) (from to : ℕ) (kind : Kind) : Type 0 where
+pub record IsDrawnByLine (lines : List LogLine) (from to : ℕ) (kind : ShapeKind) : Type 0 where
   pub line : LogLine
   pub among : Contains lines line
   pub draws : does_draw (record { from = from; to = to }) line kind ≡ true
@@ -144,19 +144,19 @@ pub record IsDrawnByLine (lines : List LogLine) (from to : ℕ) (kind : Kind) : 
 -- each kind of shape that a mark of a picture has, has its entry in the legend
 abbrev pub ShapesHaveEntries : Type 0
 ShapesHaveEntries =
-    (l : Layout) (lines : List LogLine) (from to : ℕ) (line : LogLine) (kind : Kind)
+    (l : Layout) (lines : List LogLine) (from to : ℕ) (line : LogLine) (kind : ShapeKind)
     → Contains lines line → does_draw (record { from = from; to = to }) line kind ≡ true
     → HasEntry (picture_of l lines from to) kind
 
 -- each kind that has an entry in the legend is a kind of shape that a mark of the picture has
 abbrev pub EntriesHaveShapes : Type 0
 EntriesHaveShapes =
-    (lines : List LogLine) (from to : ℕ) (kind : Kind)
+    (lines : List LogLine) (from to : ℕ) (kind : ShapeKind)
     → Contains (drawn_kinds (record { from = from; to = to }) lines every_kind) kind
     → IsDrawnByLine lines from to kind
 
 -- a tap of this segment has a lane, at this place of the segment
-pub record HasLane (l : Layout) (segment : ℕ) (tap : Tap) (at : ℕ) : Type 0 where
+pub record HasLane (l : Layout) (segment : ℕ) (tap : Attachment) (at : ℕ) : Type 0 where
   pub lane : Lane
   pub found : lane_of (lanes_of_segment (page_of l).bands segment) tap ≡ Some lane
   pub place : lane.at ≡ at

@@ -6,8 +6,8 @@ use Rattle.collision_log.specs.declared.row.Body.TheVariants.{Sent, Collided, Gi
 use Rattle.log_meter.specs.declared.line.LogLine.{LogLine}
 use Rattle.run_picture.specs.Sendings.{does_end, does_meet, is_hit_heard, sending_of}
 use Rattle.run_picture.specs.Waves.{is_seen}
-use Rattle.run_picture.specs.declared.kinds.Kind.{Kind}
-use Rattle.run_picture.specs.declared.kinds.Kind.TheVariants.{Bar, Front, Point}
+use Rattle.run_picture.specs.declared.kinds.ShapeKind.{ShapeKind}
+use Rattle.run_picture.specs.declared.kinds.ShapeKind.TheVariants.{Bar, Front, Point}
 use Rattle.run_picture.specs.declared.sending.Sending.{Sending}
 use Rattle.run_picture.specs.declared.signs.Outcome.{Outcome}
 use Rattle.run_picture.specs.declared.signs.Outcome.TheVariants as outcome
@@ -45,7 +45,7 @@ has_hit window None = false
 has_hit window (Some sending) = is_hit_heard window sending sending.hit
 
 -- whether the mark of a line has a shape of this kind, where the line meets the window
-abbrev pub has_shape : Window → LogLine → Kind → Bool
+abbrev pub has_shape : Window → LogLine → ShapeKind → Bool
 has_shape window line (Bar ending) = is_sending_of ending line.body
 has_shape window line Front = has_front window (sending_of line.t line.body)
 has_shape window line (Point the_sign.Hit) = has_hit window (sending_of line.t line.body)
@@ -57,20 +57,20 @@ has_shape window line (Point the_sign.Opened) = has_sign the_sign.Opened line.bo
 has_shape window line (Point the_sign.Halted) = has_sign the_sign.Halted line.body
 
 -- whether a line has a mark with a shape of this kind
-abbrev pub does_draw : Window → LogLine → Kind → Bool
+abbrev pub does_draw : Window → LogLine → ShapeKind → Bool
 does_draw window line kind = does_meet window line && has_shape window line kind
 
 -- whether one of these lines has
-abbrev pub is_drawn : Window → List LogLine → Kind → Bool
+abbrev pub is_drawn : Window → List LogLine → ShapeKind → Bool
 is_drawn window lines kind = list_any (λ line. does_draw window line kind) lines
 
 -- every kind, in the order of the legend
-abbrev pub every_kind : List Kind
+abbrev pub every_kind : List ShapeKind
 every_kind =
     Bar outcome.Sent ∷ Bar outcome.Collided ∷ Bar outcome.GivenUp ∷ Bar outcome.Cut ∷ Front ∷ Point the_sign.Hit
     ∷ Point the_sign.Received ∷ Point the_sign.Dropped ∷ Point the_sign.Clash ∷ Point the_sign.Closed
     ∷ Point the_sign.Opened ∷ Point the_sign.Halted ∷ []
 
 -- those of these kinds of which a picture of these lines has a shape
-abbrev pub drawn_kinds : Window → List LogLine → List Kind → List Kind
+abbrev pub drawn_kinds : Window → List LogLine → List ShapeKind → List ShapeKind
 drawn_kinds window lines kinds = filter (is_drawn window lines) kinds

@@ -8,8 +8,8 @@ use Rattle.collision_log.specs.declared.row.Body.TheVariants.{Received, Dropped,
 use Rattle.collision_log.specs.declared.row.Why.{Why}
 use Rattle.layout.specs.declared.lines.Layout.{Layout}
 use Rattle.layout.specs.declared.lines.PortLine.{PortLine}
-use Rattle.layout.specs.declared.ways.Tap.{Tap}
-use Rattle.layout.specs.declared.ways.Tap.TheVariants.{Station, Port}
+use Rattle.layout.specs.declared.ways.Attachment.{Attachment}
+use Rattle.layout.specs.declared.ways.Attachment.TheVariants.{Station, Port}
 use Rattle.log_meter.specs.declared.line.LogLine.{LogLine}
 use Rattle.run_picture.specs.Sendings.{does_meet, sending_of, sending_shapes}
 use Rattle.run_picture.specs.Signs.{sign}
@@ -29,7 +29,7 @@ title_of line =
     decimal line.t ++ codes " " ++ device_word line.repeater ++ line.name ++ codes " " ++ body_text line.body
 
 -- whether two taps are one
-abbrev pub is_one_tap : Tap → Tap → Bool
+abbrev pub is_one_tap : Attachment → Attachment → Bool
 is_one_tap (Station k) (Station j) = k == j
 is_one_tap (Station k) (Port s q) = false
 is_one_tap (Port r p) (Station j) = false
@@ -45,7 +45,7 @@ abbrev pub lanes_of_segment : List Band → ℕ → List Lane
 lanes_of_segment bands segment = lanes_of_band (slice_get bands segment)
 
 -- the lane of a tap among these
-abbrev pub lane_of : List Lane → Tap → Option Lane
+abbrev pub lane_of : List Lane → Attachment → Option Lane
 lane_of lanes tap = find (λ lane. is_one_tap lane.tap tap) lanes
 
 -- what is shown of what was found

@@ -5,7 +5,7 @@ ghost use Rattle.run_picture.specs.Bands.{bands_text, lane_text, lanes_text, let
 use crate::lanes::{Band, Lane};
 use crate::sizes::LONGEST_LARGE_NAME;
 use crate::window::add_number;
-use layout::{Layout, SegmentLine, Tap};
+use layout::{Attachment, Layout, SegmentLine};
 use lists::{List, OutOfMemory};
 
 /// Puts the name of a port, counted from 1, at the end of a text.
@@ -18,15 +18,15 @@ fn add_port_name(text: &mut List<u8>, name: &str, number: u64) -> Result<(), Out
 }
 
 /// Puts the name of a tap at the end of a text: the station's, or the repeater's and the port, from 1.
-fn add_name(text: &mut List<u8>, layout: &Layout, tap: Tap) -> Result<(), OutOfMemory>
+fn add_name(text: &mut List<u8>, layout: &Layout, tap: Attachment) -> Result<(), OutOfMemory>
     ensures { OnOk result (text.new ≡ text.old ++ name_of_tap layout.now tap) }
 {
     match tap {
-        Tap::Station(k) => match layout.stations.as_slice().get(k as usize) {
+        Attachment::Station(k) => match layout.stations.as_slice().get(k as usize) {
             Some(station) => text.extend(station.name.as_str().as_bytes()),
             None => Ok(()),
         },
-        Tap::Port { repeater, port } => {
+        Attachment::Port { repeater, port } => {
             match layout.repeaters.as_slice().get(repeater as usize) {
                 Some(row) => add_port_name(text, row.name.as_str(), u64::from(port) + 1),
                 None => Ok(()),
@@ -36,15 +36,19 @@ fn add_name(text: &mut List<u8>, layout: &Layout, tap: Tap) -> Result<(), OutOfM
 }
 
 /// The name of the device of a tap.
-fn name_of_device(layout: &Layout, tap: Tap) -> &str
+fn name_of_device(layout: &Layout, tap: Attachment) -> &str
     ensures { result.now ≡ name_of_device layout.now tap }
 {
     match tap {
-        Tap::Station(k) => match layout.stations.as_slice().get(k as usize) {
+        Attachment::Station(k) => match layout.stations.as_slice().get(k as usize) {
             Some(station) => station.name.as_str(),
             None => "",
         },
-        Tap::Port { repeater, .. } => match layout.repeaters.as_slice().get(repeater as usize) {
+        Attachment::Port { repeater, .. } => match layout
+            .repeaters
+            .as_slice()
+            .get(repeater as usize)
+        {
             Some(row) => row.name.as_str(),
             None => "",
         },

@@ -14,7 +14,7 @@ use log_meter::LogLine;
 
 /// A kind of shapes: the bars of sendings that ended so, the fronts of waves, or a sign.
 #[derive(Clone, Copy, Debug, PartialEq, Eq)]
-pub enum Kind {
+pub enum ShapeKind {
     Bar(Outcome),
     Front,
     Point(Sign),
@@ -84,20 +84,20 @@ fn has_hit(window: Window, line: &LogLine) -> bool
 }
 
 /// Whether the mark of a line has a shape of this kind, where the line meets the window.
-fn has_shape(window: Window, line: &LogLine, kind: Kind) -> bool
+fn has_shape(window: Window, line: &LogLine, kind: ShapeKind) -> bool
     requires { IsLogLine line.now }
     ensures { result ≡ has_shape window line.now kind }
 {
     match kind {
-        Kind::Bar(outcome) => is_sending_of(outcome, &line.body),
-        Kind::Front => has_front(window, line),
-        Kind::Point(Sign::Hit) => has_hit(window, line),
-        Kind::Point(sign) => has_sign(sign, &line.body),
+        ShapeKind::Bar(outcome) => is_sending_of(outcome, &line.body),
+        ShapeKind::Front => has_front(window, line),
+        ShapeKind::Point(Sign::Hit) => has_hit(window, line),
+        ShapeKind::Point(sign) => has_sign(sign, &line.body),
     }
 }
 
 /// Whether a line has a mark with a shape of this kind.
-fn does_draw(window: Window, line: &LogLine, kind: Kind) -> bool
+fn does_draw(window: Window, line: &LogLine, kind: ShapeKind) -> bool
     requires { IsLogLine line.now }
     ensures { result ≡ does_draw window line.now kind }
 {
@@ -105,7 +105,7 @@ fn does_draw(window: Window, line: &LogLine, kind: Kind) -> bool
 }
 
 /// Whether one of these lines has a mark with a shape of this kind.
-pub fn is_drawn(window: Window, lines: &[LogLine], kind: Kind) -> bool
+pub fn is_drawn(window: Window, lines: &[LogLine], kind: ShapeKind) -> bool
     requires { AllByRecursion IsLogLine lines.now }
     ensures { result ≡ is_drawn window lines.now kind }
 {

@@ -5,7 +5,7 @@ ghost use Rattle.log_meter.specs.Lines.{IsLogLine};
 ghost use Rattle.run_picture.specs.Kinds.{drawn_kinds};
 ghost use Rattle.run_picture.specs.Legend.{ending_name, entries, entry, entry_name, entry_shape, entry_x, entry_y, kind_name, kind_path, kind_word, legend, sign_entry, sign_name};
 
-use crate::kinds::{Kind, is_drawn};
+use crate::kinds::{ShapeKind, is_drawn};
 use crate::signs::{Outcome, Sign, sending_word, sign_path, sign_word};
 use crate::sizes::{ENTRIES_A_ROW, ENTRY_HEIGHT, ENTRY_WIDTH};
 use crate::window::{Window, add_number};
@@ -13,13 +13,13 @@ use lists::{List, OutOfMemory};
 use log_meter::LogLine;
 
 /// The word by which the style names a kind.
-fn kind_word(kind: Kind) -> &'static [u8]
+fn kind_word(kind: ShapeKind) -> &'static [u8]
     ensures { result.now ≡ kind_word kind }
 {
     match kind {
-        Kind::Bar(outcome) => sending_word(outcome),
-        Kind::Front => b"front",
-        Kind::Point(sign) => sign_word(sign),
+        ShapeKind::Bar(outcome) => sending_word(outcome),
+        ShapeKind::Front => b"front",
+        ShapeKind::Point(sign) => sign_word(sign),
     }
 }
 
@@ -51,13 +51,13 @@ fn sign_name(sign: Sign) -> &'static [u8]
 }
 
 /// What a legend says of a kind.
-fn kind_name(kind: Kind) -> &'static [u8]
+fn kind_name(kind: ShapeKind) -> &'static [u8]
     ensures { result.now ≡ kind_name kind }
 {
     match kind {
-        Kind::Bar(outcome) => ending_name(outcome),
-        Kind::Front => b"wave front",
-        Kind::Point(sign) => sign_name(sign),
+        ShapeKind::Bar(outcome) => ending_name(outcome),
+        ShapeKind::Front => b"wave front",
+        ShapeKind::Point(sign) => sign_name(sign),
     }
 }
 
@@ -72,13 +72,13 @@ fn sign_entry(sign: Sign) -> &'static [u8]
 }
 
 /// The lines of a kind in a legend: a short bar, two fronts from one place, or the sign.
-fn kind_path(kind: Kind) -> &'static [u8]
+fn kind_path(kind: ShapeKind) -> &'static [u8]
     ensures { result.now ≡ kind_path kind }
 {
     match kind {
-        Kind::Bar(_) => b"m-1200 -450h2400v900h-2400z",
-        Kind::Front => b"m-600 0l1200 -700m-1200 700l1200 700",
-        Kind::Point(sign) => sign_entry(sign),
+        ShapeKind::Bar(_) => b"m-1200 -450h2400v900h-2400z",
+        ShapeKind::Front => b"m-600 0l1200 -700m-1200 700l1200 700",
+        ShapeKind::Point(sign) => sign_entry(sign),
     }
 }
 
@@ -100,7 +100,7 @@ fn entry_y(n: u64) -> u64
 
 /// Puts the shape of the n-th entry at the end of a text.
 #[tactic(auto, unfolding(crate::specs::Legend::entry_shape))]
-fn add_entry_shape(text: &mut List<u8>, n: u64, kind: Kind) -> Result<(), OutOfMemory>
+fn add_entry_shape(text: &mut List<u8>, n: u64, kind: ShapeKind) -> Result<(), OutOfMemory>
     requires { n < 2 ^ 32 }
     ensures { OnOk result (text.new ≡ text.old ++ entry_shape n kind) }
 {
@@ -116,7 +116,7 @@ fn add_entry_shape(text: &mut List<u8>, n: u64, kind: Kind) -> Result<(), OutOfM
 
 /// Puts what stands beside the shape of the n-th entry at the end of a text.
 #[tactic(auto, unfolding(crate::specs::Legend::entry_name))]
-fn add_entry_name(text: &mut List<u8>, n: u64, kind: Kind) -> Result<(), OutOfMemory>
+fn add_entry_name(text: &mut List<u8>, n: u64, kind: ShapeKind) -> Result<(), OutOfMemory>
     requires { n < 2 ^ 32 }
     ensures { OnOk result (text.new ≡ text.old ++ entry_name n kind) }
 {
@@ -130,7 +130,7 @@ fn add_entry_name(text: &mut List<u8>, n: u64, kind: Kind) -> Result<(), OutOfMe
 }
 
 /// Puts the n-th entry at the end of a text.
-fn add_entry(text: &mut List<u8>, n: u64, kind: Kind) -> Result<(), OutOfMemory>
+fn add_entry(text: &mut List<u8>, n: u64, kind: ShapeKind) -> Result<(), OutOfMemory>
     requires { n < 2 ^ 32 }
     ensures { OnOk result (text.new ≡ text.old ++ entry n kind) }
 {
@@ -143,7 +143,7 @@ fn add_entries(
     text: &mut List<u8>,
     window: Window,
     lines: &[LogLine],
-    kinds: &[Kind],
+    kinds: &[ShapeKind],
 ) -> Result<(), OutOfMemory>
     requires lines { AllByRecursion IsLogLine lines.now }
     requires few { length kinds.now < 2 ^ 32 }
@@ -165,18 +165,18 @@ pub fn add_legend(text: &mut List<u8>, window: Window, lines: &[LogLine]) -> Res
     ensures { OnOk result (text.new ≡ text.old ++ legend window lines.now) }
 {
     let kinds = [
-        Kind::Bar(Outcome::Sent),
-        Kind::Bar(Outcome::Collided),
-        Kind::Bar(Outcome::GivenUp),
-        Kind::Bar(Outcome::Cut),
-        Kind::Front,
-        Kind::Point(Sign::Hit),
-        Kind::Point(Sign::Received),
-        Kind::Point(Sign::Dropped),
-        Kind::Point(Sign::Clash),
-        Kind::Point(Sign::Closed),
-        Kind::Point(Sign::Opened),
-        Kind::Point(Sign::Halted),
+        ShapeKind::Bar(Outcome::Sent),
+        ShapeKind::Bar(Outcome::Collided),
+        ShapeKind::Bar(Outcome::GivenUp),
+        ShapeKind::Bar(Outcome::Cut),
+        ShapeKind::Front,
+        ShapeKind::Point(Sign::Hit),
+        ShapeKind::Point(Sign::Received),
+        ShapeKind::Point(Sign::Dropped),
+        ShapeKind::Point(Sign::Clash),
+        ShapeKind::Point(Sign::Closed),
+        ShapeKind::Point(Sign::Opened),
+        ShapeKind::Point(Sign::Halted),
     ];
     add_entries(text, window, lines, &kinds)
 }

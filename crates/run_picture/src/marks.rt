@@ -14,7 +14,7 @@ use crate::strangers::{number_of_repeater, number_of_station};
 use crate::window::{Window, add_number, x_of};
 use crate::word_rooms::{station_of_word, take_room};
 use collision_log::{Body, Row, Why, row_text};
-use layout::{Layout, PortLine, Tap};
+use layout::{Attachment, Layout, PortLine};
 use lists::{List, OutOfMemory};
 use log_meter::LogLine;
 use std::alloc::Global;
@@ -35,17 +35,17 @@ fn add_title(text: &mut List<u8>, line: &LogLine) -> Result<(), OutOfMemory>
 }
 
 /// Whether two taps are one.
-fn is_one_tap(a: Tap, b: Tap) -> bool
+fn is_one_tap(a: Attachment, b: Attachment) -> bool
     ensures { result ≡ is_one_tap a b }
 {
     match a {
-        Tap::Station(k) => match b {
-            Tap::Station(j) => k == j,
-            Tap::Port { .. } => false,
+        Attachment::Station(k) => match b {
+            Attachment::Station(j) => k == j,
+            Attachment::Port { .. } => false,
         },
-        Tap::Port { repeater, port } => match b {
-            Tap::Station(_) => false,
-            Tap::Port {
+        Attachment::Port { repeater, port } => match b {
+            Attachment::Station(_) => false,
+            Attachment::Port {
                 repeater: r,
                 port: p,
             } => repeater == r && port == p,
@@ -64,7 +64,7 @@ fn lanes_of_segment(bands: &[Band], segment: u32) -> &[Lane]
 }
 
 /// The lane of a tap.
-fn lane_of(lanes: &[Lane], tap: Tap) -> Option<Lane>
+fn lane_of(lanes: &[Lane], tap: Attachment) -> Option<Lane>
     ensures { result ≡ lane_of lanes.now tap }
 {
     for lane in lanes {
@@ -191,7 +191,7 @@ fn add_station_shapes(
         return Ok(());
     };
     let lanes = lanes_of_segment(bands, stations[k].segment);
-    let Some(lane) = lane_of(lanes, Tap::Station(k as u32)) else {
+    let Some(lane) = lane_of(lanes, Attachment::Station(k as u32)) else {
         return Ok(());
     };
     add_lane_shapes(text, worded, window, line, lane, lanes)
@@ -226,7 +226,7 @@ fn add_port_sign(
     let Some(sign) = sign_of_port(&line.body, u64::from(port) + 1) else {
         return Ok(());
     };
-    let Some(lane) = lane_of(lanes, Tap::Port { repeater, port }) else {
+    let Some(lane) = lane_of(lanes, Attachment::Port { repeater, port }) else {
         return Ok(());
     };
     add_sign(text, window, sign, line.t, lane.y)

@@ -22,7 +22,7 @@ use Rattle.manchester_line.specs.Reading.{reading, octets_of_bits, spare_of_bits
 use Rattle.mac_receive.specs.Receiver.{Receiving, Reception, reception_ended, extended, judged_row, left_halves, quiet, reading_row, receiver_step}
 use Rattle.port_partition.specs.declared.guard.GuardEvent.{GuardEvent}
 use Rattle.port_partition.specs.declared.guard.GuardEvent.TheVariants as event
-use Rattle.repeater_core.specs.Step.{State, chosen, clash_begins, emitted_by, guard_events}
+use Rattle.repeater_core.specs.Step.{RepeaterDevice, chosen, clash_begins, emitted_by, guard_events}
 use Rattle.network.specs.Net.{each_repeater, receptions}
 use Rattle.network.specs.Rows.{repeater_rows, rows_of_bodies, repeater_bodies, port_bodies, guard_bodies, happened, rows_of, row_of}
 use Rattle.network.specs.Outputs.{cut_rows}
@@ -196,7 +196,7 @@ ports_quiet port (h ∷ hs) (e ∷ es) =
     quiet-append (happened h (Halted port)) (guard_bodies port e ++ port_bodies (port + 1) hs es) (happened_quiet h (Halted port) refl)
     (quiet-append (guard_bodies port e) (port_bodies (port + 1) hs es) (guard_quiet port e) (ports_quiet (port + 1) hs es))
 
-bodies_quiet : (heard : List Sym) (r : State) → AreQuiet (repeater_bodies heard r)
+bodies_quiet : (heard : List Sym) (r : RepeaterDevice) → AreQuiet (repeater_bodies heard r)
 bodies_quiet heard r =
     let halts = map (λ c. c.halted) (chosen heard r) in
     let guards = guard_events r.guards heard (emitted_by r) in
@@ -211,7 +211,7 @@ rows_quiet t k i (b ∷ bs) h = one (eqb k i) (ends_by b) (ends i (rows_of_bodie
     one false n m e f = omega arith
 
 -- no row of a repeater ends a frame
-pub repeaters_quiet : (t k i : ℕ) (heard : List Sym) (rs : List State) → ends i (repeater_rows t k (each_repeater repeater_bodies heard rs)) ≡ 0
+pub repeaters_quiet : (t k i : ℕ) (heard : List Sym) (rs : List RepeaterDevice) → ends i (repeater_rows t k (each_repeater repeater_bodies heard rs)) ≡ 0
 repeaters_quiet t k i heard [] = refl
 repeaters_quiet t k i heard (r ∷ rs) =
     let here = take (length r.guards) heard in

@@ -10,7 +10,7 @@ use Rattle.layout.specs.Taps.{tap_of, taps_of}
 use Rattle.load_plan.specs.declared.plan.Plan.{Plan}
 use Rattle.mac_transmit.specs.Sender.{Sender}
 use Rattle.mac_receive.specs.Receiver.{Receiving, new_receiving}
-use Rattle.mac_receive.specs.KeptReceiver.{Kept, Hears}
+use Rattle.mac_receive.specs.KeptReceiver.{KeptReception, Hears}
 use Rattle.network.specs.declared.outputs.Taken.{Taken}
 use Rattle.network.specs.Attempts.{sender_at}
 use Rattle.network.specs.Net.{new_receiver}
@@ -44,7 +44,7 @@ pub map_more : {Y : Type 0} (f : ℕ → Y) (ks : List ℕ) (i : ℕ) (ys ys' : 
 map_more f ks i ys ys' y h before now pushed =
     pushed ∙ ap₂ (λ xs x. xs ++ x ∷ []) before now ∙ sym (map-append f (take i ks) (get_or ks i 0 ∷ [])) ∙ ap (map f) (sym (take_more ks i 0 h))
 
-pub hear_more : (f : ℕ → Receiving) (ks : List ℕ) (i : ℕ) (ys ys' : List Kept) (y : Kept) → i < length ks → AllHear (map f (take i ks)) ys → Hears (f (get_or ks i 0)) y → ys' ≡ ys ++ y ∷ [] → AllHear (map f (take (i + 1) ks)) ys'
+pub hear_more : (f : ℕ → Receiving) (ks : List ℕ) (i : ℕ) (ys ys' : List KeptReception) (y : KeptReception) → i < length ks → AllHear (map f (take i ks)) ys → Hears (f (get_or ks i 0)) y → ys' ≡ ys ++ y ∷ [] → AllHear (map f (take (i + 1) ks)) ys'
 hear_more f ks i ys ys' y h before now pushed =
     let all : AllHear (map f (take i ks) ++ f (get_or ks i 0) ∷ []) (ys ++ y ∷ []) = AllHear-more (map f (take i ks)) ys (f (get_or ks i 0)) y before now in
     let same : map f (take (i + 1) ks) ≡ map f (take i ks) ++ f (get_or ks i 0) ∷ [] = ap (map f) (take_more ks i 0 h) ∙ map-append f (take i ks) (get_or ks i 0 ∷ []) in
@@ -96,7 +96,7 @@ module _ (plan : Plan) (s : ℕ) where
   taps_many =
       sym (length-numbers s 0 (taps_of plan.layout)) ∙ length-both s 0 (map tap_of plan.layout.stations) (edge_ports plan.layout)
 
-  pub stations_begin : (ss : List Sender) (rs : List Kept) (caps : List (List Taken)) → ss ≡ map (λ k. sender_at plan k 0) w.stations → AllHear (map (λ k. receiver_at plan k 0) w.stations) rs → All (λ r. r.steps ≡ 0) rs →
+  pub stations_begin : (ss : List Sender) (rs : List KeptReception) (caps : List (List Taken)) → ss ≡ map (λ k. sender_at plan k 0) w.stations → AllHear (map (λ k. receiver_at plan k 0) w.stations) rs → All (λ r. r.steps ≡ 0) rs →
       caps ≡ replicate (length w.stations) [] → AreStationsAt plan w.stations 0 ss rs [] caps
   stations_begin ss rs caps senders receivers steps none = record {
     senders = senders;

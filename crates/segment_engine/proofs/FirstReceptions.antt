@@ -5,7 +5,7 @@ use Rattle.manchester_line.specs.declared.Sym.{Sym}
 use Rattle.manchester_line.specs.declared.Sym.TheVariants.{Idle}
 use Rattle.collision_log.specs.declared.row.Body.{Body}
 use Rattle.collision_log.specs.declared.row.Row.{Row}
-use Rattle.mac_receive.specs.KeptReceiver.{Kept, Hears, IsReceiver}
+use Rattle.mac_receive.specs.KeptReceiver.{KeptReception, Hears, IsReceiver}
 use Rattle.mac_receive.specs.Receiver.{Receiving, receiver_step, receiver_after, receiver_bodies}
 use Rattle.network.specs.declared.outputs.Taken.{Taken}
 use Rattle.network.specs.Captures.{taken_by}
@@ -23,7 +23,7 @@ no_first r [] sending h = (refl, refl)
 no_first r (x ∷ hs) sending h = with_none (receiver_step r x sending).event (receiver_bodies (receiver_step r x sending).state hs sending) h
 
 -- nothing is logged or captured where there is no event
-same_rows : (t device : ℕ) (e : Option Body) (rows : List Row) → e ≡ None → rows ≡ rows ++ row_of t device e
+pub same_rows : (t device : ℕ) (e : Option Body) (rows : List Row) → e ≡ None → rows ≡ rows ++ row_of t device e
 same_rows t device e rows is = sym (ap (λ x. rows ++ row_of t device x) is ∙ append-nil rows)
 
 with_nothing : (k : ℕ) (cs : List (List Taken)) → k < length cs → captures_with k [] cs ≡ cs
@@ -31,11 +31,11 @@ with_nothing k [] l = absurd (omega (arith, l))
 with_nothing zero (c ∷ cs) l = ap (λ x. x ∷ cs) (append-nil c)
 with_nothing (suc k) (c ∷ cs) l = ap (λ x. c ∷ x) (with_nothing k cs (omega (arith, l)))
 
-same_captures : (t k : ℕ) (e : Option Body) (os : List ℕ) (cs : List (List Taken)) → k < length cs → e ≡ None → cs ≡ captures_with k (taken_by t e os) cs
+pub same_captures : (t k : ℕ) (e : Option Body) (os : List ℕ) (cs : List (List Taken)) → k < length cs → e ≡ None → cs ≡ captures_with k (taken_by t e os) cs
 same_captures t k e os cs l is = sym (ap (λ x. captures_with k (taken_by t x os) cs) is ∙ with_nothing k cs l)
 
 -- room beside another demand for a receiver that goes on
-room_beside : (hs : List Sym) (sending : Bool) (k k' : Kept) (n : ℕ) (other : Demand) (room : Room) → GoesOn hs sending k k' →
+room_beside : (hs : List Sym) (sending : Bool) (k k' : KeptReception) (n : ℕ) (other : Demand) (room : Room) → GoesOn hs sending k k' →
     Covers (both_demands other (receiver_demand (n + length hs) k)) room → Covers (both_demands other (receiver_demand n k')) room
 room_beside hs sending k k' n other room goes c =
     let now = receiver_demand n k' in
@@ -43,7 +43,7 @@ room_beside hs sending k k' n other room goes c =
     covers_within (both_demands other now) (both_demands other before) room (both_within other now other before (same_within other) (kept_needs hs sending k k' n goes)) c
 
 -- a receiver without a row in the half bits
-pub taken_still : (t station device : ℕ) (hs : List Sym) (sending : Bool) (k k' : Kept) (room : Room) → IsReceiver k → station < length room.captures →
+pub taken_still : (t station device : ℕ) (hs : List Sym) (sending : Bool) (k k' : KeptReception) (room : Room) → IsReceiver k → station < length room.captures →
     ((r : Receiving) → Hears r k → Hears (receiver_after r hs sending) k') → ((r : Receiving) → Hears r k → receiver_bodies r hs sending ≡ []) →
     HasTaken t station device hs sending k k' room room
 taken_still t station device hs sending k k' room some l state bodies = record {
@@ -55,7 +55,7 @@ taken_still t station device hs sending k k' room some l state bodies = record {
 }
 
 -- the half bit in which a reception ends, and m more
-pub taken_end : (t station device n m : ℕ) (k mid k' : Kept) (a b : Room) → n ≡ suc m → IsReceiver k →
+pub taken_end : (t station device n m : ℕ) (k mid k' : KeptReception) (a b : Room) → n ≡ suc m → IsReceiver k →
     ((r : Receiving) → Hears r k → Hears (receiver_step r Idle false).state mid) →
     ((r : Receiving) → Hears r k → b.rows ≡ a.rows ++ row_of t device (receiver_step r Idle false).event) →
     ((r : Receiving) → Hears r k → b.captures ≡ captures_with station (taken_by t (receiver_step r Idle false).event (receiver_step r Idle false).octets) a.captures) →

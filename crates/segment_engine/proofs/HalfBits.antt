@@ -10,7 +10,7 @@ use Rattle.collision_log.specs.declared.row.Row.{Row}
 use Rattle.load_plan.specs.declared.plan.Plan.{Plan}
 use Rattle.mac_transmit.specs.Sender.{Sender, SendOutcome}
 use Rattle.mac_receive.specs.Receiver.{Receiving, Reception}
-use Rattle.mac_receive.specs.KeptReceiver.{Kept}
+use Rattle.mac_receive.specs.KeptReceiver.{KeptReception}
 use Rattle.network.specs.declared.outputs.Taken.{Taken}
 use Rattle.network.specs.Attempts.{sender_at}
 use Rattle.network.specs.Net.{sendings}
@@ -81,13 +81,13 @@ module _ (plan : Plan) (s t : ℕ) where
     captures_next = outcomes_so (λ a b. captures_heard t a b now.receivers now.captures) ∙ ap (λ (x : SegmentState). x.captures) truth
 
   -- the stations
-  pub stations_next : (t' : ℕ) (hs : List Sym) (ss ss' : List Sender) (ks ks' : List Kept) (rows rows' : List Row) (caps caps' : List (List Taken)) → t' ≡ t + 1 →
+  pub stations_next : (t' : ℕ) (hs : List Sym) (ss ss' : List Sender) (ks ks' : List KeptReception) (rows rows' : List Row) (caps caps' : List (List Taken)) → t' ≡ t + 1 →
       hs ≡ map (λ k. heard plan k t) w.stations → AreStationsAt plan w.stations t ss ks rows caps →
       ss' ≡ map (λ (o : SendOutcome). o.state) (sendings hs ss) →
       ((rs : List Receiving) → AllHear rs ks → AllHear (map (λ (r : Reception). r.state) (receptions_by hs ss rs)) ks') →
       ((rs : List Receiving) → AllHear rs ks → rows' ≡ rows ++ rows_heard t w.stations hs ss rs) →
       ((rs : List Receiving) → AllHear rs ks → caps' ≡ captures_heard t hs ss rs caps) →
-      All (λ (x : Sender). x.t ≡ t + 1) ss' → All (λ (x : Kept). x.steps ≡ t + 1) ks' →
+      All (λ (x : Sender). x.t ≡ t + 1) ss' → All (λ (x : KeptReception). x.steps ≡ t + 1) ks' →
       AreStationsAt plan w.stations t' ss' ks' rows' caps'
   stations_next t' hs ss ss' ks ks' rows rows' caps caps' next is at states receivers logged kept times steps =
       let one : suc t ≡ t' = omega (arith, next) in

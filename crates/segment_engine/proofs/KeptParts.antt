@@ -10,7 +10,7 @@ use Rattle.mac_parameters.specs.Parameters.{most_octets}
 use Rattle.layout.specs.declared.lines.StationLine.{StationLine}
 use Rattle.load_plan.specs.declared.plan.Plan.{Plan}
 use Rattle.mac_receive.specs.Receiver.{Receiving, Reception, new_receiving, receiver_step, quiet, reception_ended, extended}
-use Rattle.mac_receive.specs.KeptReceiver.{Kept, Hears, IsReceiver}
+use Rattle.mac_receive.specs.KeptReceiver.{KeptReception, Hears, IsReceiver}
 use Rattle.collision_log.specs.declared.row.Row.{Row}
 use Rattle.network.specs.declared.outputs.Taken.{Taken}
 use Rattle.network.specs.Attempts.{sender_at}
@@ -55,28 +55,28 @@ kept_of plan s wd front a below at is =
     })
 
 -- receivers one by one, and all of them
-pub hear_each : (f : ℕ → Receiving) (ks : List ℕ) (rs : List Kept) → length rs ≡ length ks → ((i : ℕ) (d : Kept) → i < length rs → Hears (f (get_or ks i 0)) (get_or rs i d)) → AllHear (map f ks) rs
+pub hear_each : (f : ℕ → Receiving) (ks : List ℕ) (rs : List KeptReception) → length rs ≡ length ks → ((i : ℕ) (d : KeptReception) → i < length rs → Hears (f (get_or ks i 0)) (get_or rs i d)) → AllHear (map f ks) rs
 hear_each f [] [] l h = tt
 hear_each f [] (r ∷ rs) l h = absurd (omega (arith, l))
 hear_each f (k ∷ ks) [] l h = absurd (omega (arith, l))
 hear_each f (k ∷ ks) (r ∷ rs) l h = (h 0 r (omega arith), hear_each f ks rs (omega (arith, l)) (λ i d m. h (suc i) d (omega (arith, m))))
 
 -- stations that stand in the network, one by one
-pub senders_many : {plan : Plan} {ks : List ℕ} {t : ℕ} {ss : List Sender} {rs : List Kept} {rows : List Row} {captures : List (List Taken)} → AreStationsAt plan ks t ss rs rows captures → length ss ≡ length ks
+pub senders_many : {plan : Plan} {ks : List ℕ} {t : ℕ} {ss : List Sender} {rs : List KeptReception} {rows : List Row} {captures : List (List Taken)} → AreStationsAt plan ks t ss rs rows captures → length ss ≡ length ks
 senders_many {plan = plan} {ks = ks} {t = t} stand = ap length stand.senders ∙ length-map ks (λ k. sender_at plan k t)
 
-pub receivers_many : {plan : Plan} {ks : List ℕ} {t : ℕ} {ss : List Sender} {rs : List Kept} {rows : List Row} {captures : List (List Taken)} → AreStationsAt plan ks t ss rs rows captures → length rs ≡ length ks
+pub receivers_many : {plan : Plan} {ks : List ℕ} {t : ℕ} {ss : List Sender} {rs : List KeptReception} {rows : List Row} {captures : List (List Taken)} → AreStationsAt plan ks t ss rs rows captures → length rs ≡ length ks
 receivers_many {plan = plan} {ks = ks} {t = t} {rs = rs} stand = sym (length-AllHear (map (λ k. receiver_at plan k t) ks) rs stand.receivers) ∙ length-map ks (λ k. receiver_at plan k t)
 
-pub receiver_stands : {plan : Plan} {ks : List ℕ} {t : ℕ} {ss : List Sender} {rs : List Kept} {rows : List Row} {captures : List (List Taken)} → AreStationsAt plan ks t ss rs rows captures →
-    (i : ℕ) (d : Kept) → i < length rs → Hears (receiver_at plan (get_or ks i 0) t) (get_or rs i d)
+pub receiver_stands : {plan : Plan} {ks : List ℕ} {t : ℕ} {ss : List Sender} {rs : List KeptReception} {rows : List Row} {captures : List (List Taken)} → AreStationsAt plan ks t ss rs rows captures →
+    (i : ℕ) (d : KeptReception) → i < length rs → Hears (receiver_at plan (get_or ks i 0) t) (get_or rs i d)
 receiver_stands {plan = plan} {ks = ks} {t = t} {rs = rs} stand i d h =
     let f = λ (k : ℕ). receiver_at plan k t in
     let r = f (get_or ks i 0) in
     let many = receivers_many stand in
     subst (λ (x : Receiving). Hears x (get_or rs i d)) (get_or-map f ks i 0 r (omega (arith, h, many))) (AllHear-at (map f ks) rs i r d stand.receivers h)
 
-pub all_receivers : {plan : Plan} {ks : List ℕ} {t : ℕ} {ss : List Sender} {rs : List Kept} {rows : List Row} {captures : List (List Taken)} → AreStationsAt plan ks t ss rs rows captures → All IsReceiver rs
+pub all_receivers : {plan : Plan} {ks : List ℕ} {t : ℕ} {ss : List Sender} {rs : List KeptReception} {rows : List Row} {captures : List (List Taken)} → AreStationsAt plan ks t ss rs rows captures → All IsReceiver rs
 all_receivers {plan = plan} {ks = ks} {t = t} stand = λ i d h. (receiver_at plan (get_or ks i 0) t, receiver_stands stand i d h)
 
 pub running_of : (plan : Plan) (s front : ℕ) (a : Running) → StandsInNetwork plan s front a → IsRunningAt plan s front a
@@ -149,7 +149,7 @@ receiver_most plan k (suc t) h =
     ∙ most_step (receiver_at plan k t) (heard plan k t) (is_signal (emitted plan k t))
     ∙ receiver_most plan k t h
 
-pub all_most : (plan : Plan) (s t : ℕ) (rs : List Kept) → AllHear (map (λ k. receiver_at plan k t) (wiring plan.layout s).stations) rs → All (λ k. k.most ≡ most_octets (eqb plan.layout.format 2)) rs
+pub all_most : (plan : Plan) (s t : ℕ) (rs : List KeptReception) → AllHear (map (λ k. receiver_at plan k t) (wiring plan.layout s).stations) rs → All (λ k. k.most ≡ most_octets (eqb plan.layout.format 2)) rs
 all_most plan s t rs hear = λ i d h.
     let ks = (wiring plan.layout s).stations in
     let f = λ (k : ℕ). receiver_at plan k t in
@@ -176,7 +176,7 @@ covers_within a b room w c = record {
 }
 
 -- room that was reserved is enough
-pub room_reserved : (ss : List Sender) (ks : List Kept) (m n most : ℕ) (room : Room) → All (λ k. k.most ≡ most) ks → m ≡ length ks → Covers (demand_times m (station_demand most n)) room → Covers (stations_demand n ss ks) room
+pub room_reserved : (ss : List Sender) (ks : List KeptReception) (m n most : ℕ) (room : Room) → All (λ k. k.most ≡ most) ks → m ≡ length ks → Covers (demand_times m (station_demand most n)) room → Covers (stations_demand n ss ks) room
 room_reserved ss ks m n most room all is c =
     covers_within (stations_demand n ss ks) (demand_times (length ks) (station_demand most n)) room (any_stations ss ks n most all)
     (subst (λ x. Covers (demand_times x (station_demand most n)) room) is c)

@@ -19,6 +19,12 @@ pub mod SteadyHalfBits
 pub mod SteadyStations
 pub mod SteadyReceivers
 pub mod SteadyCalm
+pub mod CalmLater
+pub mod BehindStations
+pub mod LinesApart
+pub mod ChangedStations
+pub mod RowsApart
+pub mod GoneApart
 pub mod NearExample
 pub mod TakenExample
 pub mod FirstRows

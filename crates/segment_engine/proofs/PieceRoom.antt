@@ -5,7 +5,7 @@ use Rattle.std.proofs.lemmas.Bool.{cases_lt}
 use Rattle.manchester_line.specs.declared.Sym.{Sym}
 use Rattle.mac_transmit.specs.Sender.{Sender}
 use Rattle.mac_transmit.specs.Calm.{after_all}
-use Rattle.mac_receive.specs.KeptReceiver.{Kept}
+use Rattle.mac_receive.specs.KeptReceiver.{KeptReception}
 use Rattle.window_room.specs.Rooms.{Room}
 use Rattle.window_room.specs.NeededRoom.{Demand, Covers, IsDemandWithin, both_demands, sender_demand, receiver_demand, stations_demand}
 use Rattle.segment_engine.specs.FirstReceptions.{senders_demand, receivers_demand}
@@ -22,7 +22,7 @@ below_next k P before now q h = elim (cases_lt q k) [
 ]
 
 -- what stations need is what their senders need, and their receivers
-split_demand : (n : ℕ) (ss : List Sender) (ks : List Kept) → length ss ≡ length ks → stations_demand n ss ks ≡ both_demands (senders_demand n ss) (receivers_demand n ks)
+split_demand : (n : ℕ) (ss : List Sender) (ks : List KeptReception) → length ss ≡ length ks → stations_demand n ss ks ≡ both_demands (senders_demand n ss) (receivers_demand n ks)
 split_demand n [] [] l = same_demand (omega arith) (omega arith) (omega arith)
 split_demand n [] (k ∷ ks) l = absurd (omega (arith, l))
 split_demand n (s ∷ ss) [] l = absurd (omega (arith, l))
@@ -30,25 +30,25 @@ split_demand n (s ∷ ss) (k ∷ ks) l =
     ap (both_demands (both_demands (sender_demand n s) (receiver_demand n k))) (split_demand n ss ks (omega (arith, l)))
     ∙ same_demand (omega arith) (omega arith) (omega arith)
 
-receivers_snoc : (n : ℕ) (ks : List Kept) (k : Kept) → receivers_demand n (ks ++ k ∷ []) ≡ both_demands (receivers_demand n ks) (receiver_demand n k)
+receivers_snoc : (n : ℕ) (ks : List KeptReception) (k : KeptReception) → receivers_demand n (ks ++ k ∷ []) ≡ both_demands (receivers_demand n ks) (receiver_demand n k)
 receivers_snoc n [] k = same_demand (omega arith) (omega arith) (omega arith)
 receivers_snoc n (x ∷ ks) k = ap (both_demands (receiver_demand n x)) (receivers_snoc n ks k) ∙ same_demand (omega arith) (omega arith) (omega arith)
 
 -- what the receivers of a piece of count half bits need
-pub piece_covered : (m count : ℕ) (ss : List Sender) (ks : List Kept) (room : Room) → m ≤ count → length ss ≡ length ks → Covers (stations_demand count ss ks) room → Covers (receivers_demand m ks) room
+pub piece_covered : (m count : ℕ) (ss : List Sender) (ks : List KeptReception) (room : Room) → m ≤ count → length ss ≡ length ks → Covers (stations_demand count ss ks) room → Covers (receivers_demand m ks) room
 piece_covered m count ss ks room few same c =
     let P : Demand → Type 0 = λ d. Covers d room in
     second (senders_demand m ss) (receivers_demand m ks) room (subst P (split_demand m ss ks same) (covers_fewer ss ks m count room few c))
 
 -- what is left for n half bits of the receivers below i, after a piece of m half bits, and of the others, before it
-abbrev pub IsRoomKept : ℕ → ℕ → ℕ → Demand → List Kept → Room → Type 0
+abbrev pub IsRoomKept : ℕ → ℕ → ℕ → Demand → List KeptReception → Room → Type 0
 IsRoomKept i n m other ks room = Covers (both_demands (both_demands other (receivers_demand n (take i ks))) (receivers_demand (n + m) (drop i ks))) room
 
 -- beside no other demand
 pub no_demand : Demand
 no_demand = record { rows = 0; frames = 0; octets = 0 }
 
-pub room_alone : (m : ℕ) (ks : List Kept) (room : Room) → Covers (receivers_demand m ks) room → Covers (both_demands no_demand (receivers_demand (0 + m) ks)) room
+pub room_alone : (m : ℕ) (ks : List KeptReception) (room : Room) → Covers (receivers_demand m ks) room → Covers (both_demands no_demand (receivers_demand (0 + m) ks)) room
 unfolding no_demand
 room_alone m ks room c =
     let e : m ≡ 0 + m = omega arith in
@@ -60,12 +60,12 @@ room_alone m ks room c =
     }
 
 -- the receiver at place i needs so much
-pub room_for_receiver : (i n m : ℕ) (other : Demand) (ks : List Kept) (dk : Kept) (room : Room) → i < length ks → IsRoomKept i n m other ks room →
+pub room_for_receiver : (i n m : ℕ) (other : Demand) (ks : List KeptReception) (dk : KeptReception) (room : Room) → i < length ks → IsRoomKept i n m other ks room →
     Covers (both_demands (both_demands (both_demands other (receivers_demand n (take i ks))) (receivers_demand (n + m) (drop (i + 1) ks))) (receiver_demand (n + m) (get_or ks i dk))) room
 room_for_receiver i n m other ks dk room l c =
     let one : suc i ≡ i + 1 = omega arith in
     let is = drop-cons ks i dk l ∙ ap (λ j. get_or ks i dk ∷ drop j ks) one in
-    let P : List Kept → Type 0 = λ xs. Covers (both_demands (both_demands other (receivers_demand n (take i ks))) (receivers_demand (n + m) xs)) room in
+    let P : List KeptReception → Type 0 = λ xs. Covers (both_demands (both_demands other (receivers_demand n (take i ks))) (receivers_demand (n + m) xs)) room in
     let h = subst P is c in
     record {
       for_rows = let y = h.for_rows in omega (arith, y);
@@ -73,7 +73,7 @@ room_for_receiver i n m other ks dk room l c =
       for_octets = let y = h.for_octets in omega (arith, y);
     }
 
-pub room_for_piece : (i m : ℕ) (other : Demand) (ks : List Kept) (dk : Kept) (room : Room) → i < length ks → IsRoomKept i 0 m other ks room → Covers (receiver_demand m (get_or ks i dk)) room
+pub room_for_piece : (i m : ℕ) (other : Demand) (ks : List KeptReception) (dk : KeptReception) (room : Room) → i < length ks → IsRoomKept i 0 m other ks room → Covers (receiver_demand m (get_or ks i dk)) room
 room_for_piece i m other ks dk room l c =
     let e : 0 + m ≡ m = omega arith in
     subst (λ x. Covers (receiver_demand x (get_or ks i dk)) room) e
@@ -81,7 +81,7 @@ room_for_piece i m other ks dk room l c =
     (room_for_receiver i 0 m other ks dk room l c))
 
 -- and leaves so much
-pub room_after_receiver : (i n m : ℕ) (other : Demand) (ks : List Kept) (k : Kept) (room : Room) → i < length ks →
+pub room_after_receiver : (i n m : ℕ) (other : Demand) (ks : List KeptReception) (k : KeptReception) (room : Room) → i < length ks →
     Covers (both_demands (both_demands (both_demands other (receivers_demand n (take i ks))) (receivers_demand (n + m) (drop (i + 1) ks))) (receiver_demand n k)) room →
     IsRoomKept (i + 1) n m other (set ks i k) room
 room_after_receiver i n m other ks k room l c =
@@ -95,11 +95,11 @@ room_after_receiver i n m other ks k room l c =
     rw (take_more_set ks i k l, drop-set-lt (i + 1) ks i k (omega arith)) (subst P (sym (receivers_snoc n (take i ks) k)) h)
 
 -- behind the last
-pub room_at_last : (i n m : ℕ) (other : Demand) (ks : List Kept) (room : Room) → length ks ≤ i → IsRoomKept i n m other ks room → Covers (both_demands other (receivers_demand n ks)) room
+pub room_at_last : (i n m : ℕ) (other : Demand) (ks : List KeptReception) (room : Room) → length ks ≤ i → IsRoomKept i n m other ks room → Covers (both_demands other (receivers_demand n ks)) room
 room_at_last i n m other ks room l c =
-    let P : List Kept → Type 0 = λ xs. Covers (both_demands (both_demands other (receivers_demand n (take i ks))) (receivers_demand (n + m) xs)) room in
+    let P : List KeptReception → Type 0 = λ xs. Covers (both_demands (both_demands other (receivers_demand n (take i ks))) (receivers_demand (n + m) xs)) room in
     let h = subst P (drop_all i ks l) c in
-    let Q : List Kept → Type 0 = λ xs. Covers (both_demands other (receivers_demand n xs)) room in
+    let Q : List KeptReception → Type 0 = λ xs. Covers (both_demands other (receivers_demand n xs)) room in
     let all : Covers (both_demands other (receivers_demand n (take i ks))) room = record {
       for_rows = let y = h.for_rows in omega (arith, y);
       for_frames = let y = h.for_frames in omega (arith, y);
@@ -121,7 +121,7 @@ senders_need f m n (s ∷ ss) (s' ∷ ss') z l u =
     (senders_need (λ i. f (suc i)) m n ss ss' (λ i. z (suc i)) (omega (arith, l)) (λ i d h. u (suc i) d (omega (arith, h))))
 
 -- all stations after a piece
-pub room_after_piece : (f : ℕ → List Sym) (m n : ℕ) (ss ss' : List Sender) (ks ks' : List Kept) (a b : Room) → ((i : ℕ) → length (f i) ≡ m) → length ss' ≡ length ss → length ss ≡ length ks → length ks' ≡ length ks →
+pub room_after_piece : (f : ℕ → List Sym) (m n : ℕ) (ss ss' : List Sender) (ks ks' : List KeptReception) (a b : Room) → ((i : ℕ) → length (f i) ≡ m) → length ss' ≡ length ss → length ss ≡ length ks → length ks' ≡ length ks →
     ((i : ℕ) (d : Sender) → i < length ss' → get_or ss' i d ≡ after_all (get_or ss i d) (f i)) →
     ((other : Demand) → Covers (both_demands other (receivers_demand (n + m) ks)) a → Covers (both_demands other (receivers_demand n ks')) b) →
     Covers (stations_demand (n + m) ss ks) a → Covers (stations_demand n ss' ks') b

@@ -4,7 +4,7 @@ use Rattle.manchester_line.specs.declared.Sym.{Sym}
 use Rattle.mac_transmit.specs.Sender.{Sender, sender_step}
 use Rattle.mac_transmit.specs.Calm.{after_all}
 use Rattle.mac_receive.specs.Receiver.{Receiving, receiver_step, receiver_after}
-use Rattle.mac_receive.specs.KeptReceiver.{Kept, Hears}
+use Rattle.mac_receive.specs.KeptReceiver.{KeptReception, Hears}
 use Rattle.window_room.specs.NeededRoom.{Demand, Covers, IsDemandWithin, both_demands, event_demand, row_demand, sender_demand, receiver_demand, reception_demand, stations_demand}
 use Rattle.window_room.specs.Rooms.{Room}
 use Rattle.window_room.proofs.PaidRoom.{paid, sendings_paid}
@@ -61,16 +61,16 @@ receiver_needs (h ∷ hs) r sending n =
     subst (λ x. IsDemandWithin (needs n (receiver_after one.state hs sending)) (needs x r)) e
     (in_a_row (needs n (receiver_after one.state hs sending)) (needs k one.state) (needs (suc k) r) (receiver_needs hs one.state sending n) here)
 
-needs_kept : (r : Receiving) (k : Kept) (n : ℕ) → Hears r k → receiver_demand n k ≡ needs n r
+needs_kept : (r : Receiving) (k : KeptReception) (n : ℕ) → Hears r k → receiver_demand n k ≡ needs n r
 needs_kept r k n h = ap₂ (λ a b. reception_demand a b n) h.same_most h.count
 
 -- what is kept of a receiver before and after half bits
-pub record GoesOn (hs : List Sym) (sending : Bool) (k k' : Kept) : Type 0 where
+pub record GoesOn (hs : List Sym) (sending : Bool) (k k' : KeptReception) : Type 0 where
   pub receiver : Receiving
   pub before : Hears receiver k
   pub after : Hears (receiver_after receiver hs sending) k'
 
-pub kept_needs : (hs : List Sym) (sending : Bool) (k k' : Kept) (n : ℕ) → GoesOn hs sending k k' → IsDemandWithin (receiver_demand n k') (receiver_demand (n + length hs) k)
+pub kept_needs : (hs : List Sym) (sending : Bool) (k k' : KeptReception) (n : ℕ) → GoesOn hs sending k k' → IsDemandWithin (receiver_demand n k') (receiver_demand (n + length hs) k)
 kept_needs hs sending k k' n g =
     rw (needs_kept (receiver_after g.receiver hs sending) k' n g.after, needs_kept g.receiver k (n + length hs) g.before) (receiver_needs hs g.receiver sending n)
 
@@ -78,9 +78,9 @@ no_needs : (n m : ℕ) → IsDemandWithin (stations_demand n [] []) (stations_de
 no_needs n m = record { fewer_rows = omega arith; fewer_frames = omega arith; fewer_octets = omega arith }
 
 -- all stations
-stations_need : (hs : List Sym) (n : ℕ) (ss ss' : List Sender) (ks ks' : List Kept) → length ss' ≡ length ss → length ks' ≡ length ks → length ss ≡ length ks →
+stations_need : (hs : List Sym) (n : ℕ) (ss ss' : List Sender) (ks ks' : List KeptReception) → length ss' ≡ length ss → length ks' ≡ length ks → length ss ≡ length ks →
     ((i : ℕ) (d : Sender) → i < length ss' → get_or ss' i d ≡ after_all (get_or ss i d) hs) →
-    ((i : ℕ) (d : Kept) → i < length ks' → GoesOn hs false (get_or ks i d) (get_or ks' i d)) →
+    ((i : ℕ) (d : KeptReception) → i < length ks' → GoesOn hs false (get_or ks i d) (get_or ks' i d)) →
     IsDemandWithin (stations_demand n ss' ks') (stations_demand (n + length hs) ss ks)
 stations_need hs n [] [] [] [] a b e f g = no_needs n (n + length hs)
 stations_need hs n [] [] [] (k' ∷ ks') a b e f g = absurd (omega (arith, b))
@@ -97,9 +97,9 @@ stations_need hs n (s ∷ ss) (s' ∷ ss') (k ∷ ks) (k' ∷ ks') a b e f g =
     both_within (both_demands (sender_demand n s') (receiver_demand n k')) (stations_demand n ss' ks') (both_demands (sender_demand m s) (receiver_demand m k)) (stations_demand m ss ks)
     (both_within (sender_demand n s') (receiver_demand n k') (sender_demand m s) (receiver_demand m k) of_sender of_receiver) rest
 
-pub room_later : (m n : ℕ) (hs : List Sym) (ss ss' : List Sender) (ks ks' : List Kept) (room : Room) → length hs ≡ m → length ss' ≡ length ss → length ks' ≡ length ks → length ss ≡ length ks →
+pub room_later : (m n : ℕ) (hs : List Sym) (ss ss' : List Sender) (ks ks' : List KeptReception) (room : Room) → length hs ≡ m → length ss' ≡ length ss → length ks' ≡ length ks → length ss ≡ length ks →
     ((i : ℕ) (d : Sender) → i < length ss' → get_or ss' i d ≡ after_all (get_or ss i d) hs) →
-    ((i : ℕ) (d : Kept) → i < length ks' → GoesOn hs false (get_or ks i d) (get_or ks' i d)) →
+    ((i : ℕ) (d : KeptReception) → i < length ks' → GoesOn hs false (get_or ks i d) (get_or ks' i d)) →
     Covers (stations_demand (n + m) ss ks) room → Covers (stations_demand n ss' ks') room
 room_later m n hs ss ss' ks ks' room size a b e f g c =
     covers_within (stations_demand n ss' ks') (stations_demand (n + length hs) ss ks) room (stations_need hs n ss ss' ks ks' a b e f g)

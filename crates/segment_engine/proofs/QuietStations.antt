@@ -9,7 +9,7 @@ use Rattle.load_plan.specs.declared.plan.Plan.{Plan}
 use Rattle.mac_transmit.specs.Sender.{Sender, sender_step}
 use Rattle.mac_transmit.specs.Calm.{after_all}
 use Rattle.mac_receive.specs.Receiver.{Receiving, receiver_step, receiver_after, receiver_bodies}
-use Rattle.mac_receive.specs.KeptReceiver.{Kept, Hears}
+use Rattle.mac_receive.specs.KeptReceiver.{KeptReception, Hears}
 use Rattle.network.specs.declared.outputs.Taken.{Taken}
 use Rattle.network.specs.Attempts.{sender_at}
 use Rattle.network.specs.Times.{heard, emitted}
@@ -28,7 +28,7 @@ use Rattle.tap_lines.proofs.Spans.{span_two}
 use Rattle.segment_engine.proofs.StationsLater.{receiver_runs, station, no_bodies, no_halves, last_still, rows_stay, captures_stay}
 use Rattle.segment_engine.proofs.QuietHalfBits.{all_emit, all_hear, ports_hear_idle, arrive_idle, hears_all, senders_later, no_sending, span_same}
 
-module _ (plan : Plan) (s t front far m : ℕ) (ls : List TapLine) (ss : List Sender) (ks : List Kept) (rows : List Row) (caps : List (List Taken))
+module _ (plan : Plan) (s t front far m : ℕ) (ls : List TapLine) (ss : List Sender) (ks : List KeptReception) (rows : List Row) (caps : List (List Taken))
     (reaches : IsReachOf far (lookahead plan.layout) ls) (are : AreLinesAt plan (wiring plan.layout s) (lookahead plan.layout) t front ls) (stand : AreStationsAt plan (wiring plan.layout s).stations t ss ks rows caps)
     (ahead : t + m ≤ front) (silent : AreIdleFrom (t - far) ls) (calm : All (IsCalmFor m) ss) (rest : AreAtRest ks) where
   abbrev w : Wiring
@@ -46,7 +46,7 @@ module _ (plan : Plan) (s t front far m : ℕ) (ls : List TapLine) (ss : List Se
   rs_many : length ks ≡ n
   rs_many = receivers_many stand
 
-  hears_at : (r : ℕ) (d : Kept) → r < n → Hears (receiver_at plan (number r) t) (get_or ks r d)
+  hears_at : (r : ℕ) (d : KeptReception) → r < n → Hears (receiver_at plan (number r) t) (get_or ks r d)
   hears_at r d h = receiver_stands stand r d (omega (arith, h, rs_many))
 
   receivers_later : (r j : ℕ) → r < n → j ≤ m → receiver_at plan (number r) (t + j) ≡ receiver_after (receiver_at plan (number r) t) (replicate j Idle) false
@@ -54,7 +54,7 @@ module _ (plan : Plan) (s t front far m : ℕ) (ls : List TapLine) (ss : List Se
       receiver_runs plan (number r) (station plan s r h) false j t (λ i c. ap is_signal (all_emit plan s t front far m ls ss reaches are ahead silent stand.senders calm r i h (omega (arith, c, l))))
       ∙ ap (λ hs. receiver_after (receiver_at plan (number r) t) hs false) (hears_all plan s t front far m ls ss reaches are ahead silent stand.senders calm r j h l)
 
-  a_kept : Kept
+  a_kept : KeptReception
   a_kept = record { lose = 0; most = 0; deaf = false; halves = 0; decoder = new_decoding; steps = 0 }
 
   no_reception : (r j : ℕ) → r < n → j < m →
@@ -74,9 +74,9 @@ module _ (plan : Plan) (s t front far m : ℕ) (ls : List TapLine) (ss : List Se
       × ((receiver_step (receiver_at plan (number r) (t + j)) (heard plan (number r) (t + j)) (is_signal (emitted plan (number r) (t + j)))).event ≡ None)
   no_events r j h l = (no_sending plan s t front far m ls ss reaches are ahead silent stand.senders calm r j h l, no_reception r j h l)
 
-  pub quiet_stations : (ss' : List Sender) (ks' : List Kept) → length ss' ≡ length ss → length ks' ≡ length ks →
+  pub quiet_stations : (ss' : List Sender) (ks' : List KeptReception) → length ss' ≡ length ss → length ks' ≡ length ks →
       ((i : ℕ) (d : Sender) → i < length ss' → get_or ss' i d ≡ after_all (get_or ss i d) (replicate m Idle)) →
-      ((i : ℕ) (d : Kept) (r : Receiving) → i < length ks' → Hears r (get_or ks i d) → Hears (receiver_after r (replicate m Idle) false) (get_or ks' i d)) →
+      ((i : ℕ) (d : KeptReception) (r : Receiving) → i < length ks' → Hears r (get_or ks i d) → Hears (receiver_after r (replicate m Idle) false) (get_or ks' i d)) →
       All (λ x. x.t ≡ t + m) ss' → All (λ x. x.steps ≡ t + m) ks' → AreStationsAt plan w.stations (t + m) ss' ks' rows caps
   quiet_stations ss' ks' ss_len ks_len states hear times steps =
       let f = λ (k : ℕ). sender_at plan k (t + m) in

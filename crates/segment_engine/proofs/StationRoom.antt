@@ -4,7 +4,7 @@ use Rattle.std.proofs.lemmas.List.{take_more_set, drop-set-lt, drop_all, take_al
 use Rattle.manchester_line.specs.declared.Sym.{Sym}
 use Rattle.collision_log.specs.declared.row.Body.{Body}
 use Rattle.mac_transmit.specs.Sender.{Sender, sender_step}
-use Rattle.mac_receive.specs.KeptReceiver.{Kept}
+use Rattle.mac_receive.specs.KeptReceiver.{KeptReception}
 use Rattle.window_room.specs.Rooms.{Room, KeepsRoom}
 use Rattle.window_room.specs.NeededRoom.{Demand, Covers, IsDemandWithin, both_demands, row_demand, sender_demand, receiver_demand, stations_demand}
 use Rattle.window_room.proofs.PaidRoom.{sendings_paid}
@@ -53,7 +53,7 @@ to_right a b c room h = record {
 }
 
 -- there is room for what a sender does
-pub event_covered : (s : Sender) (h : Sym) (k : Kept) (e : Option Body) (room : Room) → e ≡ (sender_step s h).event → Covers (both_demands (sender_demand 1 s) (receiver_demand 1 k)) room → Covers (row_demand e) room
+pub event_covered : (s : Sender) (h : Sym) (k : KeptReception) (e : Option Body) (room : Room) → e ≡ (sender_step s h).event → Covers (both_demands (sender_demand 1 s) (receiver_demand 1 k)) room → Covers (row_demand e) room
 event_covered s h k e room is c =
     let P : Option Body → Type 0 = λ x. Covers (row_demand x) room in
     subst P (sym is) (within (sender_demand 0 (sender_step s h).state) (row_demand (sender_step s h).event) (sender_demand 1 s) (receiver_demand 1 k) room (sendings_paid s h 0) c)
@@ -64,11 +64,11 @@ after_sender n s h e d old new is keeps c =
     let P : Option Body → Type 0 = λ x. KeepsRoom (row_demand x).rows 0 0 old new in
     after_event (sender_demand n (sender_step s h).state) (row_demand (sender_step s h).event) (sender_demand (suc n) s) d old new (sendings_paid s h n) (subst P is keeps) c
 
-pub receiver_covered : (s : Sender) (h : Sym) (k : Kept) (e : Option Body) (old new : Room) → e ≡ (sender_step s h).event → KeepsRoom (row_demand e).rows 0 0 old new → Covers (both_demands (sender_demand 1 s) (receiver_demand 1 k)) old → Covers (receiver_demand 1 k) new
+pub receiver_covered : (s : Sender) (h : Sym) (k : KeptReception) (e : Option Body) (old new : Room) → e ≡ (sender_step s h).event → KeepsRoom (row_demand e).rows 0 0 old new → Covers (both_demands (sender_demand 1 s) (receiver_demand 1 k)) old → Covers (receiver_demand 1 k) new
 receiver_covered s h k e old new is keeps c =
     second (sender_demand 0 (sender_step s h).state) (receiver_demand 1 k) new (after_sender 0 s h e (receiver_demand 1 k) old new is keeps c)
 
-pub station_left : (n : ℕ) (other : Demand) (s s' : Sender) (h : Sym) (k k' : Kept) (e : Option Body) (old mid new : Room) → s' ≡ (sender_step s h).state → e ≡ (sender_step s h).event → KeepsRoom (row_demand e).rows 0 0 old mid →
+pub station_left : (n : ℕ) (other : Demand) (s s' : Sender) (h : Sym) (k k' : KeptReception) (e : Option Body) (old mid new : Room) → s' ≡ (sender_step s h).state → e ≡ (sender_step s h).event → KeepsRoom (row_demand e).rows 0 0 old mid →
     ((m : ℕ) (others : Demand) → Covers (both_demands others (receiver_demand (suc m) k)) mid → Covers (both_demands others (receiver_demand m k')) new) →
     Covers (both_demands other (both_demands (sender_demand (suc n) s) (receiver_demand (suc n) k))) old →
     Covers (both_demands other (both_demands (sender_demand n s') (receiver_demand n k'))) new
@@ -85,7 +85,7 @@ station_left n other s s' h k k' e old mid new state is keeps received c =
 pub same_demand : {a b c d e f : ℕ} → a ≡ d → b ≡ e → c ≡ f → ◌≡◌ {A = Demand} (record { rows = a; frames = b; octets = c }) (record { rows = d; frames = e; octets = f })
 same_demand x y z = λ i. record { rows = x i; frames = y i; octets = z i }
 
-demand_snoc : (n : ℕ) (ss : List Sender) (ks : List Kept) (s : Sender) (k : Kept) → length ss ≡ length ks →
+demand_snoc : (n : ℕ) (ss : List Sender) (ks : List KeptReception) (s : Sender) (k : KeptReception) → length ss ≡ length ks →
     stations_demand n (ss ++ s ∷ []) (ks ++ k ∷ []) ≡ both_demands (stations_demand n ss ks) (both_demands (sender_demand n s) (receiver_demand n k))
 demand_snoc n [] [] s k l = same_demand (omega arith) (omega arith) (omega arith)
 demand_snoc n [] (y ∷ ks) s k l = absurd (omega (arith, l))
@@ -95,11 +95,11 @@ demand_snoc n (x ∷ ss) (y ∷ ks) s k l =
     ∙ same_demand (omega arith) (omega arith) (omega arith)
 
 -- what is left for the stations below k, after half bit t, and for the others, before it
-abbrev pub IsRoomLeft : ℕ → ℕ → List Sender → List Kept → Room → Type 0
+abbrev pub IsRoomLeft : ℕ → ℕ → List Sender → List KeptReception → Room → Type 0
 IsRoomLeft k n ss ks room = Covers (both_demands (stations_demand n (take k ss) (take k ks)) (stations_demand (suc n) (drop k ss) (drop k ks))) room
 
 -- the station at place k needs so much
-pub room_for_next : (k n : ℕ) (ss : List Sender) (ks : List Kept) (ds : Sender) (dk : Kept) (room : Room) → k < length ss → k < length ks → IsRoomLeft k n ss ks room →
+pub room_for_next : (k n : ℕ) (ss : List Sender) (ks : List KeptReception) (ds : Sender) (dk : KeptReception) (room : Room) → k < length ss → k < length ks → IsRoomLeft k n ss ks room →
     Covers (both_demands (both_demands (stations_demand n (take k ss) (take k ks)) (stations_demand (suc n) (drop (k + 1) ss) (drop (k + 1) ks))) (both_demands (sender_demand (suc n) (get_or ss k ds)) (receiver_demand (suc n) (get_or ks k dk)))) room
 room_for_next k n ss ks ds dk room ls lk c =
     let one : suc k ≡ k + 1 = omega arith in
@@ -107,7 +107,7 @@ room_for_next k n ss ks ds dk room ls lk c =
     let b = drop-cons ks k dk lk ∙ ap (λ m. get_or ks k dk ∷ drop m ks) one in
     let front = stations_demand n (take k ss) (take k ks) in
     let P : List Sender → Type 0 = λ xs. Covers (both_demands front (stations_demand (suc n) xs (drop k ks))) room in
-    let Q : List Kept → Type 0 = λ ys. Covers (both_demands front (stations_demand (suc n) (get_or ss k ds ∷ drop (k + 1) ss) ys)) room in
+    let Q : List KeptReception → Type 0 = λ ys. Covers (both_demands front (stations_demand (suc n) (get_or ss k ds ∷ drop (k + 1) ss) ys)) room in
     let h = subst Q b (subst P a c) in
     record {
       for_rows = let y = h.for_rows in omega (arith, y);
@@ -115,14 +115,14 @@ room_for_next k n ss ks ds dk room ls lk c =
       for_octets = let y = h.for_octets in omega (arith, y);
     }
 
-pub room_for_one : (k : ℕ) (ss : List Sender) (ks : List Kept) (ds : Sender) (dk : Kept) (room : Room) → k < length ss → k < length ks → IsRoomLeft k 0 ss ks room →
+pub room_for_one : (k : ℕ) (ss : List Sender) (ks : List KeptReception) (ds : Sender) (dk : KeptReception) (room : Room) → k < length ss → k < length ks → IsRoomLeft k 0 ss ks room →
     Covers (both_demands (sender_demand 1 (get_or ss k ds)) (receiver_demand 1 (get_or ks k dk))) room
 room_for_one k ss ks ds dk room ls lk c =
     second (both_demands (stations_demand 0 (take k ss) (take k ks)) (stations_demand 1 (drop (k + 1) ss) (drop (k + 1) ks))) (both_demands (sender_demand 1 (get_or ss k ds)) (receiver_demand 1 (get_or ks k dk))) room
     (room_for_next k 0 ss ks ds dk room ls lk c)
 
 -- what is left behind the last station
-pub room_at_end : (k n : ℕ) (ss : List Sender) (ks : List Kept) (room : Room) → length ss ≤ k → length ks ≤ k → IsRoomLeft k n ss ks room → Covers (stations_demand n ss ks) room
+pub room_at_end : (k n : ℕ) (ss : List Sender) (ks : List KeptReception) (room : Room) → length ss ≤ k → length ks ≤ k → IsRoomLeft k n ss ks room → Covers (stations_demand n ss ks) room
 room_at_end k n ss ks room ls lk c =
     let none : stations_demand (suc n) (drop k ss) (drop k ks) ≡ record { rows = 0; frames = 0; octets = 0 } = ap (λ xs. stations_demand (suc n) xs (drop k ks)) (drop_all k ss ls) in
     let P : Demand → Type 0 = λ d. Covers (both_demands (stations_demand n (take k ss) (take k ks)) d) room in
@@ -133,10 +133,10 @@ room_at_end k n ss ks room ls lk c =
       for_octets = let y = h.for_octets in omega (arith, y);
     } in
     let Q : List Sender → Type 0 = λ xs. Covers (stations_demand n xs (take k ks)) room in
-    let R : List Kept → Type 0 = λ ys. Covers (stations_demand n ss ys) room in
+    let R : List KeptReception → Type 0 = λ ys. Covers (stations_demand n ss ys) room in
     subst R (take_all k ks lk) (subst Q (take_all k ss ls) all)
 
-pub room_after_next : (k n : ℕ) (ss : List Sender) (ks : List Kept) (s : Sender) (r : Kept) (room : Room) → k < length ss → length ss ≡ length ks →
+pub room_after_next : (k n : ℕ) (ss : List Sender) (ks : List KeptReception) (s : Sender) (r : KeptReception) (room : Room) → k < length ss → length ss ≡ length ks →
     Covers (both_demands (both_demands (stations_demand n (take k ss) (take k ks)) (stations_demand (suc n) (drop (k + 1) ss) (drop (k + 1) ks))) (both_demands (sender_demand n s) (receiver_demand n r))) room →
     IsRoomLeft (k + 1) n (set ss k s) (set ks k r) room
 room_after_next k n ss ks s r room ls same c =

@@ -9,7 +9,7 @@ use Rattle.collision_log.specs.declared.row.Body.{Body}
 use Rattle.load_plan.specs.declared.plan.Plan.{Plan}
 use Rattle.mac_transmit.specs.Sender.{Sender, SendOutcome, sender_step}
 use Rattle.mac_transmit.specs.Calm.{after_all, AreCalm}
-use Rattle.mac_receive.specs.KeptReceiver.{Kept, Hears}
+use Rattle.mac_receive.specs.KeptReceiver.{KeptReception, Hears}
 use Rattle.mac_receive.specs.Receiver.{Receiving, Reception, quiet, reception_ended, receiver_step, receiver_after, receiver_bodies, with_event}
 use Rattle.network.specs.Attempts.{sender_at}
 use Rattle.network.specs.Captures.{taken_by}
@@ -62,7 +62,7 @@ nothing : (xs : List Sym) → length xs ≡ 0 → xs ≡ []
 nothing [] h = refl
 nothing (x ∷ xs) h = absurd (omega (arith, h))
 
-pub no_halves : (r : Receiving) (k : Kept) → k.halves ≡ 0 → Hears r k → r.halves ≡ []
+pub no_halves : (r : Receiving) (k : KeptReception) → k.halves ≡ 0 → Hears r k → r.halves ≡ []
 no_halves r k rest h = nothing r.halves (sym h.count ∙ rest)
 
 -- no capture

@@ -7,7 +7,7 @@ use Rattle.manchester_line.specs.Line.{is_signal}
 use Rattle.collision_log.specs.declared.row.Row.{Row}
 use Rattle.mac_transmit.specs.Sender.{Sender, SendOutcome, sender_step}
 use Rattle.mac_receive.specs.Receiver.{Receiving, Reception, receiver_step}
-use Rattle.mac_receive.specs.KeptReceiver.{Kept, Hears}
+use Rattle.mac_receive.specs.KeptReceiver.{KeptReception, Hears}
 use Rattle.network.specs.declared.outputs.Taken.{Taken}
 use Rattle.network.specs.Captures.{taken_by}
 use Rattle.network.specs.Net.{sendings, receptions}
@@ -85,7 +85,7 @@ captures_end t i hs ss rs cs all lh lc is =
     ∙ is
 
 -- the receivers of one station more
-pub receivers_next : (i : ℕ) (hs es : List Sym) (rs : List Receiving) (ks : List Kept) (dr : Receiving) (e : Sym) (k : Kept) →
+pub receivers_next : (i : ℕ) (hs es : List Sym) (rs : List Receiving) (ks : List KeptReception) (dr : Receiving) (e : Sym) (k : KeptReception) →
     i < length hs → i < length es → i < length rs → i < length ks →
     Hears (receiver_step (get_or rs i dr) (get_or hs i Idle) (is_signal e)).state k →
     AllHear (map (λ r. r.state) (receptions (take i hs) (take i es) (take i rs))) (take i ks) →

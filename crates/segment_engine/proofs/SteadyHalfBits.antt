@@ -64,7 +64,7 @@ module _ (plan : Plan) (s t front m least most : ℕ) (ls ls' : List TapLine) (s
     | inr port ↦ ap f (g.others r port)
   ]
 
-  front_of : (r : ℕ) → r < n → (get_or ls r no_line).base + length (get_or ls r no_line).symbols ≡ t
+  pub front_of : (r : ℕ) → r < n → (get_or ls r no_line).base + length (get_or ls r no_line).symbols ≡ t
   front_of r h =
       let l = get_or ls r no_line in
       let is = g.are.emissions r h in
@@ -72,7 +72,7 @@ module _ (plan : Plan) (s t front m least most : ℕ) (ls ls' : List TapLine) (s
       let before = is.ahead in
       omega (arith, size, before)
 
-  know : KnowLines plan w L t front ls'
+  pub know : KnowLines plan w L t front ls'
   know =
       let before = known plan w L t front ls g.are in
       record {

@@ -11,7 +11,7 @@ use Rattle.mac_transmit.specs.Sender.{Sender, sender_step, is_sending}
 use Rattle.mac_transmit.specs.Calm.{after_all, AllHeardAs}
 use Rattle.mac_transmit.specs.Emissions.{emission_by}
 use Rattle.mac_receive.specs.Receiver.{Receiving, Reception, receiver_step, receiver_after, receiver_bodies}
-use Rattle.mac_receive.specs.KeptReceiver.{Kept, Hears}
+use Rattle.mac_receive.specs.KeptReceiver.{KeptReception, Hears}
 use Rattle.network.specs.declared.outputs.Taken.{Taken}
 use Rattle.network.specs.Attempts.{sender_at}
 use Rattle.network.specs.Captures.{taken_by}
@@ -51,7 +51,7 @@ drop_two [] ys m = let e : 0 + m ≡ m = omega arith in ap (λ k. drop k ys) e
 drop_two (x ∷ xs) ys m = (let e : suc (length xs) + m ≡ suc (length xs + m) = omega arith in ap (λ k. drop k (x ∷ (xs ++ ys))) e) ∙ drop_two xs ys m
 
 -- the symbols of a parcel with a piece more
-filled_piece : (a b : ℕ → Sym) (u k m L : ℕ) (xs : List Sym) → k + m ≤ L → xs ≡ span a (u + k) m →
+pub filled_piece : (a b : ℕ → Sym) (u k m L : ℕ) (xs : List Sym) → k + m ≤ L → xs ≡ span a (u + k) m →
     let before = span a u k ++ span b (u + k) (L - k) in
     take k before ++ (xs ++ drop (k + length xs) before) ≡ span a u (k + m) ++ span b (u + (k + m)) (L - (k + m))
 filled_piece a b u k m L xs fits is =
@@ -73,7 +73,7 @@ filled_piece a b u k m L xs fits is =
     ∙ sym (append_assoc first (span a (u + k) m) (span b (u + (k + m)) (L - (k + m))))
     ∙ ap (λ x. x ++ span b (u + (k + m)) (L - (k + m))) (sym (span_two a u k m))
 
-module _ (plan : Plan) (s t front m least most : ℕ) (ls ls' : List TapLine) (ss : List Sender) (ks : List Kept) (carrier : ℕ → Bool) (a_sender : Sender) (a_kept : Kept)
+module _ (plan : Plan) (s t front m least most : ℕ) (ls ls' : List TapLine) (ss : List Sender) (ks : List KeptReception) (carrier : ℕ → Bool) (a_sender : Sender) (a_kept : KeptReception)
     (g : GoesAhead plan s t front m least most ls ls' ss carrier a_sender) (rows : List Row) (caps : List (List Taken))
     (stand : AreStationsAt plan (wiring plan.layout s).stations t ss ks rows caps) where
   abbrev w : Wiring
@@ -97,7 +97,7 @@ module _ (plan : Plan) (s t front m least most : ℕ) (ls ls' : List TapLine) (s
   ss_many : length ss ≡ n
   ss_many = senders_many stand
 
-  hears_at : (r : ℕ) (d : Kept) → r < n → Hears (receiver_at plan (number r) t) (get_or ks r d)
+  hears_at : (r : ℕ) (d : KeptReception) → r < n → Hears (receiver_at plan (number r) t) (get_or ks r d)
   hears_at r d h = receiver_stands stand r d (omega (arith, h, rs_many))
 
   receivers_later : (r j : ℕ) → r < n → j ≤ m → receiver_at plan (number r) (t + j) ≡ receiver_after (receiver_at plan (number r) t) (heard_for L t j ls' r) (sends r)
@@ -198,9 +198,9 @@ module _ (plan : Plan) (s t front m least most : ℕ) (ls ls' : List TapLine) (s
       | inr empty ↦ captures_same (omega (arith, empty)) r
     ]
 
-    pub steady_stations : (ss' : List Sender) (ks' : List Kept) (rows' : List Row) (caps' : List (List Taken)) → length ss' ≡ length ss → length ks' ≡ length ks →
+    pub steady_stations : (ss' : List Sender) (ks' : List KeptReception) (rows' : List Row) (caps' : List (List Taken)) → length ss' ≡ length ss → length ks' ≡ length ks →
         ((i : ℕ) (d : Sender) (hs : List Sym) → i < length ss' → AllHeardAs (carrier i) hs → length hs ≡ m → get_or ss' i d ≡ after_all (get_or ss i d) hs) →
-        ((i : ℕ) (d : Kept) (r : Receiving) → i < length ks' → Hears r (get_or ks i d) → Hears (receiver_after r (heard_for L t m ls' i) (sends i)) (get_or ks' i d)) →
+        ((i : ℕ) (d : KeptReception) (r : Receiving) → i < length ks' → Hears r (get_or ks i d) → Hears (receiver_after r (heard_for L t m ls' i) (sends i)) (get_or ks' i d)) →
         All (λ x. x.t ≡ t + m) ss' → All (λ x. x.steps ≡ t + m) ks' →
         rows' ≡ rows ++ rows_of_first t w.stations (λ i. (first i).event) n → length caps' ≡ length caps →
         ((i : ℕ) → i < n → get_or caps' i [] ≡ get_or caps i [] ++ taken_by t (first i).event (first i).octets) →

@@ -5,7 +5,7 @@ use Rattle.manchester_line.specs.declared.Sym.{Sym}
 use Rattle.manchester_line.specs.declared.Sym.TheVariants.{Idle, Hi, Lo}
 use Rattle.manchester_line.specs.Decoding.{new_decoding}
 use Rattle.mac_receive.specs.Receiver.{Receiving, new_receiving, receiver_after}
-use Rattle.mac_receive.specs.KeptReceiver.{Kept, Hears}
+use Rattle.mac_receive.specs.KeptReceiver.{KeptReception, Hears}
 use Rattle.window_room.specs.Rooms.{Room}
 use Rattle.segment_engine.specs.FirstReceptions.{HasTaken, later_bodies}
 use Rattle.segment_engine.proofs.FirstReceptions.{taken_still}
@@ -13,7 +13,7 @@ use Rattle.segment_engine.proofs.FirstReceptions.{taken_still}
 abbrev at_rest : Receiving
 at_rest = new_receiving 0 1500
 
-abbrev kept : Bool → ℕ → Kept
+abbrev kept : Bool → ℕ → KeptReception
 kept deaf steps = record { lose = 0; most = 1500; deaf = deaf; halves = 0; decoder = new_decoding; steps = steps }
 
 abbrev no_rows : Room
@@ -34,5 +34,5 @@ pub row_later : length (later_bodies at_rest (Hi ∷ Idle ∷ []) false) ≡ 1
 row_later = refl
 
 -- so they can't be taken at once
-pub not_taken : (k : Kept) (a b : Room) → ¬ HasTaken 7 0 3 (Hi ∷ Idle ∷ []) false (kept false 7) k a b
+pub not_taken : (k : KeptReception) (a b : Room) → ¬ HasTaken 7 0 3 (Hi ∷ Idle ∷ []) false (kept false 7) k a b
 not_taken k a b taken = let none : 1 ≡ 0 = ap length (taken.later at_rest hears_nothing) in absurd (omega (arith, none))

@@ -4,7 +4,7 @@ use Rattle.std.proofs.lemmas.List.{take-append-le, take_all}
 use Rattle.std.proofs.lemmas.Bool.Decides.{nat_tests}
 use Rattle.load_plan.specs.declared.plan.Plan.{Plan}
 use Rattle.mac_transmit.specs.Sender.{Sender}
-use Rattle.mac_receive.specs.KeptReceiver.{Kept}
+use Rattle.mac_receive.specs.KeptReceiver.{KeptReception}
 use Rattle.network.specs.Outputs.{half_bits}
 use Rattle.net_parts.specs.declared.parcel.Parcel.{Parcel}
 use Rattle.net_parts.specs.Windows.{lookahead, windows, time}
@@ -79,10 +79,10 @@ module _ (plan : Plan) (wd : ℕ) (some : wd < windows plan) where
 sender_more : (s : Sender) (m n : ℕ) → m ≤ n → IsDemandWithin (sender_demand m s) (sender_demand n s)
 sender_more s m n h = record { fewer_rows = omega (arith, h); fewer_frames = omega arith; fewer_octets = omega arith }
 
-receiver_more : (k : Kept) (m n : ℕ) → m ≤ n → IsDemandWithin (receiver_demand m k) (receiver_demand n k)
+pub receiver_more : (k : KeptReception) (m n : ℕ) → m ≤ n → IsDemandWithin (receiver_demand m k) (receiver_demand n k)
 receiver_more k m n h = record { fewer_rows = omega (arith, h); fewer_frames = omega (arith, h); fewer_octets = omega (arith, h) }
 
-stations_more : (ss : List Sender) (ks : List Kept) (m n : ℕ) → m ≤ n → IsDemandWithin (stations_demand m ss ks) (stations_demand n ss ks)
+stations_more : (ss : List Sender) (ks : List KeptReception) (m n : ℕ) → m ≤ n → IsDemandWithin (stations_demand m ss ks) (stations_demand n ss ks)
 stations_more [] ks m n h = record { fewer_rows = omega arith; fewer_frames = omega arith; fewer_octets = omega arith }
 stations_more (s ∷ ss) [] m n h = record { fewer_rows = omega arith; fewer_frames = omega arith; fewer_octets = omega arith }
 stations_more (s ∷ ss) (k ∷ ks) m n h =
@@ -95,7 +95,7 @@ stations_more (s ∷ ss) (k ∷ ks) m n h =
       fewer_octets = let x = a.fewer_octets in let y = b.fewer_octets in let z = c.fewer_octets in omega (arith, x, y, z);
     }
 
-pub covers_fewer : (ss : List Sender) (ks : List Kept) (m n : ℕ) (room : Room) → m ≤ n → Covers (stations_demand n ss ks) room → Covers (stations_demand m ss ks) room
+pub covers_fewer : (ss : List Sender) (ks : List KeptReception) (m n : ℕ) (room : Room) → m ≤ n → Covers (stations_demand n ss ks) room → Covers (stations_demand m ss ks) room
 covers_fewer ss ks m n room h c =
     let d = stations_more ss ks m n h in
     record {

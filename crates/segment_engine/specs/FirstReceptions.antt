@@ -4,7 +4,7 @@ use Rattle.std.specs.Prelude.{ℕ, zero, suc, ◌≡◌, ◌+◌, Bool, Option, 
 use Rattle.manchester_line.specs.declared.Sym.{Sym}
 use Rattle.collision_log.specs.declared.row.Body.{Body}
 use Rattle.collision_log.specs.declared.row.Row.{Row}
-use Rattle.mac_receive.specs.KeptReceiver.{Kept, Hears}
+use Rattle.mac_receive.specs.KeptReceiver.{KeptReception, Hears}
 use Rattle.mac_receive.specs.Receiver.{Receiving, Reception, quiet, receiver_step, receiver_after, receiver_bodies}
 use Rattle.mac_transmit.specs.Sender.{Sender}
 use Rattle.network.specs.Captures.{taken_by}
@@ -33,7 +33,9 @@ rows_of_first t ks event (suc n) = rows_of_first t ks event n ++ row_of t (slice
 -- sends all the time or not at all. The event of the first half bit is logged, and the frame that is received in it
 -- captured; in the others there is none. There is still room for what later half bits can need, beside any other demand
 -- (4.2.9, profile).
-pub record HasTaken (t station device : ℕ) (hs : List Sym) (sending : Bool) (k k' : Kept) (a b : Room) : Type 0 where
+pub record HasTaken
+    (t station device : ℕ) (hs : List Sym) (sending : Bool) (k k' : KeptReception) (a b : Room) :
+    Type 0 where
   pub state : (r : Receiving) → Hears r k → Hears (receiver_after r hs sending) k'
   pub later : (r : Receiving) → Hears r k → later_bodies r hs sending ≡ []
   pub rows : (r : Receiving) → Hears r k → b.rows ≡ a.rows ++ row_of t device (first_reception r hs sending).event
@@ -45,7 +47,7 @@ pub record HasTaken (t station device : ℕ) (hs : List Sym) (sending : Bool) (k
       Covers (both_demands other (receiver_demand n k')) b
 
 -- What n half bits can need of these receivers (profile).
-abbrev pub receivers_demand : ℕ → List Kept → Demand
+abbrev pub receivers_demand : ℕ → List KeptReception → Demand
 receivers_demand n [] = record { rows = 0; frames = 0; octets = 0 }
 receivers_demand n (k ∷ ks) = both_demands (receiver_demand n k) (receivers_demand n ks)
 

@@ -2,7 +2,7 @@
 use Rattle.std.specs.Prelude.{ℕ, ◌≡◌, ◌<◌, All, Bool, true, false, [], map, length, slice_index, slice_index_or}
 use Rattle.load_plan.specs.declared.plan.Plan.{Plan}
 use Rattle.mac_receive.specs.Receiver.{Receiving}
-use Rattle.mac_receive.specs.KeptReceiver.{Kept, Hears}
+use Rattle.mac_receive.specs.KeptReceiver.{KeptReception, Hears}
 use Rattle.network.specs.Attempts.{sender_at}
 use Rattle.net_parts.specs.Windows.{lookahead}
 use Rattle.net_parts.specs.Standing.{receiver_at, captures_at, rows_of_devices}
@@ -30,7 +30,7 @@ pub record KeepsSegment (a : Running) (p : PartState) : Type 0 where
   pub time : a.t ≡ (segment_state p).t
   pub senders : a.senders.items ≡ (segment_state p).senders
   pub as_many : length a.receivers.items ≡ length (segment_state p).receivers
-  pub receivers : (i : ℕ) (d : Kept) (r : Receiving) → i < length a.receivers.items →
+  pub receivers : (i : ℕ) (d : KeptReception) (r : Receiving) → i < length a.receivers.items →
       Hears (slice_index_or (segment_state p).receivers i r) (slice_index_or a.receivers.items i d)
   pub rows : a.room.rows ≡ (segment_state p).rows
   pub captures : a.room.captures ≡ (segment_state p).captures
@@ -39,7 +39,7 @@ pub record KeepsSegment (a : Running) (p : PartState) : Type 0 where
 pub record StandsInNetwork (plan : Plan) (s front : ℕ) (a : Running) : Type 0 where
   pub senders : a.senders.items ≡ map (λ k. sender_at plan k a.t) (wiring plan.layout s).stations
   pub as_many : length a.receivers.items ≡ length (wiring plan.layout s).stations
-  pub receivers : (i : ℕ) (d : Kept) → i < length a.receivers.items →
+  pub receivers : (i : ℕ) (d : KeptReception) → i < length a.receivers.items →
       Hears (receiver_at plan (slice_index (wiring plan.layout s).stations i) a.t)
       (slice_index_or a.receivers.items i d)
   pub times : All (λ x. x.t ≡ a.t) a.senders.items

@@ -6,4 +6,5 @@ pub mod Strides
 pub mod KeptParts
 pub mod QuietHalfBits
 pub mod SteadyPieces
+pub mod StationsApart
 pub mod FirstReceptions

@@ -5,7 +5,7 @@ use Rattle.manchester_line.specs.declared.Sym.{Sym}
 use Rattle.collision_log.specs.declared.row.Row.{Row}
 use Rattle.load_plan.specs.declared.plan.Plan.{Plan}
 use Rattle.mac_transmit.specs.Sender.{Sender}
-use Rattle.mac_receive.specs.KeptReceiver.{Kept}
+use Rattle.mac_receive.specs.KeptReceiver.{KeptReception}
 use Rattle.network.specs.declared.outputs.Taken.{Taken}
 use Rattle.network.specs.Attempts.{sender_at}
 use Rattle.network.specs.Times.{emitted}
@@ -45,7 +45,7 @@ pub record AreLinesAt (plan : Plan) (w : Wiring) (L t front : ℕ) (ls : List Ta
 
 -- The stations of these numbers before half bit t: their senders and receivers, and what they logged and captured
 -- (profile).
-pub record AreStationsAt (plan : Plan) (ks : List ℕ) (t : ℕ) (ss : List Sender) (rs : List Kept)
+pub record AreStationsAt (plan : Plan) (ks : List ℕ) (t : ℕ) (ss : List Sender) (rs : List KeptReception)
     (rows : List Row) (captures : List (List Taken)) : Type 0 where
   pub senders : ss ≡ map (λ k. sender_at plan k t) ks
   pub receivers : AllHear (map (λ k. receiver_at plan k t) ks) rs

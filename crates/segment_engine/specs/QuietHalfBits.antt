@@ -6,7 +6,7 @@ use Rattle.manchester_line.specs.declared.Sym.TheVariants.{Idle}
 use Rattle.load_plan.specs.declared.plan.Plan.{Plan}
 use Rattle.net_parts.specs.Windows.{lookahead}
 use Rattle.net_parts.specs.Standing.{arrives, port_hears}
-use Rattle.mac_receive.specs.KeptReceiver.{Kept}
+use Rattle.mac_receive.specs.KeptReceiver.{KeptReception}
 use Rattle.mac_transmit.specs.Sender.{Sender, is_sending}
 use Rattle.mac_transmit.specs.Calm.{AllHeardAs, AreCalm, calm_of}
 use Rattle.segment_engine.specs.declared.running.Running.{Running}
@@ -19,7 +19,7 @@ pub record IsCalmFor (n : ℕ) (s : Sender) : Type 0 where
   pub calm : (hs : List Sym) → AllHeardAs false hs → length hs ≤ n → AreCalm s hs
 
 -- No reception is under way at these receivers (profile).
-abbrev pub AreAtRest : List Kept → Type 0
+abbrev pub AreAtRest : List KeptReception → Type 0
 AreAtRest ks = All (λ k. k.halves ≡ 0) ks
 
 -- Nothing happens on a segment in the next n half bits, since nothing but Idle still reaches a tap (profile).

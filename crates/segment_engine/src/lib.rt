@@ -4,6 +4,7 @@
 #![tactic(auto)]
 
 mod ahead;
+mod apart;
 mod parcels;
 mod part;
 mod quiet;

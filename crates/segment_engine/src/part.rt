@@ -143,6 +143,7 @@ impl SegmentPart {
             t,
             senders,
             receivers: _,
+            watches: _,
             teller: _,
             lines: _,
             far: _,

@@ -2,7 +2,7 @@
 ghost use Rattle.std.specs.Prelude.{◌≡◌, ◌≤◌, ◌<◌, ◌+◌, ◌*◌, ℕ, true, false, All, map, length, replicate, slice_index_or};
 ghost use Rattle.mac_parameters.specs.Parameters.{most_half_bits};
 ghost use Rattle.manchester_line.specs.declared.Sym.TheVariants.{Idle};
-ghost use Rattle.mac_receive.specs.KeptReceiver.{Kept, Hears};
+ghost use Rattle.mac_receive.specs.KeptReceiver.{KeptReception, Hears};
 ghost use Rattle.mac_receive.specs.Receiver.{Receiving, receiver_after};
 ghost use Rattle.mac_transmit.specs.Calm.{after_all};
 ghost use Rattle.mac_transmit.specs.Sender.{Sender, is_sending as is_sending_in};
@@ -92,7 +92,7 @@ fn leap_receivers(t: u64, count: u32, receivers: &mut [LateReceiver])
     requires steps { All (λ r. r.steps ≡ t) receivers.old }
     requires in_time { t + count ≤ most_half_bits }
     requires rest { AreAtRest receivers.old }
-    ensures states { (i : ℕ) (d : Kept) (r : Receiving) → i < length receivers.new → Hears r (slice_index_or receivers.old i d) →
+    ensures states { (i : ℕ) (d : KeptReception) (r : Receiving) → i < length receivers.new → Hears r (slice_index_or receivers.old i d) →
         Hears (receiver_after r (replicate count Idle) false) (slice_index_or receivers.new i d) }
     ensures steps { All (λ r. r.steps ≡ t + count) receivers.new }
 {

@@ -2,6 +2,7 @@
 ghost use Rattle.segment_engine.specs.Strides.{MayGoOnFor, HasGoneOn};
 ghost use Rattle.window_room.specs.NeededRoom.{Covers, stations_demand};
 
+use crate::apart::Watch;
 use crate::parcels::fill;
 use crate::segment::Segment;
 use crate::stations::step_stations;
@@ -20,6 +21,7 @@ pub struct Running {
     pub t: u64,
     pub senders: Vec<Transmitter>,
     pub receivers: Vec<LateReceiver>,
+    pub watches: Vec<Watch>,
     pub teller: Teller,
     pub lines: Vec<Line>,
     pub far: u64,

@@ -6,6 +6,7 @@ ghost use Rattle.kept_devices.specs.KeptReceivers.{AllHear};
 ghost use Rattle.segment_engine.specs.NewLines.{AreNewLines, AreWithin, new_delay};
 ghost use Rattle.segment_engine.specs.RunningStates.{IsRunningAt};
 
+use crate::apart::Watch;
 use crate::running::Running;
 use crate::segment::Segment;
 use crate::taps::{delays_of, places_on};
@@ -124,6 +125,11 @@ pub fn start(alloc: Global, of: &Segment, plan: &Plan) -> Result<Running, OutOfM
     let teller = Teller::new(alloc)?;
     let lines = lines_of(alloc, &places, stations, of.lookahead, edges, &delays)?;
     let far = farthest(&lines, of.lookahead);
+    let no_watch = Watch {
+        since: 0,
+        until: 0,
+        carrier: false,
+    };
     Ok(Running {
         t: 0,
         senders,
@@ -135,6 +141,7 @@ pub fn start(alloc: Global, of: &Segment, plan: &Plan) -> Result<Running, OutOfM
         heard: vec![in alloc; Sym::Idle; places.len()]?,
         emitted: vec![in alloc; Sym::Idle; stations]?,
         piece: vec![in alloc; Sym::Idle; of.lookahead as usize]?,
+        watches: vec![in alloc; no_watch; stations]?,
         room: RowRoom::new(alloc, stations)?,
     })
 }

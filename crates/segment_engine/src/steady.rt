@@ -5,7 +5,7 @@ ghost use Rattle.mac_parameters.specs.Parameters.{most_half_bits};
 ghost use Rattle.manchester_line.specs.declared.Sym.{Sym};
 ghost use Rattle.manchester_line.specs.declared.Sym.TheVariants.{Idle};
 ghost use Rattle.manchester_line.specs.Line.{is_signal as is_signal_of};
-ghost use Rattle.mac_receive.specs.KeptReceiver.{Kept, Hears, IsReceiver};
+ghost use Rattle.mac_receive.specs.KeptReceiver.{KeptReception, Hears, IsReceiver};
 ghost use Rattle.mac_receive.specs.Receiver.{Receiving, receiver_after};
 ghost use Rattle.mac_transmit.specs.Calm.{AllHeardAs, after_all, calm_of};
 ghost use Rattle.mac_transmit.specs.Sender.{Sender, is_sending as is_sending_in};
@@ -154,17 +154,17 @@ fn take_all(
     requires room { Covers (receivers_demand (length piece.old) receivers.old) room.old }
     requires steady { (r j : ℕ) → r < length senders.now → j < length piece.old →
         is_signal_of (heard_by_lines lookahead (t + j) lines.now r) ≡ is_signal_of (slice_index_or heard.now r Idle) }
-    ensures states { (i : ℕ) (d : Kept) (e : Sender) (r : Receiving) → i < length receivers.new → Hears r (slice_index_or receivers.old i d) →
+    ensures states { (i : ℕ) (d : KeptReception) (e : Sender) (r : Receiving) → i < length receivers.new → Hears r (slice_index_or receivers.old i d) →
         Hears (receiver_after r (heard_for lookahead t (length piece.old) lines.now i) (is_sending_in (slice_index_or senders.now i e).phase))
         (slice_index_or receivers.new i d) }
-    ensures later { (i : ℕ) (d : Kept) (e : Sender) (r : Receiving) → i < length receivers.new → Hears r (slice_index_or receivers.old i d) →
+    ensures later { (i : ℕ) (d : KeptReception) (e : Sender) (r : Receiving) → i < length receivers.new → Hears r (slice_index_or receivers.old i d) →
         later_bodies r (heard_for lookahead t (length piece.old) lines.now i) (is_sending_in (slice_index_or senders.now i e).phase) ≡ [] }
     ensures rows { (rs : ℕ → Receiving) (e : Sender) →
-        ((i : ℕ) (d : Kept) → i < length receivers.new → Hears (rs i) (slice_index_or receivers.old i d)) →
+        ((i : ℕ) (d : KeptReception) → i < length receivers.new → Hears (rs i) (slice_index_or receivers.old i d)) →
         room.new.rows ≡ room.old.rows ++ rows_of_first t devices.now
         (λ i. (first_reception (rs i) (heard_for lookahead t (length piece.old) lines.now i) (is_sending_in (slice_index_or senders.now i e).phase)).event)
         (length senders.now) }
-    ensures captures { (i : ℕ) (d : Kept) (e : Sender) (r : Receiving) → i < length receivers.new → Hears r (slice_index_or receivers.old i d) →
+    ensures captures { (i : ℕ) (d : KeptReception) (e : Sender) (r : Receiving) → i < length receivers.new → Hears r (slice_index_or receivers.old i d) →
         slice_index_or room.new.captures i [] ≡ slice_index_or room.old.captures i [] ++ taken_by t
         (first_reception r (heard_for lookahead t (length piece.old) lines.now i) (is_sending_in (slice_index_or senders.now i e).phase)).event
         (first_reception r (heard_for lookahead t (length piece.old) lines.now i) (is_sending_in (slice_index_or senders.now i e).phase)).octets }
@@ -187,7 +187,7 @@ fn take_all(
 
 /// What the ports hear in the half bits from `t` on, as many as the piece has, takes the place of what came in for them
 /// from half bit `k` of the window on. Their taps come behind so many others.
-fn put_all(
+pub fn put_all(
     t: u64,
     k: usize,
     lines: &[Line],

@@ -9,13 +9,14 @@ ghost use Rattle.segment_engine.specs.RunningStates.{IsRunningAt, HaveLinesRoom}
 ghost use Rattle.segment_engine.specs.Strides.{MayGoOnFor, HasGoneOn};
 ghost use Rattle.window_room.specs.NeededRoom.{Covers, stations_demand};
 
+use crate::apart::go_apart;
 use crate::parcels::turn;
 use crate::quiet::{leap_quiet, quiet_half_bits};
 use crate::running::{Running, half_bit};
 use crate::segment::Segment;
 use crate::steady::{calm_ahead, leap_steady};
 use net_parts::Parcel;
-use tap_lines::{hear_all, slide_all, take_in};
+use tap_lines::{slide_all, take_in};
 
 /// The half bits that are told ahead at first, and after a piece that was cut.
 const FEW_AHEAD: u32 = 64;
@@ -65,8 +66,10 @@ fn go_as_heard(
     leap_steady(of, window, k, calm, state, parcels)
 }
 
-/// The same after all taps have heard half bit `k`.
-fn hear_and_go(
+/// Half bits of a window of a segment from half bit `k` on, from 0, at most `most`, in which all stations go on with what
+/// they emit, each of them from one change of what it hears to the next: what they emit is told ahead for at most
+/// `ahead` of them. It answers how many.
+fn go_each(
     of: &Segment,
     window: u64,
     k: u32,
@@ -75,15 +78,13 @@ fn hear_and_go(
     state: &mut Running,
     parcels: &mut [Parcel],
 ) -> u32
-    requires some { 0 < most }
     requires stands { MayGoOnFor of.now window k most state.old parcels.old }
     requires room { Covers (stations_demand most state.old.senders.items state.old.receivers.items) state.old.room }
     ensures within { result ≤ most }
     ensures gone { HasGoneOn of.now window k result state.old state.new parcels.new }
 {
-    let t = state.t;
-    hear_all(&state.lines, of.lookahead, state.far, t, &mut state.heard);
-    go_as_heard(of, window, k, most, ahead, state, parcels)
+    let count = (most.min(ahead) as usize).min(state.piece.len()) as u32;
+    go_apart(of, window, k, count, state, parcels)
 }
 
 /// Half bits of a window of a segment from half bit `k` on, from 0, at most `most`, in which each station goes on with
@@ -105,13 +106,13 @@ fn go_steadily(
     ensures gone { HasGoneOn of.now window k result state.old state.new parcels.new }
 {
     if k > 0 {
-        return hear_and_go(of, window, k, most, ahead, state, parcels);
+        return go_each(of, window, k, most, ahead, state, parcels);
     }
     let steady = go_as_heard(of, window, k, most, ahead, state, parcels);
     if steady > 0 {
         return steady;
     }
-    hear_and_go(of, window, k, most, ahead, state, parcels)
+    go_each(of, window, k, most, ahead, state, parcels)
 }
 
 /// Half bits of a window of a segment from half bit `k` on, from 0, at least one and at most `most`: as many as nothing
@@ -151,7 +152,7 @@ fn next_ahead(ahead: u32, made: u32) -> u32 {
     if made < ahead {
         FEW_AHEAD
     } else {
-        ahead.saturating_mul(2)
+        ahead.saturating_mul(4)
     }
 }
 

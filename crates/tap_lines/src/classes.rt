@@ -106,7 +106,7 @@ fn signals_ahead(
 
 /// For how many half bits from `t` on, at most `most`, tap `p` hears a signal in all of them, or Idle in all, as
 /// `carrier` says.
-fn class_ahead(
+pub fn class_ahead(
     lines: &[Line],
     loud: &LoudTaps,
     p: usize,

@@ -10,7 +10,7 @@ mod loud;
 mod runs;
 mod sources;
 
-pub use classes::classes_ahead;
+pub use classes::{class_ahead, classes_ahead};
 pub use line::Line;
 pub use lines::{
     are_idle_from, cut_all, farthest, hear_all, pass_all, rest_all, slide_all, take_in, tell,

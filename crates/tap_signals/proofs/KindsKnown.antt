@@ -10,8 +10,8 @@ use Rattle.manchester_line.specs.declared.Sym.TheVariants.{Idle, Hi, Lo, Clash}
 use Rattle.manchester_line.specs.Line.{is_signal}
 use Rattle.layout.specs.declared.lines.Layout.{Layout}
 use Rattle.layout.specs.declared.lines.PortLine.{PortLine}
-use Rattle.layout.specs.declared.ways.Tap.{Tap}
-use Rattle.layout.specs.declared.ways.Tap.TheVariants.{Station, Port}
+use Rattle.layout.specs.declared.ways.Attachment.{Attachment}
+use Rattle.layout.specs.declared.ways.Attachment.TheVariants.{Station, Port}
 use Rattle.layout.specs.Paths.{IsTap, delay_of}
 use Rattle.layout.specs.Taps.{tap_of}
 use Rattle.load_plan.specs.declared.plan.Plan.{Plan}
@@ -35,7 +35,7 @@ use Rattle.tap_signals.proofs.PortsDecide.{port_decides}
 use Rattle.tap_signals.proofs.SendersEmit.{station_sends}
 
 -- where a tap emits Idle
-none_where_idle : (plan : Plan) (tap : Tap) (t : ℕ) → emitted plan (tap_number plan.layout tap) t ≡ Idle → kind_emitted plan tap t ≡ None
+none_where_idle : (plan : Plan) (tap : Attachment) (t : ℕ) → emitted plan (tap_number plan.layout tap) t ≡ Idle → kind_emitted plan tap t ≡ None
 none_where_idle plan tap t e = ap (λ s. cond (is_signal s) (kind_if_signal plan tap t) None) e
 
 -- the stations
@@ -88,12 +88,12 @@ port_idle plan r p t tap l =
     port_emits plan t q (port_below ls r p tap.0 tap.1) ∙ ap (λ d. earlier (decided plan q) t d) late ∙ too_early (decided plan q) t (delay_of plan.layout (Port r p)) l
 
 -- before anything that was decided for it can be emitted, a tap emits nothing
-pub early_none : (plan : Plan) (tap : Tap) (t : ℕ) → IsTap plan.layout tap → t < delay_of plan.layout tap → kind_emitted plan tap t ≡ None
+pub early_none : (plan : Plan) (tap : Attachment) (t : ℕ) → IsTap plan.layout tap → t < delay_of plan.layout tap → kind_emitted plan tap t ≡ None
 early_none plan (Station k) t tap l = absurd (omega (arith, l))
 early_none plan (Port r p) t tap l = none_where_idle plan (Port r p) t (port_idle plan r p t tap l)
 
 -- where nothing is emitted by a station or decided for a port
-pub silent_none : (plan : Plan) (tap : Tap) (t : ℕ) → IsTap plan.layout tap → ((q : ℕ) → emitted plan q t ≡ Idle) → ((e : ℕ) → decided plan e t ≡ Idle)
+pub silent_none : (plan : Plan) (tap : Attachment) (t : ℕ) → IsTap plan.layout tap → ((q : ℕ) → emitted plan q t ≡ Idle) → ((e : ℕ) → decided plan e t ≡ Idle)
     → kind_emitted plan tap (t + delay_of plan.layout tap) ≡ None
 silent_none plan (Station k) t tap none undecided =
     let now : t ≡ t + 0 = omega arith in

@@ -13,7 +13,7 @@ use Rattle.repeater_core.specs.Counts.{Count, Choice, choice, resting_count}
 use Rattle.repeater_core.specs.Laws.{count_at}
 use Rattle.repeater_core.specs.Modes.{activity_from, mode_after, wish_of}
 use Rattle.repeater_core.specs.SilentParts.{sends_to}
-use Rattle.repeater_core.specs.Step.{State, after, chosen, decided_by, mode_next}
+use Rattle.repeater_core.specs.Step.{RepeaterDevice, after, chosen, decided_by, mode_next}
 use Rattle.repeater_core.proofs.Lawful.{at_port}
 use Rattle.repeater_core.proofs.SendsToOthers.{repeatable, hears_as}
 use Rattle.repeater_core.proofs.SteadyCount.{wish_signal}
@@ -32,7 +32,7 @@ choice_sends sy.Lo c = grind (arith, nat_tests)
 choice_sends sy.Clash c = grind (arith, nat_tests)
 
 -- port p of a repeater
-port_sends : (hears : List Sym) (r : State) (p : ℕ) → p < length r.counts →
+port_sends : (hears : List Sym) (r : RepeaterDevice) (p : ℕ) → p < length r.counts →
     is_signal (get_or (decided_by hears r) p sy.Idle)
     ≡ sends_to (after hears r).mode p && (eqb (count_at r.counts p).rest 0 && eqb (count_at (after hears r).counts p).rest 0)
 unfolding mode_next chosen
@@ -72,4 +72,4 @@ port_decides plan r p t x h =
     ∙ get_or-map (λ e. decided plan e t) (edges_at plan.layout r) p 0 sy.Idle (omega (arith, at.1.0, span))
     ∙ ap (λ e. decided plan e t) (get_or-span (λ e. e) (edges_before ls r) (edges_in ls r) p 0 at.1.0 ∙ sym at.1.1) in
     ap is_signal (sym symbol) ∙ port_sends hears s p (omega (arith, counts, at.1.0))
-    ∙ ap (λ (y : State). sends_to y.mode p && (eqb (count_at s.counts p).rest 0 && eqb (count_at y.counts p).rest 0)) next
+    ∙ ap (λ (y : RepeaterDevice). sends_to y.mode p && (eqb (count_at s.counts p).rest 0 && eqb (count_at y.counts p).rest 0)) next

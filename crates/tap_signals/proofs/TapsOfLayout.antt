@@ -5,8 +5,8 @@ use Rattle.std.specs.Prelude.{slice_get, option_map, option_and_then}
 use Rattle.std.proofs.lemmas.List.{append-nil, at_drop_more, drop_all}
 use Rattle.layout.specs.declared.lines.Layout.{Layout}
 use Rattle.layout.specs.declared.lines.RepeaterLine.{RepeaterLine}
-use Rattle.layout.specs.declared.ways.Tap.{Tap}
-use Rattle.layout.specs.declared.ways.Tap.TheVariants.{Station, Port}
+use Rattle.layout.specs.declared.ways.Attachment.{Attachment}
+use Rattle.layout.specs.declared.ways.Attachment.TheVariants.{Station, Port}
 use Rattle.layout.specs.Paths.{IsTap}
 use Rattle.layout.specs.Taps.{tap_of}
 use Rattle.tap_signals.specs.Taps.{ports_from, taps_in_order}
@@ -50,18 +50,18 @@ taps_are l =
     (all_ports_are l 0 l.repeaters (λ j i y e is. let same : j ≡ i = omega (arith, e) in subst (λ m. slice_get l.repeaters m ≡ Some y) same is))
 
 -- the taps in their order, as they are put into a list
-pub all_stations : (l : Layout) (n : ℕ) (rs : List RepeaterLine) (taps : List Tap) → n ≡ length l.stations → rs ≡ l.repeaters → taps ≡ map Station (range_with_len 0 n)
+pub all_stations : (l : Layout) (n : ℕ) (rs : List RepeaterLine) (taps : List Attachment) → n ≡ length l.stations → rs ≡ l.repeaters → taps ≡ map Station (range_with_len 0 n)
     → taps ++ ports_from 0 rs ≡ taps_in_order l
-all_stations l n rs taps many repeaters is = ap₂ (λ (xs ys : List Tap). xs ++ ys) (is ∙ ap (λ m. map Station (range_with_len 0 m)) many) (ap (ports_from 0) repeaters)
+all_stations l n rs taps many repeaters is = ap₂ (λ (xs ys : List Attachment). xs ++ ys) (is ∙ ap (λ m. map Station (range_with_len 0 m)) many) (ap (ports_from 0) repeaters)
 
-pub ports_more : (l : Layout) (rs : List RepeaterLine) (r : ℕ) (d : RepeaterLine) (taps more : List Tap) (n : ℕ) → r < length rs → n ≡ length (get_or rs r d).ports
+pub ports_more : (l : Layout) (rs : List RepeaterLine) (r : ℕ) (d : RepeaterLine) (taps more : List Attachment) (n : ℕ) → r < length rs → n ≡ length (get_or rs r d).ports
     → more ≡ taps ++ map (Port r) (range_with_len 0 n) → taps ++ ports_from r (drop r rs) ≡ taps_in_order l → more ++ ports_from (r + 1) (drop (r + 1) rs) ≡ taps_in_order l
 ports_more l rs r d taps more n lt many is all =
-    ap (λ (xs : List Tap). xs ++ ports_from (r + 1) (drop (r + 1) rs)) (is ∙ ap (λ m. taps ++ map (Port r) (range_with_len 0 m)) many)
+    ap (λ (xs : List Attachment). xs ++ ports_from (r + 1) (drop (r + 1) rs)) (is ∙ ap (λ m. taps ++ map (Port r) (range_with_len 0 m)) many)
     ∙ append_assoc taps (map (Port r) (range_with_len 0 (length (get_or rs r d).ports))) (ports_from (r + 1) (drop (r + 1) rs))
-    ∙ sym (ap (λ (xs : List Tap). taps ++ xs) (at_drop_more (ports_from r) rs r d lt)) ∙ all
+    ∙ sym (ap (λ (xs : List Attachment). taps ++ xs) (at_drop_more (ports_from r) rs r d lt)) ∙ all
 
-pub no_more_ports : (l : Layout) (rs : List RepeaterLine) (r : ℕ) (taps : List Tap) → length rs ≤ r → taps ++ ports_from r (drop r rs) ≡ taps_in_order l → taps ≡ taps_in_order l
+pub no_more_ports : (l : Layout) (rs : List RepeaterLine) (r : ℕ) (taps : List Attachment) → length rs ≤ r → taps ++ ports_from r (drop r rs) ≡ taps_in_order l → taps ≡ taps_in_order l
 no_more_ports l rs r taps over all =
     let none : drop r rs ≡ [] = drop_all r rs over in
     sym (append-nil taps) ∙ sym (ap (λ (xs : List RepeaterLine). taps ++ ports_from r xs) none) ∙ all

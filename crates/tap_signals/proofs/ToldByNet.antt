@@ -8,13 +8,13 @@ use Rattle.std.proofs.lemmas.Option.{get_or_from_slice_get, slice_get-get_or, sl
 use Rattle.mac_parameters.specs.Parameters.{greatest_delay}
 use Rattle.layout.specs.declared.lines.Layout.{Layout}
 use Rattle.layout.specs.declared.lines.RepeaterLine.{RepeaterLine}
-use Rattle.layout.specs.declared.ways.Tap.{Tap}
-use Rattle.layout.specs.declared.ways.Tap.TheVariants.{Station, Port}
+use Rattle.layout.specs.declared.ways.Attachment.{Attachment}
+use Rattle.layout.specs.declared.ways.Attachment.TheVariants.{Station, Port}
 use Rattle.layout.specs.Paths.{IsTap, delay_of}
 use Rattle.load_plan.specs.declared.plan.Plan.{Plan}
 use Rattle.mac_transmit.specs.Sender.{Sender}
 use Rattle.repeater_core.specs.Laws.{count_at}
-use Rattle.repeater_core.specs.Step.{State, new_state}
+use Rattle.repeater_core.specs.Step.{RepeaterDevice, new_state}
 use Rattle.network.specs.Attempts.{sender_at}
 use Rattle.network.specs.Net.{net, next}
 use Rattle.network.proofs.RunnablePlans.{runnable_plan}
@@ -38,17 +38,17 @@ use Rattle.tap_signals.proofs.StretchesGrow.{nothing_yet, silent_many}
 use Rattle.tap_signals.proofs.TapsOfLayout.{one_of_all, taps_are}
 
 -- the taps in their order
-pub all_are_taps : (l : Layout) (taps : List Tap) → taps ≡ taps_in_order l → All (IsTap l) taps
-all_are_taps l taps e = λ i d lt. one_of_all (IsTap l) taps i d (subst (λ (ts : List Tap). AllByRecursion (IsTap l) ts) (sym e) (taps_are l)) lt
+pub all_are_taps : (l : Layout) (taps : List Attachment) → taps ≡ taps_in_order l → All (IsTap l) taps
+all_are_taps l taps e = λ i d lt. one_of_all (IsTap l) taps i d (subst (λ (ts : List Attachment). AllByRecursion (IsTap l) ts) (sym e) (taps_are l)) lt
 
 -- the devices
 same_repeater : (plan : Plan) (t r : ℕ) (n : KeptNet) → Stands (net plan t) n → kept_repeater n r ≡ repeater_state plan r t
-same_repeater plan t r n stands = ap (λ (rs : List State). get_or rs r (new_state 0 0)) stands.repeaters
+same_repeater plan t r n stands = ap (λ (rs : List RepeaterDevice). get_or rs r (new_state 0 0)) stands.repeaters
 
 same_sender : (plan : Plan) (t k : ℕ) (n : KeptNet) → Stands (net plan t) n → kept_sender n k ≡ sender_at plan k t
 same_sender plan t k n stands = ap (λ (ss : List Sender). get_or ss k no_sender) stands.senders
 
-has_device : (plan : Plan) (t : ℕ) (n : KeptNet) (tap : Tap) → Stands (net plan t) n → IsTap plan.layout tap → HasDevice n tap
+has_device : (plan : Plan) (t : ℕ) (n : KeptNet) (tap : Attachment) → Stands (net plan t) n → IsTap plan.layout tap → HasDevice n tap
 has_device plan t n (Station k) stands tap =
     let below = station_below plan.layout k tap.0 tap.1 in
     let many = ap length stands.senders in
@@ -59,14 +59,14 @@ has_device plan t n (Port r p) stands tap =
     let many = ap length stands.repeaters in
     let all = (repeater_facts plan).many t in
     let guards : length (kept_repeater n r).guards ≡ edges_in plan.layout.repeaters r =
-    ap (λ (s : State). length s.guards) (same_repeater plan t r n stands) ∙ (repeater_facts plan).guards r t at.0 in
+    ap (λ (s : RepeaterDevice). length s.guards) (same_repeater plan t r n stands) ∙ (repeater_facts plan).guards r t at.0 in
     (omega (arith, at.0, many, all), omega (arith, at.1.0, guards))
 
-pub all_have_devices : (plan : Plan) (t : ℕ) (n : KeptNet) (taps : List Tap) → Stands (net plan t) n → All (IsTap plan.layout) taps → All (HasDevice n) taps
+pub all_have_devices : (plan : Plan) (t : ℕ) (n : KeptNet) (taps : List Attachment) → Stands (net plan t) n → All (IsTap plan.layout) taps → All (HasDevice n) taps
 all_have_devices plan t n taps stands are = λ i d l. has_device plan t n (get_or taps i d) stands (are i d l)
 
 -- what is told of a tap after a half bit
-pub told_kind : (plan : Plan) (t : ℕ) (old new : KeptNet) (tap : Tap) → Stands (net plan t) old → Stands (net plan (t + 1)) new → IsTap plan.layout tap
+pub told_kind : (plan : Plan) (t : ℕ) (old new : KeptNet) (tap : Attachment) → Stands (net plan t) old → Stands (net plan (t + 1)) new → IsTap plan.layout tap
     → kind_told new tap (rest_told old tap) t ≡ kind_emitted plan tap (t + delay_of plan.layout tap)
 told_kind plan t old new (Station k) before after tap =
     let at_once : t ≡ t + 0 = omega arith in
@@ -74,10 +74,10 @@ told_kind plan t old new (Station k) before after tap =
     ∙ sym (station_kind plan k t (station_below plan.layout k tap.0 tap.1))
     ∙ ap (kind_emitted plan (Station k)) at_once
 told_kind plan t old new (Port r p) before after tap =
-    ap₂ (λ (x y : State). decided_kind y.mode (count_at x.counts p).rest (count_at y.counts p).rest p) (same_repeater plan t r old before) (same_repeater plan (t + 1) r new after)
+    ap₂ (λ (x y : RepeaterDevice). decided_kind y.mode (count_at x.counts p).rest (count_at y.counts p).rest p) (same_repeater plan t r old before) (same_repeater plan (t + 1) r new after)
     ∙ sym (port_kind plan r p t tap)
 
-pub tells_kinds : (plan : Plan) (t : ℕ) (old new : KeptNet) (taps : List Tap) (rests : List ℕ) → Stands (net plan t) old → Stands (net plan (t + 1)) new → All (IsTap plan.layout) taps
+pub tells_kinds : (plan : Plan) (t : ℕ) (old new : KeptNet) (taps : List Attachment) (rests : List ℕ) → Stands (net plan t) old → Stands (net plan (t + 1)) new → All (IsTap plan.layout) taps
     → rests ≡ map (rest_told old) taps → TellsKinds plan new taps rests t
 tells_kinds plan t old new taps rests before after are is = λ k d lt.
     let tap = get_or taps k d in
@@ -99,10 +99,10 @@ stands_still plan k t later now same l m h =
     let at : later ≡ t = omega (arith, l, m) in
     subst (λ u. Stands (net plan u) k) at (stands_later plan k t later now same l h)
 
-one_silent : (plan : Plan) (tap : Tap) (t : ℕ) → IsTap plan.layout tap → IsSilentHalfBit (net plan t) → kind_emitted plan tap (t + delay_of plan.layout tap) ≡ None
+one_silent : (plan : Plan) (tap : Attachment) (t : ℕ) → IsTap plan.layout tap → IsSilentHalfBit (net plan t) → kind_emitted plan tap (t + delay_of plan.layout tap) ≡ None
 one_silent plan tap t is silent = silent_none plan tap t is silent.emits silent.decides
 
-pub told_silent : (plan : Plan) (taps : List Tap) (from to t later now : ℕ) (lists : List (List Stretch)) → now ≡ t → t ≤ later → All (IsTap plan.layout) taps
+pub told_silent : (plan : Plan) (taps : List Attachment) (from to t later now : ℕ) (lists : List (List Stretch)) → now ≡ t → t ≤ later → All (IsTap plan.layout) taps
     → ((i : ℕ) → i < later - now → IsSilentHalfBit (later_net (net plan t) i)) → AreListsTold plan taps from to t lists → AreListsTold plan taps from to later lists
 told_silent plan taps from to t later now lists same l are silent told = record {
   many = told.many;
@@ -119,7 +119,7 @@ told_silent plan taps from to t later now lists same l are silent told = record 
 }
 
 -- before the first half bit that can be of use
-pub delay_most : (plan : Plan) (tap : Tap) → IsTap plan.layout tap → delay_of plan.layout tap ≤ greatest_delay
+pub delay_most : (plan : Plan) (tap : Attachment) → IsTap plan.layout tap → delay_of plan.layout tap ≤ greatest_delay
 delay_most plan (Station k) tap = omega arith
 delay_most plan (Port r p) tap =
     let none : RepeaterLine = record { name = []; delay = 0; ports = [] } in
@@ -129,7 +129,7 @@ delay_most plan (Port r p) tap =
     let most = (runnable_plan plan).short_delay r none at.0 in
     omega (arith, is, most)
 
-pub told_first : (plan : Plan) (taps : List Tap) (from to begin : ℕ) (lists : List (List Stretch)) → All (IsTap plan.layout) taps → begin ≡ from - greatest_delay
+pub told_first : (plan : Plan) (taps : List Attachment) (from to begin : ℕ) (lists : List (List Stretch)) → All (IsTap plan.layout) taps → begin ≡ from - greatest_delay
     → length lists ≡ length taps → ((k : ℕ) → get_or lists k [] ≡ []) → AreListsTold plan taps from to begin lists
 told_first plan taps from to begin lists are first many none = record {
   many = many;
@@ -142,17 +142,17 @@ told_first plan taps from to begin lists are first many none = record {
 }
 
 -- at the end
-pub told_all : (plan : Plan) (from start to : ℕ) (taps : List Tap) (lists signals : List (List Stretch)) → taps ≡ taps_in_order plan.layout → start ≡ first_seen from → start < to
+pub told_all : (plan : Plan) (from start to : ℕ) (taps : List Attachment) (lists signals : List (List Stretch)) → taps ≡ taps_in_order plan.layout → start ≡ first_seen from → start < to
     → signals ≡ lists → AreListsTold plan taps start to to lists → AreSignals plan from to signals
 told_all plan from start to taps lists signals in_order first l same told = record {
   many = ap length same ∙ told.many ∙ ap length in_order;
   each = λ k tap is.
-      let here : slice_get taps k ≡ Some tap = ap (λ (ts : List Tap). slice_get ts k) in_order ∙ is in
+      let here : slice_get taps k ≡ Some tap = ap (λ (ts : List Attachment). slice_get ts k) in_order ∙ is in
       let lt : k < length taps = slice_get_within taps k tap here in
       let read : get_or taps k tap ≡ tap = get_or_from_slice_get taps k tap tap here in
       let away = delay_of plan.layout tap in
       let old : AreStretchesTo (kind_emitted plan tap) start to (to + away) (get_or lists k []) =
-      subst (λ (x : Tap). AreStretchesTo (kind_emitted plan x) start to (to + delay_of plan.layout x) (get_or lists k [])) read (told.each k tap lt) in
+      subst (λ (x : Attachment). AreStretchesTo (kind_emitted plan x) start to (to + delay_of plan.layout x) (get_or lists k [])) read (told.each k tap lt) in
       let end : max start (min (to + away) to) ≡ to = omega (arith, l) in
       subst (λ (xs : List (List Stretch)). AreStretches (kind_emitted plan tap) (first_seen from) to (get_or xs k [])) (sym same)
       (subst (λ s. AreStretches (kind_emitted plan tap) s to (get_or lists k [])) first
@@ -160,10 +160,10 @@ told_all plan from start to taps lists signals in_order first l same told = reco
 }
 
 -- one half bit more for one tap
-pub one_told : (plan : Plan) (taps : List Tap) (from to t k : ℕ) (lists : List (List Stretch)) (new : List Stretch) → k < length taps → length lists ≡ length taps
-    → ((q : ℕ) (d : Tap) → q < k → AreStretchesTo (kind_emitted plan (get_or taps q d)) from to (t + 1 + delay_of plan.layout (get_or taps q d)) (get_or lists q []))
-    → ((d : Tap) → AreStretchesTo (kind_emitted plan (get_or taps k d)) from to (t + 1 + delay_of plan.layout (get_or taps k d)) new)
-    → (q : ℕ) (d : Tap) → q < k + 1 → AreStretchesTo (kind_emitted plan (get_or taps q d)) from to (t + 1 + delay_of plan.layout (get_or taps q d)) (get_or (set lists k new) q [])
+pub one_told : (plan : Plan) (taps : List Attachment) (from to t k : ℕ) (lists : List (List Stretch)) (new : List Stretch) → k < length taps → length lists ≡ length taps
+    → ((q : ℕ) (d : Attachment) → q < k → AreStretchesTo (kind_emitted plan (get_or taps q d)) from to (t + 1 + delay_of plan.layout (get_or taps q d)) (get_or lists q []))
+    → ((d : Attachment) → AreStretchesTo (kind_emitted plan (get_or taps k d)) from to (t + 1 + delay_of plan.layout (get_or taps k d)) new)
+    → (q : ℕ) (d : Attachment) → q < k + 1 → AreStretchesTo (kind_emitted plan (get_or taps q d)) from to (t + 1 + delay_of plan.layout (get_or taps q d)) (get_or (set lists k new) q [])
 one_told plan taps from to t k lists new lt many done now q d l = elim (cases_lt q k) [
   | inl before ↦
       subst (AreStretchesTo (kind_emitted plan (get_or taps q d)) from to (t + 1 + delay_of plan.layout (get_or taps q d)))
@@ -175,12 +175,12 @@ one_told plan taps from to t k lists new lt many done now q d l = elim (cases_lt
       (subst (AreStretchesTo (kind_emitted plan (get_or taps k d)) from to (t + 1 + delay_of plan.layout (get_or taps k d))) (sym (get_or-set_same lists k new [] in_it)) (now d))
 ]
 
-pub tap_told : (plan : Plan) (taps : List Tap) (n : KeptNet) (rested : List ℕ) (from to t k : ℕ) (lists : List (List Stretch)) (old new : List Stretch) (away : ℕ) (kind : Option SignalKind)
+pub tap_told : (plan : Plan) (taps : List Attachment) (n : KeptNet) (rested : List ℕ) (from to t k : ℕ) (lists : List (List Stretch)) (old new : List Stretch) (away : ℕ) (kind : Option SignalKind)
     → k < length taps → length lists ≡ length taps → old ≡ get_or lists k old
     → away ≡ delay_of plan.layout (get_or taps k (Station 0)) → kind ≡ kind_told n (get_or taps k (Station 0)) (get_or rested k 0) t → TellsKinds plan n taps rested t
-    → ((d : Tap) → k ≤ k → k < length taps → AreStretchesTo (kind_emitted plan (get_or taps k d)) from to (t + delay_of plan.layout (get_or taps k d)) (get_or lists k []))
+    → ((d : Attachment) → k ≤ k → k < length taps → AreStretchesTo (kind_emitted plan (get_or taps k d)) from to (t + delay_of plan.layout (get_or taps k d)) (get_or lists k []))
     → ((f : ℕ → Option SignalKind) → AreStretchesTo f from to (t + away) old → f (t + away) ≡ kind → AreStretchesTo f from to (t + away + 1) new)
-    → (d : Tap) → AreStretchesTo (kind_emitted plan (get_or taps k d)) from to (t + 1 + delay_of plan.layout (get_or taps k d)) new
+    → (d : Attachment) → AreStretchesTo (kind_emitted plan (get_or taps k d)) from to (t + 1 + delay_of plan.layout (get_or taps k d)) new
 tap_told plan taps n rested from to t k lists old new away kind lt many is late told tells left goes d =
     let tap = get_or taps k (Station 0) in
     let f = kind_emitted plan tap in
@@ -191,4 +191,4 @@ tap_told plan taps n rested from to t k lists old new away kind lt many is late 
     let emits : f (t + away) ≡ kind = ap (λ u. f (t + u)) late ∙ sym (tells k (Station 0) lt) ∙ sym told in
     let at : t + away + 1 ≡ t + 1 + delay_of plan.layout tap = omega (arith, late) in
     let after : AreStretchesTo f from to (t + 1 + delay_of plan.layout tap) new = subst (λ u. AreStretchesTo f from to u new) at (goes f before emits) in
-    subst (λ (x : Tap). AreStretchesTo (kind_emitted plan x) from to (t + 1 + delay_of plan.layout x) new) (get_or_default taps k (Station 0) d lt) after
+    subst (λ (x : Attachment). AreStretchesTo (kind_emitted plan x) from to (t + 1 + delay_of plan.layout x) new) (get_or_default taps k (Station 0) d lt) after

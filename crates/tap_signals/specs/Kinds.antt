@@ -2,8 +2,8 @@
 use Rattle.std.specs.Prelude.{ℕ, ◌+◌, ◌-◌, nat_le, ◌==◌, ◌&&◌, if◌then◌else◌, Option, None, Some}
 use Rattle.manchester_line.specs.Line.{is_signal}
 use Rattle.layout.specs.Paths.{delay_of}
-use Rattle.layout.specs.declared.ways.Tap.{Tap}
-use Rattle.layout.specs.declared.ways.Tap.TheVariants.{Station, Port}
+use Rattle.layout.specs.declared.ways.Attachment.{Attachment}
+use Rattle.layout.specs.declared.ways.Attachment.TheVariants.{Station, Port}
 use Rattle.load_plan.specs.declared.plan.Plan.{Plan}
 use Rattle.mac_transmit.specs.Sender.{jam_start}
 use Rattle.mac_transmit.specs.declared.phase.Phase.{Phase}
@@ -36,13 +36,13 @@ kind_of_mode (OnePort n i) = Some kind.Jam
 -- The kind of the signal that a tap emits in half bit t, if it emits one. That of a station is known from its sender
 -- after the half bit. That of a port is known from its repeater's mode after the half bit in which the symbol was
 -- decided. That was as many half bits before as the repeater's delay.
-abbrev pub kind_if_signal : Plan → Tap → ℕ → Option SignalKind
+abbrev pub kind_if_signal : Plan → Attachment → ℕ → Option SignalKind
 kind_if_signal plan (Station k) t = sent_kind t (sender_at plan k (t + 1)).phase
 kind_if_signal plan (Port r p) t =
     kind_of_mode (repeater_state plan r (t - delay_of plan.layout (Port r p) + 1)).mode
 
 -- The kind of what a tap emits in half bit t, and none where that is Idle.
-abbrev pub kind_emitted : Plan → Tap → ℕ → Option SignalKind
+abbrev pub kind_emitted : Plan → Attachment → ℕ → Option SignalKind
 kind_emitted plan tap t =
     if is_signal (emitted plan (tap_number plan.layout tap) t) then kind_if_signal plan tap t else None
 

@@ -1,7 +1,7 @@
 -- What holds of the signals of every network (profile). Half bits count from 0.
 use Rattle.std.specs.Prelude.{◌≡◌, ◌≢◌, ℕ, ◌<◌, ◌≤◌, Option, None, Some, List, slice_get}
 use Rattle.manchester_line.specs.declared.Sym.TheVariants.{Idle}
-use Rattle.layout.specs.declared.ways.Tap.{Tap}
+use Rattle.layout.specs.declared.ways.Attachment.{Attachment}
 use Rattle.layout.specs.Paths.{IsTap}
 use Rattle.load_plan.specs.declared.plan.Plan.{Plan}
 use Rattle.network.specs.Attempts.{tap_number}
@@ -14,7 +14,7 @@ use Rattle.tap_signals.specs.declared.stretch.Stretch.{Stretch}
 -- A tap that emits no signal of any kind in a half bit emits Idle in it.
 abbrev pub RestIsIdle : Type 0
 RestIsIdle =
-    (plan : Plan) (tap : Tap) (t : ℕ) → IsTap plan.layout tap → kind_emitted plan tap t ≡ None
+    (plan : Plan) (tap : Attachment) (t : ℕ) → IsTap plan.layout tap → kind_emitted plan tap t ≡ None
     → emitted plan (tap_number plan.layout tap) t ≡ Idle
 
 -- Two stretches of a tap don't overlap, and the earlier one in the list is the earlier one in time. Where the later one

@@ -11,7 +11,7 @@ ghost use Rattle.tap_signals.specs.Told.{AreListsTold, HasDevice, TellsKinds, re
 use crate::kind::{SignalKind, decided_kind, sent_kind};
 use crate::stretch::{Stretches, StretchesList, Window, tell};
 use crate::taps::{delay_of, taps_in_order};
-use layout::Tap;
+use layout::Attachment;
 use lists::OutOfMemory;
 use load_plan::Plan;
 use mac_parameters::{GREATEST_DELAY, GREATEST_PLACE};
@@ -19,25 +19,25 @@ use net_step::PlainNet;
 use std::alloc::Global;
 
 /// The half bits of rest that a tap has left: none, if it is that of a station.
-fn rest_of(whole: &PlainNet, tap: Tap) -> u32
+fn rest_of(whole: &PlainNet, tap: Attachment) -> u32
     requires { HasDevice whole.now tap }
     ensures { result ≡ rest_told whole.now tap }
 {
     match tap {
-        Tap::Station(_) => 0,
-        Tap::Port { repeater, port } => whole.rest(repeater, port),
+        Attachment::Station(_) => 0,
+        Attachment::Port { repeater, port } => whole.rest(repeater, port),
     }
 }
 
 /// What was decided for a tap in half bit `t`, the last that the network made; a station emits it at once. The tap had
 /// `rested` half bits of rest left before it.
-fn kind_of(whole: &PlainNet, tap: Tap, rested: u32, t: u64) -> Option<SignalKind>
+fn kind_of(whole: &PlainNet, tap: Attachment, rested: u32, t: u64) -> Option<SignalKind>
     requires { HasDevice whole.now tap }
     ensures { result ≡ kind_told whole.now tap rested t }
 {
     match tap {
-        Tap::Station(station) => sent_kind(t, whole.phase(station)),
-        Tap::Port { repeater, port } => {
+        Attachment::Station(station) => sent_kind(t, whole.phase(station)),
+        Attachment::Port { repeater, port } => {
             let rests = whole.rest(repeater, port);
             decided_kind(whole.mode(repeater), rested, rests, port)
         }
@@ -45,7 +45,7 @@ fn kind_of(whole: &PlainNet, tap: Tap, rested: u32, t: u64) -> Option<SignalKind
 }
 
 /// Writes the half bits of rest that each of these taps has left.
-fn write_rests(whole: &PlainNet, taps: &[Tap], rests: &mut [u32])
+fn write_rests(whole: &PlainNet, taps: &[Attachment], rests: &mut [u32])
     requires taps { All (HasDevice whole.now) taps.now }
     requires many { length rests.old ≡ length taps.now }
     ensures { rests.new ≡ map (rest_told whole.now) taps.now }
@@ -59,7 +59,7 @@ fn write_rests(whole: &PlainNet, taps: &[Tap], rests: &mut [u32])
 fn tell_all(
     whole: &PlainNet,
     plan: &Plan,
-    taps: &[Tap],
+    taps: &[Attachment],
     rested: &[u32],
     t: u64,
     window: Window,
@@ -109,7 +109,7 @@ fn listed(alloc: Global, lists: Vec<Stretches>) -> Result<StretchesList, OutOfMe
 fn tell_step(
     whole: &mut PlainNet,
     plan: &Plan,
-    taps: &[Tap],
+    taps: &[Attachment],
     rests: &mut [u32],
     t: u64,
     window: Window,
@@ -135,7 +135,7 @@ fn tell_step(
 fn told_from(
     alloc: Global,
     plan: &Plan,
-    taps: &[Tap],
+    taps: &[Attachment],
     begin: u64,
     window: Window,
 ) -> Result<Vec<Stretches>, OutOfMemory>

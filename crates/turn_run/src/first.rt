@@ -5,7 +5,7 @@ ghost use Rattle.layout.specs.Sound.{IsSound};
 ghost use Rattle.turn_run.specs.ParcelsInTurn.{all_parcels, edges};
 ghost use Rattle.turn_run.specs.PartsInTurn.{AreAtWindow};
 
-use crate::kind::Kind;
+use crate::kind::PartKind;
 use layout::Layout;
 use lists::OutOfMemory;
 use load_plan::Plan;
@@ -13,7 +13,7 @@ use net_parts::{Pace, Parcel, Symbols};
 use std::alloc::Global;
 
 /// All parts of a kind, in order of their numbers.
-pub fn make_parts<K: Kind>(
+pub fn make_parts<K: PartKind>(
     alloc: Global,
     plan: &Plan,
     pace: &Pace,

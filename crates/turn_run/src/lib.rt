@@ -14,5 +14,5 @@ mod run;
 mod segments;
 
 pub use gathered::gather_outputs;
-pub use kind::Kind;
+pub use kind::PartKind;
 pub use run::run_in_turn;

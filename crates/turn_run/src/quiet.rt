@@ -9,7 +9,7 @@ ghost use Rattle.turn_run.specs.ParcelsInTurn.{all_parcels};
 ghost use Rattle.turn_run.specs.PartsInTurn.{AreAtWindow, IsLater};
 ghost use Rattle.turn_run.specs.SilentWindows.{IsIdleOver, StaysIdle, stamped};
 
-use crate::kind::Kind;
+use crate::kind::PartKind;
 use load_plan::Plan;
 use manchester_line::Sym;
 use net_parts::Parcel;
@@ -44,7 +44,7 @@ fn stamp_all(parcels: &mut [Parcel], window: u64)
 
 /// For how many windows from its present one on, at most `most`, nothing happens at any of these parts and nothing but
 /// Idle goes from it, as long as nothing but Idle comes to it.
-fn calm_of<K: Kind>(parts: &[K], most: u64) -> u64
+fn calm_of<K: PartKind>(parts: &[K], most: u64) -> u64
     requires running { All (λ s. K.at s < windows (K.plan s)) parts.now }
     ensures within { result ≤ most }
     ensures calm { (n : ℕ) → 0 < n → n ≤ result → All (λ s. K.calm s n) parts.now }
@@ -59,7 +59,7 @@ fn calm_of<K: Kind>(parts: &[K], most: u64) -> u64
 }
 
 /// These parts go over so many windows in which nothing happens at any of them and nothing but Idle comes to it.
-fn leap_parts<K: Kind>(parts: &mut [K], count: u64)
+fn leap_parts<K: PartKind>(parts: &mut [K], count: u64)
     requires some { 0 < count }
     requires within { All (λ s. K.at s + count < windows (K.plan s)) parts.old }
     requires calm { All (λ s. K.calm s count) parts.old }
@@ -75,7 +75,7 @@ fn leap_parts<K: Kind>(parts: &mut [K], count: u64)
 }
 
 /// In how many windows from the present one on, at most `most`, nothing happens anywhere.
-fn quiet_everywhere<S: Kind, R: Kind>(
+fn quiet_everywhere<S: PartKind, R: PartKind>(
     segments: &[S],
     repeaters: &[R],
     parcels: &[Parcel],
@@ -101,7 +101,7 @@ fn quiet_everywhere<S: Kind, R: Kind>(
 
 /// All parts go over the windows from the present one on, at most `most`, in which nothing happens anywhere, and the
 /// parcels get the stamp of the one that follows. It answers how many windows they are.
-pub fn leap_all<S: Kind, R: Kind>(
+pub fn leap_all<S: PartKind, R: PartKind>(
     plan: &Plan,
     window: u64,
     most: u64,

@@ -9,7 +9,7 @@ ghost use Rattle.turn_run.specs.PartsInTurn.{AreAtWindow};
 
 use crate::first::{count_edges, empty_hand, first_parcels, make_parts};
 use crate::gathered::gather_outputs;
-use crate::kind::Kind;
+use crate::kind::PartKind;
 use crate::outputs::collect_parts;
 use crate::quiet::leap_all;
 use crate::repeaters::run_repeaters;
@@ -36,7 +36,7 @@ pub fn run_in_turn<G: Gate>(alloc: Global, plan: &Plan, gate: &G) -> Result<Outp
 }
 
 /// The same on segments and repeaters of these kinds.
-fn run_parts<S: Kind, R: Kind, G: Gate>(
+fn run_parts<S: PartKind, R: PartKind, G: Gate>(
     alloc: Global,
     plan: &Plan,
     gate: &G,
@@ -133,7 +133,7 @@ fn run_some<S: Part, R: Part, G: Gate>(
 }
 
 /// All parts make all windows. Those in which nothing happens anywhere are made at once, but never the last.
-fn run_windows<S: Kind, R: Kind, G: Gate>(
+fn run_windows<S: PartKind, R: PartKind, G: Gate>(
     plan: &Plan,
     windows: u64,
     gate: &G,

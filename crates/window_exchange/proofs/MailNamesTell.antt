@@ -1,20 +1,18 @@
--- Mails of one name are the same but for what is in them, and honest mail is true for the box's plan.
-use Rattle.std.proofs.Common.{◌≡◌, ℕ, true, false, Bool, subst}
+-- Parcels of one name are the same but for their symbols, and an honest parcel is true for the box's plan.
+use Rattle.std.proofs.Common.{ap, subst}
 use Rattle.std.specs.Prelude.{Option, IfSome}
 use Rattle.load_plan.specs.declared.plan.Plan.{Plan}
 use Rattle.net_parts.specs.Parcels.{IsTrueParcel}
-use Rattle.window_exchange.specs.declared.mail.Mail.{Mail}
-use Rattle.window_exchange.specs.declared.mail.Mail.TheVariants.{Kit, Parcel}
-use Rattle.window_exchange.specs.MailNames.{mail_name, IsSameMail, HonestMailIsTrue}
+use Rattle.window_exchange.specs.declared.mail.Name.{Name}
+use Rattle.window_exchange.specs.MailNames.{NamesTell, HonestParcelsAreTrue}
 
-pub same_mail : {U : Type 0} (number : U → ℕ) (x y : Mail U) → mail_name number x ≡ mail_name number y → IsSameMail number x y
-same_mail number (Kit j) (Kit k) e = cc
-same_mail number (Kit j) (Parcel q) e = absurd (cc)
-same_mail number (Parcel p) (Kit k) e = absurd (cc)
-same_mail number (Parcel p) (Parcel q) e = record { edge = cc; window = cc; way = cc; spoiled = cc }
-
-pub true_mail : {U : Type 0} (plan_of : U → Plan) (boxed : Option Plan) → HonestMailIsTrue plan_of boxed
-true_mail plan_of boxed = record {
-  kits = λ k h. h;
-  parcels = λ plan p e h. subst (λ (o : Option Plan). IfSome o (λ the. IsTrueParcel the p)) e h;
+pub same_parcel : NamesTell
+same_parcel p q e = record {
+  edge = ap (λ (n : Name). n.edge) e;
+  window = ap (λ (n : Name). n.window) e;
+  way = ap (λ (n : Name). n.to_repeater) e;
+  spoiled = ap (λ (n : Name). n.spoiled) e;
 }
+
+pub true_parcels : (boxed : Option Plan) → HonestParcelsAreTrue boxed
+true_parcels boxed plan p e h = subst (λ (o : Option Plan). IfSome o (λ the. IsTrueParcel the p)) e h

@@ -6,10 +6,10 @@ use mathlib.Core.Option.{some, some-injective, some-ne-none}
 use lib.ListN.{get_elem?}
 use Rattle.crossbeam_queue.specs.Fifo.{Pushes, Pops, Forks}
 use Rattle.load_plan.specs.declared.plan.Plan.{Plan}
-use Rattle.window_exchange.specs.declared.mail.Mail.{Mail}
+use Rattle.net_parts.specs.declared.parcel.Parcel.{Parcel}
 use Rattle.window_exchange.specs.declared.mail.Name.{Name}
 use Rattle.window_exchange.specs.declared.mail.Lists.{Lists}
-use Rattle.window_exchange.specs.MailNames.{mail_name, IsHonest}
+use Rattle.window_exchange.specs.MailNames.{parcel_name, IsHonest}
 use Rattle.window_exchange.specs.Balance.{weigh, sum_of_views, name_lists, IsBalanced, IsFair}
 
 total_set : (f : Lists → ℕ) (views : List Lists) (port : ℕ) (v w : Lists) → get_elem? views port ≡ some v → sum_of_views f (set views port w) + f v ≡ sum_of_views f views + f w
@@ -29,33 +29,33 @@ all_snoc : {X : Type 0} (P : X → Type 0) (xs : List X) (x : X) → AllByRecurs
 all_snoc P [] x a p = (p, tt)
 all_snoc P (y ∷ ys) x a p = (a.0, all_snoc P ys x a.1 p)
 
-module _ {U : Type 0} (plan : U → Plan) (number : U → ℕ) (n : Option Plan) where
-  weigh_mail : (h : Name → ℕ) (items : List (Mail U)) (x : Mail U) → weigh h (map (mail_name number) (items ++ x ∷ [])) ≡ weigh h (map (mail_name number) items) + h (mail_name number x)
-  weigh_mail h [] x = omega arith
-  weigh_mail h (y ∷ ys) x = omega (arith, weigh_mail h ys x)
+module _ (n : Option Plan) where
+  weigh_parcels : (h : Name → ℕ) (items : List Parcel) (x : Parcel) → weigh h (map parcel_name (items ++ x ∷ [])) ≡ weigh h (map parcel_name items) + h (parcel_name x)
+  weigh_parcels h [] x = omega arith
+  weigh_parcels h (y ∷ ys) x = omega (arith, weigh_parcels h ys x)
 
-  pub begins : IsBalanced plan number n [] (name_lists [] [] ∷ [])
+  pub begins : IsBalanced n [] (name_lists [] [] ∷ [])
   begins = record { honest = tt; even = λ h. omega arith }
 
-  pub sends : (room port : ℕ) (v : Lists) (x : Mail U) → IsHonest plan n x
-      → Pushes (IsBalanced plan number n) room port v x (λ w. w ≡ name_lists (v.put ++ mail_name number x ∷ []) v.taken)
+  pub sends : (room port : ℕ) (v : Lists) (x : Parcel) → IsHonest n x
+      → Pushes (IsBalanced n) room port v x (λ w. w ≡ name_lists (v.put ++ parcel_name x ∷ []) v.taken)
   sends room port v x good items views _ h at =
-      let w : Lists = name_lists (v.put ++ mail_name number x ∷ []) v.taken in (
+      let w : Lists = name_lists (v.put ++ parcel_name x ∷ []) v.taken in (
         w,
         record {
-          honest = all_snoc (IsHonest plan n) items x h.honest good;
+          honest = all_snoc (IsHonest n) items x h.honest good;
           even = λ k.
               let a = total_set (λ (u : Lists). weigh k u.put) views port v w at in
               let b = total_set (λ (u : Lists). weigh k u.taken) views port v w at in
               let e = h.even k in
-              omega (arith, weigh_snoc k v.put (mail_name number x), weigh_mail k items x);
+              omega (arith, weigh_snoc k v.put (parcel_name x), weigh_parcels k items x);
         },
         refl,
       )
 
-  pub gets : (port : ℕ) (v : Lists) → Pops (IsBalanced plan number n) port v (λ x w. (w ≡ name_lists v.put (v.taken ++ mail_name number x ∷ [])) × IsHonest plan n x)
+  pub gets : (port : ℕ) (v : Lists) → Pops (IsBalanced n) port v (λ x w. (w ≡ name_lists v.put (v.taken ++ parcel_name x ∷ [])) × IsHonest n x)
   gets port v x items views h at =
-      let w : Lists = name_lists v.put (v.taken ++ mail_name number x ∷ []) in (
+      let w : Lists = name_lists v.put (v.taken ++ parcel_name x ∷ []) in (
         w,
         record {
           honest = h.honest.1;
@@ -63,12 +63,12 @@ module _ {U : Type 0} (plan : U → Plan) (number : U → ℕ) (n : Option Plan)
               let a = total_set (λ (u : Lists). weigh k u.put) views port v w at in
               let b = total_set (λ (u : Lists). weigh k u.taken) views port v w at in
               let e = h.even k in
-              omega (arith, weigh_snoc k v.taken (mail_name number x));
+              omega (arith, weigh_snoc k v.taken (parcel_name x));
         },
         (refl, h.honest.0),
       )
 
-  pub forks : (port : ℕ) (v : Lists) → Forks (IsBalanced plan number n) port v v (name_lists [] [])
+  pub forks : (port : ℕ) (v : Lists) → Forks (IsBalanced n) port v v (name_lists [] [])
   forks port v items views h at =
       record {
         honest = h.honest;
@@ -79,17 +79,17 @@ module _ {U : Type 0} (plan : U → Plan) (number : U → ℕ) (n : Option Plan)
             omega (arith, total_snoc (λ (u : Lists). weigh k u.put) (set views port v) (name_lists [] []), total_snoc (λ (u : Lists). weigh k u.taken) (set views port v) (name_lists [] []));
       }
 
-  first_honest : (x : Mail U) (items rest : List (Mail U)) → items ≡ x ∷ rest → AllByRecursion (IsHonest plan n) items → IsHonest plan n x
-  first_honest x items rest e h = (subst (AllByRecursion (IsHonest plan n)) e h).0
+  first_honest : (x : Parcel) (items rest : List Parcel) → items ≡ x ∷ rest → AllByRecursion (IsHonest n) items → IsHonest n x
+  first_honest x items rest e h = (subst (AllByRecursion (IsHonest n)) e h).0
 
-  pub fair : (items : List (Mail U)) (views : List Lists) → IsBalanced plan number n items views → IsFair plan number n items views
+  pub fair : (items : List Parcel) (views : List Lists) → IsBalanced n items views → IsFair n items views
   fair items views b = record {
     so_far = λ h. let e = b.even h in omega (arith, e);
     next = λ x rest is. (
       first_honest x items rest is b.honest,
       λ h.
           let e = b.even h in
-          let w : weigh h (map (mail_name number) items) ≡ h (mail_name number x) + weigh h (map (mail_name number) rest) = ap (λ (xs : List (Mail U)). weigh h (map (mail_name number) xs)) is in
+          let w : weigh h (map parcel_name items) ≡ h (parcel_name x) + weigh h (map parcel_name rest) = ap (λ (xs : List Parcel). weigh h (map parcel_name xs)) is in
           omega (arith, e, w),
     );
   }

@@ -12,7 +12,7 @@ const LONGEST: u64 = 100;
 /// The pauses of a thread between its looks at what another one may have changed. At first it only spins, then it yields
 /// the processor, and then it sleeps, each time twice as long, up to a tenth of a millisecond.
 #[derive(Drop)]
-pub(crate) struct Pauses {
+pub struct Pauses {
     backoff: Backoff,
     parker: Parker,
     micros: u64,
@@ -21,7 +21,7 @@ pub(crate) struct Pauses {
 
 impl Pauses {
     /// No pause so far.
-    pub(crate) fn new() -> Pauses {
+    pub fn new() -> Pauses {
         Pauses {
             backoff: Backoff::new(),
             parker: Parker::new(),
@@ -30,7 +30,7 @@ impl Pauses {
     }
 
     /// Makes the next pause. Nobody else has the parker, so a sleep ends by its time.
-    pub(crate) fn pause<R: Wait>(&mut self, rt: &R)
+    pub fn pause<R: Wait>(&mut self, rt: &R)
         ensures { self.old.micros ≤ self.new.micros }
     {
         if !self.backoff.is_completed() {

@@ -1,21 +1,21 @@
 //! The rule of a box, and what its steps change: a box is made with a pass, which has seen nothing; a new pass of it,
-//! which has seen nothing either, may be made; a push puts one mail at the back, and a pop takes one from the front, or
-//! each finds the box full or empty and changes nothing.
-use crate::{Lists, Mail, Named, Planned};
+//! which has seen nothing either, may be made; a push puts one parcel at the back, and a pop takes one from the front,
+//! or each finds the box full or empty and changes nothing.
+use crate::{Lists, Planned};
 use crossbeam_queue::protocol::{Outcome, Protocol, Split};
+use net_parts::Parcel;
 use std::marker::PhantomData;
 
 /// The rule of a box for the plan of `P`.
-pub struct MailRule<P, U> {
+pub struct ParcelRule<P> {
     plan: PhantomData<P>,
-    kit: PhantomData<U>,
 }
 
-impl<P: Planned, U: Named> Protocol<Mail<U>, Lists> for MailRule<P, U> {
+impl<P: Planned> Protocol<Parcel, Lists> for ParcelRule<P> {
     ghost use Rattle.std.specs.Prelude.{[]};
     ghost use Rattle.window_exchange.specs.Balance.{IsBalanced, name_lists};
 
-    ghost holds = { IsBalanced U.plan U.name P.plan };
+    ghost holds = { IsBalanced P.plan };
 
     ghost first = { name_lists [] [] };
 }
@@ -32,29 +32,26 @@ impl Split<Lists> for Again {
     ghost right = { λ v. name_lists [] [] };
 }
 
-/// The mail's name stands at the end of the put list.
-pub struct Puts<U> {
-    kit: PhantomData<U>,
-}
+/// The parcel's name stands at the end of the put list.
+pub struct Puts;
 
-impl<U: Named> Outcome<Mail<U>, Lists> for Puts<U> {
+impl Outcome<Parcel, Lists> for Puts {
     ghost use Rattle.std.specs.Prelude.{◌≡◌, [], ◌∷◌, ◌++◌};
     ghost use Rattle.window_exchange.specs.Balance.{name_lists};
-    ghost use Rattle.window_exchange.specs.MailNames.{mail_name};
+    ghost use Rattle.window_exchange.specs.MailNames.{parcel_name};
 
-    ghost then = { λ v x w. w ≡ name_lists (v.put ++ mail_name U.name x ∷ []) v.taken };
+    ghost then = { λ v x w. w ≡ name_lists (v.put ++ parcel_name x ∷ []) v.taken };
 }
 
-/// The mail is honest, and its name stands at the end of the taken list.
-pub struct Takes<P, U> {
+/// The parcel is honest, and its name stands at the end of the taken list.
+pub struct Takes<P> {
     plan: PhantomData<P>,
-    kit: PhantomData<U>,
 }
 
-impl<P: Planned, U: Named> Outcome<Mail<U>, Lists> for Takes<P, U> {
+impl<P: Planned> Outcome<Parcel, Lists> for Takes<P> {
     ghost use Rattle.std.specs.Prelude.{◌≡◌, [], ◌∷◌, ◌++◌};
     ghost use Rattle.window_exchange.specs.Balance.{name_lists};
-    ghost use Rattle.window_exchange.specs.MailNames.{mail_name, IsHonest};
+    ghost use Rattle.window_exchange.specs.MailNames.{parcel_name, IsHonest};
 
-    ghost then = { λ v x w. (w ≡ name_lists v.put (v.taken ++ mail_name U.name x ∷ [])) × IsHonest U.plan P.plan x };
+    ghost then = { λ v x w. (w ≡ name_lists v.put (v.taken ++ parcel_name x ∷ [])) × IsHonest P.plan x };
 }

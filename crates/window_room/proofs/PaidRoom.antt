@@ -10,7 +10,7 @@ use Rattle.collision_log.specs.declared.row.Body.TheVariants.{Sent, Collided, Gi
 use Rattle.collision_log.specs.declared.row.Body.TheVariants as body
 use Rattle.mac_receive.specs.Receiver.{Receiving, receiver_step}
 use Rattle.mac_parameters.specs.Parameters.{preamble_length}
-use Rattle.mac_receive.specs.KeptReceiver.{Kept}
+use Rattle.mac_receive.specs.KeptReceiver.{KeptReception}
 use Rattle.mac_transmit.specs.Sender.{Sender, sender_step}
 use Rattle.window_room.specs.NeededRoom.{Demand, IsDemandWithin, both_demands, event_demand, row_demand, reception_demand, receiver_demand, sender_demand, window_demand, station_demand, stations_demand, demand_times}
 use Rattle.window_room.specs.Sendings.{elapsed}
@@ -91,7 +91,7 @@ any_sender s n = omega (arith, min-le_left preamble_length (elapsed s.t s.phase)
 suc-mul' : (n m : ℕ) → suc n * m ≡ m + n * m
 suc-mul' n m = suc-mul n m ∙ omega arith
 
-any_station : (s : Sender) (k : Kept) (n most : ℕ) → k.most ≡ most → IsDemandWithin (both_demands (sender_demand n s) (receiver_demand n k)) (station_demand most n)
+any_station : (s : Sender) (k : KeptReception) (n most : ℕ) → k.most ≡ most → IsDemandWithin (both_demands (sender_demand n s) (receiver_demand n k)) (station_demand most n)
 any_station s k n most e =
     let a : IsDemandWithin (reception_demand k.most k.halves n) (window_demand k.most n) = any k.most k.halves n in
     record {
@@ -107,7 +107,7 @@ add_within a b c d m x y e = record {
   fewer_octets = omega (arith, x.fewer_octets, y.fewer_octets, suc-mul' m c.octets);
 }
 
-pub any_stations : (ss : List Sender) (ks : List Kept) (n most : ℕ) → All (λ k. k.most ≡ most) ks → IsDemandWithin (stations_demand n ss ks) (demand_times (length ks) (station_demand most n))
+pub any_stations : (ss : List Sender) (ks : List KeptReception) (n most : ℕ) → All (λ k. k.most ≡ most) ks → IsDemandWithin (stations_demand n ss ks) (demand_times (length ks) (station_demand most n))
 any_stations [] ks n most all = record { fewer_rows = omega arith; fewer_frames = omega arith; fewer_octets = omega arith }
 any_stations (s ∷ ss) [] n most all = record { fewer_rows = omega arith; fewer_frames = omega arith; fewer_octets = omega arith }
 any_stations (s ∷ ss) (k ∷ ks) n most all =

@@ -12,7 +12,7 @@ use Rattle.collision_log.specs.declared.row.Body.{Body}
 use Rattle.collision_log.specs.declared.row.Body.TheVariants.{Received, Dropped}
 use Rattle.collision_log.specs.declared.row.Why.TheVariants as why
 use Rattle.mac_receive.specs.Receiver.{Receiving, receiver_step, left_halves, quiet, reception_ended, extended, judged_row, judged_octets, reading_row, reading_octets}
-use Rattle.mac_receive.specs.KeptReceiver.{Kept, Hears}
+use Rattle.mac_receive.specs.KeptReceiver.{KeptReception, Hears}
 use Rattle.window_room.specs.Rooms.{Room, KeepsRoom}
 use Rattle.window_room.specs.NeededRoom.{Covers, Demand, IsDemandWithin, both_demands, event_demand, reception_demand, receiver_demand}
 use Rattle.window_room.proofs.PaidRoom.{paid}
@@ -84,10 +84,10 @@ covers_left after e before other old new w k a = record {
   for_octets = omega (arith, w.fewer_octets, a.for_octets, k.keeps_octets);
 }
 
-same_demand : (r : Receiving) (k : Kept) (n most : ℕ) → Hears r k → r.most ≡ most → receiver_demand n k ≡ reception_demand most (length r.halves) n
+same_demand : (r : Receiving) (k : KeptReception) (n most : ℕ) → Hears r k → r.most ≡ most → receiver_demand n k ≡ reception_demand most (length r.halves) n
 same_demand r k n most h e = ap₂ (λ m c. reception_demand m c n) (h.same_most ∙ e) h.count
 
-pub fits : (r : Receiving) (k : Kept) (heard : Sym) (sending : Bool) (room : Room) (e : Option Body) → Hears r k → e ≡ (receiver_step r heard sending).event → Covers (receiver_demand 1 k) room → Covers (event_demand e) room
+pub fits : (r : Receiving) (k : KeptReception) (heard : Sym) (sending : Bool) (room : Room) (e : Option Body) → Hears r k → e ≡ (receiver_step r heard sending).event → Covers (receiver_demand 1 k) room → Covers (event_demand e) room
 fits r k heard sending room e h is a =
     let P : Option Body → Type 0 = λ x. Covers (event_demand x) room in
     let Q : Demand → Type 0 = λ d. Covers d room in
@@ -95,7 +95,7 @@ fits r k heard sending room e h is a =
     subst P (sym is)
     (covers_second (reception_demand r.most (length (receiver_step r heard sending).state.halves) 0) (event_demand (receiver_step r heard sending).event) (reception_demand r.most (length r.halves) 1) room (paid r heard sending 0) before)
 
-pub next : (r : Receiving) (k k' : Kept) (heard : Sym) (sending : Bool) (n : ℕ) (e : Option Body) (other : Demand) (old new : Room) → Hears r k → Hears (receiver_step r heard sending).state k' → (receiver_step r heard sending).state.most ≡ r.most
+pub next : (r : Receiving) (k k' : KeptReception) (heard : Sym) (sending : Bool) (n : ℕ) (e : Option Body) (other : Demand) (old new : Room) → Hears r k → Hears (receiver_step r heard sending).state k' → (receiver_step r heard sending).state.most ≡ r.most
     → e ≡ (receiver_step r heard sending).event → KeepsRoom (event_demand e).rows (event_demand e).frames (event_demand e).octets old new
     → Covers (both_demands other (receiver_demand (suc n) k)) old → Covers (both_demands other (receiver_demand n k')) new
 next r k k' heard sending n e other old new h h' m is keeps a =
@@ -108,7 +108,7 @@ next r k k' heard sending n e other old new h h' m is keeps a =
     (covers_left after (event_demand (receiver_step r heard sending).event) before other old new (paid r heard sending n) (subst P is keeps) (subst Q (same_demand r k (suc n) r.most h refl) a))
 
 -- room for a window is room for its first half bit
-pub first_half_bit : (k' k : Kept) (old new : Room) (n m : ℕ) → 0 < m → ((j : ℕ) (other : Demand) → Covers (both_demands other (receiver_demand (n + j) k')) old → Covers (both_demands other (receiver_demand (m + j) k)) new) → Covers (receiver_demand n k') old
+pub first_half_bit : (k' k : KeptReception) (old new : Room) (n m : ℕ) → 0 < m → ((j : ℕ) (other : Demand) → Covers (both_demands other (receiver_demand (n + j) k')) old → Covers (both_demands other (receiver_demand (m + j) k)) new) → Covers (receiver_demand n k') old
     → Covers (receiver_demand 1 k) new
 first_half_bit k' k old new n m some left a =
     let b : Covers (both_demands (record { rows = 0; frames = 0; octets = 0 }) (receiver_demand (m + 0) k)) new =

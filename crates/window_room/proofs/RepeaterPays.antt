@@ -19,7 +19,7 @@ use Rattle.repeater_core.specs.declared.modes.Activity.TheVariants.{Nobody, One,
 use Rattle.repeater_core.specs.Limits.{counts_end}
 use Rattle.repeater_core.specs.Modes.{mode_after, next_count, is_tx_clash, wish_of, activity_from, begun, repeated}
 use Rattle.repeater_core.specs.Counts.{Count, Choice, choice, choice_awake, choices_from}
-use Rattle.repeater_core.specs.Step.{State, after, chosen, collides, emitted_by, guards_after, guard_events, mode_next}
+use Rattle.repeater_core.specs.Step.{RepeaterDevice, after, chosen, collides, emitted_by, guards_after, guard_events, mode_next}
 use Rattle.network.specs.Rows.{happened, guard_bodies, port_bodies, repeater_bodies}
 use Rattle.window_room.specs.RepeaterRows.{guard_turn, spent_by_guard, spent_by_count, spent_by_mode, guard_rows_left, halt_rows_left, repeater_rows_left, repeater_window_rows}
 
@@ -231,7 +231,7 @@ ports_few p (b ∷ bs) (e ∷ es) =
 total : (a b c d e f x y z l : ℕ) → a + x ≤ d → b + y ≤ e → c + z ≤ f → l ≤ x + (z + y) → (a + (b + c)) + l ≤ d + (e + f)
 total a b c d e f x y z l p q r m = omega (arith, p, q, r, m)
 
-pub repeater_pays : (r : State) (hs : List Sym) (n : ℕ) → repeater_rows_left n (after hs r) + length (repeater_bodies hs r) ≤ repeater_rows_left (suc n) r
+pub repeater_pays : (r : RepeaterDevice) (hs : List Sym) (n : ℕ) → repeater_rows_left n (after hs r) + length (repeater_bodies hs r) ≤ repeater_rows_left (suc n) r
 unfolding mode_next chosen
 repeater_pays r hs n =
     let m : Mode = mode_after r.mode (activity_from 0 r.guards hs) in
@@ -281,7 +281,7 @@ few_mode (RxClash n i) = omega arith
 few_mode (TxClash i) = min-le_right i fragment_extension
 few_mode (OnePort n i) = omega arith
 
-pub any_repeater : (r : State) (n : ℕ) → length r.counts ≡ length r.guards → repeater_rows_left n r ≤ repeater_window_rows (length r.guards) n
+pub any_repeater : (r : RepeaterDevice) (n : ℕ) → length r.counts ≡ length r.guards → repeater_rows_left n r ≤ repeater_window_rows (length r.guards) n
 any_repeater r n e =
     let clashes : (n + spent_by_mode r.mode) / fragment_extension ≤ 1 + n / fragment_extension = omega (arith, few_mode r.mode) in
     let guards : guard_rows_left n r.guards ≤ length r.guards * (2 + n / guard_turn) = any_guards n (2 + n / guard_turn) r.guards (omega arith) in

@@ -4,7 +4,7 @@ use Rattle.std.specs.Prelude.{ℕ, suc, ◌+◌, ◌*◌, ◌/◌, ◌≤◌, Op
 use Rattle.mac_parameters.specs.Parameters.{check_sequence, half_bits_an_octet, preamble_length}
 use Rattle.collision_log.specs.declared.row.Body.{Body}
 use Rattle.mac_receive.specs.Receiver.{with_event}
-use Rattle.mac_receive.specs.KeptReceiver.{Kept}
+use Rattle.mac_receive.specs.KeptReceiver.{KeptReception}
 use Rattle.mac_transmit.specs.Sender.{Sender}
 use Rattle.window_room.specs.Receptions.{count_received, least_reception, octets_received}
 use Rattle.window_room.specs.Rooms.{Room, RoomFor}
@@ -53,7 +53,7 @@ reception_demand most h n = record {
 }
 
 -- The same, of what a receiver keeps (profile).
-abbrev pub receiver_demand : ℕ → Kept → Demand
+abbrev pub receiver_demand : ℕ → KeptReception → Demand
 receiver_demand n k = reception_demand k.most k.halves n
 
 -- What n half bits can need of any receiver of frames of at most so many octets before the check sequence (profile).
@@ -84,7 +84,7 @@ abbrev pub demand_times : ℕ → Demand → Demand
 demand_times m d = record { rows = m * d.rows; frames = m * d.frames; octets = m * d.octets }
 
 -- What n more half bits can need of stations with these senders and receivers (profile).
-abbrev pub stations_demand : ℕ → List Sender → List Kept → Demand
+abbrev pub stations_demand : ℕ → List Sender → List KeptReception → Demand
 stations_demand n (s ∷ ss) (k ∷ ks) =
     both_demands (both_demands (sender_demand n s) (receiver_demand n k)) (stations_demand n ss ks)
 stations_demand n _ _ = record { rows = 0; frames = 0; octets = 0 }

@@ -5,7 +5,7 @@ use Rattle.port_partition.specs.Guard.{Guard}
 use Rattle.repeater_core.specs.declared.modes.Mode.{Mode}
 use Rattle.repeater_core.specs.declared.modes.Mode.TheVariants.{TxClash}
 use Rattle.repeater_core.specs.Counts.{Count}
-use Rattle.repeater_core.specs.Step.{State}
+use Rattle.repeater_core.specs.Step.{RepeaterDevice}
 
 -- Half of the half bits from one partition of a port to the next, at least: what a partition and what a reconnection
 -- count (profile).
@@ -38,7 +38,7 @@ halt_rows_left n [] = 0
 halt_rows_left n (c ∷ cs) = (n + spent_by_count c) / jabber_limit + halt_rows_left n cs
 
 -- The rows of a repeater in n half bits, at most (profile).
-abbrev pub repeater_rows_left : ℕ → State → ℕ
+abbrev pub repeater_rows_left : ℕ → RepeaterDevice → ℕ
 repeater_rows_left n r =
     (n + spent_by_mode r.mode) / fragment_extension + (guard_rows_left n r.guards + halt_rows_left n r.counts)
 

@@ -7,9 +7,9 @@ ghost use Rattle.manchester_line.specs.declared.Sym.{Sym};
 ghost use Rattle.mac_receive.specs.Receiver.{Receiving, receiver_bodies, receiver_step};
 ghost use Rattle.mac_transmit.specs.Sender.{Sender, IsSender, sender_step};
 ghost use Rattle.window_room.specs.NeededRoom.{IsDemandWithin, both_demands, event_demand, row_demand, reception_demand, sender_demand, window_demand, station_demand, stations_demand, demand_times};
-ghost use Rattle.mac_receive.specs.KeptReceiver.{Kept};
+ghost use Rattle.mac_receive.specs.KeptReceiver.{KeptReception};
 ghost use Rattle.network.specs.Rows.{repeater_bodies};
-ghost use Rattle.repeater_core.specs.Step.{State, after};
+ghost use Rattle.repeater_core.specs.Step.{RepeaterDevice, after};
 ghost use Rattle.window_room.specs.RepeaterRows.{repeater_rows_left, repeater_window_rows};
 ghost use Rattle.window_room.specs.Receptions.{HeardHalf, reception_bodies, count_received, frame_octets, octets_received, heard_half, least_reception};
 ghost use Rattle.window_room.specs.Sendings.{least_turn, sending_bodies};
@@ -82,7 +82,7 @@ pub fn room_is_paid()
 
 /// What n half bits can need of stations in any state is at most one known demand for each.
 pub fn stations_need_little()
-    ensures { (senders : List Sender) (receivers : List Kept) (n most : ℕ) → All (λ k. k.most ≡ most) receivers →
+    ensures { (senders : List Sender) (receivers : List KeptReception) (n most : ℕ) → All (λ k. k.most ≡ most) receivers →
         IsDemandWithin
         (stations_demand n senders receivers) (demand_times (length receivers) (station_demand most n)) }
 {}
@@ -92,9 +92,9 @@ pub fn stations_need_little()
 /// reconnections, and one more for each half of the reconnection's clean run, and one halt, and one more for each
 /// unbroken output; and one collision that begins, and one more for each fragment extension.
 pub fn repeater_rows_are_few()
-    ensures paid { (r : State) (heard : List Sym) (n : ℕ) →
+    ensures paid { (r : RepeaterDevice) (heard : List Sym) (n : ℕ) →
         repeater_rows_left n (after heard r) + length (repeater_bodies heard r) ≤ repeater_rows_left (suc n) r }
-    ensures any { (r : State) (n : ℕ) → length r.counts ≡ length r.guards →
+    ensures any { (r : RepeaterDevice) (n : ℕ) → length r.counts ≡ length r.guards →
         repeater_rows_left n r ≤ repeater_window_rows (length r.guards) n }
 {}
 

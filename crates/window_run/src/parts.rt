@@ -8,11 +8,11 @@ use exchange_core::PartList;
 use lists::OutOfMemory;
 use network::Captures;
 use outside::Gate;
-use turn_run::Kind;
+use turn_run::PartKind;
 use worker_gate::Gated;
 
 /// Puts the rows and captures of parts that have made all their windows behind others, part by part.
-pub fn collect_parts<'g, K: Kind, G: Gate>(
+pub fn collect_parts<'g, K: PartKind, G: Gate>(
     parts: PartList<Gated<'g, K, G>>,
     rows: &mut RowsList,
     captures: &mut Vec<Captures>,

@@ -14,7 +14,7 @@ use segment_engine::SegmentPart;
 use std::alloc::Global;
 use std::sync::Wait;
 use std::thread::Threads;
-use turn_run::{Kind, gather_outputs, run_in_turn};
+use turn_run::{PartKind, gather_outputs, run_in_turn};
 use worker_gate::{Gated, run_planned};
 
 /// Runs a plan to its end by 1 to 64 workers, the caller being one of them. Each part passes the gate at the beginning
@@ -44,7 +44,7 @@ pub fn run_by_windows<G: Gate, X: Threads + Wait + Sync>(
 }
 
 /// The same by the workers, on segments and repeaters of these kinds; nothing where these aren't whole at the end.
-fn run_parts<S: Kind, R: Kind, G: Gate, X: Threads + Wait + Sync>(
+fn run_parts<S: PartKind, R: PartKind, G: Gate, X: Threads + Wait + Sync>(
     rt: &X,
     alloc: Global,
     plan: &Plan,
@@ -66,6 +66,7 @@ fn run_parts<S: Kind, R: Kind, G: Gate, X: Threads + Wait + Sync>(
         rt,
         alloc,
         plan,
+        pace,
         workers,
         gate,
         &|i| -> Result<Gated<'_, S, G>, OutOfMemory>
@@ -88,7 +89,7 @@ fn run_parts<S: Kind, R: Kind, G: Gate, X: Threads + Wait + Sync>(
 }
 
 /// A part of a kind behind the gate.
-fn gated<'g, K: Kind, G: Gate>(
+fn gated<'g, K: PartKind, G: Gate>(
     alloc: Global,
     plan: &Plan,
     pace: &Pace,

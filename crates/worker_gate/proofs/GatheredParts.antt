@@ -15,7 +15,7 @@ use Rattle.worker_gate.specs.PlannedShares.{IsPlannedRack}
 use Rattle.worker_gate.specs.FinishedParts.{IsFinished, AreFinished, HaveFinished}
 use Rattle.worker_gate.proofs.KeptPlans.{boxed_as, same_plan}
 
-each_snoc : {S : Type 0} (P : ℕ → S → Type 0) (xs : List S) (x : S) → ((k : ℕ) (d : S) → k < length xs → P k (get_or xs k d)) → P (length xs) x
+pub each_snoc : {S : Type 0} (P : ℕ → S → Type 0) (xs : List S) (x : S) → ((k : ℕ) (d : S) → k < length xs → P k (get_or xs k d)) → P (length xs) x
     → (k : ℕ) (d : S) → k < length (xs ++ x ∷ []) → P k (get_or (xs ++ x ∷ []) k d)
 each_snoc P [] x all p zero d in' = p
 each_snoc P [] x all p (suc k) d in' = absurd (omega arith)

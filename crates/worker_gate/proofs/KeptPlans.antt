@@ -9,7 +9,7 @@ use Rattle.exchange_core.specs.Shares.{Rack, Held, nothing_held, AreParcelsFor, 
 use Rattle.exchange_core.proofs.ChangedRacks.{comes_of, some_same, none_not_some}
 use Rattle.exchange_core.proofs.GrownShares.{added_on}
 use Rattle.exchange_core.proofs.ShareLaws.{parts_change, parcels_serve}
-use Rattle.worker_gate.specs.PlannedShares.{IsPlannedRack, IsPlannedShare, StaysPlanned, has_plan, the_plan}
+use Rattle.worker_gate.specs.PlannedShares.{IsPlannedRack, IsPlannedShare, StaysPlanned}
 
 abbrev pub boxed_as : Plan → Option Plan
 boxed_as plan = Some plan
@@ -189,11 +189,3 @@ opening_serves plan plan' u u' w ps is same number start =
 
 pub same_share : (boxed : Option Plan) (s s' : Held) → IsPlannedShare boxed s → s' ≡ s → IsPlannedShare boxed s'
 same_share boxed s s' p is = subst (IsPlannedShare boxed) (sym is) p
-
--- the plan that is carried
-pub plan_is_there : (plan : Plan) (boxed : Option Plan) → Some plan ≡ boxed → has_plan boxed ≡ true
-plan_is_there plan boxed is = ap has_plan (sym is)
-
-pub the_plan_is : (boxed : Option Plan) (one : has_plan boxed ≡ true) → Some (the_plan boxed one) ≡ boxed
-the_plan_is None none = absurd (true≢false (sym none))
-the_plan_is (Some plan) one = refl

@@ -1,4 +1,5 @@
 pub mod KeptPlans
 pub mod GatheredParts
 pub mod SteppedParts
-pub mod SamePorts
+pub mod SameBoxes
+pub mod TakenParcels

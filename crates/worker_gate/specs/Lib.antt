@@ -2,3 +2,4 @@ pub mod PlannedShares
 pub mod FinishedParts
 pub mod PartMakers
 pub mod SteppedShares
+pub mod ReceivedParcels

@@ -1,7 +1,5 @@
 -- What is carried of a plan by what a worker owns (profile). Parts count from 0.
-use mathlib.Core.Bool.{true≢false}
-use mathlib.Core.Path.{sym}
-use Rattle.std.specs.Prelude.{◌≡◌, ℕ, Bool, true, false, Option, Some, None}
+use Rattle.std.specs.Prelude.{◌≡◌, ℕ, Option, Some}
 use Rattle.load_plan.specs.declared.plan.Plan.{Plan}
 use Rattle.exchange_core.specs.Holdings.{Holding}
 use Rattle.exchange_core.specs.Shares.{Rack, Held, part_on}
@@ -18,13 +16,3 @@ pub record IsPlannedShare (boxed : Option Plan) (s : Held) : Type 0 where
 -- A share of parts of this plan is one of them still (profile).
 abbrev pub StaysPlanned : Held → Held → Type 0
 StaysPlanned before after = (boxed : Option Plan) → IsPlannedShare boxed before → IsPlannedShare boxed after
-
--- There is a plan (profile).
-abbrev pub has_plan : Option Plan → Bool
-has_plan None = false
-has_plan (Some plan) = true
-
--- That plan (profile).
-abbrev pub the_plan : (boxed : Option Plan) → has_plan boxed ≡ true → Plan
-the_plan None none = absurd (true≢false (sym none))
-the_plan (Some plan) one = plan

@@ -13,7 +13,7 @@ use window_exchange::Planned;
 
 /// A kit for each of so many workers. They have all parts together, each part once; that shows when they are gathered.
 pub fn make_kits<
-    P: Planned + Send,
+    P: Planned,
     S: Part,
     R: Part,
     F: Fn(u32) -> Result<S, OutOfMemory>,
@@ -51,7 +51,7 @@ pub fn make_kits<
 
 /// The kit of one worker.
 fn make_kit<
-    P: Planned + Send,
+    P: Planned,
     S: Part,
     R: Part,
     F: Fn(u32) -> Result<S, OutOfMemory>,

@@ -79,14 +79,6 @@ impl<P: Planned, S: Part, R: Part> Segments<P, S, R> {
 }
 
 impl<P: Planned, S: Part, R: Part> Desk<P, S, R> {
-    /// No parts.
-    pub fn new(alloc: Global) -> Desk<P, S, R>
-        ensures { result.share ≡ nothing_held }
-    {
-        let none: Segments<P, S, R> = Segments::new(alloc);
-        none.into_desk()
-    }
-
     /// Adds a repeater, whose parcels are all away. On refusal it is dropped.
     pub fn add_repeater(&mut self, plan: &Plan, part: R) -> Result<(), OutOfMemory>
         requires boxed { Some plan.now ≡ P.plan }

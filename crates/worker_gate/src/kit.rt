@@ -1,22 +1,19 @@
 //! What a worker works on.
-ghost use Rattle.std.specs.Prelude.{◌≡◌, ◌↔◌, false, true, All, IfSome, IsTrue, Some, [], if◌then◌else◌};
-ghost use Rattle.net_parts.specs.Parcels.{IsTrueParcel};
+ghost use Rattle.std.specs.Prelude.{◌≡◌, ◌↔◌, false, All, IfSome, IsTrue, Some};
 ghost use Rattle.net_parts.specs.Windows.{windows};
-ghost use Rattle.exchange_core.specs.Shares.{has_place_for, nothing_held, part_of, take_held};
-ghost use Rattle.worker_gate.specs.PlannedShares.{has_plan, the_plan};
+ghost use Rattle.exchange_core.specs.Shares.{part_of};
+ghost use Rattle.crossbeam_queue.specs.Passes.{view};
+ghost use Rattle.window_exchange.specs.MailNames.{IsHonest};
 ghost use Rattle.worker_gate.specs.SteppedShares.{ArePast};
+ghost use Rattle.worker_gate.specs.ReceivedParcels.{HasEmptied, HasReceived};
 ghost use Rattle.part_dealing.specs.declared.duties.Duty.{Duty};
 
 use crate::desk::Desk;
-use crate::port::Port;
+use crate::endpoint::Endpoint;
 use net_parts::{Pace, Parcel, Part};
 use part_dealing::{Duties, Duty, Outlet};
-use std::alloc::Global;
 use std::sync::Wait;
-use window_exchange::{Mail, Named, Planned};
-
-/// The ports of a worker to the boxes of all.
-pub type Ports<P, S, R> = Vec<Port<P, Kit<P, S, R>>>;
+use window_exchange::Planned;
 
 /// All that a worker works on: parts of the plan that the type carries, and what to do with them.
 #[derive(Drop)]
@@ -25,24 +22,11 @@ pub struct Kit<P: Planned, S: Part, R: Part> {
     windows: u64,
     desk: Desk<P, S, R>,
     duties: Duties,
-    ghost named: { has_plan P.plan ≡ true },
 }
 
-impl<P: Planned + Send, S: Part, R: Part> Named for Kit<P, S, R> {
-    ghost plan = { λ kit. the_plan P.plan kit.named };
-
-    ghost name = { λ kit. kit.number };
-
-    fn number(&self) -> u32 {
-        self.number
-    }
-}
-
-impl<P: Planned + Send, S: Part, R: Part> Kit<P, S, R> {
-    /// Parts of the plan for the worker of this number.
-    #[tactic(auto, using(crate::proofs::KeptPlans::plan_is_there))]
+impl<P: Planned, S: Part, R: Part> Kit<P, S, R> {
+    /// Parts for the worker of this number.
     pub fn new(number: u32, pace: &Pace, desk: Desk<P, S, R>, duties: Duties) -> Kit<P, S, R>
-        requires { Some pace.now.plan.value ≡ P.plan }
         ensures number { result.number ≡ number }
         ensures windows { result.windows ≡ windows pace.now.plan.value }
         ensures desk { result.desk.share ≡ desk.share }
@@ -56,33 +40,32 @@ impl<P: Planned + Send, S: Part, R: Part> Kit<P, S, R> {
         }
     }
 
-    /// No parts, with which a worker ends.
-    pub fn idle(alloc: Global, number: u32, pace: &Pace) -> Kit<P, S, R>
-        requires { Some pace.now.plan.value ≡ P.plan }
-        ensures number { result.number ≡ number }
-        ensures desk { result.desk.share ≡ nothing_held }
-        ensures duties { result.duties.turns.items ≡ [] }
+    /// The worker's number.
+    pub fn number(&self) -> u32
+        ensures { result ≡ self.now.number }
     {
-        Kit::new(number, pace, Desk::new(alloc), Duties::new(alloc))
+        self.number
     }
 
     /// Makes one window of each part whose parcels are here, and hands its parcels on. Says whether it made one.
-    pub fn turn<X: Wait>(&mut self, rt: &X, ports: &mut Ports<P, S, R>) -> bool
+    pub fn turn<X: Wait>(&mut self, rt: &X, boxes: &mut Vec<Endpoint<P>>) -> bool
         ensures windows { self.new.windows ≡ self.old.windows }
         ensures duties { self.new.duties ≡ self.old.duties }
     {
-        turn(rt, &mut self.desk, &self.duties, self.number, ports)
+        turn(rt, &mut self.desk, &self.duties, self.number, boxes)
     }
 
-    /// Puts a parcel to its part, if that is here, and drops it otherwise.
-    pub fn take(&mut self, parcel: Parcel)
-        requires { IfSome P.plan (λ plan. IsTrueParcel plan parcel) }
+    /// Puts all parcels in the worker's box to their parts. Says whether there was one.
+    pub fn take_all(&mut self, boxes: &mut Vec<Endpoint<P>>) -> bool
         ensures number { self.new.number ≡ self.old.number }
-        ensures share { self.new.desk.share ≡ (if has_place_for parcel self.old.desk.share then take_held parcel self.old.desk.share else self.old.desk.share) }
+        ensures share { HasReceived P.plan result self.old.desk.share self.new.desk.share }
         ensures windows { self.new.windows ≡ self.old.windows }
         ensures duties { self.new.duties ≡ self.old.duties }
     {
-        self.desk.take(parcel);
+        match boxes.get_mut(self.number as usize) {
+            Some(own) => take_all(&mut self.desk, own),
+            None => false,
+        }
     }
 
     /// Whether all windows of all parts are made, or the parts were given up for them.
@@ -132,33 +115,48 @@ fn are_kept<P: Planned, S: Part, R: Part>(desk: &Desk<P, S, R>, duties: &[Duty])
     duties.iter().all(|duty| !desk.is_lost(duty.part))
 }
 
+/// Puts all parcels in this box to their parts. Says whether there was one.
+fn take_all<P: Planned, S: Part, R: Part>(desk: &mut Desk<P, S, R>, own: &mut Endpoint<P>) -> bool
+    ensures { HasEmptied P.plan result desk.old.share desk.new.share (view own.old.pass.pass) (view own.new.pass.pass) }
+{
+    let mut came = false;
+    for _parcel in 0..u64::MAX {
+        let Some(parcel) = own.try_receive() else {
+            break;
+        };
+        desk.take(parcel);
+        came = true;
+    }
+    came
+}
+
 /// Makes one window of each part whose parcels are here, and hands its parcels on. Says whether it made one.
-fn turn<P: Planned + Send, S: Part, R: Part, X: Wait>(
+fn turn<P: Planned, S: Part, R: Part, X: Wait>(
     rt: &X,
     desk: &mut Desk<P, S, R>,
     duties: &Duties,
     number: u32,
-    ports: &mut Ports<P, S, R>,
+    boxes: &mut Vec<Endpoint<P>>,
 ) -> bool {
     let mut made = false;
     for i in 0..duties.turns.len() {
         let duty = duties.turns[i];
         if desk.step(duty.part) {
             made = true;
-            hand_on(rt, desk, duty, duties.outlets.as_slice(), number, ports);
+            hand_on(rt, desk, duty, duties.outlets.as_slice(), number, boxes);
         }
     }
     made
 }
 
 /// Brings the parcels of a part that leave to the workers of their parts.
-fn hand_on<P: Planned + Send, S: Part, R: Part, X: Wait>(
+fn hand_on<P: Planned, S: Part, R: Part, X: Wait>(
     rt: &X,
     desk: &mut Desk<P, S, R>,
     duty: Duty,
     outlets: &[Outlet],
     number: u32,
-    ports: &mut Ports<P, S, R>,
+    boxes: &mut Vec<Endpoint<P>>,
 ) {
     for k in duty.first..duty.end.min(outlets.len()) {
         if outlets[k].worker == number {
@@ -166,21 +164,16 @@ fn hand_on<P: Planned + Send, S: Part, R: Part, X: Wait>(
             continue;
         }
         if let Some(parcel) = desk.post(outlets[k].edge) {
-            send_to(rt, ports, outlets[k].worker, parcel);
+            send_to(rt, boxes, outlets[k].worker, parcel);
         }
     }
 }
 
 /// Sends a parcel to a worker.
-fn send_to<P: Planned + Send, S: Part, R: Part, X: Wait>(
-    rt: &X,
-    ports: &mut Ports<P, S, R>,
-    worker: u32,
-    parcel: Parcel,
-)
-    requires { IfSome P.plan (λ plan. IsTrueParcel plan parcel) }
+fn send_to<P: Planned, X: Wait>(rt: &X, boxes: &mut Vec<Endpoint<P>>, worker: u32, parcel: Parcel)
+    requires { IsHonest P.plan parcel }
 {
-    if let Some(port) = ports.get_mut(worker as usize) {
-        port.send(rt, Mail::Parcel(parcel));
+    if let Some(end) = boxes.get_mut(worker as usize) {
+        end.send(rt, parcel);
     }
 }

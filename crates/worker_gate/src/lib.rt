@@ -4,10 +4,10 @@
 
 mod crew;
 mod desk;
+mod endpoint;
 mod gated;
 mod gather;
 mod kit;
-mod port;
 mod run;
 mod threads;
 mod worker;

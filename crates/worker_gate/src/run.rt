@@ -3,6 +3,7 @@ ghost use Rattle.std.specs.Prelude.{◌≡◌, ◌<◌, ◌≤◌, ◌+◌, IfOk
 ghost use Rattle.worker_gate.specs.FinishedParts.{AreFinished};
 ghost use Rattle.worker_gate.specs.PartMakers.{MakesSegments, MakesRepeaters};
 
+use crate::crew::make_kits;
 use crate::gather::{gather, put_parts};
 use crate::kit::Kit;
 use crate::threads::run_threads;
@@ -18,8 +19,9 @@ use std::sync::Wait;
 use std::thread::Threads;
 use window_exchange::Planned;
 
-/// Runs a plan by 1 to 64 workers, the caller being one of them, on parts that closures make: `make_segment` and
-/// `make_repeater` are told the number of a segment and of a repeater, from 0. The gate is told that the run begins.
+/// Runs a plan at its pace by 1 to 64 workers, the caller being one of them, on parts that closures make:
+/// `make_segment` and `make_repeater` are told the number of a segment and of a repeater, from 0. The gate is told that
+/// the run begins.
 /// Answers the parts, each once, in order of numbers, each with all its windows made; none where the workers' parts
 /// aren't whole at the end; or want of memory. It may wait.
 pub fn run_planned<
@@ -33,11 +35,13 @@ pub fn run_planned<
     rt: &X,
     alloc: Global,
     plan: &Plan,
+    pace: &Pace,
     workers: u32,
     gate: &G,
     make_segment: &F,
     make_repeater: &H,
 ) -> Result<Option<(PartList<S>, PartList<R>)>, OutOfMemory>
+    requires paced { pace.now.plan.value ≡ plan.now }
     requires least { 1 ≤ workers }
     requires most { workers ≤ 64 }
     requires segments { MakesSegments S.plan S.number S.at plan.now (F.pre make_segment.now) (F.post make_segment.now) }
@@ -48,9 +52,8 @@ pub fn run_planned<
     let layout = &plan.layout;
     let parts = layout.segments.len() as u32 + layout.repeaters.len() as u32;
     let half_bits = layout.until_bits * u64::from(HALF_BITS_A_BIT);
-    let pace = Pace::of(plan);
     gate.begin(parts, pace.windows, half_bits);
-    run_boxed::<Brand, S, R, F, H, X>(rt, alloc, plan, &pace, workers, make_segment, make_repeater)
+    run_boxed::<Brand, S, R, F, H, X>(rt, alloc, plan, pace, workers, make_segment, make_repeater)
 }
 
 /// The same for a plan that a type carries, without the gate.
@@ -78,7 +81,8 @@ fn run_boxed<
     ensures segments { IfOk result (λ o. IfSome o (λ r. AreFinished S.plan S.number S.at plan.now 0 (length plan.now.layout.segments) r.0.items)) }
     ensures repeaters { IfOk result (λ o. IfSome o (λ r. AreFinished R.plan R.number R.at plan.now (length plan.now.layout.segments) (length plan.now.layout.repeaters) r.1.items)) }
 {
-    let kits = run_threads::<P, S, R, F, H, X>(rt, alloc, plan, pace, workers, segment, repeater)?;
+    let kits = make_kits::<P, S, R, F, H>(alloc, plan, pace, workers, segment, repeater)?;
+    let kits = run_threads(rt, alloc, plan, workers, kits)?;
     whole::<P, S, R>(alloc, plan, kits)
 }
 

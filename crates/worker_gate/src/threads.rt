@@ -1,188 +1,129 @@
 //! Workers in threads of their own, and the caller among them.
-ghost use Rattle.std.specs.Prelude.{◌≡◌, ◌<◌, ◌≤◌, ◌+◌, Some};
+ghost use Rattle.std.specs.Prelude.{◌≡◌, ◌<◌, ◌≤◌, length};
 ghost use denote.Param.Send.{IsSend};
-ghost use Rattle.worker_gate.specs.PartMakers.{MakesSegments, MakesRepeaters};
 
-use crate::crew::make_kits;
-use crate::kit::{Kit, Ports};
-use crate::port::make_ports;
-use crate::worker::{live, work};
+use crate::endpoint::{Endpoint, make_endpoints};
+use crate::kit::Kit;
+use crate::worker::work;
 use lists::OutOfMemory;
 use load_plan::Plan;
-use net_parts::{Pace, Part};
+use net_parts::Part;
 use part_dealing::count_edges;
 use std::alloc::Global;
 use std::sync::Wait;
-use std::thread;
-use std::thread::{JoinHandle, Scope, Threads};
-use window_exchange::{Mail, Named, Planned};
+use std::sync::atomic::{AtomicU64, Ordering};
+use std::thread::{JoinHandle, Scope, SpawnError, Threads};
+use std::{slice, thread};
+use window_exchange::Planned;
 
-/// Starts the worker of this number, if a thread can be made.
+/// Makes all windows of a kit, unless that of this number was refused a thread and is this one.
+fn live<P: Planned, S: Part, R: Part, X: Wait>(
+    rt: &X,
+    kit: Kit<P, S, R>,
+    boxes: Vec<Endpoint<P>>,
+    refused: &AtomicU64,
+) -> Kit<P, S, R> {
+    let mut kit = kit;
+    let mut boxes = boxes;
+    if refused.load(Ordering::SeqCst) != u64::from(kit.number()) {
+        work(rt, slice::from_mut(&mut kit), &mut boxes);
+    }
+    kit
+}
+
+/// Starts the worker of a kit in a thread of its own. Where no thread can be made the kit comes back.
 fn start<'s, E, P: Planned + Send + 's, S: Part + 's, R: Part + 's, X: Wait + Sync>(
     scope: &Scope<'s, E>,
     rt: &'s X,
-    ports: Ports<P, S, R>,
-    number: u32,
-) -> Option<JoinHandle<Option<Kit<P, S, R>>>> {
-    match scope.spawn(move || -> Option<Kit<P, S, R>> { live(rt, ports, number) }) {
-        Ok(handle) => Some(handle),
-        Err(_) => None,
+    kit: Kit<P, S, R>,
+    boxes: Vec<Endpoint<P>>,
+    refused: &'s AtomicU64,
+) -> Result<JoinHandle<Kit<P, S, R>>, Kit<P, S, R>> {
+    let number = u64::from(kit.number());
+    match scope.spawn(move || -> Kit<P, S, R> { live(rt, kit, boxes, refused) }) {
+        Ok(handle) => Ok(handle),
+        Err(SpawnError { value: back }) => {
+            refused.store(number, Ordering::SeqCst);
+            Err(back())
+        }
     }
 }
 
-/// Starts a worker for each of these ports, numbered from 1 on, until no more threads can be made. Answers how many
-/// workers there are with the caller.
+/// Starts a worker for each of these kits but that of the caller, whose number is 0. Those for which no thread can be
+/// made are the caller's, too.
 fn start_all<'s, E, P: Planned + Send + 's, S: Part + 's, R: Part + 's, X: Wait + Sync>(
     scope: &Scope<'s, E>,
     rt: &'s X,
-    rows: Vec<Ports<P, S, R>>,
-    handles: &mut Vec<JoinHandle<Option<Kit<P, S, R>>>>,
-) -> u32 {
-    let mut count = 1u32;
-    for row in rows {
-        let Some(handle) = start(scope, rt, row, count) else {
-            break;
+    kits: Vec<Kit<P, S, R>>,
+    rows: Vec<Vec<Endpoint<P>>>,
+    refused: &'s AtomicU64,
+    handles: &mut Vec<JoinHandle<Kit<P, S, R>>>,
+    own: &mut Vec<Kit<P, S, R>>,
+) {
+    let mut rows = rows;
+    for kit in kits {
+        if kit.number() == 0 {
+            let _ = own.push(kit);
+            continue;
+        }
+        let Some(row) = rows.pop() else {
+            let _ = own.push(kit);
+            continue;
         };
-        let _ = handles.push(handle);
-        count = count.saturating_add(1);
+        match start(scope, rt, kit, row, refused) {
+            Ok(handle) => {
+                let _ = handles.push(handle);
+            }
+            Err(kit) => {
+                let _ = own.push(kit);
+            }
+        }
     }
-    count
 }
 
 /// Waits for the workers, and puts their kits to the others.
 fn join_all<P: Planned + Send, S: Part, R: Part, X: Threads + Wait>(
     rt: &X,
-    handles: Vec<JoinHandle<Option<Kit<P, S, R>>>>,
+    handles: Vec<JoinHandle<Kit<P, S, R>>>,
     kits: &mut Vec<Kit<P, S, R>>,
 ) {
     for handle in handles {
-        if let Some(kit) = handle.join(rt) {
-            let _ = kits.push(kit);
-        }
+        let _ = kits.push(handle.join(rt));
     }
 }
 
-/// Makes a kit for each of so many workers, then sends them, and works on the caller's own. Where memory is short, each
-/// worker gets a kit with which it ends.
-fn lead<
-    P: Planned + Send,
-    S: Part,
-    R: Part,
-    F: Fn(u32) -> Result<S, OutOfMemory>,
-    H: Fn(u32) -> Result<R, OutOfMemory>,
-    X: Wait,
->(
+/// Makes all windows of these kits, each in a thread of its own but for the caller's, whose number is 0, and those for
+/// which no thread can be made. Answers the kits; what they hold shows when their parts are gathered, since a thread
+/// that ends tells no more than a type.
+pub(crate) fn run_threads<P: Planned + Send, S: Part, R: Part, X: Threads + Wait + Sync>(
     rt: &X,
     alloc: Global,
     plan: &Plan,
-    pace: &Pace,
-    ports: &mut Ports<P, S, R>,
     workers: u32,
-    segment: &F,
-    repeater: &H,
-) -> Result<Kit<P, S, R>, OutOfMemory>
-    requires boxed { Some plan.now ≡ P.plan }
-    requires paced { pace.now.plan.value ≡ plan.now }
-    requires segments { MakesSegments S.plan S.number S.at plan.now (F.pre segment.now) (F.post segment.now) }
-    requires repeaters { MakesRepeaters R.plan R.number R.at plan.now (H.pre repeater.now) (H.post repeater.now) }
-{
-    match make_kits::<P, S, R, F, H>(alloc, plan, pace, workers, segment, repeater) {
-        Ok(kits) => {
-            let mut own = send_kits(rt, alloc, pace, ports, kits);
-            work(rt, 0, &mut own, ports);
-            Ok(own)
-        }
-        Err(fault) => {
-            for number in 1..workers {
-                send_kit(rt, ports, Kit::idle(alloc, number, pace));
-            }
-            Err(fault)
-        }
-    }
-}
-
-/// Sends all kits but the caller's, which is given back.
-fn send_kits<P: Planned + Send, S: Part, R: Part, X: Wait>(
-    rt: &X,
-    alloc: Global,
-    pace: &Pace,
-    ports: &mut Ports<P, S, R>,
     kits: Vec<Kit<P, S, R>>,
-) -> Kit<P, S, R>
-    requires { Some pace.now.plan.value ≡ P.plan }
-{
-    let mut own = Kit::idle(alloc, 0, pace);
-    for kit in kits {
-        if kit.number() == 0 {
-            own = kit;
-        } else {
-            send_kit(rt, ports, kit);
-        }
-    }
-    own
-}
-
-/// Sends a kit to the worker of its number.
-#[tactic(auto, using(crate::proofs::KeptPlans::the_plan_is))]
-fn send_kit<P: Planned + Send, S: Part, R: Part, X: Wait>(
-    rt: &X,
-    ports: &mut Ports<P, S, R>,
-    kit: Kit<P, S, R>,
-) {
-    if let Some(port) = ports.get_mut(kit.number() as usize) {
-        port.send(rt, Mail::Kit(kit));
-    }
-}
-
-/// Runs the plan by so many workers, or as many fewer as there are threads, each part at one of them. Answers their
-/// kits; what these hold shows when they are gathered, since a thread that ends tells no more than a type.
-pub(crate) fn run_threads<
-    P: Planned + Send,
-    S: Part,
-    R: Part,
-    F: Fn(u32) -> Result<S, OutOfMemory>,
-    H: Fn(u32) -> Result<R, OutOfMemory>,
-    X: Threads + Wait + Sync,
->(
-    rt: &X,
-    alloc: Global,
-    plan: &Plan,
-    pace: &Pace,
-    workers: u32,
-    segment: &F,
-    repeater: &H,
 ) -> Result<Vec<Kit<P, S, R>>, OutOfMemory>
     requires least { 1 ≤ workers }
-    requires boxed { Some plan.now ≡ P.plan }
-    requires paced { pace.now.plan.value ≡ plan.now }
-    requires segments { MakesSegments S.plan S.number S.at plan.now (F.pre segment.now) (F.post segment.now) }
-    requires repeaters { MakesRepeaters R.plan R.number R.at plan.now (H.pre repeater.now) (H.post repeater.now) }
 {
     let room = count_edges(plan) + 1;
-    let mut rows = make_ports::<P, Kit<P, S, R>>(alloc, workers, room)?;
+    let mut rows = make_endpoints::<P>(alloc, workers, room)?;
     let mine = rows.remove(0);
     let handles = Vec::with_capacity(alloc, rows.len())?;
-    let kits = Vec::with_capacity(alloc, workers as usize)?;
-    thread::scope(
+    let own = Vec::with_capacity(alloc, workers as usize)?;
+    let number = AtomicU64::new(0);
+    let refused = &number;
+    Ok(thread::scope(
         thread::scope_env(),
         rt,
-        |scope| -> Result<Vec<Kit<P, S, R>>, OutOfMemory>
+        |scope| -> Vec<Kit<P, S, R>>
             requires crossing { IsSend P.row × IsSend S.row × IsSend R.row }
-            requires boxed { Some plan.now ≡ P.plan }
-            requires paced { pace.now.plan.value ≡ plan.now }
-            requires segments { MakesSegments S.plan S.number S.at plan.now (F.pre segment.now) (F.post segment.now) }
-            requires repeaters { MakesRepeaters R.plan R.number R.at plan.now (H.pre repeater.now) (H.post repeater.now) }
         {
             let mut mine = mine;
             let mut handles = handles;
-            let mut kits = kits;
-            let count = start_all(scope, rt, rows, &mut handles);
-            let own = lead::<P, S, R, F, H, X>(
-                rt, alloc, plan, pace, &mut mine, count, segment, repeater,
-            );
-            join_all(rt, handles, &mut kits);
-            kits.push(own?)?;
-            Ok(kits)
+            let mut own = own;
+            start_all(scope, rt, kits, rows, refused, &mut handles, &mut own);
+            work(rt, own.as_mut_slice(), &mut mine);
+            join_all(rt, handles, &mut own);
+            own
         },
-    )
+    ))
 }

@@ -1,79 +1,92 @@
-//! Workers in threads of their own.
-ghost use Rattle.std.specs.Prelude.{◌≡◌, IfSome};
+//! What a worker does.
+ghost use Rattle.std.specs.Prelude.{◌≡◌, ◌↔◌, All, IsTrue, map};
 ghost use Rattle.worker_gate.specs.SteppedShares.{ArePast};
 
-use crate::kit::{Kit, Ports};
-use crate::port::Port;
+use crate::endpoint::Endpoint;
+use crate::kit::Kit;
 use net_parts::Part;
 use std::sync::Wait;
-use std::thread;
-use window_exchange::{Mail, Planned};
+use window_exchange::{Pauses, Planned};
 
-/// What the worker of this number does to its end: it gets a kit through its box, makes all its windows and gives it
-/// back. No part of that kit lacks a window, unless it was given up.
-pub fn live<P: Planned + Send, S: Part, R: Part, X: Wait>(
+/// Makes all windows of these kits: once it returns, each of their parts has them, or was given up for them.
+pub fn work<P: Planned, S: Part, R: Part, X: Wait>(
     rt: &X,
-    mut ports: Ports<P, S, R>,
-    number: u32,
-) -> Option<Kit<P, S, R>>
-    ensures { IfSome result (λ kit. ArePast kit.windows kit.desk.share kit.duties.turns.items) }
-{
-    let mine = ports.get_mut(number as usize)?;
-    let mut kit = wait(rt, mine);
-    work(rt, number, &mut kit, &mut ports);
-    Some(kit)
-}
-
-/// Waits for a kit. Parcels that come before it go to the back of the box, and the processor is yielded.
-fn wait<P: Planned + Send, S: Part, R: Part, X: Wait>(
-    rt: &X,
-    mine: &mut Port<P, Kit<P, S, R>>,
-) -> Kit<P, S, R> {
-    for _ in rt.forever() {
-        match mine.receive(rt) {
-            Mail::Kit(kit) => return kit,
-            parcel => mine.send(rt, parcel),
-        }
-        thread::yield_now();
-    }
-    unreachable!()
-}
-
-/// Makes all windows of a kit: once it returns, each of the kit's parts has them, or was given up for them.
-pub fn work<P: Planned + Send, S: Part, R: Part, X: Wait>(
-    rt: &X,
-    number: u32,
-    kit: &mut Kit<P, S, R>,
-    ports: &mut Ports<P, S, R>,
+    kits: &mut [Kit<P, S, R>],
+    boxes: &mut Vec<Endpoint<P>>,
 )
-    ensures done { ArePast kit.new.windows kit.new.desk.share kit.new.duties.turns.items }
-    ensures windows { kit.new.windows ≡ kit.old.windows }
-    ensures duties { kit.new.duties ≡ kit.old.duties }
+    ensures done { All (λ kit. ArePast kit.windows kit.desk.share kit.duties.turns.items) kits.new }
+    ensures windows { map (λ kit. kit.windows) kits.new ≡ map (λ kit. kit.windows) kits.old }
+    ensures duties { map (λ kit. kit.duties) kits.new ≡ map (λ kit. kit.duties) kits.old }
 {
     for _ in rt.forever() {
-        if !kit.turn(rt, ports) {
-            if kit.is_done() {
+        if !turn_all(rt, kits, boxes) {
+            if are_done(kits) {
                 return;
             }
-            take_next(rt, number, kit, ports);
+            wait(rt, kits, boxes);
         }
     }
     unreachable!()
 }
 
-/// Waits for a parcel, and puts it to its part.
-fn take_next<P: Planned + Send, S: Part, R: Part, X: Wait>(
+/// Makes one window of each part of these kits whose parcels are here, and hands its parcels on. Says whether it made
+/// one.
+fn turn_all<P: Planned, S: Part, R: Part, X: Wait>(
     rt: &X,
-    number: u32,
-    kit: &mut Kit<P, S, R>,
-    ports: &mut Ports<P, S, R>,
-)
-    ensures windows { kit.new.windows ≡ kit.old.windows }
-    ensures duties { kit.new.duties ≡ kit.old.duties }
+    kits: &mut [Kit<P, S, R>],
+    boxes: &mut Vec<Endpoint<P>>,
+) -> bool
+    ensures windows { map (λ kit. kit.windows) kits.new ≡ map (λ kit. kit.windows) kits.old }
+    ensures duties { map (λ kit. kit.duties) kits.new ≡ map (λ kit. kit.duties) kits.old }
 {
-    if let Some(mine) = ports.get_mut(number as usize) {
-        if let Mail::Parcel(parcel) = mine.receive(rt) {
-            kit.take(parcel);
-        }
+    let mut made = false;
+    for i in 0..kits.len() {
+        let kit = &mut kits[i];
+        let goes = kit.turn(rt, boxes);
+        made = made || goes;
     }
+    made
+}
+
+/// Whether all windows of all parts of these kits are made, or the parts were given up for them.
+fn are_done<P: Planned, S: Part, R: Part>(kits: &[Kit<P, S, R>]) -> bool
+    ensures { IsTrue result ↔ All (λ kit. ArePast kit.windows kit.desk.share kit.duties.turns.items) kits.now }
+{
+    kits.iter().all(|kit| kit.is_done())
+}
+
+/// Waits until parcels came for these kits, and puts them to their parts.
+fn wait<P: Planned, S: Part, R: Part, X: Wait>(
+    rt: &X,
+    kits: &mut [Kit<P, S, R>],
+    boxes: &mut Vec<Endpoint<P>>,
+)
+    ensures windows { map (λ kit. kit.windows) kits.new ≡ map (λ kit. kit.windows) kits.old }
+    ensures duties { map (λ kit. kit.duties) kits.new ≡ map (λ kit. kit.duties) kits.old }
+{
+    let mut pauses = Pauses::new();
+    for _ in rt.forever() {
+        if take_all(kits, boxes) {
+            return;
+        }
+        pauses.pause(rt);
+    }
+    unreachable!()
+}
+
+/// Puts all parcels in the boxes of these kits to their parts. Says whether there was one.
+fn take_all<P: Planned, S: Part, R: Part>(
+    kits: &mut [Kit<P, S, R>],
+    boxes: &mut Vec<Endpoint<P>>,
+) -> bool
+    ensures windows { map (λ kit. kit.windows) kits.new ≡ map (λ kit. kit.windows) kits.old }
+    ensures duties { map (λ kit. kit.duties) kits.new ≡ map (λ kit. kit.duties) kits.old }
+{
+    let mut came = false;
+    for i in 0..kits.len() {
+        let kit = &mut kits[i];
+        let comes = kit.take_all(boxes);
+        came = came || comes;
+    }
+    came
 }

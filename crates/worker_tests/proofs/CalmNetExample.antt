@@ -5,11 +5,11 @@ use Rattle.std.proofs.lemmas.List.Elements.{All-nil, All-cons, All-head, All-fro
 use Rattle.std.specs.Fn.{iterate}
 use Rattle.manchester_line.specs.declared.Sym.TheVariants as sym
 use Rattle.manchester_line.specs.Decoding.{new_decoding}
-use Rattle.mac_receive.specs.KeptReceiver.{Kept}
+use Rattle.mac_receive.specs.KeptReceiver.{KeptReception}
 use Rattle.mac_transmit.specs.Calm.{AreCalm, calm_of, change_in}
 use Rattle.mac_transmit.specs.Sender.{Sender, new_sender, ready_at, sender_step, finished, event_from, promoted, deferring, is_free, sending_started, emitting}
 use Rattle.repeater_core.specs.Calm.{IsCalm, IsUneventful, silent_step}
-use Rattle.repeater_core.specs.Step.{State, new_state, mode_next, chosen}
+use Rattle.repeater_core.specs.Step.{RepeaterDevice, new_state, mode_next, chosen}
 use Rattle.net_step.specs.CalmNets.{IsCalmNet, WaitsFor}
 use Rattle.net_step.specs.KeptNet.{KeptNet}
 
@@ -17,11 +17,11 @@ use Rattle.net_step.specs.KeptNet.{KeptNet}
 abbrev one_frame : Sender
 one_frame = new_sender (record { at = 2; frame = [] } ∷ []) (record { seed = 1; station = 0; made = 0 })
 
-abbrev at_rest : State
+abbrev at_rest : RepeaterDevice
 at_rest = new_state 2 1
 
 -- what a receiver keeps before half bit t, which has heard so many half bits of a frame
-abbrev heard : ℕ → ℕ → Kept
+abbrev heard : ℕ → ℕ → KeptReception
 heard t halves = record { lose = 7; most = 1514; deaf = false; halves = halves; decoder = new_decoding; steps = t }
 
 -- before half bit t, with all signals over from half bit `settled` on, and a reception of so many half bits; nothing

@@ -4,6 +4,8 @@
 #[cfg(test)]
 mod deals;
 #[cfg(test)]
+mod entries;
+#[cfg(test)]
 mod mailboxes;
 #[cfg(test)]
 mod runs;

@@ -1,12 +1,14 @@
 //! Runs by windows, on more workers than there may be processors, beside the run half bit by half bit.
 ghost use Rattle.std.specs.Prelude.{◌≤◌};
 
+use crate::entries::{Entries, is_run_watched};
 use case_support::plan_of;
 use lists::OutOfMemory;
 use load_plan::Plan;
 use net_step::run_plain;
 use network::Outputs;
-use outside::OpenGate;
+use repeater_engine::RepeaterPart;
+use segment_engine::SegmentPart;
 use std::alloc::Global;
 use std::sync::Wait;
 use std::test::Fail;
@@ -42,7 +44,8 @@ send = [
 ]
 "#;
 
-/// Whether so many workers log what the run half bit by half bit does.
+/// Whether so many workers log what the run half bit by half bit does, and the run was begun once and each of the nine
+/// parts passed the gate for each window once, if there are several workers.
 fn is_answered<X: Threads + Wait + Sync>(
     rt: &X,
     alloc: Global,
@@ -53,18 +56,48 @@ fn is_answered<X: Threads + Wait + Sync>(
     requires least { 1 ≤ workers }
     requires most { workers ≤ 64 }
 {
-    let outputs = run_by_windows(rt, alloc, plan, workers, &OpenGate)?;
-    Ok(outputs.rows.as_slice() == plain.rows.as_slice())
+    let entries = Entries::new(alloc, 9)?;
+    let outputs = run_by_windows(rt, alloc, plan, workers, &entries)?;
+    let same = outputs.rows.as_slice() == plain.rows.as_slice();
+    Ok(same && (workers == 1 || entries.are_whole()))
 }
 
-/// There are nine parts.
+/// There are nine parts. With enough memory no run is made again by one worker alone.
 #[test]
 fn workers_answer_as_one_thread_does(rt: HostRuntime) -> Result<(), Fail> {
     let plan = plan_of(rt.alloc(), FIVE_SEGMENTS)?;
     let plain = run_plain(rt.alloc(), &plan)?;
     assert!(rt; is_answered(&rt, rt.alloc(), &plan, 1, &plain)?);
     assert!(rt; is_answered(&rt, rt.alloc(), &plan, 2, &plain)?);
+    assert!(rt; is_answered(&rt, rt.alloc(), &plan, 3, &plain)?);
     assert!(rt; is_answered(&rt, rt.alloc(), &plan, 7, &plain)?);
     assert!(rt; is_answered(&rt, rt.alloc(), &plan, 64, &plain)?);
+    Ok(())
+}
+
+/// Whether the nine parts are whole after a run by so many workers, each part having passed the gate before each of its
+/// windows.
+fn is_watched<X: Threads + Wait + Sync>(
+    rt: &X,
+    alloc: Global,
+    plan: &Plan,
+    workers: u32,
+) -> Result<bool, OutOfMemory>
+    requires least { 1 ≤ workers }
+    requires most { workers ≤ 64 }
+{
+    let entries = Entries::new(alloc, 9)?;
+    let whole = is_run_watched::<SegmentPart, RepeaterPart, X>(rt, alloc, plan, workers, &entries)?;
+    Ok(whole && entries.are_whole())
+}
+
+#[test]
+fn the_gate_comes_before_each_window(rt: HostRuntime) -> Result<(), Fail> {
+    let plan = plan_of(rt.alloc(), FIVE_SEGMENTS)?;
+    assert!(rt; is_watched(&rt, rt.alloc(), &plan, 1)?);
+    assert!(rt; is_watched(&rt, rt.alloc(), &plan, 2)?);
+    assert!(rt; is_watched(&rt, rt.alloc(), &plan, 3)?);
+    assert!(rt; is_watched(&rt, rt.alloc(), &plan, 7)?);
+    assert!(rt; is_watched(&rt, rt.alloc(), &plan, 64)?);
     Ok(())
 }

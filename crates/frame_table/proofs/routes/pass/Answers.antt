@@ -1,7 +1,7 @@
 use Rattle.std.proofs.Common.{◌≡◌, ◌++◌, ◌∷◌, [], All, ap, refl, subst, sym, ◌∙◌, get_or}
 use Rattle.std.proofs.lemmas.List.Elements.{All-append, All-cons, All-nil}
 use Rattle.layout.specs.Paths.{IsStep}
-use Rattle.layout.specs.declared.ways.Tap.TheVariants.{Station}
+use Rattle.layout.specs.declared.ways.Attachment.TheVariants.{Station}
 use Rattle.layout.specs.declared.ways.Way.TheVariants as way
 use Rattle.path_checker.specs.declared.stops.Stop.{Stop}
 use Rattle.path_checker.specs.Far.{IsStop}

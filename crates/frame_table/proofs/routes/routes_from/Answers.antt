@@ -2,8 +2,8 @@ use Rattle.std.proofs.Common.{◌≡◌, ◌≢◌, List, length, refl, ap, subs
 use Rattle.std.specs.Option.{option_map}
 use Rattle.std.proofs.lemmas.List.{with_items_is}
 use Rattle.layout.specs.Taps.{tap_of}
-use Rattle.layout.specs.declared.ways.Tap.{Tap}
-use Rattle.layout.specs.declared.ways.Tap.TheVariants.{Station}
+use Rattle.layout.specs.declared.ways.Attachment.{Attachment}
+use Rattle.layout.specs.declared.ways.Attachment.TheVariants.{Station}
 use Rattle.layout.specs.declared.ways.Way.TheVariants as way
 use Rattle.layout.specs.Paths.{IsWalk}
 use Rattle.path_checker.specs.Far.{IsStop}
@@ -44,7 +44,7 @@ returns-clause-found c = λ b low differ.
     let before = c.in_ok-routes.routes in
     let new = c.spread_on.new.routes in
     let long : length new ≡ before.len = omega (arith, c.spread_on.auto.routes, ap length c.as_mut_slice.ensures.value, before.ok.0) in
-    let walk : (taps : List Tap) × IsWalk l way.Cable (Station a) taps (Station b) = walk_between l a b c.get-line.result.now c.requires.sound c.requires.station low differ in
+    let walk : (taps : List Attachment) × IsWalk l way.Cable (Station a) taps (Station b) = walk_between l a b c.get-line.result.now c.requires.sound c.requires.station low differ in
     let apart : Station a ≢ Station b = λ e. let same : a ≡ b = cc in differ (sym same) in
     subst (λ rs. IsFound rs b) (sym (with_items_is before new long))
     (c.in_ok-spread_on.ensures.found b walk.0 (omega (arith, low, ap length c.as_mut_slice.ensures.value, c.in_ok-routes.ensures.count, c.len.ensures)) walk.1 apart)

@@ -1,7 +1,7 @@
 use Rattle.std.proofs.Common.{◌≡◌, ℕ, length, ap, subst, sym, ◌∙◌, get_or, arith}
 use Rattle.layout.specs.Paths.{IsStep}
-use Rattle.layout.specs.declared.ways.Tap.{Tap}
-use Rattle.layout.specs.declared.ways.Tap.TheVariants.{Station}
+use Rattle.layout.specs.declared.ways.Attachment.{Attachment}
+use Rattle.layout.specs.declared.ways.Attachment.TheVariants.{Station}
 use Rattle.layout.specs.declared.ways.Way.TheVariants as way
 use Rattle.path_checker.specs.declared.stops.Stop.{Stop}
 use Rattle.path_checker.specs.Far.{IsStop}
@@ -97,7 +97,7 @@ loop-k-preserved c =
       come = λ q h. c.in_ok-pass.ensures.kept q (c.loop-k.invariant.come q h);
       done =
           one_taken (IsSearched l n c.loop-k.routes next) near c.loop-k.k nowhere c.args.head.now.stop.tap c.loop-k-test.true
-          (done_port l n c.loop-k.routes next stop.tap c.in_default.field-0 c.in_default.field-1 c.in_default.is (λ q on. c.in_ok-pass.ensures.come q (subst (λ (t : Tap). IsStep l way.Repeater t q) (sym (ap (λ (x : Led). x.stop.tap) led_is)) on)))
+          (done_port l n c.loop-k.routes next stop.tap c.in_default.field-0 c.in_default.field-1 c.in_default.is (λ q on. c.in_ok-pass.ensures.come q (subst (λ (t : Attachment). IsStep l way.Repeater t q) (sym (ap (λ (x : Led). x.stop.tap) led_is)) on)))
           (λ x among other. done_on l n c.loop-k.routes c.loop-k.routes c.loop-k.next.items next x.tap (λ b h. h) (λ q h. c.in_ok-pass.ensures.kept q h) (c.loop-k.invariant.done x among other));
     }
 

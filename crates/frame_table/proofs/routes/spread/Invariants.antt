@@ -1,6 +1,6 @@
 use Rattle.std.proofs.Common.{◌≡◌, ℕ, All, length, take}
 use Rattle.layout.specs.Among.{IsAmong}
-use Rattle.layout.specs.declared.ways.Tap.{Tap}
+use Rattle.layout.specs.declared.ways.Attachment.{Attachment}
 use Rattle.layout.specs.declared.ways.Way.TheVariants as way
 use Rattle.path_checker.specs.declared.stops.Stop.{Stop}
 use Rattle.frame_table.specs.Led.{AreLed, HasCome, IsSearched, IsFound, IsLed, StandsThere}
@@ -12,6 +12,6 @@ invariant-loop-k l = record {
   next : (a : ℕ) → IsLed l.layout a way.Cable l.head → All (IsLed l.layout a way.Cable) l.fn.next.items → All (IsLed l.layout a way.Cable) l.next.items;
   stand : All (StandsThere l.layout) l.fn.next.items → All (StandsThere l.layout) l.next.items;
   kept : (b : ℕ) → IsFound l.fn.routes b → IsFound l.routes b;
-  come : (q : Tap) → HasCome l.fn.next.items q → HasCome l.next.items q;
+  come : (q : Attachment) → HasCome l.fn.next.items q → HasCome l.next.items q;
   done : (x : Stop) → IsAmong x (take l.k l.near) → (x.tap ≡ l.head.stop.tap → ⊥) → IsSearched l.layout (length l.fn.routes) l.routes l.next.items x.tap;
 }

@@ -1,11 +1,11 @@
 use Rattle.std.proofs.Common.{◌≡◌, ◌++◌, ◌∷◌, [], All, subst, sym, arith}
 use Rattle.std.proofs.lemmas.List.Elements.{All-append}
-use Rattle.std.proofs.lemmas.Grind.{common_steps}
-use Rattle.mac_receive.specs.KeptReceiver.{Kept, Hears}
+use Rattle.mac_receive.specs.KeptReceiver.{KeptReception, Hears}
 use Rattle.network.specs.Net.{new_receiver}
 use Rattle.kept_devices.specs.KeptReceivers.{AllHear}
 use Rattle.net_step.proofs.KeptReceivers.{AllHear-new, All-stepped}
 use Rattle.net_step.proofs.QuietAndKept.{still_new}
+use Rattle.net_step.proofs.ResumedDevices.{count_more}
 use Rattle.net_step.proofs.devices.resumed_receivers.Goals as goal
 
 pub leap_quiet-requires-clause-none : goal.leap_quiet-requires-clause-none
@@ -20,7 +20,7 @@ loop-station-preserved c =
     let hears : Hears (new_receiver c.args.most c.station-item.result) made =
     subst (λ r. Hears r made) (still_new c.station-item.result.lose c.args.most t) (c.leap_quiet.ensures.state (new_receiver c.args.most c.station-item.result) c.new_for-receiver.ensures.hears) in
     record {
-      count = grind (arith, common_steps);
-      steps = subst (All (λ (r : Kept). r.steps ≡ t)) (sym more) (All-append (λ (r : Kept). r.steps ≡ t) _ _ c.loop-station.invariant.steps (All-stepped made t steps));
+      count = count_more _ _ _ c.loop-station.station-index c.loop-station.invariant.count more;
+      steps = subst (All (λ (r : KeptReception). r.steps ≡ t)) (sym more) (All-append (λ (r : KeptReception). r.steps ≡ t) _ _ c.loop-station.invariant.steps (All-stepped made t steps));
       receivers = subst (AllHear _) (sym more) (AllHear-new c.args.most c.args.stations.now c.loop-station.receivers.items c.loop-station.station-index c.station-item.result made c.loop-station-test.true c.loop-station.invariant.receivers (subst (λ s. Hears (new_receiver c.args.most s) made) c.station-item.is hears));
     }

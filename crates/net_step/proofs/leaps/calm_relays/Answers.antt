@@ -2,7 +2,7 @@ use Rattle.std.proofs.Common.{◌≡◌, get_or, inl, inr, sym, subst, ◌∙◌
 use Rattle.std.proofs.lemmas.List.{get_or_read}
 use Rattle.std.proofs.lemmas.Bool.{cases_lt}
 use Rattle.repeater_core.specs.Calm.{IsCalm}
-use Rattle.repeater_core.specs.Step.{State}
+use Rattle.repeater_core.specs.Step.{RepeaterDevice}
 use Rattle.net_step.proofs.LeapsStand.{calm_for_fewer}
 use Rattle.net_step.proofs.leaps.calm_relays.Goals as goal
 
@@ -18,6 +18,6 @@ loop-k-preserved c = record {
             let is : c.index-relays-k.result ≡ get_or c.args.relays.now c.loop-k.k d = get_or_read c.args.relays.now c.loop-k.k c.index-relays-k.result (omega (arith, test)) c.index-relays-k.is d in
             let e : c.loop-k.k ≡ q = omega (arith, h, now) in
             subst (λ k. IsCalm (get_or c.args.relays.now k d) c.min-calm.result) e
-            (subst (λ (x : State). IsCalm x c.min-calm.result) is (calm_for_fewer c.calm.result c.min-calm.result c.index-relays-k.result (omega (arith, m)) c.calm.ensures))
+            (subst (λ (x : RepeaterDevice). IsCalm x c.min-calm.result) is (calm_for_fewer c.calm.result c.min-calm.result c.index-relays-k.result (omega (arith, m)) c.calm.ensures))
       ];
 }

@@ -2,7 +2,7 @@ use Rattle.std.proofs.Common.{◌≡◌, ◌+◌, ◌<◌, inl, inr, false, repl
 use Rattle.std.proofs.lemmas.List.{get_or-set_other, get_or_default}
 use Rattle.std.proofs.lemmas.Bool.{cases_lt}
 use Rattle.manchester_line.specs.declared.Sym.TheVariants.{Idle}
-use Rattle.mac_receive.specs.KeptReceiver.{Kept, Hears}
+use Rattle.mac_receive.specs.KeptReceiver.{KeptReception, Hears}
 use Rattle.mac_receive.specs.Receiver.{receiver_after}
 use Rattle.net_step.proofs.leaps.leap_receivers.Goals as goal
 
@@ -13,7 +13,7 @@ leap_quiet-requires-clause-none c =
     let test = c.loop-k-test.true in
     let same = c.loop-k.invariant.left k d (omega arith) in
     let rest = c.requires.rest k d (omega (arith, test, c.loop-k.auto.receivers)) in
-    subst (λ (x : Kept). x.halves ≡ 0) (sym same) rest
+    subst (λ (x : KeptReception). x.halves ≡ 0) (sym same) rest
 
 pub loop-k-preserved : goal.loop-k-preserved
 loop-k-preserved c =
@@ -28,22 +28,22 @@ loop-k-preserved c =
       len = length-set ks k k' ∙ inv.len;
       done = λ q d r l hears. elim (cases_lt q k) [
         | inl before ↦
-            subst (λ (x : Kept). Hears (receiver_after r (replicate c.args.count Idle) false) x) (sym (get_or-set_other ks k q k' d (λ e. omega (arith, e, before)))) (inv.done q d r before hears)
+            subst (λ (x : KeptReception). Hears (receiver_after r (replicate c.args.count Idle) false) x) (sym (get_or-set_other ks k q k' d (λ e. omega (arith, e, before)))) (inv.done q d r before hears)
         | inr now ↦
             let e : q ≡ k = omega (arith, l, now) in
             let at : Hears r (get_or c.args.receivers.now k d) = subst (λ z. Hears r (get_or c.args.receivers.now z d)) e hears in
-            let before : Hears r (get_or ks k d) = subst (λ (x : Kept). Hears r x) (sym (inv.left k d (omega arith))) at in
+            let before : Hears r (get_or ks k d) = subst (λ (x : KeptReception). Hears r x) (sym (inv.left k d (omega arith))) at in
             let same = get_or_default ks k d dk h in
             subst (λ z. Hears (receiver_after r (replicate c.args.count Idle) false) (get_or (set ks k k') z d)) (sym e)
-            (subst (λ (x : Kept). Hears (receiver_after r (replicate c.args.count Idle) false) x) (sym (get_or-set_same ks k k' d h)) (c.leap_quiet.ensures.state r (subst (λ (x : Kept). Hears r x) same before)))
+            (subst (λ (x : KeptReception). Hears (receiver_after r (replicate c.args.count Idle) false) x) (sym (get_or-set_same ks k k' d h)) (c.leap_quiet.ensures.state r (subst (λ (x : KeptReception). Hears r x) same before)))
       ];
       stepped = λ q d l. elim (cases_lt q k) [
-        | inl before ↦ ap (λ (x : Kept). x.steps) (get_or-set_other ks k q k' d (λ e. omega (arith, e, before))) ∙ inv.stepped q d before
+        | inl before ↦ ap (λ (x : KeptReception). x.steps) (get_or-set_other ks k q k' d (λ e. omega (arith, e, before))) ∙ inv.stepped q d before
         | inr now ↦
             let e : k ≡ q = omega (arith, l, now) in
             subst (λ z. (get_or (set ks k k') z d).steps ≡ c.args.t + c.args.count) e
-            (ap (λ (x : Kept). x.steps) (get_or-set_same ks k k' d h) ∙ c.leap_quiet.ensures.steps
-            ∙ ap (λ t. t + c.args.count) (ap (λ (x : Kept). x.steps) (inv.left k dk (omega arith)) ∙ c.requires.steps k dk (omega (arith, test, c.loop-k.auto.receivers))))
+            (ap (λ (x : KeptReception). x.steps) (get_or-set_same ks k k' d h) ∙ c.leap_quiet.ensures.steps
+            ∙ ap (λ t. t + c.args.count) (ap (λ (x : KeptReception). x.steps) (inv.left k dk (omega arith)) ∙ c.requires.steps k dk (omega (arith, test, c.loop-k.auto.receivers))))
       ];
       left = λ q d l. get_or-set_other ks k q k' d (λ e. omega (arith, e, l)) ∙ inv.left q d (omega (arith, l));
     }

@@ -2,7 +2,7 @@ use Rattle.std.proofs.Common.{◌≡◌, ◌<◌, All, length, get_or, sym, subs
 use Rattle.std.specs.Fn.{iterate}
 use Rattle.std.proofs.Math.Seq.{map-set_same}
 use Rattle.repeater_core.specs.Calm.{IsCalm, silent_step}
-use Rattle.repeater_core.specs.Step.{State}
+use Rattle.repeater_core.specs.Step.{RepeaterDevice}
 use Rattle.kept_devices.proofs.ChangedElements.{All-drop-set, All-drop-first}
 use Rattle.net_step.proofs.LeapsStand.{map_step}
 use Rattle.net_step.proofs.leaps.leap_relays.Goals as goal
@@ -11,7 +11,7 @@ pub leap-requires : goal.leap-requires
 leap-requires c =
     let d = c.index-relays-k.result in
     let test = c.loop-k-test.true in
-    All-drop-first (λ (r : State). IsCalm r c.args.count) c.loop-k.relays c.loop-k.k d (omega (arith, test, c.loop-k.auto.relays)) c.loop-k.invariant.calm
+    All-drop-first (λ (r : RepeaterDevice). IsCalm r c.args.count) c.loop-k.relays c.loop-k.k d (omega (arith, test, c.loop-k.auto.relays)) c.loop-k.invariant.calm
 
 pub loop-k-preserved : goal.loop-k-preserved
 loop-k-preserved c =
@@ -23,7 +23,7 @@ loop-k-preserved c =
     let test = c.loop-k-test.true in
     let h : k < length rs = omega (arith, test, c.loop-k.auto.relays) in
     record {
-      calm = All-drop-set (λ (x : State). IsCalm x c.args.count) rs k new inv.calm;
+      calm = All-drop-set (λ (x : RepeaterDevice). IsCalm x c.args.count) rs k new inv.calm;
       states = map_step (iterate silent_step c.args.count) rs k new r h c.leap.ensures.state ∙ inv.states;
-      ports = map-set_same (λ (x : State). length x.guards) rs k new r c.leap.ensures.ports ∙ inv.ports;
+      ports = map-set_same (λ (x : RepeaterDevice). length x.guards) rs k new r c.leap.ensures.ports ∙ inv.ports;
     }

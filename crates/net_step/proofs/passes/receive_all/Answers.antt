@@ -3,7 +3,7 @@ use Rattle.std.proofs.lemmas.List.{take_all}
 use Rattle.manchester_line.specs.declared.Sym.TheVariants.{Idle}
 use Rattle.manchester_line.specs.Line.{is_signal}
 use Rattle.mac_receive.specs.Receiver.{Receiving, new_receiving, receiver_step}
-use Rattle.mac_receive.specs.KeptReceiver.{Kept, Hears}
+use Rattle.mac_receive.specs.KeptReceiver.{KeptReception, Hears}
 use Rattle.net_step.specs.KeptNet.{Gives}
 use Rattle.kept_devices.proofs.ChangedElements.{one_later, get_or-rest, rest-set}
 use Rattle.kept_devices.proofs.Receivers.{length-AllHear, AllHear-at}
@@ -16,7 +16,7 @@ loop-k-preserved c =
     let e = c.index-receivers-k.result in
     let d : Receiving = new_receiving 0 0 in
     let all =
-    one_later (λ (r : Kept). r.steps) c.args.t c.loop-k.receivers k c.step.new.self e (omega arith)
+    one_later (λ (r : KeptReception). r.steps) c.args.t c.loop-k.receivers k c.step.new.self e (omega arith)
     c.loop-k.invariant.stepped c.loop-k.invariant.waiting c.step.ensures.steps in
     let same : get_or c.loop-k.receivers k e ≡ get_or c.args.receivers.now k e = get_or-rest c.loop-k.receivers c.args.receivers.now k e c.loop-k.invariant.rest in
     record {
@@ -27,7 +27,7 @@ loop-k-preserved c =
       rest = rest-set c.loop-k.receivers c.args.receivers.now k c.step.new.self c.loop-k.invariant.rest;
       given = λ rs h.
           let r = get_or rs k d in
-          let stands : Hears r (get_or c.loop-k.receivers k e) = subst (λ (x : Kept). Hears r x) (sym same) (AllHear-at rs c.args.receivers.now k d e h (omega arith)) in
+          let stands : Hears r (get_or c.loop-k.receivers k e) = subst (λ (x : KeptReception). Hears r x) (sym same) (AllHear-at rs c.args.receivers.now k d e h (omega arith)) in
           let few : length rs ≡ length c.args.receivers.now = length-AllHear rs c.args.receivers.now h in
           let signal : c.is_signal.result ≡ is_signal (get_or c.args.emitted.now k Idle) = c.is_signal.ensures in
           let gives : Gives (receiver_step r (get_or c.args.heard.now k Idle) c.is_signal.result) c.step.new.self c.step.result = record {

@@ -2,7 +2,7 @@ use Rattle.std.proofs.Common.{◌≡◌, ◌+◌, ◌-◌, ◌<◌, ◌≤◌, l
 use Rattle.std.proofs.lemmas.List.{drop-set-lt, take_more_set}
 use Rattle.std.proofs.Math.Seq.{map-set_same}
 use Rattle.std.proofs.lemmas.Grind.{common_steps}
-use Rattle.repeater_core.specs.Step.{State, after, decided_by, emitted_by}
+use Rattle.repeater_core.specs.Step.{RepeaterDevice, after, decided_by, emitted_by}
 use Rattle.network.specs.Rows.{repeater_bodies, told_bodies}
 use Rattle.net_step.specs.KeptNet.{all_told}
 use Rattle.net_step.proofs.RepeatersInARow.{ports_more, each_step, lines_step, decided_step, all_told-more}
@@ -17,7 +17,7 @@ loop-k-preserved c =
     let from = c.loop-k.from in
     let is = c.index-relays-k.is in
     let h : k < length rs = omega arith in
-    let count : c.ports.result ≡ length r.guards = c.ports.ensures.count ∙ ap (λ (x : State). length x.guards) (sym is) in
+    let count : c.ports.result ≡ length r.guards = c.ports.ensures.count ∙ ap (λ (x : RepeaterDevice). length x.guards) (sym is) in
     let to : from + c.ports.result ≡ from + length r.guards = omega (arith, count) in
     let fits : from ≤ length c.loop-k.emitted = omega (arith, c.loop-k.invariant.from, c.loop-k.invariant.len) in
     let room : from + c.ports.result ≤ length c.loop-k.emitted = omega (arith, ports_more rs k r h is, count, c.loop-k.invariant.from, c.loop-k.invariant.len) in
@@ -28,7 +28,7 @@ loop-k-preserved c =
     let decides : length c.step.new.decided ≡ c.ports.result = omega (arith, c.step.auto.decided, length-take-le n (drop from c.loop-k.decided) (omega (arith, room_too, length-drop from c.loop-k.decided))) in
     record {
       from = rw (drop-set-lt (k + 1) rs k new (omega arith)) (omega (arith, ports_more rs k r h is, count, c.loop-k.invariant.from));
-      ports = map-set_same (λ (x : State). length x.guards) rs k new r c.step.ensures.ports ∙ c.loop-k.invariant.ports;
+      ports = map-set_same (λ (x : RepeaterDevice). length x.guards) rs k new r c.step.ensures.ports ∙ c.loop-k.invariant.ports;
       len = grind (arith, common_steps, c.loop-k.invariant.len);
       len_decided = grind (arith, common_steps, c.loop-k.invariant.len_decided);
       len_events = length-set c.loop-k.events k c.step.result ∙ c.loop-k.invariant.len_events ∙ sym (length-set rs k new);

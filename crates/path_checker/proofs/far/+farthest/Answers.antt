@@ -1,5 +1,5 @@
 use Rattle.std.proofs.Common.{◌-◌, subst, sym, get_or, arith}
-use Rattle.layout.specs.declared.ways.Tap.TheVariants.{Station}
+use Rattle.layout.specs.declared.ways.Attachment.TheVariants.{Station}
 use Rattle.layout.specs.declared.ways.Way.{Way}
 use Rattle.layout.specs.Paths.{IsStep}
 use Rattle.path_checker.specs.declared.stops.Stop.{Stop}

@@ -1,4 +1,4 @@
-use Rattle.layout.specs.declared.ways.Tap.TheVariants.{Station}
+use Rattle.layout.specs.declared.ways.Attachment.TheVariants.{Station}
 use Rattle.layout.specs.declared.ways.Way.TheVariants as way
 use Rattle.path_checker.proofs.ShortWalks.{has_room}
 use Rattle.path_checker.proofs.WorstPair.{farthest_apart}

@@ -1,4 +1,4 @@
-use Rattle.layout.specs.declared.ways.Tap.TheVariants.{Station}
+use Rattle.layout.specs.declared.ways.Attachment.TheVariants.{Station}
 use Rattle.path_checker.specs.declared.stops.Stop.{Stop}
 use Rattle.path_slack.proofs.BranchesSoFar.{branched_none, branched_more, branched_all, stop_stands}
 use Rattle.path_slack.proofs.branches.branches_of.Goals as goal

@@ -1,5 +1,5 @@
 use Rattle.std.proofs.Common.{subst, sym, get_or, ◌-◌, arith}
-use Rattle.layout.specs.declared.ways.Tap.TheVariants.{Station}
+use Rattle.layout.specs.declared.ways.Attachment.TheVariants.{Station}
 use Rattle.std.proofs.Common.{None}
 use Rattle.path_slack.specs.declared.branches.Branch.{Branch}
 use Rattle.path_slack.specs.Branches.{AreBranchesOf}

@@ -1,6 +1,6 @@
 use Rattle.std.proofs.Common.{refl, arith}
 use Rattle.path_checker.proofs.ShortWalks.{has_room}
-use Rattle.layout.specs.declared.ways.Tap.TheVariants.{Port}
+use Rattle.layout.specs.declared.ways.Attachment.TheVariants.{Port}
 use Rattle.layout.specs.declared.ways.Way.TheVariants as way
 use Rattle.path_slack.proofs.BranchesSoFar.{port_reaches}
 use Rattle.path_slack.proofs.PairsThrough.{beyond_none, through_none, beyond_more, through_more, port_stands, port_fits, seen_fits, after_fits, through_all}

@@ -1,5 +1,5 @@
 use Rattle.std.proofs.Common.{subst, sym, None}
-use Rattle.layout.specs.declared.ways.Tap.TheVariants.{Station}
+use Rattle.layout.specs.declared.ways.Attachment.TheVariants.{Station}
 use Rattle.path_slack.specs.declared.branches.Branch.{Branch}
 use Rattle.path_slack.specs.Branches.{AreBranchesOf}
 use Rattle.path_slack.proofs.PlacesOfTaps.{first_skip, first_more, first_all}

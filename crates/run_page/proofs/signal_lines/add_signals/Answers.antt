@@ -1,7 +1,7 @@
 use Rattle.std.proofs.Common.{ℕ, ◌+◌, List, ◌++◌, drop, get_or, length, take, refl, sym, ap, ◌∙◌, arith}
 use Rattle.layout.specs.declared.lines.RepeaterLine.{RepeaterLine}
-use Rattle.layout.specs.declared.ways.Tap.{Tap}
-use Rattle.layout.specs.declared.ways.Tap.TheVariants.{Port, Station}
+use Rattle.layout.specs.declared.ways.Attachment.{Attachment}
+use Rattle.layout.specs.declared.ways.Attachment.TheVariants.{Port, Station}
 use Rattle.tap_signals.specs.Taps.{ports_from}
 use Rattle.run_page.specs.SignalLines.{lines_of_taps, signal_lines}
 use Rattle.run_page.proofs.TapLines.{enough, next_repeater, others, taps_added}
@@ -44,7 +44,7 @@ repeaters-preserved c =
     let next = next_repeater r rs c.index-repeaters-r.result c.repeaters-test.true in
     let back = c.split_at-in-repeaters.ensures.back ∙ ap (λ (n : ℕ). drop n c.repeaters.rest.now) c.len-in-repeaters.ensures in
     let front = c.split_at-in-repeaters.ensures.front ∙ ap (λ (n : ℕ). take n c.repeaters.rest.now) c.len-in-repeaters.ensures in
-    let so_far = sym (ap (λ (taps : List Tap). c.repeaters.text ++ lines_of_taps l taps c.repeaters.rest.now) next) ∙ c.repeaters.invariant.so_far in
+    let so_far = sym (ap (λ (taps : List Attachment). c.repeaters.text ++ lines_of_taps l taps c.repeaters.rest.now) next) ∙ c.repeaters.invariant.so_far in
     record {
       many = others (Port r) (length x.ports) more c.repeaters.rest.now c.split_at-in-repeaters.result.1.now back (c.repeaters.invariant.many ∙ ap length next);
       so_far = taps_added l (Port r) (length x.ports) more c.repeaters.rest.now c.split_at-in-repeaters.result.0.now c.split_at-in-repeaters.result.1.now

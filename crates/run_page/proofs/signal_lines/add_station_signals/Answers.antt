@@ -1,6 +1,6 @@
 use Rattle.std.proofs.Common.{[], ◌∙◌}
 use Rattle.std.proofs.lemmas.List.{get_or_read}
-use Rattle.layout.specs.declared.ways.Tap.TheVariants.{Station}
+use Rattle.layout.specs.declared.ways.Attachment.TheVariants.{Station}
 use Rattle.run_page.proofs.TapLines.{tap_added}
 use Rattle.run_page.proofs.signal_lines.add_station_signals.Goals as goal
 

@@ -1,6 +1,6 @@
 use Rattle.std.proofs.Common.{◌≡◌, ◌-◌, ◌++◌, drop, length, map}
 use Rattle.std.specs.List.{range_with_len}
-use Rattle.layout.specs.declared.ways.Tap.TheVariants.{Station}
+use Rattle.layout.specs.declared.ways.Attachment.TheVariants.{Station}
 use Rattle.run_page.specs.SignalLines.{lines_of_taps}
 use Rattle.run_page.proofs.signal_lines.add_station_signals.Given as goal
 

@@ -4,7 +4,7 @@ use Rattle.std.proofs.lemmas.List.{with_items_is, length-replicate, get_or_defau
 use Rattle.manchester_line.specs.declared.Sym.TheVariants.{Idle}
 use Rattle.load_plan.specs.declared.plan.Plan.{Plan}
 use Rattle.mac_transmit.specs.Sender.{Sender}
-use Rattle.mac_receive.specs.KeptReceiver.{Kept, Hears}
+use Rattle.mac_receive.specs.KeptReceiver.{KeptReception, Hears}
 use Rattle.mac_receive.specs.Receiver.{Receiving, receiver_after}
 use Rattle.mac_transmit.specs.Calm.{after_all}
 use Rattle.net_parts.specs.Windows.{lookahead}
@@ -20,7 +20,7 @@ use Rattle.segment_engine.proofs.quiet.leap_quiet.Goals as goal
 use Rattle.segment_engine.proofs.quiet.leap_quiet.Goals.{After-state-4-1}
 
 pub leap_receivers-requires-clause-rest : goal.leap_receivers-requires-clause-rest
-leap_receivers-requires-clause-rest c = subst (All (λ (k : Kept). k.halves ≡ 0)) (sym c.deref_mut-2.ensures.value) c.requires.quiet.receivers
+leap_receivers-requires-clause-rest c = subst (All (λ (k : KeptReception). k.halves ≡ 0)) (sym c.deref_mut-2.ensures.value) c.requires.quiet.receivers
 
 pub rest_all-requires-clause-room : goal.rest_all-requires-clause-room
 rest_all-requires-clause-room c = λ r d h.
@@ -61,7 +61,7 @@ module _ (c : After-state-4-1) where
   abbrev ss : List Sender
   ss = c.args.state.now.senders.items
 
-  abbrev ks : List Kept
+  abbrev ks : List KeptReception
   ks = c.args.state.now.receivers.items
 
   stations_count : c.len.result ≡ length w.stations
@@ -79,8 +79,8 @@ module _ (c : After-state-4-1) where
   states : (i : ℕ) (d : Sender) → i < length c.leap_senders.new.senders → get_or c.leap_senders.new.senders i d ≡ after_all (get_or ss i d) (replicate m Idle)
   states i d h = c.leap_senders.ensures.states i d h ∙ ap (λ (xs : List Sender). after_all (get_or xs i d) (replicate m Idle)) c.deref_mut.ensures.value
 
-  hear : (i : ℕ) (d : Kept) (r : Receiving) → i < length c.leap_receivers.new.receivers → Hears r (get_or ks i d) → Hears (receiver_after r (replicate m Idle) false) (get_or c.leap_receivers.new.receivers i d)
-  hear i d r h now = c.leap_receivers.ensures.states i d r h (subst (λ (xs : List Kept). Hears r (get_or xs i d)) (sym c.deref_mut-2.ensures.value) now)
+  hear : (i : ℕ) (d : KeptReception) (r : Receiving) → i < length c.leap_receivers.new.receivers → Hears r (get_or ks i d) → Hears (receiver_after r (replicate m Idle) false) (get_or c.leap_receivers.new.receivers i d)
+  hear i d r h now = c.leap_receivers.ensures.states i d r h (subst (λ (xs : List KeptReception). Hears r (get_or xs i d)) (sym c.deref_mut-2.ensures.value) now)
 
   told : (r : ℕ) → r < length w.stations → get_or c.rest_all.new.lines r no_line ≡ line_extended (get_or ls r no_line) (replicate m Idle)
   told r h = c.rest_all.ensures.told r no_line (omega (arith, h, stations_count)) ∙ ap (λ (xs : List TapLine). line_extended (get_or xs r no_line) (replicate m Idle)) c.deref_mut-3.ensures.value
@@ -98,7 +98,7 @@ module _ (c : After-state-4-1) where
       quiet_lines plan s t front c.args.state.now.far m ls ss ks c.args.state.now.room.rows c.args.state.now.room.captures c.requires.at.reach c.requires.at.lines c.requires.at.stations c.requires.within c.requires.quiet.lines c.requires.quiet.senders c.requires.quiet.receivers
       c.rest_all.new.lines ls_len c.requires.lines told others
 
-  goes_on : (i : ℕ) (d : Kept) → i < length c.leap_receivers.new.receivers → GoesOn (replicate m Idle) false (get_or ks i d) (get_or c.leap_receivers.new.receivers i d)
+  goes_on : (i : ℕ) (d : KeptReception) → i < length c.leap_receivers.new.receivers → GoesOn (replicate m Idle) false (get_or ks i d) (get_or c.leap_receivers.new.receivers i d)
   goes_on i d h =
       let r = receiver_at plan (get_or w.stations i 0) t in
       let now = receiver_stands c.requires.at.stations i d (omega (arith, h, ks_len)) in
@@ -111,7 +111,7 @@ returns-clause-at c =
     let receivers = with_items_is a.receivers c.leap_receivers.new.receivers (search rules) in
     let lines = with_items_is a.lines c.rest_all.new.lines (search rules) in
     let P : List Sender → Type 0 = λ xs. AreStationsAt (plan c) (w c).stations (t c + m c) xs c.leap_receivers.new.receivers a.room.rows a.room.captures in
-    let Q : List Kept → Type 0 = λ xs. AreStationsAt (plan c) (w c).stations (t c + m c) (with_items a.senders c.leap_senders.new.senders).items xs a.room.rows a.room.captures in
+    let Q : List KeptReception → Type 0 = λ xs. AreStationsAt (plan c) (w c).stations (t c + m c) (with_items a.senders c.leap_senders.new.senders).items xs a.room.rows a.room.captures in
     let now : t c + m c ≡ t c + c.from.result = ap (λ n. t c + n) (sym c.from.ensures) in
     let new_senders = (with_items a.senders c.leap_senders.new.senders).items in
     let new_receivers = (with_items a.receivers c.leap_receivers.new.receivers).items in

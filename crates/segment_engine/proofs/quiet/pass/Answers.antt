@@ -1,11 +1,11 @@
-use Rattle.std.proofs.Common.{◌≡◌, ℕ, ◌+◌, ◌-◌, ◌<◌, ◌≤◌, ◌^◌, All, false, List, length, replicate, get_or, sym, subst, ap, ◌∙◌, arith, rules}
+use Rattle.std.proofs.Common.{◌≡◌, ℕ, ◌+◌, ◌<◌, ◌≤◌, ◌^◌, All, false, List, length, replicate, get_or, sym, subst, ap, ◌∙◌, arith, rules}
 use Rattle.std.specs.Vec.{with_items}
 use Rattle.std.proofs.lemmas.List.{with_items_is, get_or_default}
 use Rattle.manchester_line.specs.declared.Sym.TheVariants.{Idle}
 use Rattle.load_plan.specs.declared.plan.Plan.{Plan}
 use Rattle.mac_transmit.specs.Calm.{after_all}
 use Rattle.mac_transmit.specs.Sender.{Sender}
-use Rattle.mac_receive.specs.KeptReceiver.{Kept, Hears}
+use Rattle.mac_receive.specs.KeptReceiver.{KeptReception, Hears}
 use Rattle.mac_receive.specs.Receiver.{Receiving, receiver_after}
 use Rattle.net_parts.specs.Windows.{lookahead}
 use Rattle.net_parts.specs.SegmentParts.{Wiring, wiring}
@@ -19,7 +19,7 @@ use Rattle.segment_engine.proofs.quiet.pass.Goals as goal
 use Rattle.segment_engine.proofs.quiet.pass.Goals.{After-state-4-1}
 
 pub leap_receivers-requires-clause-rest : goal.leap_receivers-requires-clause-rest
-leap_receivers-requires-clause-rest c = subst (All (λ (k : Kept). k.halves ≡ 0)) (sym c.deref_mut-2.ensures.value) c.requires.quiet.receivers
+leap_receivers-requires-clause-rest c = subst (All (λ (k : KeptReception). k.halves ≡ 0)) (sym c.deref_mut-2.ensures.value) c.requires.quiet.receivers
 
 pub pass_all-requires-clause-keep : goal.pass_all-requires-clause-keep
 pass_all-requires-clause-keep c = λ r d h.
@@ -73,7 +73,7 @@ module _ (c : After-state-4-1) where
   abbrev ss : List Sender
   ss = c.args.state.now.senders.items
 
-  abbrev ks : List Kept
+  abbrev ks : List KeptReception
   ks = c.args.state.now.receivers.items
 
   ss_len : length c.leap_senders.new.senders ≡ length ss
@@ -88,8 +88,8 @@ module _ (c : After-state-4-1) where
   states : (i : ℕ) (d : Sender) → i < length c.leap_senders.new.senders → get_or c.leap_senders.new.senders i d ≡ after_all (get_or ss i d) (replicate m Idle)
   states i d h = c.leap_senders.ensures.states i d h ∙ ap (λ (xs : List Sender). after_all (get_or xs i d) (replicate m Idle)) c.deref_mut.ensures.value
 
-  hear : (i : ℕ) (d : Kept) (r : Receiving) → i < length c.leap_receivers.new.receivers → Hears r (get_or ks i d) → Hears (receiver_after r (replicate m Idle) false) (get_or c.leap_receivers.new.receivers i d)
-  hear i d r h now = c.leap_receivers.ensures.states i d r h (subst (λ (xs : List Kept). Hears r (get_or xs i d)) (sym c.deref_mut-2.ensures.value) now)
+  hear : (i : ℕ) (d : KeptReception) (r : Receiving) → i < length c.leap_receivers.new.receivers → Hears r (get_or ks i d) → Hears (receiver_after r (replicate m Idle) false) (get_or c.leap_receivers.new.receivers i d)
+  hear i d r h now = c.leap_receivers.ensures.states i d r h (subst (λ (xs : List KeptReception). Hears r (get_or xs i d)) (sym c.deref_mut-2.ensures.value) now)
 
   new_lines : (r : ℕ) → r < length ls → get_or c.pass_all.new.lines r no_line ≡ passed m (get_or ls r no_line)
   new_lines r h = c.pass_all.ensures r no_line (omega (arith, h, ls_len)) ∙ ap (λ (xs : List TapLine). passed m (get_or xs r no_line)) c.deref_mut-3.ensures.value
@@ -114,7 +114,7 @@ returns-clause-at c =
     let receivers = with_items_is a.receivers c.leap_receivers.new.receivers (search rules) in
     let lines = with_items_is a.lines c.pass_all.new.lines (search rules) in
     let P : List Sender → Type 0 = λ xs. AreStationsAt (plan c) (w c).stations (t c + m c) xs c.leap_receivers.new.receivers a.room.rows a.room.captures in
-    let Q : List Kept → Type 0 = λ xs. AreStationsAt (plan c) (w c).stations (t c + m c) (with_items a.senders c.leap_senders.new.senders).items xs a.room.rows a.room.captures in
+    let Q : List KeptReception → Type 0 = λ xs. AreStationsAt (plan c) (w c).stations (t c + m c) (with_items a.senders c.leap_senders.new.senders).items xs a.room.rows a.room.captures in
     let now : t c + m c ≡ t c + c.from.result = ap (λ n. t c + n) (sym c.from.ensures) in
     let new_senders = (with_items a.senders c.leap_senders.new.senders).items in
     let new_receivers = (with_items a.receivers c.leap_receivers.new.receivers).items in

@@ -2,7 +2,7 @@ use Rattle.std.proofs.Common.{◌≡◌, ◌<◌, ◌≤◌, ◌+◌, ◌*◌, �
 use Rattle.std.proofs.lemmas.List.{with_items_is, length-map, get_or_default}
 use Rattle.load_plan.specs.declared.plan.Plan.{Plan}
 use Rattle.mac_transmit.specs.Sender.{Sender}
-use Rattle.mac_receive.specs.KeptReceiver.{Kept, IsReceiver}
+use Rattle.mac_receive.specs.KeptReceiver.{KeptReception, IsReceiver}
 use Rattle.network.specs.Attempts.{sender_at}
 use Rattle.network.specs.Times.{heard, emitted}
 use Rattle.network.specs.Times.{emitted as emitted_at}
@@ -117,7 +117,7 @@ module _ (c : After-state-6-1) where
       let ss = c.deref_mut-2.result.now in
       let devices : c.deref-3.result.now ≡ w.stations = c.deref-3.ensures.value ∙ c.args.of.now.station_numbers in
       let P : List Sender → Type 0 = λ xs. AreStationsAt plan w.stations t xs a.receivers.items a.room.rows a.room.captures in
-      let Q : List Kept → Type 0 = λ xs. AreStationsAt plan w.stations t ss xs a.room.rows a.room.captures in
+      let Q : List KeptReception → Type 0 = λ xs. AreStationsAt plan w.stations t ss xs a.room.rows a.room.captures in
       stations_next plan s t (t + 1) hs ss c.step_stations.new.senders c.deref_mut-3.result.now c.step_stations.new.receivers a.room.rows c.step_stations.new.room.rows a.room.captures c.step_stations.new.room.captures (omega arith)
       stations_hear (subst Q (sym c.deref_mut-3.ensures.value) (subst P (sym c.deref_mut-2.ensures.value) c.requires.stands.at.stations))
       one.states one.receivers
@@ -139,7 +139,7 @@ returns c =
     let heard = with_items_is a.heard c.hear_all.new.heard (search rules) in
     let lines = with_items_is a.lines c.tell.new.lines (search rules) in
     let P : List Sender → Type 0 = λ xs. AreStationsAt (plan c) (w c).stations (t c + 1) xs c.step_stations.new.receivers c.step_stations.new.room.rows c.step_stations.new.room.captures in
-    let Q : List Kept → Type 0 = λ xs. AreStationsAt (plan c) (w c).stations (t c + 1) (with_items a.senders c.step_stations.new.senders).items xs c.step_stations.new.room.rows c.step_stations.new.room.captures in
+    let Q : List KeptReception → Type 0 = λ xs. AreStationsAt (plan c) (w c).stations (t c + 1) (with_items a.senders c.step_stations.new.senders).items xs c.step_stations.new.room.rows c.step_stations.new.room.captures in
     record {
       gone = record {
         at = record {
@@ -158,7 +158,7 @@ returns c =
             (ports_hear c) c.requires.stands.parcels c.fill.auto.parcels c.fill.ensures;
         room = λ n covers.
             let P : List Sender → Type 0 = λ xs. Covers (stations_demand (suc n) xs a.receivers.items) a.room in
-            let Q : List Kept → Type 0 = λ xs. Covers (stations_demand (suc n) c.deref_mut-2.result.now xs) a.room in
+            let Q : List KeptReception → Type 0 = λ xs. Covers (stations_demand (suc n) c.deref_mut-2.result.now xs) a.room in
             let more : n + 1 ≡ suc n = omega arith in
             let before = subst (λ x. Covers (stations_demand x a.senders.items a.receivers.items) a.room) more covers in
             rw (senders, receivers)

@@ -1,7 +1,7 @@
 use Rattle.std.proofs.Common.{◌≡◌, ◌<◌, All, length, get_or, sym, subst, ap, ap₂, ◌∙◌, arith}
 use Rattle.std.proofs.lemmas.List.Elements.{All-append}
 use Rattle.mac_receive.specs.Receiver.{Receiving, new_receiving}
-use Rattle.mac_receive.specs.KeptReceiver.{Kept, Hears}
+use Rattle.mac_receive.specs.KeptReceiver.{KeptReception, Hears}
 use Rattle.net_parts.specs.Standing.{receiver_at}
 use Rattle.kept_devices.proofs.Receivers.{All-one}
 use Rattle.segment_engine.proofs.Beginnings.{receiver_new, hear_more}
@@ -21,6 +21,6 @@ loop-i-preserved c =
     let y = c.in_ok-new_for.field-0 in
     let more = c.in_ok-push.ensures.items in
     record {
-      steps = subst (All (λ (r : Kept). r.steps ≡ 0)) (sym more) (All-append (λ (r : Kept). r.steps ≡ 0) _ _ c.loop-i.invariant.steps (All-one y c.in_ok-new_for.ensures.steps));
+      steps = subst (All (λ (r : KeptReception). r.steps ≡ 0)) (sym more) (All-append (λ (r : KeptReception). r.steps ≡ 0) _ _ c.loop-i.invariant.steps (All-one y c.in_ok-new_for.ensures.steps));
       receivers = hear_more (λ j. receiver_at plan j 0) ks i c.loop-i.receivers.items c.push.new.self.items y h c.loop-i.invariant.receivers (subst (λ (r : Receiving). Hears r y) (sym same) c.in_ok-new_for.ensures.hears) more;
     }

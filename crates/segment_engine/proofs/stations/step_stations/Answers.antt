@@ -5,7 +5,7 @@ use Rattle.manchester_line.specs.declared.Sym.TheVariants.{Idle}
 use Rattle.manchester_line.specs.Line.{is_signal}
 use Rattle.mac_transmit.specs.Sender.{Sender, SendOutcome, sender_step}
 use Rattle.mac_receive.specs.Receiver.{Receiving, Reception, new_receiving, receiver_step}
-use Rattle.mac_receive.specs.KeptReceiver.{Kept, Hears, IsReceiver}
+use Rattle.mac_receive.specs.KeptReceiver.{KeptReception, Hears, IsReceiver}
 use Rattle.network.specs.Captures.{taken_by}
 use Rattle.network.specs.Rows.{row_of}
 use Rattle.network.specs.Net.{sendings, receptions}
@@ -56,7 +56,7 @@ loop-k-preserved c =
     let lc : k < length c.loop-k.room.captures = let l = inv.len_captures in omega (arith, lh, l) in
     let same = get_or-rest ks first k dk inv.others in
     let some = subst IsReceiver (sym same) (c.requires.hear k dk lf) in
-    let at : (rs : List Receiving) → AllHear rs first → Hears (get_or rs k dr) (get_or ks k dk) = λ rs h. subst (λ (x : Kept). Hears (get_or rs k dr) x) (sym same) (AllHear-at rs first k dr dk h lf) in
+    let at : (rs : List Receiving) → AllHear rs first → Hears (get_or rs k dr) (get_or ks k dk) = λ rs h. subst (λ (x : KeptReception). Hears (get_or rs k dr) x) (sym same) (AllHear-at rs first k dr dk h lf) in
     let lr : (rs : List Receiving) → AllHear rs first → k < length rs = λ rs h. let l = length-AllHear rs first h in omega (arith, l, lf) in
     record {
       len = let a = length-set ss k s' in let b = inv.len in omega (arith, a, b);
@@ -65,8 +65,8 @@ loop-k-preserved c =
       len_captures = ap length (one.captures some.0 some.1) ∙ length-set c.loop-k.room.captures k _ ∙ inv.len_captures;
       stepped = All-take-set (λ (s : Sender). s.t ≡ t + 1) ss k s' ls inv.stepped one.time;
       waiting = All-drop-set (λ (s : Sender). s.t ≡ t) ss k s' inv.waiting;
-      received = All-take-set (λ (r : Kept). r.steps ≡ t + 1) ks k k' lk inv.received one.steps;
-      unreceived = All-drop-set (λ (r : Kept). r.steps ≡ t) ks k k' inv.unreceived;
+      received = All-take-set (λ (r : KeptReception). r.steps ≡ t + 1) ks k k' lk inv.received one.steps;
+      unreceived = All-drop-set (λ (r : KeptReception). r.steps ≡ t) ks k k' inv.unreceived;
       states = pass_next (λ (o : SendOutcome). o.state) k hs ss s' ds ss s' _ lh ls ls one.state inv.states;
       emissions = pass_next (λ (o : SendOutcome). o.emitted) k hs ss s' ds c.loop-k.emitted e _ lh ls le one.emitted inv.emissions;
       others = rest-set ks first k k' inv.others;
@@ -125,5 +125,5 @@ step_station-requires-clause-time c =
 pub step_station-requires-clause-steps : goal.step_station-requires-clause-steps
 step_station-requires-clause-steps c =
     let test = c.loop-k-test.true in
-    All-drop-first (λ (r : Kept). r.steps ≡ c.args.t) c.loop-k.receivers c.loop-k.k c.index-receivers-k.result
+    All-drop-first (λ (r : KeptReception). r.steps ≡ c.args.t) c.loop-k.receivers c.loop-k.k c.index-receivers-k.result
     (omega (arith, test, c.loop-k.auto.receivers, c.requires.receivers_len)) c.loop-k.invariant.unreceived

@@ -8,7 +8,7 @@ use Rattle.manchester_line.specs.Decoding.{new_decoding}
 use Rattle.load_plan.specs.declared.plan.Plan.{Plan}
 use Rattle.mac_transmit.specs.Sender.{Sender, is_sending}
 use Rattle.mac_transmit.specs.Calm.{AllHeardAs, after_all, calm_of}
-use Rattle.mac_receive.specs.KeptReceiver.{Kept, Hears, IsReceiver}
+use Rattle.mac_receive.specs.KeptReceiver.{KeptReception, Hears, IsReceiver}
 use Rattle.mac_receive.specs.Receiver.{Receiving, Reception, receiver_after}
 use Rattle.network.specs.Attempts.{sender_at}
 use Rattle.network.specs.Captures.{taken_by}
@@ -33,7 +33,7 @@ use Rattle.segment_engine.proofs.SteadyStations.{first, steady_stations, steady_
 use Rattle.segment_engine.proofs.steady.leap_steady.Goals as goal
 use Rattle.segment_engine.proofs.steady.leap_steady.Goals.{After-find, After-classes_ahead-steady, After-state-6-1}
 
-a_kept : Kept
+a_kept : KeptReception
 a_kept = record { lose = 0; most = 0; deaf = false; halves = 0; decoder = new_decoding; steps = 0 }
 
 -- nothing reaches a tap from further back on the lines either, once they have what is told ahead
@@ -94,7 +94,7 @@ take_all-requires-clause-room c =
     let size = part_size (goal.at.take_all-requires-clause-room c).After-classes_ahead-steady in
     let same : length a.senders.items ≡ length a.receivers.items = senders_many st ∙ sym (receivers_many st) in
     let one = piece_covered m c.args.count a.senders.items a.receivers.items a.room (omega (arith, ahead, steady)) same c.requires.room in
-    let P : List Kept → Type 0 = λ xs. Covers (receivers_demand (length (take m c.emit_ahead-ahead.new.piece)) xs) a.room in
+    let P : List KeptReception → Type 0 = λ xs. Covers (receivers_demand (length (take m c.emit_ahead-ahead.new.piece)) xs) a.room in
     subst P (sym c.deref_mut-receivers.ensures.value) (subst (λ x. Covers (receivers_demand x a.receivers.items) a.room) (sym size) one)
 
 pub take_all-requires-clause-steady : goal.take_all-requires-clause-steady
@@ -178,7 +178,7 @@ module _ (c : After-state-6-1) where
   abbrev ss : List Sender
   ss = c.args.state.now.senders.items
 
-  abbrev ks : List Kept
+  abbrev ks : List KeptReception
   ks = c.args.state.now.receivers.items
 
   abbrev a_sender : Sender
@@ -290,9 +290,9 @@ module _ (c : After-state-6-1) where
   ss_len : length c.leap_all.new.senders ≡ length ss
   ss_len = c.leap_all.auto.senders ∙ ap length c.deref_mut-2.ensures.value
 
-  hear : (i : ℕ) (d : Kept) (r : Receiving) → i < length c.take_all.new.receivers → Hears r (get_or ks i d) → Hears (receiver_after r (heard_for L t m ls' i) (sends i)) (get_or c.take_all.new.receivers i d)
+  hear : (i : ℕ) (d : KeptReception) (r : Receiving) → i < length c.take_all.new.receivers → Hears r (get_or ks i d) → Hears (receiver_after r (heard_for L t m ls' i) (sends i)) (get_or c.take_all.new.receivers i d)
   hear i d r h kept =
-      let one = c.take_all.ensures.states i d a_sender r h (subst (λ (xs : List Kept). Hears r (get_or xs i d)) (sym c.deref_mut-receivers.ensures.value) kept) in
+      let one = c.take_all.ensures.states i d a_sender r h (subst (λ (xs : List KeptReception). Hears r (get_or xs i d)) (sym c.deref_mut-receivers.ensures.value) kept) in
       subst (λ b. Hears (receiver_after r (heard_for L t m ls' i) b) (get_or c.take_all.new.receivers i d)) (sends_now i)
       (subst (λ xs. Hears (receiver_after r xs (is_sending (get_or c.deref-senders.result.now i a_sender).phase)) (get_or c.take_all.new.receivers i d)) (hears_now i) one)
 
@@ -300,7 +300,7 @@ module _ (c : After-state-6-1) where
   later i r h kept =
       let many = receivers_many c.requires.stands.at.stations in
       let len = ks_len in
-      let one = c.take_all.ensures.later i a_kept a_sender r (omega (arith, h, many, len)) (subst (λ (xs : List Kept). Hears r (get_or xs i a_kept)) (sym c.deref_mut-receivers.ensures.value) kept) in
+      let one = c.take_all.ensures.later i a_kept a_sender r (omega (arith, h, many, len)) (subst (λ (xs : List KeptReception). Hears r (get_or xs i a_kept)) (sym c.deref_mut-receivers.ensures.value) kept) in
       sym (ap₂ (later_bodies r) (hears_now i) (sends_now i)) ∙ one
 
   abbrev firsts : ℕ → Reception
@@ -319,10 +319,10 @@ module _ (c : After-state-6-1) where
       first_reception r (heard_for c.args.of.now.lookahead t (length (take m now)) c.deref-lines.result.now i) (is_sending (get_or c.deref-senders.result.now i a_sender).phase) ≡ first_reception r (heard_for L t m ls' i) (sends i)
   first_now i r = ap₂ (first_reception r) (hears_now i) (sends_now i)
 
-  hears_then : (i : ℕ) (d : Kept) → i < length c.take_all.new.receivers → Hears (receiver_at plan (get_or w.stations i 0) t) (get_or c.deref_mut-receivers.result.now i d)
+  hears_then : (i : ℕ) (d : KeptReception) → i < length c.take_all.new.receivers → Hears (receiver_at plan (get_or w.stations i 0) t) (get_or c.deref_mut-receivers.result.now i d)
   hears_then i d h =
       let len = ks_len in
-      subst (λ (xs : List Kept). Hears (receiver_at plan (get_or w.stations i 0) t) (get_or xs i d)) (sym c.deref_mut-receivers.ensures.value)
+      subst (λ (xs : List KeptReception). Hears (receiver_at plan (get_or w.stations i 0) t) (get_or xs i d)) (sym c.deref_mut-receivers.ensures.value)
       (receiver_stands c.requires.stands.at.stations i d (omega (arith, h, len)))
 
   logged : c.take_all.new.room.rows ≡ c.args.state.now.room.rows ++ rows_of_first t w.stations (λ i. (firsts i).event) (length w.stations)
@@ -345,7 +345,7 @@ module _ (c : After-state-6-1) where
 
   stations_after : AreStationsAt plan w.stations (t + m) c.leap_all.new.senders c.take_all.new.receivers c.take_all.new.room.rows c.take_all.new.room.captures
   stations_after =
-      let steps : All (λ (x : Kept). x.steps ≡ t + m) c.take_all.new.receivers = λ i d l. c.take_all.ensures.steps i d l ∙ ap (λ x. t + x) piece_size in
+      let steps : All (λ (x : KeptReception). x.steps ≡ t + m) c.take_all.new.receivers = λ i d l. c.take_all.ensures.steps i d l ∙ ap (λ x. t + x) piece_size in
       steady_stations plan s t front m least most ls ls' ss ks carrier a_sender a_kept going c.args.state.now.room.rows c.args.state.now.room.captures c.requires.stands.at.stations later
       c.leap_all.new.senders c.take_all.new.receivers c.take_all.new.room.rows c.take_all.new.room.captures ss_len ks_len states hear c.leap_all.ensures.times steps logged c.take_all.ensures.stations captured
 
@@ -396,7 +396,7 @@ module _ (c : After-state-6-1) where
       (heard_as plan s t front m least most ls ls' ss carrier a_sender going i m (omega (arith, h, len, many)) (omega arith)) (size i) in
       let left : (other : Demand) → Covers (both_demands other (receivers_demand (n + m) ks)) c.args.state.now.room → Covers (both_demands other (receivers_demand n c.take_all.new.receivers)) c.take_all.new.room =
       λ other h.
-      let P : List Kept → Type 0 = λ xs. Covers (both_demands other (receivers_demand (n + length (take m now)) xs)) c.args.state.now.room in
+      let P : List KeptReception → Type 0 = λ xs. Covers (both_demands other (receivers_demand (n + length (take m now)) xs)) c.args.state.now.room in
       c.take_all.ensures.left n other (subst P (sym c.deref_mut-receivers.ensures.value) (subst (λ x. Covers (both_demands other (receivers_demand (n + x) ks)) c.args.state.now.room) (sym piece_size) h)) in
       room_after_piece (λ i. heard_for L t m ls' i) m n ss c.leap_all.new.senders ks c.take_all.new.receivers c.args.state.now.room c.take_all.new.room size ss_len same ks_len later left covers
 
@@ -407,7 +407,7 @@ returns-clause-gone c =
     let receivers = with_items_is a.receivers c.take_all.new.receivers (search rules) in
     let lines = new_lines c in
     let P : List Sender → Type 0 = λ xs. AreStationsAt (plan c) (w c).stations (t c + m c) xs c.take_all.new.receivers c.take_all.new.room.rows c.take_all.new.room.captures in
-    let Q : List Kept → Type 0 = λ xs. AreStationsAt (plan c) (w c).stations (t c + m c) (with_items a.senders c.leap_all.new.senders).items xs c.take_all.new.room.rows c.take_all.new.room.captures in
+    let Q : List KeptReception → Type 0 = λ xs. AreStationsAt (plan c) (w c).stations (t c + m c) (with_items a.senders c.leap_all.new.senders).items xs c.take_all.new.room.rows c.take_all.new.room.captures in
     record {
       at = record {
         stations = subst Q (sym receivers) (subst P (sym senders) (stations_after c));

@@ -1,7 +1,7 @@
 use Rattle.std.proofs.Common.{◌≡◌, ◌≢◌, ◌+◌, ◌<◌, ◌++◌, ℕ, suc, [], List, length, set, get_or, take, drop, get_or-set_same, length-set, sym, subst, ap, ◌∙◌, arith, append_assoc}
 use Rattle.std.proofs.lemmas.List.{get_or-set_other, get_or_default, get_or_read}
 use Rattle.manchester_line.specs.declared.Sym.{Sym}
-use Rattle.mac_receive.specs.KeptReceiver.{Kept, Hears, IsReceiver}
+use Rattle.mac_receive.specs.KeptReceiver.{KeptReception, Hears, IsReceiver}
 use Rattle.mac_receive.specs.Receiver.{Receiving, receiver_after}
 use Rattle.mac_transmit.specs.Sender.{Sender, is_sending}
 use Rattle.net_parts.proofs.RepeaterSteps.{length-span}
@@ -60,11 +60,11 @@ loop-k-preserved c =
     let piece : heard_for c.args.lookahead t (length c.loop-k.piece) ls k ≡ hears k = ap (λ n. heard_for c.args.lookahead t n ls k) inv.piece_len in
     let sent : (e : Sender) → c.is_sending-sending.result ≡ sends k e = λ e.
     c.is_sending-sending.ensures ∙ ap (λ (s : Sender). is_sending s.phase) (get_or_read ss k c.index-senders-k.result test c.index-senders-k.is e) in
-    let is : (d : Kept) → get_or ks k dk ≡ get_or first k d = λ d. get_or_default ks k dk d lk ∙ inv.others k d (omega arith) in
+    let is : (d : KeptReception) → get_or ks k dk ≡ get_or first k d = λ d. get_or_default ks k dk d lk ∙ inv.others k d (omega arith) in
     let here : HasTaken t k dev (hears k) c.is_sending-sending.result (get_or ks k dk) k' c.loop-k.room room' =
     subst (λ (hs : List Sym). HasTaken t k dev hs c.is_sending-sending.result (get_or ks k dk) k' c.loop-k.room room') piece now.taken in
-    let one : (d : Kept) (e : Sender) → HasTaken t k dev (hears k) (sends k e) (get_or first k d) k' c.loop-k.room room' = λ d e.
-    subst (λ (x : Kept). HasTaken t k dev (hears k) (sends k e) x k' c.loop-k.room room') (is d)
+    let one : (d : KeptReception) (e : Sender) → HasTaken t k dev (hears k) (sends k e) (get_or first k d) k' c.loop-k.room room' = λ d e.
+    subst (λ (x : KeptReception). HasTaken t k dev (hears k) (sends k e) x k' c.loop-k.room room') (is d)
     (subst (λ b. HasTaken t k dev (hears k) b (get_or ks k dk) k' c.loop-k.room room') (sent e) here) in
     let some : IsReceiver (get_or ks k dk) = subst IsReceiver (sym (is dk)) (c.requires.hear k dk lf) in
     let other_captures : (q : ℕ) → q ≢ k → get_or room'.captures q [] ≡ get_or caps q [] = λ q e.
@@ -73,15 +73,15 @@ loop-k-preserved c =
       piece_len = c.take_one.auto.piece ∙ inv.piece_len;
       len = length-set ks k k' ∙ inv.len;
       len_captures = now.stations ∙ inv.len_captures;
-      done = λ q d e r l h. below_next k (λ q. (d : Kept) (e : Sender) (r : Receiving) → Hears r (get_or first q d) → Hears (receiver_after r (hears q) (sends q e)) (get_or (set ks k k') q d))
+      done = λ q d e r l h. below_next k (λ q. (d : KeptReception) (e : Sender) (r : Receiving) → Hears r (get_or first q d) → Hears (receiver_after r (hears q) (sends q e)) (get_or (set ks k k') q d))
           (λ q b d e r h. subst (Hears (receiver_after r (hears q) (sends q e))) (sym (get_or-set_other ks k q k' d (λ x. omega (arith, x, b)))) (inv.done q d e r b h))
           (λ d e r h. subst (Hears (receiver_after r (hears k) (sends k e))) (sym (get_or-set_same ks k k' d lk)) ((one d e).state r h))
           q l d e r h;
-      still = λ q d e r l h. below_next k (λ q. (d : Kept) (e : Sender) (r : Receiving) → Hears r (get_or first q d) → later_bodies r (hears q) (sends q e) ≡ [])
+      still = λ q d e r l h. below_next k (λ q. (d : KeptReception) (e : Sender) (r : Receiving) → Hears r (get_or first q d) → later_bodies r (hears q) (sends q e) ≡ [])
           (λ q b d e r h. inv.still q d e r b h) (λ d e r h. (one d e).later r h) q l d e r h;
       stepped = λ q d l. below_next k (λ q. (get_or (set ks k k') q d).steps ≡ t + m)
-          (λ q b. ap (λ (x : Kept). x.steps) (get_or-set_other ks k q k' d (λ x. omega (arith, x, b))) ∙ inv.stepped q d b)
-          (ap (λ (x : Kept). x.steps) (get_or-set_same ks k k' d lk) ∙ now.steps ∙ ap (λ x. t + x) inv.piece_len)
+          (λ q b. ap (λ (x : KeptReception). x.steps) (get_or-set_other ks k q k' d (λ x. omega (arith, x, b))) ∙ inv.stepped q d b)
+          (ap (λ (x : KeptReception). x.steps) (get_or-set_same ks k k' d lk) ∙ now.steps ∙ ap (λ x. t + x) inv.piece_len)
           q l;
       others = λ q d l. get_or-set_other ks k q k' d (λ x. omega (arith, x, l)) ∙ inv.others q d (omega (arith, l));
       logged = λ rs e h.
@@ -92,7 +92,7 @@ loop-k-preserved c =
           ∙ ap (λ xs. xs ++ row_of t dev (event k)) (inv.logged rs e h)
           ∙ append_assoc c.args.room.now.rows before (row_of t dev (event k))
           ∙ ap (λ j. c.args.room.now.rows ++ rows_of_first t c.args.devices.now event j) next;
-      kept = λ q d e r l h. below_next k (λ q. (d : Kept) (e : Sender) (r : Receiving) → Hears r (get_or first q d) →
+      kept = λ q d e r l h. below_next k (λ q. (d : KeptReception) (e : Sender) (r : Receiving) → Hears r (get_or first q d) →
           get_or room'.captures q [] ≡ get_or c.args.room.now.captures q [] ++ taken_by t (first_reception r (hears q) (sends q e)).event (first_reception r (hears q) (sends q e)).octets)
           (λ q b d e r h. other_captures q (λ x. omega (arith, x, b)) ∙ inv.kept q d e r b h)
           (λ d e r h.

@@ -1,5 +1,5 @@
 use Rattle.std.proofs.Common.{◌≡◌, ℕ, ◌+◌, ◌<◌, ◌≤◌, ◌++◌, [], length, slice_index_or}
-use Rattle.mac_receive.specs.KeptReceiver.{Kept, Hears}
+use Rattle.mac_receive.specs.KeptReceiver.{KeptReception, Hears}
 use Rattle.mac_receive.specs.Receiver.{Receiving, receiver_after}
 use Rattle.mac_transmit.specs.Sender.{Sender, is_sending}
 use Rattle.network.specs.Captures.{taken_by}
@@ -15,15 +15,15 @@ invariant-loop-k l = record {
   piece_len : length l.piece ≡ length l.fn.piece;
   len : length l.receivers ≡ length l.fn.receivers;
   len_captures : length l.room.captures ≡ length l.fn.room.captures;
-  done : (q : ℕ) (d : Kept) (e : Sender) (r : Receiving) → q < l.k → Hears r (slice_index_or l.fn.receivers q d) →
+  done : (q : ℕ) (d : KeptReception) (e : Sender) (r : Receiving) → q < l.k → Hears r (slice_index_or l.fn.receivers q d) →
       Hears (receiver_after r (heard_for l.lookahead l.t (length l.fn.piece) l.lines q) (is_sending (slice_index_or l.senders q e).phase)) (slice_index_or l.receivers q d);
-  still : (q : ℕ) (d : Kept) (e : Sender) (r : Receiving) → q < l.k → Hears r (slice_index_or l.fn.receivers q d) →
+  still : (q : ℕ) (d : KeptReception) (e : Sender) (r : Receiving) → q < l.k → Hears r (slice_index_or l.fn.receivers q d) →
       later_bodies r (heard_for l.lookahead l.t (length l.fn.piece) l.lines q) (is_sending (slice_index_or l.senders q e).phase) ≡ [];
-  stepped : (q : ℕ) (d : Kept) → q < l.k → (slice_index_or l.receivers q d).steps ≡ l.t + length l.fn.piece;
-  others : (q : ℕ) (d : Kept) → l.k ≤ q → slice_index_or l.receivers q d ≡ slice_index_or l.fn.receivers q d;
-  logged : (rs : ℕ → Receiving) (e : Sender) → ((i : ℕ) (d : Kept) → i < length l.fn.receivers → Hears (rs i) (slice_index_or l.fn.receivers i d)) →
+  stepped : (q : ℕ) (d : KeptReception) → q < l.k → (slice_index_or l.receivers q d).steps ≡ l.t + length l.fn.piece;
+  others : (q : ℕ) (d : KeptReception) → l.k ≤ q → slice_index_or l.receivers q d ≡ slice_index_or l.fn.receivers q d;
+  logged : (rs : ℕ → Receiving) (e : Sender) → ((i : ℕ) (d : KeptReception) → i < length l.fn.receivers → Hears (rs i) (slice_index_or l.fn.receivers i d)) →
       l.room.rows ≡ l.fn.room.rows ++ rows_of_first l.t l.devices (λ i. (first_reception (rs i) (heard_for l.lookahead l.t (length l.fn.piece) l.lines i) (is_sending (slice_index_or l.senders i e).phase)).event) l.k;
-  kept : (q : ℕ) (d : Kept) (e : Sender) (r : Receiving) → q < l.k → Hears r (slice_index_or l.fn.receivers q d) →
+  kept : (q : ℕ) (d : KeptReception) (e : Sender) (r : Receiving) → q < l.k → Hears r (slice_index_or l.fn.receivers q d) →
       slice_index_or l.room.captures q [] ≡ slice_index_or l.fn.room.captures q [] ++ taken_by l.t
       (first_reception r (heard_for l.lookahead l.t (length l.fn.piece) l.lines q) (is_sending (slice_index_or l.senders q e).phase)).event
       (first_reception r (heard_for l.lookahead l.t (length l.fn.piece) l.lines q) (is_sending (slice_index_or l.senders q e).phase)).octets;

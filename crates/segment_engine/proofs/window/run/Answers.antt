@@ -1,6 +1,6 @@
 use Rattle.std.proofs.Common.{◌≡◌, ◌+◌, ◌-◌, ◌*◌, List, map, sym, subst, ap, ap₂, ◌∙◌, arith}
 use Rattle.mac_transmit.specs.Sender.{Sender}
-use Rattle.mac_receive.specs.KeptReceiver.{Kept}
+use Rattle.mac_receive.specs.KeptReceiver.{KeptReception}
 use Rattle.net_parts.specs.declared.parcel.Parcel.{Parcel}
 use Rattle.net_parts.specs.SegmentParts.{wiring}
 use Rattle.window_room.specs.NeededRoom.{Covers, stations_demand}
@@ -31,7 +31,7 @@ loop-k-init c =
     let begun = c.begin.ensures.time in
     let few = within_window g wd c.args.state.now.t c.requires.below c.requires.time c.from.result c.min-count.result c.begin.new.state.t c.from.ensures c.begin.ensures.time c.min-count.ensures in
     let P : List Sender → Type 0 = λ ss. Covers (stations_demand g.lookahead ss a.receivers.items) a.room in
-    let Q : List Kept → Type 0 = λ ks. Covers (stations_demand g.lookahead b.senders.items ks) a.room in
+    let Q : List KeptReception → Type 0 = λ ks. Covers (stations_demand g.lookahead b.senders.items ks) a.room in
     let R : Room → Type 0 = λ room. Covers (stations_demand g.lookahead b.senders.items b.receivers.items) room in
     let room = subst R (sym c.begin.ensures.room) (subst Q (sym (ap (λ v. v.items) c.begin.ensures.receivers)) (subst P (sym (ap (λ v. v.items) c.begin.ensures.senders)) c.requires.room)) in
     let at : b.t ≡ wd * g.lookahead + 0 = omega (arith, begun, starts) in

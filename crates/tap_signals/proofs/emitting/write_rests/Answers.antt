@@ -1,4 +1,4 @@
-use Rattle.layout.specs.declared.ways.Tap.TheVariants.{Station}
+use Rattle.layout.specs.declared.ways.Attachment.TheVariants.{Station}
 use Rattle.tap_signals.proofs.emitting.write_rests.Goals as goal
 
 pub rest_of-requires : goal.rest_of-requires

@@ -1,6 +1,6 @@
 use Rattle.std.proofs.Common.{◌≡◌, ◌++◌, map}
 use Rattle.std.specs.List.{range_with_len}
-use Rattle.layout.specs.declared.ways.Tap.TheVariants.{Port}
+use Rattle.layout.specs.declared.ways.Attachment.TheVariants.{Port}
 use Rattle.tap_signals.proofs.taps.add_ports.Given as goal
 
 abbrev pub invariant-loop-port : goal.invariant-loop-port

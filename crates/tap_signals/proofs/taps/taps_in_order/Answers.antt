@@ -2,8 +2,8 @@ use Rattle.std.proofs.Common.{◌≡◌, ◌++◌, ◌<◌, List, [], ◌∷◌,
 use Rattle.std.proofs.lemmas.List.FromFn.{map-range_with_len_more}
 use Rattle.network.proofs.RunnablePlans.{runnable_plan}
 use Rattle.layout.specs.declared.lines.RepeaterLine.{RepeaterLine}
-use Rattle.layout.specs.declared.ways.Tap.{Tap}
-use Rattle.layout.specs.declared.ways.Tap.TheVariants.{Station}
+use Rattle.layout.specs.declared.ways.Attachment.{Attachment}
+use Rattle.layout.specs.declared.ways.Attachment.TheVariants.{Station}
 use Rattle.tap_signals.proofs.TapsOfLayout.{all_stations, no_more_ports, ports_more}
 use Rattle.tap_signals.proofs.taps.taps_in_order.Goals as goal
 
@@ -11,7 +11,7 @@ pub loop-station-preserved : goal.loop-station-preserved
 loop-station-preserved c =
     let station = c.loop-station.station in
     let one : c.push.new.self.items ≡ c.loop-station.taps.items ++ Station station ∷ [] = c.in_ok-push.ensures.items in
-    one ∙ ap (λ (ts : List Tap). ts ++ Station station ∷ []) c.loop-station.invariant
+    one ∙ ap (λ (ts : List Attachment). ts ++ Station station ∷ []) c.loop-station.invariant
     ∙ sym (map-range_with_len_more Station 0 station station (omega arith))
 
 pub loop-repeater-init : goal.loop-repeater-init

@@ -1,6 +1,6 @@
 use Rattle.std.proofs.Common.{◌≡◌, ◌++◌, drop, map}
 use Rattle.std.specs.List.{range_with_len}
-use Rattle.layout.specs.declared.ways.Tap.TheVariants.{Station}
+use Rattle.layout.specs.declared.ways.Attachment.TheVariants.{Station}
 use Rattle.tap_signals.specs.Taps.{ports_from, taps_in_order}
 use Rattle.tap_signals.proofs.taps.taps_in_order.Given as goal
 

@@ -21,16 +21,16 @@ loop-k-preserved g c =
         | inl before ↦ c.loop-k.invariant.are_calm q d n before some (omega (arith, few, fewer))
         | inr now ↦
             let e : c.loop-k.k ≡ q = omega (arith, h, now) in
-            subst (λ k. g.K.Kind.calm (get_or c.args.parts.now k d) n) e (subst (λ s. g.K.Kind.calm s n) (is d) (c.quiet_windows-calm.ensures.calm n some few))
+            subst (λ k. g.K.PartKind.calm (get_or c.args.parts.now k d) n) e (subst (λ s. g.K.PartKind.calm s n) (is d) (c.quiet_windows-calm.ensures.calm n some few))
       ];
       silent = λ q d h.
           let P = λ (m : ℕ) (s : g.row.K.Denot). (let plan = g.K.Part.plan s in
-          StaysIdle (g.K.Kind.comes plan) (g.K.Kind.goes plan) (edges_of_part plan (g.K.Part.number s)) (g.K.Part.at s * lookahead plan.layout) (m * lookahead plan.layout)) in
+          StaysIdle (g.K.PartKind.comes plan) (g.K.PartKind.goes plan) (edges_of_part plan (g.K.Part.number s)) (g.K.Part.at s * lookahead plan.layout) (m * lookahead plan.layout)) in
           elim (cases_lt q c.loop-k.k) [
             | inl before ↦
                 let s = get_or c.args.parts.now q d in
                 let plan = g.K.Part.plan s in
-                idle_for_fewer (g.K.Kind.comes plan) (g.K.Kind.goes plan) (edges_of_part plan (g.K.Part.number s)) (g.K.Part.at s * lookahead plan.layout) (calm * lookahead plan.layout) (more * lookahead plan.layout)
+                idle_for_fewer (g.K.PartKind.comes plan) (g.K.PartKind.goes plan) (edges_of_part plan (g.K.Part.number s)) (g.K.Part.at s * lookahead plan.layout) (calm * lookahead plan.layout) (more * lookahead plan.layout)
                 (mul-le-mul_right (lookahead plan.layout) fewer) (c.loop-k.invariant.silent q d before)
             | inr now ↦
                 let e : c.loop-k.k ≡ q = omega (arith, h, now) in

@@ -8,9 +8,9 @@ use Rattle.turn_run.proofs.quiet.calm_of.Given as goal
 abbrev pub invariant-loop-k : goal.invariant-loop-k
 invariant-loop-k g l = record {
   within : l.calm ≤ l.most;
-  are_calm : (q : ℕ) (d : g.row.K.Denot) (n : ℕ) → q < l.k → 0 < n → n ≤ l.calm → g.K.Kind.calm (slice_index_or l.parts q d) n;
+  are_calm : (q : ℕ) (d : g.row.K.Denot) (n : ℕ) → q < l.k → 0 < n → n ≤ l.calm → g.K.PartKind.calm (slice_index_or l.parts q d) n;
   silent : (q : ℕ) (d : g.row.K.Denot) → q < l.k →
       (let s = slice_index_or l.parts q d in
       let plan = g.K.Part.plan s in
-      StaysIdle (g.K.Kind.comes plan) (g.K.Kind.goes plan) (edges_of_part plan (g.K.Part.number s)) (g.K.Part.at s * lookahead plan.layout) (l.calm * lookahead plan.layout));
+      StaysIdle (g.K.PartKind.comes plan) (g.K.PartKind.goes plan) (edges_of_part plan (g.K.Part.number s)) (g.K.Part.at s * lookahead plan.layout) (l.calm * lookahead plan.layout));
 }

@@ -20,7 +20,7 @@ leap_parts-requires-clause-silent g c κs within =
     let e = c.quiet_everywhere-quiet.ensures in
     let some : 0 < q = search rules in
     let in_run = c.requires.within in
-    idle_segments g.S.Part.plan g.S.Part.number g.S.Part.at g.S.Kind.comes g.S.Kind.goes g.R.Part.plan g.R.Part.number g.R.Part.at g.R.Kind.comes g.R.Kind.goes c.args.plan.now c.args.window q
+    idle_segments g.S.Part.plan g.S.Part.number g.S.Part.at g.S.PartKind.comes g.S.PartKind.goes g.R.Part.plan g.R.Part.number g.R.Part.at g.R.PartKind.comes g.R.PartKind.goes c.args.plan.now c.args.window q
     c.requires.arrive c.requires.heard c.requires.hear c.requires.decide c.args.segments.now c.args.repeaters.now c.requires.segments c.requires.repeaters (e.silent_segments some) (e.silent_repeaters some) c.args.parcels.now (omega (arith, in_run)) c.requires.parcels (e.idle some)
 
 pub leap_parts-requires-2-clause-silent : goal.leap_parts-requires-2-clause-silent
@@ -29,7 +29,7 @@ leap_parts-requires-2-clause-silent g c κs within =
     let e = c.quiet_everywhere-quiet.ensures in
     let some : 0 < q = search rules in
     let in_run = c.requires.within in
-    idle_repeaters g.S.Part.plan g.S.Part.number g.S.Part.at g.S.Kind.comes g.S.Kind.goes g.R.Part.plan g.R.Part.number g.R.Part.at g.R.Kind.comes g.R.Kind.goes c.args.plan.now c.args.window q
+    idle_repeaters g.S.Part.plan g.S.Part.number g.S.Part.at g.S.PartKind.comes g.S.PartKind.goes g.R.Part.plan g.R.Part.number g.R.Part.at g.R.PartKind.comes g.R.PartKind.goes c.args.plan.now c.args.window q
     c.requires.arrive c.requires.heard c.requires.hear c.requires.decide c.args.segments.now c.args.repeaters.now c.requires.segments c.requires.repeaters (e.silent_segments some) (e.silent_repeaters some) c.args.parcels.now (omega (arith, in_run)) c.requires.parcels (e.idle some)
 
 pub overflow_add-window : goal.overflow_add-window
@@ -46,5 +46,5 @@ returns-clause-parcels g c =
     let in_run = c.requires.within in
     let most = e.within in
     c.stamp_all.ensures
-    ∙ parcels_later g.S.Part.plan g.S.Part.number g.S.Part.at g.S.Kind.comes g.S.Kind.goes g.R.Part.plan g.R.Part.number g.R.Part.at g.R.Kind.comes g.R.Kind.goes c.args.plan.now c.args.window q
+    ∙ parcels_later g.S.Part.plan g.S.Part.number g.S.Part.at g.S.PartKind.comes g.S.PartKind.goes g.R.Part.plan g.R.Part.number g.R.Part.at g.R.PartKind.comes g.R.PartKind.goes c.args.plan.now c.args.window q
     c.requires.arrive c.requires.heard c.requires.hear c.requires.decide c.args.segments.now c.args.repeaters.now c.requires.segments c.requires.repeaters (e.silent_segments some) (e.silent_repeaters some) c.args.parcels.now (omega (arith, in_run)) c.requires.parcels (e.idle some) (omega (arith, in_run, most))

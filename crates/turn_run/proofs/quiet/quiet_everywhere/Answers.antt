@@ -9,4 +9,4 @@ returns-clause-silent_segments g c = λ some k d h.
     let s = get_or c.args.segments.now k d in
     let plan = g.S.Part.plan s in
     let L = lookahead plan.layout in
-    idle_for_fewer (g.S.Kind.comes plan) (g.S.Kind.goes plan) (edges_of_part plan (g.S.Part.number s)) (g.S.Part.at s * L) (c.calm_of-calm.result * L) (c.calm_of.result * L) (mul-le-mul_right L c.calm_of.ensures.within) (c.calm_of-calm.ensures.silent k d h)
+    idle_for_fewer (g.S.PartKind.comes plan) (g.S.PartKind.goes plan) (edges_of_part plan (g.S.Part.number s)) (g.S.Part.at s * L) (c.calm_of-calm.result * L) (c.calm_of.result * L) (mul-le-mul_right L c.calm_of.ensures.within) (c.calm_of-calm.ensures.silent k d h)

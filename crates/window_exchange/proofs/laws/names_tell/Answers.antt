@@ -1,5 +1,5 @@
-use Rattle.window_exchange.proofs.MailNamesTell.{same_mail}
+use Rattle.window_exchange.proofs.MailNamesTell.{same_parcel}
 use Rattle.window_exchange.proofs.laws.names_tell.Goals as goal
 
 pub returns : goal.returns
-returns g c = same_mail g.U.Named.name
+returns c = same_parcel

@@ -7,9 +7,9 @@ use Rattle.manchester_line.specs.declared.Sym.{Sym}
 use Rattle.collision_log.specs.declared.row.Body.{Body}
 use Rattle.collision_log.specs.declared.row.Row.{Row}
 use Rattle.mac_transmit.specs.Sender.{Sender, SendOutcome}
-use Rattle.mac_receive.specs.KeptReceiver.{Kept, kept_octets}
-use Rattle.repeater_core.specs.Step.{State, after, decided_by, emitted_by}
-use Rattle.net_step.specs.declared.places.Place.{Place}
+use Rattle.mac_receive.specs.KeptReceiver.{KeptReception, kept_octets}
+use Rattle.repeater_core.specs.Step.{RepeaterDevice, after, decided_by, emitted_by}
+use Rattle.net_step.specs.declared.places.TapOnSegment.{TapOnSegment}
 use Rattle.network.specs.declared.outputs.Taken.{Taken}
 use Rattle.network.specs.Net.{sendings, each_repeater}
 use Rattle.network.specs.Captures.{captured}
@@ -40,8 +40,8 @@ kept_later c captures =
       settled = c.pass.new.self.settled;
     }
 
-guards_kept : (c : After-log_all) → map (λ (x : State). length x.guards) (with_items c.self.inside.relays c.relay_all.new.relays).items ≡ map (λ (x : State). length x.guards) c.self.inside.relays.items
-guards_kept c = kept_of (map (λ (x : State). length x.guards)) (with_items_is c.self.inside.relays c.relay_all.new.relays (search rules)) c.relay_all.ensures.ports c.deref_mut-7.ensures.value
+guards_kept : (c : After-log_all) → map (λ (x : RepeaterDevice). length x.guards) (with_items c.self.inside.relays c.relay_all.new.relays).items ≡ map (λ (x : RepeaterDevice). length x.guards) c.self.inside.relays.items
+guards_kept c = kept_of (map (λ (x : RepeaterDevice). length x.guards)) (with_items_is c.self.inside.relays c.relay_all.new.relays (search rules)) c.relay_all.ensures.ports c.deref_mut-7.ensures.value
 
 -- it is whole, where there are as many captures as before
 whole_later : (c : After-log_all) (captures : List (List Taken)) → length captures ≡ length c.self.inside.captures.items →
@@ -66,7 +66,7 @@ whole_later c captures as_many =
     (kept_of length (with_items_is q.received c.step_stations.new.received (search rules)) c.step_stations.auto.received c.deref_mut-6.ensures.value)
     (kept_of length (with_items_is q.events c.relay_all.new.events (search rules)) c.relay_all.auto.events c.deref_mut-10.ensures.value)
     (subst (All (λ (s : Sender). s.t ≡ q.t + 1)) (sym (with_items_is q.senders c.step_stations.new.senders (search rules))) c.step_stations.ensures.times)
-    (subst (All (λ (r : Kept). r.steps ≡ q.t + 1)) (sym (with_items_is q.receivers c.step_stations.new.receivers (search rules))) c.step_stations.ensures.steps)
+    (subst (All (λ (r : KeptReception). r.steps ≡ q.t + 1)) (sym (with_items_is q.receivers c.step_stations.new.receivers (search rules))) c.step_stations.ensures.steps)
 
 pub invariant_of-self : goal.invariant_of-self
 invariant_of-self c = whole_later (goal.at.invariant_of-self c).After-log_all c.self.inside.captures.items refl
@@ -103,7 +103,7 @@ returns c =
     let last = kept_later at (with_items q.captures c.capture_all.new.captures).items in
     let stations : c.len.result ≡ length q.senders.items = search rules in
     let all : c.deref-3.result.now ≡ map (heard_at_place q.segments.items) q.places.items =
-    c.deref-3.ensures.value ∙ heard ∙ c.hear_all.ensures ∙ ap₂ (λ (ws : List Wire) (at : List Place). map (heard_at_place ws) at) c.deref.ensures.value c.deref-2.ensures.value in
+    c.deref-3.ensures.value ∙ heard ∙ c.hear_all.ensures ∙ ap₂ (λ (ws : List Wire) (at : List TapOnSegment). map (heard_at_place ws) at) c.deref.ensures.value c.deref-2.ensures.value in
     let stations_hear : hs ≡ stations_hear_kept first = c.split_at.ensures.front ∙ ap₂ (λ n (xs : List Sym). take n xs) stations all in
     let ports_hear : ps ≡ ports_hear_kept first = c.split_at.ensures.back ∙ ap₂ (λ n (xs : List Sym). drop n xs) stations all in
     let many : length c.deref-9.result.now ≡ length q.senders.items = ap length (c.deref-9.ensures.value ∙ sent) ∙ c.step_stations.auto.sent ∙ ap length c.deref_mut-5.ensures.value ∙ c.self.invariant.sending in
@@ -127,7 +127,7 @@ returns c =
     (c.relay_all.ensures.emitted ∙ ap (flat_map emitted_by) c.deref_mut-7.ensures.value)
     (segments ∙ c.carry_all.ensures ∙ ap₂ (λ (xs : List Sym) (ws : List Wire). map (carried xs) ws) (c.deref-6.ensures.value ∙ row ∙ c.join.ensures ∙ ap₂ (λ (xs ys : List Sym). xs ++ ys) (c.deref-4.ensures.value ∙ emitted) (c.deref-5.ensures.value ∙ port_emitted)) c.deref_mut-12.ensures.value)
     refl (guards_kept at) reaches delays c.relay_all.new.decided
-    (c.relay_all.ensures.decided ∙ ap (λ (rs : List State). flat_map (λ (symbols : List Sym). symbols) (each_repeater decided_by ps rs)) c.deref_mut-7.ensures.value)
+    (c.relay_all.ensures.decided ∙ ap (λ (rs : List RepeaterDevice). flat_map (λ (symbols : List Sym). symbols) (each_repeater decided_by ps rs)) c.deref_mut-7.ensures.value)
     settled
     (c.relay_all.ensures.bodies ∙ ap (each_repeater repeater_bodies ps) c.deref_mut-7.ensures.value)
     (c.in_ok-log_all.ensures
@@ -135,6 +135,6 @@ returns c =
     (ap₂ (λ (s r : List (Option Body)). q.rows ++ rows_of q.t 0 s r) (c.deref-9.ensures.value ∙ sent) (c.deref-10.ensures.value ∙ received))
     (ap₂ all_told (c.deref-11.ensures.value ∙ relays) (c.deref-12.ensures.value ∙ events))
     ∙ ap (λ n. (q.rows ++ rows_of q.t 0 c.step_stations.new.sent os) ++ repeater_rows q.t n bodies) many)
-    (captures ∙ kept ∙ ap₂ (λ (o : List (Option Body)) (k : List Kept). captured q.t o (map kept_octets k) c.deref_mut-13.result.now) (c.deref-13.ensures.value ∙ received) c.deref-14.ensures.value ∙ ap (captured q.t os (map kept_octets last.receivers)) c.deref_mut-13.ensures.value) in
+    (captures ∙ kept ∙ ap₂ (λ (o : List (Option Body)) (k : List KeptReception). captured q.t o (map kept_octets k) c.deref_mut-13.result.now) (c.deref-13.ensures.value ∙ received) c.deref-14.ensures.value ∙ ap (captured q.t os (map kept_octets last.receivers)) c.deref_mut-13.ensures.value) in
     let moved : (c.capture_all.new.captures ≡ captured q.t c.deref-13.result.now (map kept_octets c.deref-14.result.now) c.deref_mut-13.result.now) → IsNextKept c.args.self.now last = λ kept. subst (λ k. IsNextKept k last) c.self.view_is (goes kept) in
     search rules

@@ -5,10 +5,10 @@ use Rattle.std.proofs.lemmas.List.{with_items_is, length-map}
 use Rattle.manchester_line.specs.declared.Sym.TheVariants.{Idle}
 use Rattle.mac_transmit.specs.Sender.{Sender}
 use Rattle.mac_transmit.specs.Calm.{after_all}
-use Rattle.mac_receive.specs.KeptReceiver.{Kept, Hears}
+use Rattle.mac_receive.specs.KeptReceiver.{KeptReception, Hears}
 use Rattle.mac_receive.specs.Receiver.{Receiving, receiver_after}
 use Rattle.repeater_core.specs.Calm.{IsCalm, silent_step}
-use Rattle.repeater_core.specs.Step.{State}
+use Rattle.repeater_core.specs.Step.{RepeaterDevice}
 use Rattle.network.specs.Net.{Net}
 use Rattle.quiet_state.specs.Resumed.{later_net}
 use Rattle.net_step.specs.CalmNets.{IsCalmNet, WaitsFor}
@@ -21,10 +21,10 @@ pub leap_senders-requires-clause-calm : goal.leap_senders-requires-clause-calm
 leap_senders-requires-clause-calm c = subst (All (WaitsFor c.args.count)) (sym c.deref_mut.ensures.value) (subst (IsCalmNet c.args.count) (sym c.self.view_is) c.requires.calm).senders
 
 pub leap_receivers-requires-clause-rest : goal.leap_receivers-requires-clause-rest
-leap_receivers-requires-clause-rest c = subst (All (λ (k : Kept). k.halves ≡ 0)) (sym c.deref_mut-2.ensures.value) (subst (IsCalmNet c.args.count) (sym c.self.view_is) c.requires.calm).receivers
+leap_receivers-requires-clause-rest c = subst (All (λ (k : KeptReception). k.halves ≡ 0)) (sym c.deref_mut-2.ensures.value) (subst (IsCalmNet c.args.count) (sym c.self.view_is) c.requires.calm).receivers
 
 pub leap_relays-requires : goal.leap_relays-requires
-leap_relays-requires c = subst (All (λ (r : State). IsCalm r c.args.count)) (sym c.deref_mut-3.ensures.value) (subst (IsCalmNet c.args.count) (sym c.self.view_is) c.requires.calm).repeaters
+leap_relays-requires c = subst (All (λ (r : RepeaterDevice). IsCalm r c.args.count)) (sym c.deref_mut-3.ensures.value) (subst (IsCalmNet c.args.count) (sym c.self.view_is) c.requires.calm).repeaters
 
 pub invariant_of-self : goal.invariant_of-self
 invariant_of-self c =
@@ -37,9 +37,9 @@ invariant_of-self c =
     whole_leapt first m (with_items q.senders c.leap_senders.new.senders).items (with_items q.receivers c.leap_receivers.new.receivers).items (with_items q.relays c.leap_relays.new.relays).items _ _ _ _ _ _ _ _ c.self.invariant
     (kept_of length senders c.leap_senders.auto.senders c.deref_mut.ensures.value)
     (kept_of length receivers c.leap_receivers.auto.receivers c.deref_mut-2.ensures.value)
-    (kept_of (map (λ (x : State). length x.guards)) relays c.leap_relays.ensures.ports c.deref_mut-3.ensures.value)
+    (kept_of (map (λ (x : RepeaterDevice). length x.guards)) relays c.leap_relays.ensures.ports c.deref_mut-3.ensures.value)
     (subst (All (λ (s : Sender). s.t ≡ q.t + m)) (sym senders) c.leap_senders.ensures.times)
-    (subst (All (λ (r : Kept). r.steps ≡ q.t + m)) (sym receivers) c.leap_receivers.ensures.steps)
+    (subst (All (λ (r : KeptReception). r.steps ≡ q.t + m)) (sym receivers) c.leap_receivers.ensures.steps)
 
 pub returns-clause-stands : goal.returns-clause-stands
 returns-clause-stands c = λ n st.
@@ -52,15 +52,15 @@ returns-clause-stands c = λ n st.
     let now : Stands n first = subst (Stands n) (sym c.self.view_is) st in
     let calm : IsCalmNet m first = subst (IsCalmNet m) (sym c.self.view_is) c.requires.calm in
     let states : c.leap_relays.new.relays ≡ map (iterate silent_step m) q.relays.items = c.leap_relays.ensures.states ∙ ap (map (iterate silent_step m)) c.deref_mut-3.ensures.value in
-    let ports : map (λ (x : State). length x.guards) (map (iterate silent_step m) q.relays.items) ≡ map (λ (x : State). length x.guards) q.relays.items =
-    sym (ap (map (λ (x : State). length x.guards)) states) ∙ c.leap_relays.ensures.ports ∙ ap (map (λ (x : State). length x.guards)) c.deref_mut-3.ensures.value in
+    let ports : map (λ (x : RepeaterDevice). length x.guards) (map (iterate silent_step m) q.relays.items) ≡ map (λ (x : RepeaterDevice). length x.guards) q.relays.items =
+    sym (ap (map (λ (x : RepeaterDevice). length x.guards)) states) ∙ c.leap_relays.ensures.ports ∙ ap (map (λ (x : RepeaterDevice). length x.guards)) c.deref_mut-3.ensures.value in
     stands_leapt m n first _ _ _ _ _ _ _ _ c.self.invariant calm now ports
     (with_items q.senders c.leap_senders.new.senders).items (with_items q.receivers c.leap_receivers.new.receivers).items (with_items q.relays c.leap_relays.new.relays).items
     (senders ∙ c.leap_senders.ensures.states ∙ ap (map (λ (x : Sender). after_all x (replicate m Idle))) c.deref_mut.ensures.value)
     (kept_of length receivers c.leap_receivers.auto.receivers c.deref_mut-2.ensures.value)
     (λ i d r l here.
-    subst (λ (xs : List Kept). Hears (receiver_after r (replicate m Idle) false) (get_or xs i d)) (sym receivers)
-    (c.leap_receivers.ensures.states i d r (let size = ap length receivers in omega (arith, l, size)) (subst (λ (xs : List Kept). Hears r (get_or xs i d)) (sym c.deref_mut-2.ensures.value) here)))
+    subst (λ (xs : List KeptReception). Hears (receiver_after r (replicate m Idle) false) (get_or xs i d)) (sym receivers)
+    (c.leap_receivers.ensures.states i d r (let size = ap length receivers in omega (arith, l, size)) (subst (λ (xs : List KeptReception). Hears r (get_or xs i d)) (sym c.deref_mut-2.ensures.value) here)))
     (relays ∙ states)
 
 pub returns-clause-silent : goal.returns-clause-silent
@@ -71,6 +71,6 @@ returns-clause-silent c = λ n st i below.
     let now : Stands n first = subst (Stands n) (sym c.self.view_is) st in
     let calm : IsCalmNet m first = subst (IsCalmNet m) (sym c.self.view_is) c.requires.calm in
     let states : c.leap_relays.new.relays ≡ map (iterate silent_step m) q.relays.items = c.leap_relays.ensures.states ∙ ap (map (iterate silent_step m)) c.deref_mut-3.ensures.value in
-    let ports : map (λ (x : State). length x.guards) (map (iterate silent_step m) q.relays.items) ≡ map (λ (x : State). length x.guards) q.relays.items =
-    sym (ap (map (λ (x : State). length x.guards)) states) ∙ c.leap_relays.ensures.ports ∙ ap (map (λ (x : State). length x.guards)) c.deref_mut-3.ensures.value in
+    let ports : map (λ (x : RepeaterDevice). length x.guards) (map (iterate silent_step m) q.relays.items) ≡ map (λ (x : RepeaterDevice). length x.guards) q.relays.items =
+    sym (ap (map (λ (x : RepeaterDevice). length x.guards)) states) ∙ c.leap_relays.ensures.ports ∙ ap (map (λ (x : RepeaterDevice). length x.guards)) c.deref_mut-3.ensures.value in
     silent_half_bit m n first _ _ _ _ _ _ _ _ c.self.invariant calm now ports i below

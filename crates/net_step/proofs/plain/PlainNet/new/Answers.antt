@@ -1,6 +1,6 @@
 use Rattle.std.proofs.Common.{eqb, ◌≡◌, [], length, map, refl, ap, ◌∙◌, rules}
 use Rattle.mac_parameters.specs.Parameters.{most_octets}
-use Rattle.repeater_core.specs.Step.{State}
+use Rattle.repeater_core.specs.Step.{RepeaterDevice}
 use Rattle.network.specs.Net.{new_net, new_receiver, new_repeater, new_senders}
 use Rattle.network.proofs.RunnablePlans.{runnable_plan}
 use Rattle.kept_devices.specs.KeptReceivers.{AllHear}
@@ -12,7 +12,7 @@ pub with_devices-requires-clause-ports : goal.with_devices-requires-clause-ports
 with_devices-requires-clause-ports c =
     let l = c.args.plan.now.layout in
     let repeaters : c.in_ok-relays.relays.items ≡ map new_repeater l.repeaters = search rules in
-    ap (map (λ (r : State). length r.guards)) repeaters ∙ new_ports l.repeaters
+    ap (map (λ (r : RepeaterDevice). length r.guards)) repeaters ∙ new_ports l.repeaters
 
 pub returns-clause-stands : goal.returns-clause-stands
 returns-clause-stands c =

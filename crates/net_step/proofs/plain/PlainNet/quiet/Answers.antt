@@ -1,6 +1,6 @@
 use Rattle.std.proofs.Common.{◌≡◌, true, false, All, sym, subst, ◌∙◌, arith}
 use Rattle.mac_transmit.specs.Sender.{Sender, is_sending}
-use Rattle.repeater_core.specs.Step.{State}
+use Rattle.repeater_core.specs.Step.{RepeaterDevice}
 use Rattle.repeater_core.specs.declared.modes.Mode.TheVariants as mode
 use Rattle.net_step.proofs.QuietAndKept.{IsStillKept, TellsQuiet, not_told, quiet_as_told}
 use Rattle.net_step.proofs.plain.PlainNet.quiet.Goals as goal
@@ -36,9 +36,9 @@ returns c = λ n st.
         settled = (let early = c.if-self.false in omega (arith, early));
         senders = subst (All (λ (s : Sender). is_sending s.phase ≡ false)) c.deref.ensures.value (c.none_sends.ensures.0 c.if-not-none_sends.false);
         receivers = subst (All IsStillKept) c.deref-else-not-none_sends.ensures.value (c.all_still.ensures.0 c.if-not-all_still.false);
-        repeaters = subst (All (λ (r : State). r.mode ≡ mode.Idle)) c.deref-2.ensures.value (c.all_idle.ensures.0 idle);
+        repeaters = subst (All (λ (r : RepeaterDevice). r.mode ≡ mode.Idle)) c.deref-2.ensures.value (c.all_idle.ensures.0 idle);
       }))),
       (λ q.
           let p = subst TellsQuiet (sym c.self.view_is) (told.1 q) in
-          c.all_idle.ensures.1 (subst (All (λ (r : State). r.mode ≡ mode.Idle)) (sym c.deref-2.ensures.value) p.repeaters)),
+          c.all_idle.ensures.1 (subst (All (λ (r : RepeaterDevice). r.mode ≡ mode.Idle)) (sym c.deref-2.ensures.value) p.repeaters)),
     )

@@ -1,7 +1,7 @@
 use Rattle.std.proofs.Common.{eqb, ◌≡◌, length, map, sum_by, refl, ap, ◌∙◌, rules}
 use Rattle.layout.specs.declared.lines.RepeaterLine.{RepeaterLine}
 use Rattle.mac_parameters.specs.Parameters.{most_octets}
-use Rattle.repeater_core.specs.Step.{State}
+use Rattle.repeater_core.specs.Step.{RepeaterDevice}
 use Rattle.network.specs.Net.{new_receiver}
 use Rattle.network.proofs.RunnablePlans.{runnable_plan}
 use Rattle.quiet_state.specs.Resumed.{net_of, resumed_repeaters, resumed_senders}
@@ -20,7 +20,7 @@ with_devices-requires-clause-ports c =
     let l = c.args.plan.now.layout in
     let s = c.args.state in
     let repeaters : c.in_ok-relays.relays.items ≡ resumed_repeaters l.repeaters s.guards s.rests = search rules in
-    ap (map (λ (r : State). length r.guards)) repeaters ∙ resumed_ports l.repeaters s.guards s.rests (c.requires.guards_many ∙ many_delays l.repeaters)
+    ap (map (λ (r : RepeaterDevice). length r.guards)) repeaters ∙ resumed_ports l.repeaters s.guards s.rests (c.requires.guards_many ∙ many_delays l.repeaters)
 
 pub returns-clause-stands : goal.returns-clause-stands
 returns-clause-stands c =

@@ -2,7 +2,7 @@ use Rattle.std.proofs.Common.{◌≡◌, ◌+◌, ◌≤◌, ◌∙◌, false, t
 use Rattle.std.proofs.lemmas.List.{length-replicate}
 use Rattle.manchester_line.specs.declared.Sym.TheVariants.{Hi}
 use Rattle.mac_parameters.specs.Parameters.{most_half_bits}
-use Rattle.mac_receive.specs.KeptReceiver.{Kept}
+use Rattle.mac_receive.specs.KeptReceiver.{KeptReception}
 use Rattle.reception_laws.proofs.LateReceptions.{goes_on, hi_all, late_deaf, late_steps, unread_deaf, unread_rest}
 use Rattle.reception_laws.proofs.late.LateReceiver.leap_deaf.Goals as goal
 
@@ -14,9 +14,9 @@ invariant_of-self c =
     let text = take x.unread x.text.items in
     let n = c.args.n in
     let rest = unread_rest k x.text.items x.unread before.7 in
-    let deaf : k.deaf ≡ true = sym (late_deaf k text rest) ∙ ap (λ (y : Kept). y.deaf) c.self.view_is ∙ c.requires.deaf in
+    let deaf : k.deaf ≡ true = sym (late_deaf k text rest) ∙ ap (λ (y : KeptReception). y.deaf) c.self.view_is ∙ c.requires.deaf in
     let none = unread_deaf k x.unread before.7 deaf in
-    let steps : k.steps + length text ≡ c.args.self.now.steps = sym (late_steps k text) ∙ ap (λ (y : Kept). y.steps) c.self.view_is in
+    let steps : k.steps + length text ≡ c.args.self.now.steps = sym (late_steps k text) ∙ ap (λ (y : KeptReception). y.steps) c.self.view_is in
     let more = c.leap_deaf.ensures.steps in
     let fits = c.requires.steps in
     let on = goes_on (replicate n Hi) false k c.leap_deaf.new.self before.6 (λ r h. c.leap_deaf.ensures.state r (replicate n Hi) (hi_all n) (length-replicate n Hi) h) in (

@@ -2,7 +2,7 @@ use Rattle.std.proofs.Common.{◌≡◌, ◌+◌, ◌<◌, ◌≤◌, ◌∙◌,
 use Rattle.std.proofs.lemmas.List.{length-replicate}
 use Rattle.manchester_line.specs.declared.Sym.TheVariants.{Idle}
 use Rattle.mac_receive.specs.Receiver.{Receiving}
-use Rattle.mac_receive.specs.KeptReceiver.{Kept, Hears}
+use Rattle.mac_receive.specs.KeptReceiver.{KeptReception, Hears}
 use Rattle.reception_laws.proofs.LateReceptions.{goes_on, late_lose, late_most, late_steps, sending_bodies, sent_after, still_hears, unread_length}
 use Rattle.reception_laws.proofs.late.LateReceiver.leap_sending.Goals as goal
 
@@ -14,7 +14,7 @@ invariant_of-self c =
     let text = take x.unread x.text.items in
     let m = x.unread + c.args.n in
     let size = unread_length x.text.items x.unread _ before.0 before.1 in
-    let steps : k.steps + length text ≡ c.args.self.now.steps = sym (late_steps k text) ∙ ap (λ (y : Kept). y.steps) c.self.view_is in
+    let steps : k.steps + length text ≡ c.args.self.now.steps = sym (late_steps k text) ∙ ap (λ (y : KeptReception). y.steps) c.self.view_is in
     let more = c.leap_sending.ensures.steps in
     let fits = c.requires in
     let on = goes_on (replicate m Idle) true k c.leap_sending.new.self before.6 (λ r h. c.leap_sending.ensures.state r (replicate m Idle) (length-replicate m Idle) h) in (
@@ -46,8 +46,8 @@ returns-then-n-gt0-clause-state c = λ r heard len h.
     let P : Receiving → Type 0 = λ q. Hears q k' in
     let sent : Hears (record one.0 { deaf = true; halves = [] }) k' =
     subst P (sent_after (replicate m Idle) one.0 (omega (arith, some, size))) (c.leap_sending.ensures.state one.0 (replicate m Idle) size one.1) in
-    let lose : k'.lose ≡ now.lose = on.0 ∙ sym (late_lose k text) ∙ ap (λ (y : Kept). y.lose) c.self.view_is in
-    let most : k'.most ≡ now.most = on.1 ∙ sym (late_most k text) ∙ ap (λ (y : Kept). y.most) c.self.view_is in
+    let lose : k'.lose ≡ now.lose = on.0 ∙ sym (late_lose k text) ∙ ap (λ (y : KeptReception). y.lose) c.self.view_is in
+    let most : k'.most ≡ now.most = on.1 ∙ sym (late_most k text) ∙ ap (λ (y : KeptReception). y.most) c.self.view_is in
     subst P (sym (sent_after heard r (omega (arith, some, len)))) (still_hears r now k' true h lose most sent.same_deaf sent.count)
 
 pub returns-else-n-gt0-clause-bodies : goal.returns-else-n-gt0-clause-bodies

@@ -3,7 +3,7 @@ use Rattle.std.proofs.lemmas.Grind.{common_steps}
 use Rattle.manchester_line.specs.declared.Sym.{Sym}
 use Rattle.manchester_line.specs.declared.Sym.TheVariants.{Idle}
 use Rattle.mac_receive.specs.Receiver.{Receiving, receiver_step, receiver_after}
-use Rattle.mac_receive.specs.KeptReceiver.{Kept, Hears}
+use Rattle.mac_receive.specs.KeptReceiver.{KeptReception, Hears}
 use Rattle.mac_receive.proofs.StepsKeepMeaning.{idle_state}
 use Rattle.window_room.specs.NeededRoom.{Covers, Demand, both_demands, reception_demand, receiver_demand}
 use Rattle.reception_laws.proofs.LateReceptions.{goes_on, idle_after_all, late_halves, late_lose, late_most, late_steps, no_event, no_need, one_signal, read_whole, signal_bodies, still_hears, unread_length, unread_rest}
@@ -50,7 +50,7 @@ invariant_of-self c =
     let k = x.receiver in
     let text = take x.unread x.text.items in
     let size = unread_length x.text.items x.unread _ before.0 before.1 in
-    let steps : k.steps + length text ≡ c.args.self.now.steps = sym (late_steps k text) ∙ ap (λ (y : Kept). y.steps) c.self-else-ne.view_is in
+    let steps : k.steps + length text ≡ c.args.self.now.steps = sym (late_steps k text) ∙ ap (λ (y : KeptReception). y.steps) c.self-else-ne.view_is in
     let more = c.leap_quiet.ensures.steps in
     let fits = c.requires.steps in
     let on = goes_on (replicate (x.unread + 1) Idle) false k c.leap_quiet.new.self before.6 (λ r h. c.leap_quiet.ensures.state r h) in (
@@ -82,8 +82,8 @@ returns-then-self-gt0-clause-state c = λ r h.
     let last : x.unread + 1 ≡ suc x.unread = omega arith in
     let rested : Hears (record one.0 { deaf = false; halves = [] }) k' =
     subst P (ap (λ n. receiver_after one.0 (replicate n Idle) false) last ∙ idle_after_all x.unread one.0) (c.leap_quiet.ensures.state one.0 one.1) in
-    let lose : k'.lose ≡ now.lose = on.0 ∙ sym (late_lose k text) ∙ ap (λ (y : Kept). y.lose) c.self-else-ne.view_is in
-    let most : k'.most ≡ now.most = on.1 ∙ sym (late_most k text) ∙ ap (λ (y : Kept). y.most) c.self-else-ne.view_is in
+    let lose : k'.lose ≡ now.lose = on.0 ∙ sym (late_lose k text) ∙ ap (λ (y : KeptReception). y.lose) c.self-else-ne.view_is in
+    let most : k'.most ≡ now.most = on.1 ∙ sym (late_most k text) ∙ ap (λ (y : KeptReception). y.most) c.self-else-ne.view_is in
     let step : (receiver_step r c.args.heard c.args.sending).state ≡ record r { deaf = false; halves = [] } =
     ap₂ (λ s b. (receiver_step r s b).state) idle sending ∙ idle_state r r.deaf r.halves refl refl in
     subst P (sym step) (still_hears r now k' false h lose most rested.same_deaf rested.count)
@@ -104,10 +104,10 @@ returns-then-self-gt0-clause-left c = λ n other a.
     let rested : Hears (record one.0 { deaf = false; halves = [] }) k' =
     subst P (ap (λ m. receiver_after one.0 (replicate m Idle) false) last ∙ idle_after_all x.unread one.0) (c.leap_quiet.ensures.state one.0 one.1) in
     let none : k'.halves ≡ 0 = rested.count in
-    let most : now.most ≡ x.most = sym (ap (λ (y : Kept). y.most) c.self-else-ne.view_is) ∙ late_most k text ∙ before.3 in
+    let most : now.most ≡ x.most = sym (ap (λ (y : KeptReception). y.most) c.self-else-ne.view_is) ∙ late_most k text ∙ before.3 in
     let most' : k'.most ≡ x.most = on.1 ∙ before.3 in
     let at_rest : k.halves ≡ 0 = (before.7 some).none in
-    let count : k.halves + length text ≡ now.halves = sym (late_halves k text (unread_rest k x.text.items x.unread before.7)) ∙ ap (λ (y : Kept). y.halves) c.self-else-ne.view_is in
+    let count : k.halves + length text ≡ now.halves = sym (late_halves k text (unread_rest k x.text.items x.unread before.7)) ∙ ap (λ (y : KeptReception). y.halves) c.self-else-ne.view_is in
     let items : length text ≡ length (take x.unread c.deref.result.now) = ap (λ (ys : List Sym). length (take x.unread ys)) (sym c.deref.ensures.value) in
     let halves : now.halves ≡ length (take x.unread c.deref.result.now) = omega (arith, at_rest, count, items) in
     let Q : Demand → Type 0 = λ d. Covers (both_demands other d) c.args.room.now in
@@ -120,7 +120,7 @@ returns-else-self-gt0-clause-left c = λ n other a.
     let x = c.self-else-ne.inside in
     let k = x.receiver in
     let none : x.unread ≡ 0 = grind (arith, common_steps) in
-    let P : Kept → Type 0 = λ y. Covers (both_demands other (receiver_demand (suc n) y)) c.args.room.now in
-    let Q : Kept → Type 0 = λ y. Covers (both_demands other (receiver_demand n y)) c.receive_one.new.room in
+    let P : KeptReception → Type 0 = λ y. Covers (both_demands other (receiver_demand (suc n) y)) c.args.room.now in
+    let Q : KeptReception → Type 0 = λ y. Covers (both_demands other (receiver_demand n y)) c.receive_one.new.room in
     subst Q (sym (read_whole c.receive_one.new.receiver x.text.items x.unread none))
     (c.receive_one.ensures.left n other (subst P (sym c.self-else-ne.view_is ∙ read_whole k x.text.items x.unread none) a))

@@ -6,7 +6,7 @@ use Rattle.std.specs.Vec.{with_items}
 use Rattle.manchester_line.specs.declared.Sym.{Sym}
 use Rattle.manchester_line.specs.declared.Sym.TheVariants.{Idle}
 use Rattle.mac_receive.specs.Receiver.{Receiving, receiver_after}
-use Rattle.mac_receive.specs.KeptReceiver.{Kept, Hears}
+use Rattle.mac_receive.specs.KeptReceiver.{KeptReception, Hears}
 use Rattle.reception_laws.specs.LateReceptions.{IsAtRest, with_text}
 use Rattle.reception_laws.specs.WholeReceptions.{IsAllSignal}
 use Rattle.reception_laws.proofs.LateReceptions.{goes_on, late_more, late_read, late_steps, none_unread, rest_of, signal_bodies, stays_awake, unread_length, unread_rest}
@@ -20,7 +20,7 @@ invariant_of-self c =
     let text = take x.unread x.text.items in
     let some : 0 < k.halves = search rules in
     let none = none_unread k x.unread before.7 some in
-    let steps : k.steps + length text ≡ c.args.self.now.steps = sym (late_steps k text) ∙ ap (λ (y : Kept). y.steps) c.self.view_is in
+    let steps : k.steps + length text ≡ c.args.self.now.steps = sym (late_steps k text) ∙ ap (λ (y : KeptReception). y.steps) c.self.view_is in
     let more = c.take.ensures.steps in
     let fits = c.requires.steps in
     let on = goes_on c.args.piece.now false k c.take.new.self before.6 (λ r h. c.take.ensures.state r h) in (
@@ -46,13 +46,13 @@ invariant_of-self-then-piece-len c =
     let text = take u x.text.items in
     let ys = c.put_aside.new.text in
     let none : k.halves ≡ 0 = grind (arith, common_steps) in
-    let awake = ap (λ (y : Kept). y.deaf) c.self.view_is ∙ c.requires.awake in
+    let awake = ap (λ (y : KeptReception). y.deaf) c.self.view_is ∙ c.requires.awake in
     let rest : IsAtRest k = rest_of k text (unread_rest k x.text.items u before.7) none awake in
     let items = with_items_is x.text ys (search rules) in
     let aside : take (u + length piece) (with_items x.text ys).items ≡ text ++ piece =
     ap (take (u + length piece)) items ∙ c.put_aside.ensures.text ∙ ap (λ (zs : List Sym). take u zs ++ piece) c.deref_mut.ensures.value in
     let size = unread_length x.text.items u _ before.0 before.1 in
-    let steps : k.steps + length text ≡ c.args.self.now.steps = sym (late_steps k text) ∙ ap (λ (y : Kept). y.steps) c.self.view_is in
+    let steps : k.steps + length text ≡ c.args.self.now.steps = sym (late_steps k text) ∙ ap (λ (y : KeptReception). y.steps) c.self.view_is in
     let fits = c.requires.steps in
     let room = c.if-piece-len.true in
     let long = before.0 in
@@ -79,11 +79,11 @@ returns-then-piece-len-clause-state c = λ r h.
     let text = take u x.text.items in
     let ys = c.put_aside.new.text in
     let none : k.halves ≡ 0 = grind (arith, common_steps) in
-    let awake = ap (λ (y : Kept). y.deaf) c.self.view_is ∙ c.requires.awake in
+    let awake = ap (λ (y : KeptReception). y.deaf) c.self.view_is ∙ c.requires.awake in
     let rest : IsAtRest k = rest_of k text (unread_rest k x.text.items u before.7) none awake in
     let aside : take (u + length piece) (with_items x.text ys).items ≡ text ++ piece =
     ap (take (u + length piece)) (with_items_is x.text ys (search rules)) ∙ c.put_aside.ensures.text ∙ ap (λ (zs : List Sym). take u zs ++ piece) c.deref_mut.ensures.value in
-    let P : Kept → Type 0 = λ y. Hears r y in
+    let P : KeptReception → Type 0 = λ y. Hears r y in
     let Q : List Sym → Type 0 = λ xs. Hears (receiver_after r piece false) (with_text k xs) in
     subst Q (sym aside) (late_more k text piece r rest c.requires.signal (subst P (sym c.self.view_is) h))
 
@@ -97,7 +97,7 @@ take-requires-3-clause-awake c =
     let k = x.receiver in
     let text = take x.unread x.text.items in
     let none : k.halves ≡ 0 = grind (arith, common_steps) in
-    let awake = ap (λ (y : Kept). y.deaf) c.self.view_is ∙ c.requires.awake in
+    let awake = ap (λ (y : KeptReception). y.deaf) c.self.view_is ∙ c.requires.awake in
     let rest : IsAtRest k = rest_of k text (unread_rest k x.text.items x.unread before.7) none awake in
     stays_awake (take x.unread c.deref.result.now) k c.take-2.new.self before.6 rest.hearing (λ r h. c.take-2.ensures.state r h)
 
@@ -107,7 +107,7 @@ invariant_of-self-2 c =
     let before = c.self.invariant in
     let k = x.receiver in
     let text = take x.unread x.text.items in
-    let steps : k.steps + length text ≡ c.args.self.now.steps = sym (late_steps k text) ∙ ap (λ (y : Kept). y.steps) c.self.view_is in
+    let steps : k.steps + length text ≡ c.args.self.now.steps = sym (late_steps k text) ∙ ap (λ (y : KeptReception). y.steps) c.self.view_is in
     let read : c.take-2.new.self.steps ≡ k.steps + length text = c.take-2.ensures.steps ∙ ap (λ (ys : List Sym). k.steps + length (take x.unread ys)) c.deref.ensures.value in
     let more = c.take-3.ensures.steps in
     let fits = c.requires.steps in
@@ -133,9 +133,9 @@ returns-clause-state c = λ r h.
     let k' = c.take-2.new.self in
     let text = take x.unread x.text.items in
     let none : k.halves ≡ 0 = grind (arith, common_steps) in
-    let awake = ap (λ (y : Kept). y.deaf) c.self.view_is ∙ c.requires.awake in
+    let awake = ap (λ (y : KeptReception). y.deaf) c.self.view_is ∙ c.requires.awake in
     let rest : IsAtRest k = rest_of k text (unread_rest k x.text.items x.unread before.7) none awake in
-    let P : Kept → Type 0 = λ y. Hears r y in
+    let P : KeptReception → Type 0 = λ y. Hears r y in
     let read : (q : Receiving) → Hears q k → Hears (receiver_after q text false) k' =
     λ q p. subst (λ (ys : List Sym). Hears (receiver_after q (take x.unread ys) false) k') c.deref.ensures.value (c.take-2.ensures.state q p) in
     c.take-3.ensures.state r (late_read k k' text r rest before.8 read (subst P (sym c.self.view_is) h))

@@ -1,7 +1,7 @@
 use Rattle.std.proofs.Common.{◌<◌, ◌∙◌, length, map, sym, ap, subst, rules, arith}
 use Rattle.std.proofs.lemmas.List.{with_items_is, length-map}
 use Rattle.repeater_core.specs.SilentParts.{silent_guard}
-use Rattle.repeater_core.specs.Step.{State}
+use Rattle.repeater_core.specs.Step.{RepeaterDevice}
 use Rattle.repeater_core.specs.Calm.{IsCalm}
 use Rattle.repeater_core.proofs.CalmIsExact.{calm_within, line_within, leap_told}
 use Rattle.repeater_core.proofs.repeater.Repeater.leap.Goals as goal
@@ -9,7 +9,7 @@ use Rattle.repeater_core.proofs.repeater.Repeater.leap.Goals as goal
 pub leap-requires-clause-calm : goal.leap-requires-clause-calm
 leap-requires-clause-calm c =
     let q = c.self.inside in
-    let r : State = record { mode = q.mode; guards = q.guards.items; counts = q.counts.items; line = q.line } in
+    let r : RepeaterDevice = record { mode = q.mode; guards = q.guards.items; counts = q.counts.items; line = q.line } in
     let calm = calm_within c.args.n r c.self.invariant (subst (λ r. IsCalm r c.args.n) (sym c.self.view_is) c.requires) in
     let within = line_within r in omega arith
 
@@ -31,4 +31,4 @@ pub returns-clause-ports : goal.returns-clause-ports
 returns-clause-ports c =
     let q = c.self.inside in
     let guards = with_items_is q.guards c.silent_guards.new.guards (search rules) in
-    ap length (guards ∙ c.silent_guards.ensures ∙ ap (map silent_guard) c.deref_mut.ensures.value) ∙ length-map q.guards.items silent_guard ∙ ap (λ (r : State). length r.guards) c.self.view_is
+    ap length (guards ∙ c.silent_guards.ensures ∙ ap (map silent_guard) c.deref_mut.ensures.value) ∙ length-map q.guards.items silent_guard ∙ ap (λ (r : RepeaterDevice). length r.guards) c.self.view_is

@@ -1,7 +1,7 @@
 use Rattle.std.proofs.Common.{◌<◌, ◌∙◌, length, ap, subst, arith, rules}
 use Rattle.std.proofs.lemmas.List.{with_items_is}
 use Rattle.std.proofs.lemmas.Grind.{common_steps}
-use Rattle.repeater_core.specs.Step.{State, IsState, decided_by}
+use Rattle.repeater_core.specs.Step.{RepeaterDevice, IsState, decided_by}
 use Rattle.repeater_core.specs.Classes.{texts_after}
 use Rattle.repeater_core.proofs.SteadyState.{modes_are}
 use Rattle.repeater_core.proofs.SteadyRows.{steps_are, decisions_are, emissions_are}
@@ -60,7 +60,7 @@ returns-clause-steps c = λ rows heard_as. steps_are rows c.args.hears.now c.arg
 
 pub returns-clause-decisions : goal.returns-clause-decisions
 returns-clause-decisions c = λ rows heard_as.
-    let texts = c.leap_texts-self-inside.ensures.sent ∙ ap (λ (r : State). texts_after r.mode c.args.heard.now) c.self.view_is in
+    let texts = c.leap_texts-self-inside.ensures.sent ∙ ap (λ (r : RepeaterDevice). texts_after r.mode c.args.heard.now) c.self.view_is in
     decisions_are rows c.args.hears.now c.args.heard.now c.leap_texts-self-inside.new.sent c.args.self.now texts c.requires.steady heard_as
 
 pub returns-clause-emissions : goal.returns-clause-emissions

@@ -1,7 +1,7 @@
 use Rattle.std.proofs.Common.{◌≡◌, ◌+◌, ◌<◌, ◌≤◌, ◌∙◌, length, map, sym, ap, subst, arith}
 use Rattle.repeater_core.specs.Limits.{most_calm}
 use Rattle.repeater_core.specs.Modes.{activity_from}
-use Rattle.repeater_core.specs.Step.{State, emitted_by}
+use Rattle.repeater_core.specs.Step.{RepeaterDevice, emitted_by}
 use Rattle.manchester_line.specs.Line.{is_signal}
 use Rattle.repeater_core.specs.Steady.{mode_steady, ports_steady, sent_from, IsSteady, HaveNoEvents, RunsWithin}
 use Rattle.repeater_core.proofs.SteadyCount.{fits}
@@ -13,8 +13,8 @@ returns c =
     let q = c.self.inside in
     let hears = c.args.hears.now in
     let n = c.min-3.result in
-    let r : State = record { mode = q.mode; guards = q.guards.items; counts = q.counts.items; line = q.line } in
-    let l : length hears ≡ length r.guards = c.requires.hears_len ∙ ap (λ (r : State). length r.guards) (sym c.self.view_is) in
+    let r : RepeaterDevice = record { mode = q.mode; guards = q.guards.items; counts = q.counts.items; line = q.line } in
+    let l : length hears ≡ length r.guards = c.requires.hears_len ∙ ap (λ (r : RepeaterDevice). length r.guards) (sym c.self.view_is) in
     let mode : c.mode_steady.result ≡ mode_steady r.mode (activity_from 0 r.guards hears) =
     c.mode_steady.ensures ∙ ap (mode_steady r.mode) (c.active_ports-active.ensures ∙ ap (λ gs. activity_from 0 gs hears) c.deref.ensures.value) in
     let ports : c.ports_steady.result ≡ ports_steady r.mode 0 r.counts = c.ports_steady.ensures.steady ∙ ap (ports_steady r.mode 0) c.deref-2.ensures.value in

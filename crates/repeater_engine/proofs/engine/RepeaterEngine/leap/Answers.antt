@@ -5,7 +5,7 @@ use Rattle.manchester_line.specs.declared.Sym.{Sym}
 use Rattle.manchester_line.specs.declared.Sym.TheVariants.{Idle}
 use Rattle.manchester_line.specs.Line.{is_signal}
 use Rattle.repeater_core.specs.Counts.{Choice}
-use Rattle.repeater_core.specs.Step.{State, chosen, emitted_by}
+use Rattle.repeater_core.specs.Step.{RepeaterDevice, chosen, emitted_by}
 use Rattle.repeater_core.specs.Steady.{IsSteady}
 use Rattle.repeater_core.proofs.Lawful.{length_chosen}
 use Rattle.repeater_core.proofs.SteadinessLasts.{lasts}
@@ -68,7 +68,7 @@ stays_steady c =
     let most : c.args.m ≤ c.self.inside.steady = subst (λ (x : KeptRepeater). c.args.m ≤ x.steady) (sym c.self.view_is) c.requires.steady in
     let classes : AreOfClasses heard rows = subst (λ xs. AreOfClasses xs rows) (sym row) c.requires.alike in
     let count = time_fits c in
-    subst (λ (x : State). IsSteady heard x (c.self.inside.steady - c.args.m)) (sym c.leap_over.ensures.state)
+    subst (λ (x : RepeaterDevice). IsSteady heard x (c.self.inside.steady - c.args.m)) (sym c.leap_over.ensures.state)
     (lasts heard heard rows c.self.inside.repeater (c.self.inside.steady - c.args.m) classes refl (λ j l. c.self.invariant.1.stays_steady j (omega (arith, count, most, l))))
 
 pub invariant_of-self : goal.invariant_of-self
@@ -97,7 +97,7 @@ returns-clause-state c =
     let r = c.self.inside.repeater in
     let run = steady_run c.self.inside.ports (map is_signal (emitted_by r)) (map is_signal c.leap_over.new.decided) (wide at) c.self.inside.device rows (before at) (has_ports at)
     (rows_wide c.args.parcels.now c.self.inside.ports c.args.k c.args.m (many at)) c.leap_over.ensures.steps in
-    ap₂ (λ (n : ℕ) (x : State). let made : RepeaterState = record { t = c.self.inside.t + n; repeater = x; rows = c.self.inside.log.rows } in made) (sym (time_fits at)) c.leap_over.ensures.state
+    ap₂ (λ (n : ℕ) (x : RepeaterDevice). let made : RepeaterState = record { t = c.self.inside.t + n; repeater = x; rows = c.self.inside.log.rows } in made) (sym (time_fits at)) c.leap_over.ensures.state
     ∙ sym run
     ∙ ap (λ (x : KeptRepeater). (made_of x.device rows x.state).state) c.self.view_is
 
@@ -133,5 +133,5 @@ returns-clause-room c =
     let left : c.args.n - c.args.k ≡ c.args.n - (c.args.k + c.args.m) + length rows = omega (arith, c.requires.within, time_fits at) in
     let lasts = room_lasts ports (map is_signal (emitted_by r)) (map is_signal c.leap_over.new.decided) (wide at) rows r (has_ports at) (rows_wide c.args.parcels.now ports c.args.k c.args.m (many at)) c.leap_over.ensures.steps
     (c.args.n - c.args.k) (c.args.n - (c.args.k + c.args.m)) room left among in
-    let later = subst (λ (x : State). HasRowRoom ports (c.args.n - (c.args.k + c.args.m)) room x) (sym c.leap_over.ensures.state) lasts in
+    let later = subst (λ (x : RepeaterDevice). HasRowRoom ports (c.args.n - (c.args.k + c.args.m)) room x) (sym c.leap_over.ensures.state) lasts in
     subst (λ n. HasRowRoom n (c.args.n - (c.args.k + c.args.m)) room c.leap_over.new.repeater) (sym (c.leap_over.ensures.ports ∙ c.self.invariant.0.guards)) later

@@ -1,4 +1,4 @@
-use Rattle.std.proofs.Common.{◌≡◌, ◌*◌, ◌/◌, ◌+◌, ◌<◌, ◌≤◌, inl, inr, subst, ◌∙◌, arith, mul-le-mul_right}
+use Rattle.std.proofs.Common.{◌*◌, ◌/◌, ◌≤◌, inl, inr, subst, arith, mul-le-mul_right}
 use Rattle.std.proofs.lemmas.Bool.{cases_lt}
 use Rattle.net_parts.specs.Windows.{lookahead}
 use Rattle.net_parts.proofs.WindowTimes.{some_lead}

@@ -1,7 +1,7 @@
-use Rattle.std.proofs.Common.{◌≡◌, ◌+◌, ◌*◌, ◌<◌, ◌≤◌, sym, subst, ap, ap₂, ◌∙◌, arith}
+use Rattle.std.proofs.Common.{◌≡◌, ◌+◌, ◌*◌, ◌≤◌, sym, subst, ap, ap₂, ◌∙◌, arith}
 use Rattle.std.proofs.lemmas.Bool.{false≢true}
 use Rattle.mac_parameters.specs.Parameters.{most_half_bits}
-use Rattle.net_parts.specs.Windows.{lookahead, time, windows}
+use Rattle.net_parts.specs.Windows.{lookahead, time}
 use Rattle.net_parts.specs.SegmentParts.{wiring}
 use Rattle.segment_engine.specs.QuietHalfBits.{ComeInIdle}
 use Rattle.segment_engine.specs.RunningStates.{IsRunningAt}

@@ -1,5 +1,5 @@
 use Rattle.std.proofs.Common.{◌≡◌, ◌*◌, All, length, sym, subst, ap, arith}
-use Rattle.mac_receive.specs.KeptReceiver.{Kept}
+use Rattle.mac_receive.specs.KeptReceiver.{KeptReception}
 use Rattle.segment_engine.proofs.KeptParts.{room_reserved, all_most, running_of}
 use Rattle.segment_engine.proofs.HandedOut.{standing_room, kept_room}
 use Rattle.segment_engine.proofs.part.SegmentPartPart.reserve_window.Goals as goal
@@ -13,7 +13,7 @@ invariant_of-self-2 c =
     let new = c.reserve_stations.new.room in
     let same = c.reserve_stations.ensures.same in
     let running = running_of plan s (x.window * x.segment.lookahead) a x.stands in
-    let most : All (λ (k : Kept). k.most ≡ x.most) a.receivers.items = subst (λ m. All (λ (k : Kept). k.most ≡ m) a.receivers.items) (sym x.octets) (all_most plan s a.t a.receivers.items running.stations.receivers) in
+    let most : All (λ (k : KeptReception). k.most ≡ x.most) a.receivers.items = subst (λ m. All (λ (k : KeptReception). k.most ≡ m) a.receivers.items) (sym x.octets) (all_most plan s a.t a.receivers.items running.stations.receivers) in
     let numbers = ap length x.segment.station_numbers in
     let count = c.len.ensures in
     let many = x.stands.as_many in

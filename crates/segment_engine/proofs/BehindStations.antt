@@ -1,0 +1,194 @@
+-- A station that stands behind, brought up to a later half bit.
+use Rattle.std.proofs.Common.{◌≡◌, ◌≢◌, ℕ, suc, All, ◌+◌, ◌-◌, ◌<◌, ◌≤◌, Bool, true, false, List, [], ◌∷◌, ◌++◌, None, replicate, length, refl, sym, subst, ap, ap₂, ◌∙◌, arith}
+use Rattle.manchester_line.specs.declared.Sym.{Sym}
+use Rattle.std.specs.Prelude.{if◌then◌else◌}
+use Rattle.manchester_line.specs.declared.Sym.TheVariants.{Idle, Hi, Lo, Clash}
+use Rattle.manchester_line.specs.Line.{is_signal}
+use Rattle.load_plan.specs.declared.plan.Plan.{Plan}
+use Rattle.mac_receive.specs.KeptReceiver.{KeptReception, Hears}
+use Rattle.mac_receive.specs.Receiver.{Receiving, quiet, extended, reception_ended, with_event, receiver_step, receiver_after, receiver_bodies}
+use Rattle.mac_transmit.specs.Sender.{Sender, sender_step, is_sending}
+use Rattle.mac_transmit.specs.Calm.{AllHeardAs, AreCalm, after_all}
+use Rattle.mac_transmit.specs.Emissions.{emission_by}
+use Rattle.network.specs.Attempts.{sender_at}
+use Rattle.network.specs.Times.{heard, emitted}
+use Rattle.net_parts.specs.Machines.{span}
+use Rattle.net_parts.specs.Standing.{receiver_at}
+use Rattle.net_parts.proofs.RepeaterSteps.{length-span, get_or-span}
+use Rattle.tap_lines.specs.TapLines.{TapLine, heard_by_lines, heard_for}
+use Rattle.tap_lines.proofs.LinesAhead.{span_alike}
+use Rattle.segment_engine.specs.declared.apart.Watch.{Watch}
+use Rattle.segment_engine.specs.SteadyPieces.{IsCalmAs}
+use Rattle.segment_engine.specs.StationsApart.{StandsBehind, EndsAt, IsStillBy, HearsByLines}
+use Rattle.segment_engine.proofs.StationsLater.{sender_runs, receiver_runs, last_calm, last_still, no_bodies, no_halves}
+use Rattle.segment_engine.proofs.SteadyReceivers.{idle_piece, signal_piece}
+use Rattle.segment_engine.proofs.QuietRoom.{GoesOn, both_within, sender_needs, kept_needs}
+use Rattle.window_room.specs.NeededRoom.{IsDemandWithin, receiver_demand, sender_demand}
+use Rattle.segment_engine.specs.StationsApart.{behind_demand}
+use Rattle.tap_lines.proofs.Spans.{span_more}
+use Rattle.segment_engine.proofs.CalmLater.{calm_on}
+
+module _ (plan : Plan) (x : ℕ) (station : x < length plan.layout.stations) (p L t u : ℕ) (ls : List TapLine) (w : Watch) (s : Sender) (k : KeptReception)
+    (behind : StandsBehind plan x p L t ls w s k) (since : w.since ≤ u) (until : u ≤ w.until) (right : HearsByLines plan x p L t u ls) where
+  abbrev n : ℕ
+  n = u - w.since
+
+  abbrev hs : List Sym
+  hs = heard_for L w.since n ls p
+
+  there : w.since + n ≡ u
+  there = omega (arith, since)
+
+  pub size : length hs ≡ n
+  size = length-span (λ a. heard_by_lines L a ls p) w.since n
+
+  pub heard_so : AllHeardAs w.carrier hs
+  heard_so = λ i d l.
+      let many = size in
+      let in_it : i < n = omega (arith, l, many) in
+      ap is_signal (get_or-span (λ a. heard_by_lines L a ls p) w.since n i d in_it) ∙ behind.steady (w.since + i) (omega arith) (omega (arith, in_it, until))
+
+  hears : span (heard plan x) w.since n ≡ hs
+  hears = let from = behind.from_start in span_alike (heard plan x) (λ a. heard_by_lines L a ls p) w.since w.since n (λ i l. right.hears (w.since + i) (omega (arith, from)) (omega (arith, l)))
+
+  pub brought : (s' : Sender) (k' : KeptReception) (w' : Watch) → w'.since ≡ u → w'.until ≡ w.until → w'.carrier ≡ w.carrier →
+      s' ≡ after_all s hs → s'.t ≡ w.since + n → k'.steps ≡ w.since + n →
+      ((r : Receiving) → Hears r k → Hears (receiver_after r hs (is_sending s.phase)) k') →
+      StandsBehind plan x p L t ls w' s' k'
+  brought s' k' w' is_since is_until is_carrier sent time steps receives =
+      let from = behind.from_start in
+      let many = size in
+      let left : w.until - w.since - length hs ≡ w.until - u = omega (arith, many, since) in
+      let before = calm_on hs s w.carrier (w.until - w.since) heard_so (omega (arith, many, until)) behind.calm in
+      let on = before.0 in
+      let phase : s'.phase ≡ s.phase = ap (λ (y : Sender). y.phase) sent ∙ on.phase in
+      let calm : IsCalmAs (w.until - u) w.carrier s' = subst (λ m. IsCalmAs m w.carrier s') left (subst (λ y. IsCalmAs (w.until - w.since - length hs) w.carrier y) (sym sent) before.1) in
+      let s0 = sender_at plan x t in
+      let same_emission : (j : ℕ) → emission_by s' j s'.phase ≡ emission_by s0 (u - t + j) s0.phase = λ j.
+      let e : w.since - t + (length hs + j) ≡ u - t + j = omega (arith, many, from, since) in
+      ap (λ (y : Sender). emission_by y j y.phase) sent ∙ on.emits j ∙ behind.emits (length hs + j) ∙ ap (λ i. emission_by s0 i s0.phase) e in
+      let sender : s' ≡ sender_at plan x u =
+      sent ∙ ap (λ y. after_all y hs) behind.sender ∙ ap (after_all (sender_at plan x w.since)) (sym hears) ∙ sym (sender_runs plan x station n w.since) ∙ ap (sender_at plan x) there in
+      let sends : (i : ℕ) → i < n → is_signal (emitted plan x (w.since + i)) ≡ is_sending s.phase = λ i l. right.sends (w.since + i) (omega (arith, from)) (omega (arith, l)) ∙ sym behind.sends in
+      let later : receiver_at plan x u ≡ receiver_after (receiver_at plan x w.since) hs (is_sending s.phase) =
+      ap (receiver_at plan x) (sym there) ∙ receiver_runs plan x station (is_sending s.phase) n w.since sends ∙ ap (λ xs. receiver_after (receiver_at plan x w.since) xs (is_sending s.phase)) hears in
+      let same : w' ≡ record w { since = u } = watch_is w' is_since is_until is_carrier in
+      subst (λ v. StandsBehind plan x p L t ls v s' k') (sym same) (record {
+        from_start = omega (arith, from, since);
+        ordered = until;
+        sender = sender;
+        receiver = subst (λ r. Hears r k') (sym later) (receives (receiver_at plan x w.since) behind.receiver);
+        time = time ∙ there;
+        steps = steps ∙ there;
+        calm = calm;
+        steady = λ a low high. behind.steady a (omega (arith, low, since)) high;
+        sends = ap is_sending phase ∙ behind.sends;
+        emits = same_emission;
+      })
+    where
+      watch_is : (w' : Watch) → w'.since ≡ u → w'.until ≡ w.until → w'.carrier ≡ w.carrier → w' ≡ record w { since = u }
+      watch_is w' a b c = rw (sym a, sym b, sym c) refl
+
+-- no row while there is carrier, nor while the station sends
+signal_event : (r : Receiving) (x : Sym) (d : Bool) → (if d then quiet r else extended r x).event ≡ None
+signal_event r x true = refl
+signal_event r x false = refl
+
+step_event : (r : Receiving) (x : Sym) → x ≢ Idle → (receiver_step r x false).event ≡ None
+step_event r Idle h = absurd (h refl)
+step_event r Hi h = signal_event r Hi r.deaf
+step_event r Lo h = signal_event r Lo r.deaf
+step_event r Clash h = signal_event r Clash r.deaf
+
+bodies_take : (xs : List Sym) (r : Receiving) → All (λ x. x ≢ Idle) xs → receiver_bodies r xs false ≡ []
+bodies_take [] r h = refl
+bodies_take (x ∷ xs) r h = ap₂ with_event (step_event r x (h 0 Idle (omega arith))) (bodies_take xs (receiver_step r x false).state (λ i e l. h (suc i) e (omega (arith, l))))
+
+bodies_sending : (xs : List Sym) (r : Receiving) → receiver_bodies r xs true ≡ []
+bodies_sending [] r = refl
+bodies_sending (x ∷ xs) r = bodies_sending xs (record r { deaf = true; halves = [] })
+
+-- no row where no reception is under way, or none ends
+bodies_of : (sending carrier : Bool) (f : ℕ → Sym) (t n : ℕ) (r : Receiving) (k : KeptReception) → ((j : ℕ) → j < n → is_signal (f (t + j)) ≡ carrier) →
+    (carrier ≡ false → sending ≡ false → k.halves ≡ 0) → Hears r k → receiver_bodies r (span f t n) sending ≡ []
+bodies_of true carrier f t n r k steady rest hears = bodies_sending (span f t n) r
+bodies_of false true f t n r k steady rest hears = bodies_take (span f t n) r (signal_piece f t n steady)
+bodies_of false false f t n r k steady rest hears = ap (λ xs. receiver_bodies r xs false) (idle_piece f t n steady) ∙ no_bodies n r (no_halves r k (rest refl refl) hears)
+
+module _ (plan : Plan) (x : ℕ) (station : x < length plan.layout.stations) (p L t u : ℕ) (ls : List TapLine) (w : Watch) (s : Sender) (k : KeptReception)
+    (behind : StandsBehind plan x p L t ls w s k) (since : w.since ≤ u) (until : u < w.until) (right : HearsByLines plan x p L t (u + 1) ls) where
+  abbrev m : ℕ
+  m = u - w.since
+
+  abbrev f : ℕ → Sym
+  f = λ a. heard_by_lines L a ls p
+
+  abbrev before : List Sym
+  before = span f w.since m
+
+  at : w.since + m ≡ u
+  at = omega (arith, since)
+
+  heard_before : (n : ℕ) → n ≤ m + 1 → span (heard plan x) w.since n ≡ span f w.since n
+  heard_before n h = let from = behind.from_start in span_alike (heard plan x) f w.since w.since n (λ i l. right.hears (w.since + i) (omega (arith, from)) (omega (arith, l, h, at)))
+
+  heard_now : heard plan x u ≡ f u
+  heard_now = let from = behind.from_start in right.hears u (omega (arith, from, since)) (omega arith)
+
+  all_of : span f w.since (m + 1) ≡ before ++ f u ∷ []
+  all_of = span_more f w.since m ∙ ap (λ a. before ++ f a ∷ []) at
+
+  sender_now : sender_at plan x u ≡ after_all s before
+  sender_now = ap (sender_at plan x) (sym at) ∙ sender_runs plan x station m w.since ∙ ap₂ after_all (sym behind.sender) (heard_before m (omega arith))
+
+  pub no_sending : (sender_step (sender_at plan x u) (heard plan x u)).event ≡ None
+  no_sending =
+      let size = length-span f w.since (m + 1) in
+      let all : AllHeardAs w.carrier (span f w.since (m + 1)) = λ i d l.
+      let in_it : i < m + 1 = omega (arith, l, size) in
+      ap is_signal (get_or-span f w.since (m + 1) i d in_it) ∙ behind.steady (w.since + i) (omega arith) (omega (arith, in_it, until, at)) in
+      let calm : AreCalm s (before ++ f u ∷ []) = subst (AreCalm s) all_of (behind.calm.calm (span f w.since (m + 1)) all (omega (arith, size, until, at))) in
+      ap₂ (λ a b. (sender_step a b).event) sender_now heard_now ∙ last_calm s before (f u) calm
+
+  pub no_reception : IsStillBy w s k → (receiver_step (receiver_at plan x u) (heard plan x u) (is_signal (emitted plan x u))).event ≡ None
+  no_reception still =
+      let from = behind.from_start in
+      let sending = is_sending s.phase in
+      let r0 = receiver_at plan x w.since in
+      let sends : (i : ℕ) → i < m + 1 → is_signal (emitted plan x (w.since + i)) ≡ sending = λ i l. right.sends (w.since + i) (omega (arith, from)) (omega (arith, l, at)) ∙ sym behind.sends in
+      let now : is_signal (emitted plan x u) ≡ sending = subst (λ a. is_signal (emitted plan x a) ≡ sending) at (sends m (omega arith)) in
+      let later : receiver_at plan x u ≡ receiver_after r0 before sending =
+      ap (receiver_at plan x) (sym at) ∙ receiver_runs plan x station sending m w.since (λ i l. sends i (omega (arith, l))) ∙ ap (λ xs. receiver_after r0 xs sending) (heard_before m (omega arith)) in
+      let none : receiver_bodies r0 (before ++ f u ∷ []) sending ≡ [] =
+      ap (λ xs. receiver_bodies r0 xs sending) (sym all_of)
+      ∙ bodies_of sending w.carrier f w.since (m + 1) r0 k (λ j l. behind.steady (w.since + j) (omega arith) (omega (arith, l, until, at))) still behind.receiver in
+      ap₂ (λ a b. (receiver_step a b (is_signal (emitted plan x u))).event) later heard_now
+      ∙ ap (λ b. (receiver_step (receiver_after r0 before sending) (f u) b).event) now
+      ∙ last_still r0 before (f u) sending none
+
+-- what it can need has not become more
+pub needs_less : (e : ℕ) (w' w : Watch) (s s' : Sender) (k k' : KeptReception) (hs : List Sym) (sending : Bool) → e - w.since ≡ e - w'.since + length hs → s' ≡ after_all s hs → GoesOn hs sending k k' →
+    IsDemandWithin (behind_demand e w' s' k') (behind_demand e w s k)
+needs_less e w' w s s' k k' hs sending size sent goes =
+    let n = e - w'.since in
+    let m = e - w.since in
+    let sender : IsDemandWithin (sender_demand n s') (sender_demand m s) =
+    subst (λ y. IsDemandWithin (sender_demand n y) (sender_demand m s)) (sym sent) (subst (λ a. IsDemandWithin (sender_demand n (after_all s hs)) (sender_demand a s)) (sym size) (sender_needs hs s n)) in
+    let receiver : IsDemandWithin (receiver_demand n k') (receiver_demand m k) = subst (λ a. IsDemandWithin (receiver_demand n k') (receiver_demand a k)) (sym size) (kept_needs hs sending k k' n goes) in
+    both_within (sender_demand n s') (receiver_demand n k') (sender_demand m s) (receiver_demand m k) sender receiver
+
+-- the half bit in which a reception ends
+idle_after : (r : Receiving) (d : Bool) (hs : List Sym) → r.halves ≡ hs → (if d then quiet (record r { deaf = false; halves = [] }) else reception_ended r hs).state.halves ≡ []
+idle_after r true hs e = refl
+idle_after r false [] e = e
+idle_after r false (x ∷ xs) e = refl
+
+pub idle_halves : (r : Receiving) → (receiver_step r Idle false).state.halves ≡ []
+idle_halves r = idle_after r r.deaf r.halves refl
+
+pub idle_now : (plan : Plan) (x p L t u : ℕ) (ls : List TapLine) (w : Watch) (s : Sender) (k : KeptReception) → StandsBehind plan x p L t ls w s k → u < w.until → EndsAt u w s → heard_for L w.since (u + 1 - w.since) ls p ≡ Idle ∷ []
+idle_now plan x p L t u ls w s k behind until ends =
+    let at = ends.now in
+    let n : u + 1 - w.since ≡ 1 = omega (arith, at) in
+    idle_piece (λ a. heard_by_lines L a ls p) w.since (u + 1 - w.since) (λ j l. behind.steady (w.since + j) (omega arith) (omega (arith, l, n, at, until)) ∙ ends.idle)
+    ∙ ap (λ m. replicate m Idle) n

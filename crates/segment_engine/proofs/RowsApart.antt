@@ -1,0 +1,116 @@
+-- Rows and captures of stations that stand apart.
+use Rattle.std.proofs.Common.{◌≡◌, ℕ, suc, ◌+◌, ◌-◌, ◌<◌, ◌≤◌, false, List, [], ◌++◌, map, length, get_or, None, sym, subst, ap, ◌∙◌, arith}
+use Rattle.std.proofs.lemmas.List.{get_or-map, get_or_default, length-map, same_lists}
+use Rattle.manchester_line.specs.Line.{is_signal}
+use Rattle.load_plan.specs.declared.plan.Plan.{Plan}
+use Rattle.mac_receive.specs.KeptReceiver.{KeptReception}
+use Rattle.mac_receive.specs.Receiver.{receiver_step}
+use Rattle.mac_transmit.specs.Sender.{Sender, sender_step}
+use Rattle.network.specs.declared.outputs.Taken.{Taken}
+use Rattle.network.specs.Attempts.{sender_at}
+use Rattle.network.specs.Captures.{taken_by}
+use Rattle.network.specs.Times.{heard, emitted}
+use Rattle.net_parts.specs.Standing.{receiver_at, captures_at, rows_of_devices}
+use Rattle.net_parts.proofs.DeviceSteps.{capture_next}
+use Rattle.net_parts.proofs.NetworkFacts.{station_facts}
+use Rattle.tap_lines.specs.TapLines.{TapLine}
+use Rattle.segment_engine.specs.declared.apart.Watch.{Watch}
+use Rattle.segment_engine.specs.declared.segment.Segment.{Segment}
+use Rattle.segment_engine.specs.FirstReceptions.{rows_of_first}
+use Rattle.segment_engine.specs.StationsApart.{StandAllApart, IsStillBy, HearAllByLines, number_on, heard_reception}
+use Rattle.segment_engine.proofs.BehindStations.{no_sending, no_reception}
+use Rattle.segment_engine.proofs.StationsLater.{station, row_later, rows_stay, captures_to}
+
+abbrev a_watch : Watch
+a_watch = record { since = 0; until = 0; carrier = false }
+
+module _ (of : Segment) (t end : ℕ) (ls : List TapLine) (ds : Sender) (dk : KeptReception) where
+  abbrev plan : Plan
+  plan = of.plan.value
+
+  abbrev items : List ℕ
+  items = of.stations.items
+
+  abbrev n : ℕ
+  n = length items
+
+  pub there : (i : ℕ) → i < n → number_on of i < length plan.layout.stations
+  there i h =
+      let numbers = of.station_numbers in
+      subst (λ (ks : List ℕ). get_or ks i 0 < length plan.layout.stations) (sym numbers) (station plan of.number i (let e = ap length numbers in omega (arith, e, h)))
+
+  pub heard_less : (u v : ℕ) → u ≤ v → HearAllByLines of t v ls → HearAllByLines of t u ls
+  heard_less u v h right = λ i l. record {
+    hears = λ a low high. (right i l).hears a low (omega (arith, high, h));
+    emits = λ a low high. (right i l).emits a low (omega (arith, high, h));
+    sends = λ a low high. (right i l).sends a low (omega (arith, high, h));
+  }
+
+  -- the half bit in which receptions end
+  module _ (u : ℕ) (ws : List Watch) (ss : List Sender) (ks : List KeptReception) (all : StandAllApart of t u end ls ws ss ks)
+      (on : (i : ℕ) (w : Watch) → i < n → u < (get_or ws i w).until) (right : HearAllByLines of t (u + 1) ls) where
+    silent : (r : ℕ) → r < n → (sender_step (sender_at plan (number_on of r) u) (heard plan (number_on of r) u)).event ≡ None
+    silent r h =
+        let one = all.each r a_watch ds dk h in
+        no_sending plan (number_on of r) (there r h) r of.lookahead t u ls (get_or ws r a_watch) (get_or ss r ds) (get_or ks r dk) one.behind one.since (on r a_watch h) (right r h)
+
+    pub one_row : rows_of_devices plan items (suc u) ≡ rows_of_devices plan items u ++ rows_of_first u items (λ i. (heard_reception plan (number_on of i) u).event) n
+    one_row =
+        let numbers = of.station_numbers in
+        let P : List ℕ → Type 0 = λ xs. rows_of_devices plan xs (suc u) ≡ rows_of_devices plan xs u ++ rows_of_first u xs (λ i. (receiver_step (receiver_at plan (get_or xs i 0) u) (heard plan (get_or xs i 0) u) (is_signal (emitted plan (get_or xs i 0) u))).event) (length xs) in
+        let Q : List ℕ → Type 0 = λ xs. (r : ℕ) → r < length xs → (sender_step (sender_at plan (get_or xs r 0) u) (heard plan (get_or xs r 0) u)).event ≡ None in
+        subst P (sym numbers) (row_later plan of.number u (subst Q numbers silent))
+
+  -- and half bits in which nothing happens
+  module _ (u v : ℕ) (later : u ≤ v) (ws : List Watch) (ss : List Sender) (ks : List KeptReception) (all : StandAllApart of t u end ls ws ss ks)
+      (still : (i : ℕ) (w : Watch) (s : Sender) (k : KeptReception) → i < n → IsStillBy (get_or ws i w) (get_or ss i s) (get_or ks i k))
+      (until : (i : ℕ) (w : Watch) → i < n → v ≤ (get_or ws i w).until) (right : HearAllByLines of t v ls) where
+    abbrev Nothing : List ℕ → Type 0
+    Nothing xs = (r j : ℕ) → r < length xs → j < v - u → ((sender_step (sender_at plan (get_or xs r 0) (u + j)) (heard plan (get_or xs r 0) (u + j))).event ≡ None)
+        × ((receiver_step (receiver_at plan (get_or xs r 0) (u + j)) (heard plan (get_or xs r 0) (u + j)) (is_signal (emitted plan (get_or xs r 0) (u + j)))).event ≡ None)
+
+    nothing : Nothing items
+    nothing r j h l =
+        let one = all.each r a_watch ds dk h in
+        let early = one.since in
+        let late = until r a_watch h in
+        let a = u + j in
+        let so = heard_less (a + 1) v (omega (arith, l)) right r h in (
+          no_sending plan (number_on of r) (there r h) r of.lookahead t a ls (get_or ws r a_watch) (get_or ss r ds) (get_or ks r dk) one.behind (omega (arith, early)) (omega (arith, late, l)) so,
+          no_reception plan (number_on of r) (there r h) r of.lookahead t a ls (get_or ws r a_watch) (get_or ss r ds) (get_or ks r dk) one.behind (omega (arith, early)) (omega (arith, late, l)) so (still r a_watch ds dk h),
+        )
+
+    at_last : u + (v - u) ≡ v
+    at_last = omega (arith, later)
+
+    pub rows_same : rows_of_devices plan items v ≡ rows_of_devices plan items u
+    rows_same =
+        let numbers = of.station_numbers in
+        let P : List ℕ → Type 0 = λ xs. rows_of_devices plan xs (u + (v - u)) ≡ rows_of_devices plan xs u in
+        ap (rows_of_devices plan items) (sym at_last) ∙ subst P (sym numbers) (rows_stay plan of.number u (v - u) (subst Nothing numbers nothing))
+
+    pub captures_same : (r : ℕ) → r < n → captures_at plan (number_on of r) v ≡ captures_at plan (number_on of r) u
+    captures_same r h =
+        let numbers = of.station_numbers in
+        let P : List ℕ → Type 0 = λ xs. captures_at plan (get_or xs r 0) (u + (v - u)) ≡ captures_at plan (get_or xs r 0) u in
+        ap (captures_at plan (number_on of r)) (sym at_last)
+        ∙ subst P (sym numbers) (captures_to plan of.number u (v - u) (subst Nothing numbers nothing) r (v - u) (let e = ap length numbers in omega (arith, e, h)) (omega arith))
+
+  -- captures after the half bit u and those up to v
+  pub kept_later : (u v : ℕ) (caps caps' : List (List Taken)) → caps ≡ map (λ x. captures_at plan x u) items → length caps' ≡ length caps →
+      ((i : ℕ) → i < n → get_or caps' i [] ≡ get_or caps i [] ++ taken_by u (heard_reception plan (number_on of i) u).event (heard_reception plan (number_on of i) u).octets) →
+      ((i : ℕ) → i < n → captures_at plan (number_on of i) v ≡ captures_at plan (number_on of i) (suc u)) → caps' ≡ map (λ x. captures_at plan x v) items
+  kept_later u v caps caps' were len taken same =
+      let c = λ (x : ℕ). captures_at plan x u in
+      let c' = λ (x : ℕ). captures_at plan x v in
+      let many : length caps ≡ n = ap length were ∙ length-map items c in
+      same_lists caps' (map c' items) (len ∙ many ∙ sym (length-map items c')) (λ i d l.
+      let in_it : i < n = omega (arith, l, len, many) in
+      let one = heard_reception plan (number_on of i) u in
+      get_or_default caps' i d [] l
+      ∙ taken i in_it
+      ∙ ap (λ xs. get_or xs i [] ++ taken_by u one.event one.octets) were
+      ∙ ap (λ xs. xs ++ taken_by u one.event one.octets) (get_or-map c items i 0 [] in_it)
+      ∙ sym (capture_next plan (station_facts plan) (number_on of i) u (there i in_it))
+      ∙ sym (same i in_it)
+      ∙ sym (get_or-map c' items i 0 d in_it))
