@@ -1,5 +1,5 @@
 //! How a thread waits for what others do.
-ghost use Rattle.std.specs.Prelude.{◌≤◌};
+ghost use Rattle.std.specs.Prelude.{◌≡◌, ◌≤◌};
 
 use crossbeam_utils::Backoff;
 use std::sync::Wait;
@@ -20,8 +20,10 @@ pub struct Pauses {
 }
 
 impl Pauses {
-    /// No pause so far.
-    pub fn new() -> Pauses {
+    /// No pause so far. The first sleep is to take a microsecond.
+    pub fn new() -> Pauses
+        ensures { result.micros ≡ 1 }
+    {
         Pauses {
             backoff: Backoff::new(),
             parker: Parker::new(),
