@@ -194,30 +194,32 @@ def many_marks(count: str) -> bytes:
     return ''.join(mark(t) for t in range(1, int(count) + 1)).encode() + b'</svg>\n'
 
 
-# A state of many rows: in each tenth of them b receives a frame, in the others it drops a fragment.
+# A state of many rows: in each tenth of them, or as said, b receives a frame, in the others it drops a fragment.
 
-def state_row(t: int) -> str:
-    return f'{t} station b ' + ('received octets 64' if t % 10 == 0 else 'dropped fragment halves 1')
-
-
-@maker
-def many_rows(count: str) -> bytes:
-    return ''.join(state_row(t) + '\n' for t in range(1, int(count) + 1)).encode()
+def state_row(t: int, every: int) -> str:
+    return f'{t} station b ' + ('received octets 64' if t % every == 0 else 'dropped fragment halves 1')
 
 
 @maker
-def long_state(count: str) -> bytes:
+def many_rows(count: str, every: str = '10') -> bytes:
+    return ''.join(state_row(t, int(every)) + '\n' for t in range(1, int(count) + 1)).encode()
+
+
+@maker
+def long_state(count: str, every: str = '10') -> bytes:
     number, octets = int(count), 'octets ' + (FRAME + bytes(46)).hex() + '\n'
     text = f'state {number + 1}\n' + ''.join(
         f'station {name} phase rest defer watch attempt 1 place 0 drawn 0\n' for name in ('a', 'b'))
-    text += ''.join('row ' + state_row(t) + '\n' + (octets if t % 10 == 0 else '') for t in range(1, number + 1))
+    text += ''.join('row ' + state_row(t, int(every)) + '\n' + (octets if t % int(every) == 0 else '')
+                    for t in range(1, number + 1))
     return (text + 'end\n').encode()
 
 
 @maker
-def many_captured(count: str) -> bytes:
+def many_captured(count: str, every: str = '10') -> bytes:
     """The capture of b of a state of so many rows."""
-    return CAPTURE_HEAD + b''.join(record(50 * t, FRAME + bytes(46)) for t in range(10, int(count) + 1, 10))
+    times = range(int(every), int(count) + 1, int(every))
+    return CAPTURE_HEAD + b''.join(record(50 * t, FRAME + bytes(46)) for t in times)
 
 
 # Frames one after another, each 192 half bits after the one before it, as a tap 10 half bits away hears them.
@@ -261,9 +263,61 @@ def waves_of_frames(frames: str, end: str) -> bytes:
 
 
 @maker
-def crowd_with_load(until_bits: str) -> Dict[str, bytes]:
-    """64 stations on one segment, the first of which has a load of 1,000 frames."""
+def crowd_with_load(until_bits: str, stations: str = '64', frames: str = '1000') -> Dict[str, bytes]:
+    """So many stations on one segment, the first of which has a load of so many frames."""
     text = f'format = 1\nseed = 1\nuntil_bits = {until_bits}\n' + row('segment', name='x')
     text += row('station', name='s0', segment='x', at=0, load='a.pcap')
-    text += ''.join(row('station', name=f's{s}', segment='x', at=s) for s in range(1, 64))
-    return {'l.toml': text.encode(), 'a.pcap': many_records('1000')}
+    text += ''.join(row('station', name=f's{s}', segment='x', at=s) for s in range(1, int(stations)))
+    return {'l.toml': text.encode(), 'a.pcap': many_records(frames)}
+
+
+@maker
+def rows_of_crowd(stations: str, frames: str) -> bytes:
+    """The log of its run, in which each frame is sent 192 half bits after the one before it, and all others receive it."""
+    return ''.join(f'{1344 * k + 1152} station s0 sent frame {k + 1} start {1344 * k} attempt 1\n' + ''.join(
+        f'{1344 * k + 1152 + s} station s{s} received octets 64\n' for s in range(1, int(stations)))
+        for k in range(int(frames))).encode()
+
+
+@maker
+def data_of_greatest() -> bytes:
+    """The data lines of a page of the greatest network's first 40 half bits, with which its run ends: what s0 sends from
+    half bit 0 on comes to port 2 of r0 in 1, leaves its other ports from 2 on, comes to port 1 of r1 in 3, and so on."""
+    lines = ['window 0 40', 'run 40', *(f'segment g{g}' for g in range(SEGMENTS))]
+    for leaf, stations in enumerate(leaves(), 1):
+        lines += [f'station s{s} g{leaf} {at}' for at, s in enumerate(stations, 1)]
+    for k in range(REPEATERS):
+        lines += [f'repeater r{k} 1', f'port r{k} 1 g0 {10 + k}']
+        lines += [f'port r{k} {p} g{leaf} 0' for p, leaf in ((2, 2 * k + 1), (3, 2 * k + 2)) if leaf < SEGMENTS]
+    lines += ['signal s0 0 40 frame', 'signal r0:1 2 40 repeat 2', 'signal r0:3 2 40 repeat 2']
+    lines += [f'signal r{k}:{p} {3 + k} 40 repeat 1' for k in range(1, 37) for p in (2, 3)]
+    return ''.join(line + '\n' for line in [*lines, 'row 40 station s0 cut frame 1 start 0 attempt 1 hit none']).encode()
+
+
+# One station at 10 of g0, on which five repeaters of delay 1 have their first ports at 0 to 4, and 31 others each.
+
+@maker
+def star_with_load(until_bits: str, frames: str) -> Dict[str, bytes]:
+    """The star, whose station has a load of so many frames."""
+    text = f'format = 1\nseed = 1\nuntil_bits = {until_bits}\n' + ''.join(row('segment', name=f'g{g}') for g in range(156))
+    text += row('station', name='s', segment='g0', at=10, load='a.pcap')
+    for k in range(5):
+        text += row('repeater', name=f'r{k}', delay=1) + row('repeater.port', segment='g0', at=k)
+        text += ''.join(row('repeater.port', segment=f'g{31 * k + p}', at=0) for p in range(1, 32))
+    return {'l.toml': text.encode(), 'a.pcap': many_records(frames)}
+
+
+@maker
+def data_of_star(frames: str) -> bytes:
+    """The data lines of a page of its whole run: each frame leaves 155 ports, one half bit after it came to the first of
+    their repeater."""
+    starts = [1344 * k for k in range(int(frames))]
+    end = 1344 * len(starts)
+    lines = [f'window 0 {end}', f'run {end}', *(f'segment g{g}' for g in range(156)), 'station s g0 10']
+    for k in range(5):
+        lines += [f'repeater r{k} 1', f'port r{k} 1 g0 {k}']
+        lines += [f'port r{k} {p + 1} g{31 * k + p} 0' for p in range(1, 32)]
+    lines += [f'signal s {t} {t + 1152} frame' for t in starts]
+    lines += [f'signal r{k}:{p} {t + 11 - k} {t + 1163 - k} repeat 1' for k in range(5) for p in range(2, 33) for t in starts]
+    lines += [f'row {t + 1152} station s sent frame {n} start {t} attempt 1' for n, t in enumerate(starts, 1)]
+    return ''.join(line + '\n' for line in lines).encode()
