@@ -3,6 +3,8 @@ ghost use Rattle.std.specs.Prelude.{◌≡◌, ◌<◌, ◌≤◌, ◌+◌, ◌*
 ghost use Rattle.mac_parameters.specs.Parameters.{most_octets as most_octets_of};
 ghost use Rattle.net_parts.specs.OutputsOfParts.{cut_rows_on, rows_of_part, captures_of_part};
 ghost use Rattle.net_parts.specs.Parts.{edges_of_part, part_at};
+ghost use Rattle.net_parts.specs.SegmentParts.{wiring};
+ghost use Rattle.net_parts.specs.Standing.{rows_of_devices};
 ghost use Rattle.net_parts.specs.Windows.{lookahead as lookahead_of, time as time_of, windows as windows_of};
 ghost use Rattle.segment_engine.specs.KeptParts.{KeepsSegment, StandsInNetwork};
 ghost use Rattle.segment_engine.specs.QuietHalfBits.{ComeInIdle, GoOutIdle, IsQuietFor};
@@ -127,6 +129,9 @@ impl SegmentPart {
     /// Its rows and the captures of its stations, in their order; with the Cut rows, when all windows were made.
     pub fn take_out(self) -> Result<PartOutputs, OutOfMemory>
         ensures part { IfOk result (λ outputs. outputs.part ≡ self.segment.number) }
+        ensures so_far { self.window < windows_of self.segment.plan.value →
+            IfOk result (λ outputs. outputs.rows ≡ rows_of_devices self.segment.plan.value
+            (wiring self.segment.plan.value.layout self.segment.number).stations (time_of self.segment.plan.value self.window)) }
         ensures rows { self.window ≡ windows_of self.segment.plan.value →
             IfOk result (λ outputs. outputs.rows ≡ rows_of_part self.segment.plan.value self.segment.number) }
         ensures captures { self.window ≡ windows_of self.segment.plan.value →
