@@ -25,16 +25,14 @@ pub fn owners(alloc: Global, layout: &Layout, workers: u32) -> Result<Vec<u32>, 
     ensures parts { IfOk result (λ owners. length owners.items ≡ length layout.now.segments + length layout.now.repeaters) }
     ensures workers { 0 < workers → IfOk result (λ owners. All (λ w. w < workers) owners.items) }
 {
-    let segments = layout.segments.len();
-    let Some(parts) = segments.checked_add(layout.repeaters.len()) else {
-        return Err(OutOfMemory);
-    };
+    let segments = layout.segments.as_slice();
+    let repeaters = layout.repeaters.as_slice();
+    let parts = segments.len() + repeaters.len();
     let order = walk(alloc, layout)?;
     let total = work_of_all(layout, order.as_slice());
     let mut owners = vec![in alloc; 0u32; parts]?;
     let mut before = 0u64;
-    for i in 0..order.len() {
-        let part = order[i];
+    for part in order {
         let work = work_of(layout, part);
         if part < owners.len() {
             owners[part] = worker_at(before, work, total, workers);
@@ -47,8 +45,8 @@ pub fn owners(alloc: Global, layout: &Layout, workers: u32) -> Result<Vec<u32>, 
 /// About how much work these parts have together.
 fn work_of_all(layout: &Layout, parts: &[usize]) -> u64 {
     let mut total = 0u64;
-    for i in 0..parts.len() {
-        total = total.saturating_add(work_of(layout, parts[i]));
+    for part in parts {
+        total = total.saturating_add(work_of(layout, *part));
     }
     total
 }
@@ -105,15 +103,14 @@ fn visit_beside(
     let repeaters = layout.repeaters.as_slice();
     if part >= segments {
         if part - segments < repeaters.len() {
-            let ports = repeaters[part - segments].ports.as_slice();
-            for p in 0..ports.len() {
-                visit(seen, rest, ports[p].segment as usize)?;
+            for port in repeaters[part - segments].ports.as_slice() {
+                visit(seen, rest, port.segment as usize)?;
             }
         }
         return Ok(());
     }
-    for k in 0..repeaters.len() {
-        if ports_on(repeaters[k].ports.as_slice(), part) > 0 {
+    for (k, repeater) in repeaters.iter().enumerate() {
+        if ports_on(repeater.ports.as_slice(), part) > 0 {
             visit(seen, rest, segments.saturating_add(k))?;
         }
     }
@@ -142,13 +139,13 @@ fn work_of(layout: &Layout, part: usize) -> u64 {
     }
     let stations = layout.stations.as_slice();
     let mut work = 1u64;
-    for k in 0..stations.len() {
-        if stations[k].segment as usize == part {
+    for station in stations {
+        if station.segment as usize == part {
             work = work.saturating_add(1);
         }
     }
-    for k in 0..repeaters.len() {
-        work = work.saturating_add(ports_on(repeaters[k].ports.as_slice(), part));
+    for repeater in repeaters {
+        work = work.saturating_add(ports_on(repeater.ports.as_slice(), part));
     }
     work
 }
@@ -160,8 +157,8 @@ pub fn count_edges(plan: &Plan) -> u32
 {
     let repeaters = plan.layout.repeaters.as_slice();
     let mut count = 0u32;
-    for k in 0..repeaters.len() {
-        count += repeaters[k].ports.len() as u32;
+    for repeater in repeaters {
+        count += repeater.ports.len() as u32;
     }
     count
 }
@@ -180,11 +177,13 @@ pub fn outlets_of(
     let list = edges_of(alloc, plan, part)?;
     let edges = list.as_slice();
     let mut outlets = Vec::new(alloc);
-    for k in 0..edges.len() {
-        let edge = edges[k];
-        let end = other_end(plan, part as usize, edge as usize);
+    for edge in edges {
+        let end = other_end(plan, part as usize, *edge as usize);
         let worker = owner_of(owners, end);
-        outlets.push(Outlet { edge, worker })?;
+        outlets.push(Outlet {
+            edge: *edge,
+            worker,
+        })?;
     }
     Ok(outlets)
 }

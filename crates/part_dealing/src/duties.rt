@@ -94,8 +94,8 @@ pub fn last_segment(layout: &Layout, repeater: usize) -> u32
 {
     let ports = layout.repeaters.as_slice()[repeater].ports.as_slice();
     let mut last = 0u32;
-    for p in 0..ports.len() {
-        last = last.max(ports[p].segment);
+    for port in ports {
+        last = last.max(port.segment);
     }
     last
 }

@@ -10,15 +10,15 @@ use Rattle.part_dealing.proofs.dealing.outlets_of.Goals as goal
 pub other_end-end-requires : goal.other_end-end-requires
 other_end-end-requires c =
     let es = c.as_slice-edges.result.now in
-    subst (λ xs. has_edge xs (get_or es c.loop-k.k 0) ≡ true) (c.as_slice-edges.ensures ∙ c.in_ok-list.ensures) (has_each es c.loop-k.k 0 c.loop-k-test.true)
+    subst (λ xs. has_edge xs (get_or es c.loop-edge.edge-index 0) ≡ true) (c.as_slice-edges.ensures ∙ c.in_ok-list.ensures) (has_each es c.loop-edge.edge-index 0 c.loop-edge-test.true)
 
-pub loop-k-preserved : goal.loop-k-preserved
-loop-k-preserved c =
-    let o : Outlet = record { edge = get_or c.as_slice-edges.result.now c.loop-k.k 0; worker = c.owner_of-worker.result } in
-    let more : c.push.new.self.items ≡ c.loop-k.outlets.items ++ o ∷ [] = search rules in
+pub loop-edge-preserved : goal.loop-edge-preserved
+loop-edge-preserved c =
+    let o : Outlet = record { edge = get_or c.as_slice-edges.result.now c.loop-edge.edge-index 0; worker = c.owner_of-worker.result } in
+    let more : c.push.new.self.items ≡ c.loop-edge.outlets.items ++ o ∷ [] = search rules in
     let goes = GoesToOwner c.args.plan.now c.args.owners.now c.args.part in
     record {
       so_far = grind (arith, common_steps);
-      owned = subst (All goes) (sym more) (All-push goes c.loop-k.outlets.items o c.loop-k.invariant.owned
+      owned = subst (All goes) (sym more) (All-push goes c.loop-edge.outlets.items o c.loop-edge.invariant.owned
           (record { end = c.other_end-end.result; there = c.other_end-end.ensures; worker = c.owner_of-worker.ensures }));
     }
