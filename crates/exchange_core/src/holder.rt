@@ -406,8 +406,8 @@ fn absent_parcels(alloc: Global, edges: &[u32]) -> Result<Vec<Parcel>, OutOfMemo
     ensures { IfOk result (λ parcels. parcels.items ≡ map (absent_parcel false) edges.now) }
 {
     let mut parcels = Vec::new(alloc);
-    for i in 0..edges.len() {
-        parcels.push(absent_parcel(alloc, edges[i], false))?;
+    for edge in edges {
+        parcels.push(absent_parcel(alloc, *edge, false))?;
     }
     Ok(parcels)
 }
@@ -419,8 +419,9 @@ fn in_order(alloc: Global, parcels: ParcelList) -> Result<Vec<Parcel>, OutOfMemo
     let mut rest = parcels;
     let mut all = Vec::with_capacity(alloc, rest.len())?;
     while let Some(parcel) = rest.pop() {
-        all.insert(0, parcel)?;
+        all.push(parcel)?;
     }
+    all.reverse();
     Ok(all)
 }
 
@@ -428,8 +429,8 @@ fn in_order(alloc: Global, parcels: ParcelList) -> Result<Vec<Parcel>, OutOfMemo
 fn empty_all(parcels: &mut Vec<Parcel>, to_repeater: bool, window: u64)
     ensures { parcels.new.items ≡ map (emptied_parcel to_repeater window) parcels.old.items }
 {
-    for i in 0..parcels.len() {
-        empty(&mut parcels[i], to_repeater, window);
+    for parcel in parcels.iter_mut() {
+        empty(parcel, to_repeater, window);
     }
 }
 

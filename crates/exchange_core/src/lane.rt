@@ -214,8 +214,9 @@ impl<P: Part> PartsOfKind<P> {
         } = self;
         let mut places = places;
         let mut spare = spare;
-        for i in 0..order.len() {
-            let _ = spare.push(take_out(&mut places, order[i]));
+        let numbers = order.as_slice();
+        for part in numbers {
+            let _ = spare.push(take_out(&mut places, *part));
         }
         spare
     }

@@ -1,14 +1,16 @@
 //! A frame as it is sent.
 ghost use Rattle.std.specs.Prelude.{◌≡◌, ◌<◌, ◌≤◌, ◌↔◌, length, IfOk, OnOk, Err};
+ghost use Rattle.std.specs.Arc.{arc_value};
 ghost use Rattle.frame_layout.specs.Frame.{frame_of, padded, verdict_of};
 ghost use Rattle.mac_parameters.specs.Parameters.{IsMost, addresses_and_type, greatest_frame, least_frame, most_octets_untagged};
 ghost use Rattle.frame_layout.specs.declared.verdict.Verdict.TheVariants.{Good};
 
 use crate::fcs;
-use lists::{List, OutOfMemory};
-use mac_parameters::{ADDRESSES_AND_TYPE, LEAST_OCTETS, MOST_OCTETS_UNTAGGED};
+use lists::OutOfMemory;
+use mac_parameters::{ADDRESSES_AND_TYPE, CHECK_SEQUENCE, LEAST_OCTETS, MOST_OCTETS_UNTAGGED};
 use std::alloc::Global;
 use std::marker::Model;
+use std::sync::Arc;
 
 /// The octets that a frame has at least before its frame check sequence (3.2.8).
 const LEAST: usize = LEAST_OCTETS as usize;
@@ -16,22 +18,27 @@ const LEAST: usize = LEAST_OCTETS as usize;
 /// Destination, source and length or type: the octets that a frame can't do without (3.1.1).
 const HEADER: usize = ADDRESSES_AND_TYPE as usize;
 
+/// The octets of the frame check sequence (3.2.9).
+const CHECK: usize = CHECK_SEQUENCE as usize;
+
 /// A whole frame, which a contract sees as its octets in the order in which they are sent, the pad and the frame check
-/// sequence among them.
+/// sequence among them. Its copies share them.
 #[derive(Debug, Drop)]
 pub struct Frame {
-    octets: List<u8>,
+    octets: Arc<Vec<u8>, Global>,
 }
 
 impl Model for Frame {
     ghost use Rattle.std.specs.Prelude.{List, ℕ, ◌≤◌, length};
+    ghost use Rattle.std.specs.Arc.{arc_value};
     ghost use Rattle.mac_parameters.specs.Parameters.{greatest_frame, least_frame};
 
     ghost Value = { List ℕ };
 
-    ghost view = { λ f. f.octets };
+    ghost view = { λ f. (arc_value f.octets).items };
 
-    ghost invariant = { λ f. (least_frame ≤ length f.octets) × (length f.octets ≤ greatest_frame) };
+    ghost invariant = { λ f. (least_frame ≤ length (arc_value f.octets).items)
+        × (length (arc_value f.octets).items ≤ greatest_frame) };
 }
 
 impl Frame {
@@ -44,12 +51,11 @@ impl Frame {
         self.octets.as_slice()
     }
 
-    /// A frame of its own with the same octets.
-    pub fn copy(&self, alloc: Global) -> Result<Frame, OutOfMemory>
+    /// The same frame once more. It takes no memory.
+    pub fn copy(&self) -> Result<Frame, OutOfMemory>
         ensures { IfOk result (λ copy. copy ≡ self.now) }
     {
-        let mut octets = List::new(alloc);
-        octets.extend(self.octets())?;
+        let octets = Arc::try_clone(&self.octets)?;
         Ok(Frame { octets })
     }
 }
@@ -75,19 +81,32 @@ impl From<OutOfMemory> for FrameFault {
 
 // Puts zeros after the octets up to the least number of them, or changes nothing.
 #[tactic(auto, unfolding(crate::specs::Frame::padded))]
-fn pad(octets: &mut List<u8>) -> Result<(), OutOfMemory>
-    ensures { OnOk result (octets.new ≡ padded octets.old) }
+fn pad(octets: &mut Vec<u8>) -> Result<(), OutOfMemory>
+    ensures { OnOk result (octets.new.items ≡ padded octets.old.items) }
 {
     if octets.len() < LEAST {
-        octets.extend(&[0; LEAST][..LEAST - octets.len()])?;
+        octets.extend_from_slice(&[0; LEAST][..LEAST - octets.len()])?;
     }
     Ok(())
+}
+
+// The octets with pad and frame check sequence, copied once, into room for just them.
+#[tactic(auto, unfolding(crate::specs::Frame::frame_of, crate::specs::Frame::fcs_octets))]
+fn whole_octets(alloc: Global, octets: &[u8]) -> Result<Arc<Vec<u8>, Global>, OutOfMemory>
+    requires { length octets.now ≤ greatest_frame }
+    ensures { IfOk result (λ frame. (arc_value frame).items ≡ frame_of octets.now) }
+{
+    let mut frame = Vec::with_capacity(alloc, octets.len().max(LEAST) + CHECK)?;
+    frame.extend_from_slice(octets)?;
+    pad(&mut frame)?;
+    let check = fcs(frame.as_slice()).to_le_bytes();
+    frame.extend_from_slice(&check)?;
+    Ok(Arc::new(alloc, frame)?)
 }
 
 /// The frame (clause 3) of these octets, counted without pad and check sequence. `TooShort` comes exactly below the
 /// octets of addresses and type, and `TooLong` exactly above `most`; `OutOfMemory` is free. Received without spare
 /// bits, the frame is good.
-#[tactic(auto, unfolding(crate::specs::Frame::frame_of, crate::specs::Frame::fcs_octets))]
 pub fn build_up_to(alloc: Global, octets: &[u8], most: u32) -> Result<Frame, FrameFault>
     requires { IsMost most }
     ensures frame { IfOk result (λ f. f ≡ frame_of octets.now) }
@@ -101,12 +120,8 @@ pub fn build_up_to(alloc: Global, octets: &[u8], most: u32) -> Result<Frame, Fra
     if octets.len() > most as usize {
         return Err(FrameFault::TooLong);
     }
-    let mut frame: List<u8> = List::new(alloc);
-    frame.extend(octets)?;
-    pad(&mut frame)?;
-    let check = fcs(frame.as_slice()).to_le_bytes();
-    frame.extend(&check)?;
-    Ok(Frame { octets: frame })
+    let octets = whole_octets(alloc, octets)?;
+    Ok(Frame { octets })
 }
 
 /// `build_up_to` with the most octets of an untagged frame.

@@ -70,7 +70,7 @@ impl Queue {
         &self.items[i as usize]
     }
 
-    /// A queue of its own with the same frames and half bits.
+    /// A queue of its own with the same half bits and the same frames, whose octets both share.
     pub fn copy(&self) -> Result<Queue, OutOfMemory>
         ensures { IfOk result (λ copy. copy ≡ self.now) }
     {
@@ -82,18 +82,18 @@ impl Queue {
 fn copies(alloc: Global, items: &[Ready]) -> Result<Vec<Ready>, OutOfMemory>
     ensures { IfOk result (λ copies. copies.items ≡ items.now) }
 {
-    let mut copies = Vec::new(alloc);
+    let mut copies = Vec::with_capacity(alloc, items.len())?;
     for item in items {
-        copies.push(copy_of(alloc, item)?)?;
+        copies.push(copy_of(item)?)?;
     }
     Ok(copies)
 }
 
-fn copy_of(alloc: Global, ready: &Ready) -> Result<Ready, OutOfMemory>
+fn copy_of(ready: &Ready) -> Result<Ready, OutOfMemory>
     ensures { IfOk result (λ copy. copy ≡ ready.now) }
 {
     Ok(Ready {
         at: ready.at,
-        frame: ready.frame.copy(alloc)?,
+        frame: ready.frame.copy()?,
     })
 }

@@ -132,12 +132,11 @@ fn pass(
         HasCome next.new.items q) }
 {
     let near = network.beside(Way::Repeater, &led.stop);
-    for k in 0..near.len() {
-        let stop = near[k];
+    for stop in near {
         if is_same_tap(stop.tap, led.stop.tap) {
             continue;
         }
-        next.push(gone_on(alloc, layout, Way::Repeater, led, &stop)?)?;
+        next.push(gone_on(alloc, layout, Way::Repeater, led, stop)?)?;
     }
     Ok(())
 }
@@ -175,12 +174,11 @@ fn spread(
         IsSearched layout.now (length routes.old) routes.new next.new.items p) }
 {
     let near = network.beside(Way::Cable, &head.stop);
-    for k in 0..near.len() {
-        let stop = near[k];
+    for stop in near {
         if is_same_tap(stop.tap, head.stop.tap) {
             continue;
         }
-        let led = gone_on(alloc, layout, Way::Cable, head, &stop)?;
+        let led = gone_on(alloc, layout, Way::Cable, head, stop)?;
         if let Attachment::Station(station) = stop.tap {
             put(routes, station, led);
             continue;

@@ -69,6 +69,15 @@ same_device_fault stations n =
     then row_fault code.SameName table.Station n key.Name
     else row_fault code.SameName table.Repeater (n - stations) key.Name
 
+-- a segment has the name of an earlier segment
+abbrev pub first_same_segment : List (List ℕ) → Option LayoutFault
+first_same_segment segments = option_map same_segment_fault (first_same [] 1 segments)
+
+-- a device has the name of an earlier device
+abbrev pub first_same_device : List (List ℕ) → List (List ℕ) → Option LayoutFault
+first_same_device stations repeaters =
+    option_map (same_device_fault (length stations)) (first_same [] 1 (stations ++ repeaters))
+
 -- a segment has the name of an earlier segment, or a device that of an earlier device
 unfoldable pub first_same_name : Members → Option LayoutFault
 first_same_name ms =

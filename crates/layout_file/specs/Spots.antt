@@ -27,12 +27,24 @@ abbrev pub ports : ℕ → ℕ → List Members → List Spot
 ports n p [] = []
 ports n p (ms ∷ rows) = record { shape = shape.Port; row = n; port = p; members = ms } ∷ ports n (p + 1) rows
 
+-- the n-th repeater, followed by its ports
+abbrev pub with_ports : ℕ → Members → List Spot
+with_ports n ms = record { shape = shape.Repeater; row = n; port = 0; members = ms } ∷ ports n 1 (rows_at ms key.Port)
+
 -- the repeaters counted from n, each followed by its ports
 abbrev pub repeaters : ℕ → List Members → List Spot
 repeaters n [] = []
 repeaters n (ms ∷ rows) =
     (record { shape = shape.Repeater; row = n; port = 0; members = ms } ∷ ports n 1 (rows_at ms key.Port))
     ++ repeaters (n + 1) rows
+
+-- these tables, and after them the segments, the stations, the repeaters and the sends
+abbrev pub with_rows : List Spot → Members → List Spot
+with_rows ss ms =
+    ((ss ++ spots_of_rows shape.Segment 1 (rows_at ms key.Segment))
+    ++ spots_of_rows shape.Station 1 (rows_at ms key.Station))
+    ++ repeaters 1 (rows_at ms key.Repeater)
+    ++ spots_of_rows shape.Send 1 (rows_at ms key.Send)
 
 -- the file, the segments, the stations, the repeaters and the sends
 unfoldable pub spots : Members → List Spot

@@ -55,3 +55,7 @@ has_stranger rules ms = list_any (λ name. not (is_listed rules name)) (names ms
 abbrev pub names_of : List Members → List (List ℕ)
 names_of [] = []
 names_of (ms ∷ rows) = text_at ms key.Name ∷ names_of rows
+
+-- the names of the rows at a key
+abbrev pub names_at : Members → Key → List (List ℕ)
+names_at ms k = names_of (rows_at ms k)

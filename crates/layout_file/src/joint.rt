@@ -1,14 +1,16 @@
 //! The tests that need more than one row.
-ghost use Rattle.std.specs.Prelude.{◌≡◌, ◌++◌, [], IfOk, map, option_map};
+ghost use Rattle.std.specs.Prelude.{◌≡◌, [], IfOk, map, option_map};
 ghost use Rattle.toml.specs.View.{table_view};
-ghost use Rattle.layout_file.specs.JointFaults.{crowd_at, crowd_of_ports, crowd_of_bits, first_crowd, first_same, same_segment_fault, same_device_fault, first_same_name, has_tap, is_tap_at, is_taken, takes_tap, first_taken};
+ghost use Rattle.layout_file.specs.JointFaults.{crowd_at, crowd_of_ports, crowd_of_bits, first_crowd, first_same, same_segment_fault, same_device_fault, first_same_segment, first_same_device, first_same_name, has_tap, is_tap_at, is_taken, takes_tap, first_taken};
 ghost use Rattle.layout_file.specs.Sites.{seen};
+ghost use Rattle.layout_file.specs.Tree.{names_at};
+ghost use Rattle.layout_file.specs.declared.fault.Key.TheVariants as key;
 
 use crate::fault::{Key, LayoutCode, LayoutFault, Table};
 use crate::rows::is_among;
 use crate::rules::Shape;
 use crate::sites::Site;
-use crate::tree::{names, number, rows, text};
+use crate::tree::{count_rows, names_in, next_number, number, rows, text};
 use layout::{MOST_DEVICE_BITS, MOST_REPEATERS, MOST_SEGMENTS, MOST_SENDS, MOST_STATIONS};
 use lists::OutOfMemory;
 use mac_parameters::MOST_PORTS;
@@ -24,7 +26,7 @@ fn crowd_at(
 ) -> Result<Option<LayoutFault>, OutOfMemory>
     ensures { IfOk result (λ fault. fault ≡ crowd_at (table_view document.now) key most) }
 {
-    if rows(alloc, document, key)?.len() > most {
+    if count_rows(alloc, document, key)? > most {
         Ok(Some(LayoutFault::of_row(LayoutCode::TooMany, Table::File, 0, key)))
     } else {
         Ok(None)
@@ -40,8 +42,8 @@ fn crowd_of_ports(
 {
     let mut row = 0u32;
     for members in repeaters {
-        row = row.checked_add(1).ok_or(OutOfMemory)?;
-        if rows(alloc, *members, Key::Port)?.len() > MOST_PORTS {
+        row = next_number(row)?;
+        if count_rows(alloc, *members, Key::Port)? > MOST_PORTS {
             return Ok(Some(LayoutFault::of_row(
                 LayoutCode::TooMany,
                 Table::Repeater,
@@ -58,8 +60,8 @@ fn crowd_of_ports(
 fn crowd_of_bits(alloc: Global, document: &TomlTable) -> Result<Option<LayoutFault>, OutOfMemory>
     ensures { IfOk result (λ fault. fault ≡ crowd_of_bits (table_view document.now)) }
 {
-    let stations = rows(alloc, document, Key::Station)?.len() as u64;
-    let repeaters = rows(alloc, document, Key::Repeater)?.len() as u64;
+    let stations = count_rows(alloc, document, Key::Station)? as u64;
+    let repeaters = count_rows(alloc, document, Key::Repeater)? as u64;
     let devices = stations.checked_add(repeaters).ok_or(OutOfMemory)?;
     if number(document, Key::UntilBits).saturating_mul(devices) > MOST_DEVICE_BITS {
         Ok(Some(LayoutFault::of_row(LayoutCode::TooMany, Table::File, 0, Key::UntilBits)))
@@ -97,7 +99,7 @@ fn first_same(names: &[&str]) -> Result<Option<u32>, OutOfMemory>
 {
     let mut row = 0u32;
     for (i, name) in names.iter().enumerate() {
-        row = row.checked_add(1).ok_or(OutOfMemory)?;
+        row = next_number(row)?;
         if is_among(*name, &names[..i]) {
             return Ok(Some(row));
         }
@@ -134,18 +136,47 @@ pub fn first_same_name(
 ) -> Result<Option<LayoutFault>, OutOfMemory>
     ensures { IfOk result (λ fault. fault ≡ first_same_name (table_view document.now)) }
 {
-    let segments = names(alloc, &rows(alloc, document, Key::Segment)?)?;
-    if let Some(fault) = same_segment_fault(first_same(&segments)?) {
+    if let Some(fault) = first_same_segment(alloc, document)? {
         return Ok(Some(fault));
     }
-    let mut devices = names(alloc, &rows(alloc, document, Key::Station)?)?;
-    let stations = match u32::try_from(devices.len()) {
-        Ok(stations) => stations,
-        Err(_) => return Err(OutOfMemory),
+    first_same_device(alloc, document)
+}
+
+fn first_same_segment(
+    alloc: Global,
+    document: &TomlTable,
+) -> Result<Option<LayoutFault>, OutOfMemory>
+    ensures { IfOk result (λ fault. fault ≡ first_same_segment (names_at (table_view document.now) key.Segment)) }
+{
+    let row = first_same(&names_in(alloc, document, Key::Segment)?)?;
+    Ok(same_segment_fault(row))
+}
+
+fn first_same_device(
+    alloc: Global,
+    document: &TomlTable,
+) -> Result<Option<LayoutFault>, OutOfMemory>
+    ensures { IfOk result (λ fault. fault ≡ first_same_device (names_at (table_view document.now) key.Station) (names_at (table_view document.now) key.Repeater)) }
+{
+    let stations = names_in(alloc, document, Key::Station)?;
+    let repeaters = names_in(alloc, document, Key::Repeater)?;
+    first_same_among(stations, &repeaters)
+}
+
+/// The stations are the first devices, and the repeaters follow them.
+fn first_same_among<'a>(
+    stations: Vec<&'a str>,
+    repeaters: &[&'a str],
+) -> Result<Option<LayoutFault>, OutOfMemory>
+    ensures { IfOk result (λ fault. fault ≡ first_same_device (map (λ s. s.now) stations.entry.items) (map (λ s. s.now) repeaters.now)) }
+{
+    let Ok(last_station) = u32::try_from(stations.len()) else {
+        return Err(OutOfMemory);
     };
-    devices.extend_from_slice(&names(alloc, &rows(alloc, document, Key::Repeater)?)?)?;
+    let mut devices = stations;
+    devices.extend_from_slice(repeaters)?;
     match first_same(&devices)? {
-        Some(device) => Ok(Some(same_device_fault(stations, device))),
+        Some(device) => Ok(Some(same_device_fault(last_station, device))),
         None => Ok(None),
     }
 }

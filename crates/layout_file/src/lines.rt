@@ -1,11 +1,13 @@
 //! Makes a layout of what the values of a document spell.
-ghost use Rattle.std.specs.Prelude.{◌≡◌, IfOk, map};
+ghost use Rattle.std.specs.Prelude.{◌≡◌, [], ◌∷◌, ◌++◌, IfOk, OnOk, map};
 ghost use Rattle.toml.specs.View.{table_view};
 ghost use Rattle.layout_file.specs.Lines.{place_from, place_of, segment_of, station_of, port_of, repeater_of, send_of, layout_of};
+ghost use Rattle.layout_file.specs.Tree.{rows_at};
+ghost use Rattle.layout_file.specs.declared.fault.Key.TheVariants as key;
 
 use crate::fault::Key;
 use crate::texts::octets;
-use crate::tree::{names, number, optional_text, rows, short_number, text};
+use crate::tree::{names, next_number, number, optional_text, rows, short_number, text};
 use layout::{
     Layout, PortLine, PortLines, RepeaterLine, RepeaterLines, SegmentLine, SegmentLines, SendLine,
     SendLines, StationLine, StationLines,
@@ -23,9 +25,20 @@ pub fn place_of(names: &[&str], name: &str) -> Result<u32, OutOfMemory>
         if *other == name {
             return Ok(number);
         }
-        number = number.checked_add(1).ok_or(OutOfMemory)?;
+        number = next_number(number)?;
     }
     Ok(0)
+}
+
+fn push_segment(
+    alloc: Global,
+    segments: &mut SegmentLines,
+    row: &TomlTable,
+) -> Result<(), OutOfMemory>
+    ensures { OnOk result (segments.new ≡ segments.old ++ segment_of (table_view row.now) ∷ []) }
+{
+    let name = Text::new(alloc, text(row, Key::Name))?;
+    segments.push(SegmentLine { name })
 }
 
 fn segments(alloc: Global, rows: &[&TomlTable]) -> Result<SegmentLines, OutOfMemory>
@@ -33,22 +46,26 @@ fn segments(alloc: Global, rows: &[&TomlTable]) -> Result<SegmentLines, OutOfMem
 {
     let mut segments = List::new(alloc);
     for row in rows {
-        let name = Text::new(alloc, text(*row, Key::Name))?;
-        segments.push(SegmentLine { name })?;
+        push_segment(alloc, &mut segments, *row)?;
     }
     Ok(segments)
 }
 
 #[tactic(auto, unfolding(crate::specs::Lines::station_of))]
-fn station(alloc: Global, segments: &[&str], row: &TomlTable) -> Result<StationLine, OutOfMemory>
-    ensures { IfOk result (λ station. station ≡ station_of (map (λ s. s.now) segments.now) (table_view row.now)) }
+fn push_station(
+    alloc: Global,
+    stations: &mut StationLines,
+    segments: &[&str],
+    row: &TomlTable,
+) -> Result<(), OutOfMemory>
+    ensures { OnOk result (stations.new ≡ stations.old ++ station_of (map (λ s. s.now) segments.now) (table_view row.now) ∷ []) }
 {
-    Ok(StationLine {
-        name: Text::new(alloc, text(row, Key::Name))?,
+    stations.push(StationLine {
         segment: place_of(segments, text(row, Key::Segment))?,
         at: short_number(row, Key::At)?,
-        load: optional_text(alloc, row, Key::Load)?,
         lose: short_number(row, Key::LoseBits)?,
+        name: Text::new(alloc, text(row, Key::Name))?,
+        load: optional_text(alloc, row, Key::Load)?,
     })
 }
 
@@ -61,16 +78,16 @@ fn stations(
 {
     let mut stations = List::new(alloc);
     for row in rows {
-        stations.push(station(alloc, segments, *row)?)?;
+        push_station(alloc, &mut stations, segments, *row)?;
     }
     Ok(stations)
 }
 
 #[tactic(auto, unfolding(crate::specs::Lines::port_of))]
-fn port(segments: &[&str], row: &TomlTable) -> Result<PortLine, OutOfMemory>
-    ensures { IfOk result (λ port. port ≡ port_of (map (λ s. s.now) segments.now) (table_view row.now)) }
+fn push_port(ports: &mut PortLines, segments: &[&str], row: &TomlTable) -> Result<(), OutOfMemory>
+    ensures { OnOk result (ports.new ≡ ports.old ++ port_of (map (λ s. s.now) segments.now) (table_view row.now) ∷ []) }
 {
-    Ok(PortLine {
+    ports.push(PortLine {
         segment: place_of(segments, text(row, Key::Segment))?,
         at: short_number(row, Key::At)?,
     })
@@ -81,19 +98,34 @@ fn ports(alloc: Global, segments: &[&str], rows: &[&TomlTable]) -> Result<PortLi
 {
     let mut ports = List::new(alloc);
     for row in rows {
-        ports.push(port(segments, *row)?)?;
+        push_port(&mut ports, segments, *row)?;
     }
     Ok(ports)
 }
 
-#[tactic(auto, unfolding(crate::specs::Lines::repeater_of))]
-fn repeater(alloc: Global, segments: &[&str], row: &TomlTable) -> Result<RepeaterLine, OutOfMemory>
-    ensures { IfOk result (λ repeater. repeater ≡ repeater_of (map (λ s. s.now) segments.now) (table_view row.now)) }
+fn ports_in(
+    alloc: Global,
+    segments: &[&str],
+    repeater: &TomlTable,
+) -> Result<PortLines, OutOfMemory>
+    ensures { IfOk result (λ ports. ports ≡ map (port_of (map (λ s. s.now) segments.now)) (rows_at (table_view repeater.now) key.Port)) }
 {
-    Ok(RepeaterLine {
-        name: Text::new(alloc, text(row, Key::Name))?,
+    ports(alloc, segments, &rows(alloc, repeater, Key::Port)?)
+}
+
+#[tactic(auto, unfolding(crate::specs::Lines::repeater_of))]
+fn push_repeater(
+    alloc: Global,
+    repeaters: &mut RepeaterLines,
+    segments: &[&str],
+    row: &TomlTable,
+) -> Result<(), OutOfMemory>
+    ensures { OnOk result (repeaters.new ≡ repeaters.old ++ repeater_of (map (λ s. s.now) segments.now) (table_view row.now) ∷ []) }
+{
+    repeaters.push(RepeaterLine {
         delay: short_number(row, Key::Delay)?,
-        ports: ports(alloc, segments, &rows(alloc, row, Key::Port)?)?,
+        name: Text::new(alloc, text(row, Key::Name))?,
+        ports: ports_in(alloc, segments, row)?,
     })
 }
 
@@ -106,16 +138,21 @@ fn repeaters(
 {
     let mut repeaters = List::new(alloc);
     for row in rows {
-        repeaters.push(repeater(alloc, segments, *row)?)?;
+        push_repeater(alloc, &mut repeaters, segments, *row)?;
     }
     Ok(repeaters)
 }
 
 #[tactic(auto, unfolding(crate::specs::Lines::send_of))]
-fn send(alloc: Global, stations: &[&str], row: &TomlTable) -> Result<SendLine, OutOfMemory>
-    ensures { IfOk result (λ send. send ≡ send_of (map (λ s. s.now) stations.now) (table_view row.now)) }
+fn push_send(
+    alloc: Global,
+    sends: &mut SendLines,
+    stations: &[&str],
+    row: &TomlTable,
+) -> Result<(), OutOfMemory>
+    ensures { OnOk result (sends.new ≡ sends.old ++ send_of (map (λ s. s.now) stations.now) (table_view row.now) ∷ []) }
 {
-    Ok(SendLine {
+    sends.push(SendLine {
         station: place_of(stations, text(row, Key::Station))?,
         at: number(row, Key::At),
         octets: octets(alloc, text(row, Key::Octets))?,
@@ -127,7 +164,7 @@ fn sends(alloc: Global, stations: &[&str], rows: &[&TomlTable]) -> Result<SendLi
 {
     let mut sends = List::new(alloc);
     for row in rows {
-        sends.push(send(alloc, stations, *row)?)?;
+        push_send(alloc, &mut sends, stations, *row)?;
     }
     Ok(sends)
 }

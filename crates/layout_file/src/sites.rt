@@ -1,12 +1,14 @@
 //! The tables of a document in the order in which they are judged.
 ghost use Rattle.std.specs.Prelude.{◌≡◌, ◌++◌, IfOk, OnOk, map};
 ghost use Rattle.toml.specs.View.{table_view};
-ghost use Rattle.layout_file.specs.Spots.{spots, spots_of_rows, ports, repeaters};
+ghost use Rattle.layout_file.specs.Spots.{spots, spots_of_rows, ports, with_ports, repeaters, with_rows};
 ghost use Rattle.layout_file.specs.Sites.{seen};
+ghost use Rattle.layout_file.specs.Tree.{rows_at};
+ghost use Rattle.layout_file.specs.declared.fault.Key.TheVariants as key;
 
 use crate::fault::{Key, LayoutCode, LayoutFault, Place};
 use crate::rules::Shape;
-use crate::tree::rows;
+use crate::tree::{next_number, rows};
 use lists::OutOfMemory;
 use std::alloc::Global;
 use toml::Table as TomlTable;
@@ -53,19 +55,44 @@ pub fn sites<'a>(alloc: Global, document: &'a TomlTable) -> Result<Vec<Site<'a>>
         port: 0,
         members: document,
     })?;
-    push_rows(
-        &mut sites,
-        Shape::Segment,
-        &rows(alloc, document, Key::Segment)?,
-    )?;
-    push_rows(
-        &mut sites,
-        Shape::Station,
-        &rows(alloc, document, Key::Station)?,
-    )?;
-    push_repeaters(alloc, &mut sites, &rows(alloc, document, Key::Repeater)?)?;
-    push_rows(&mut sites, Shape::Send, &rows(alloc, document, Key::Send)?)?;
+    push_all(alloc, &mut sites, document)?;
     Ok(sites)
+}
+
+/// The tables of the file's arrays, after what is there.
+fn push_all<'a>(
+    alloc: Global,
+    sites: &mut Vec<Site<'a>>,
+    document: &'a TomlTable,
+) -> Result<(), OutOfMemory>
+    ensures { OnOk result (map seen sites.new.items ≡ with_rows (map seen sites.old.items) (table_view document.now)) }
+{
+    push_rows_at(alloc, sites, Shape::Segment, document, Key::Segment)?;
+    push_rows_at(alloc, sites, Shape::Station, document, Key::Station)?;
+    push_repeaters_at(alloc, sites, document)?;
+    push_rows_at(alloc, sites, Shape::Send, document, Key::Send)
+}
+
+fn push_rows_at<'a>(
+    alloc: Global,
+    sites: &mut Vec<Site<'a>>,
+    shape: Shape,
+    document: &'a TomlTable,
+    key: Key,
+) -> Result<(), OutOfMemory>
+    ensures { OnOk result (map seen sites.new.items ≡ map seen sites.old.items ++ spots_of_rows shape 1 (rows_at (table_view document.now) key)) }
+{
+    push_rows(sites, shape, &rows(alloc, document, key)?)
+}
+
+fn push_repeaters_at<'a>(
+    alloc: Global,
+    sites: &mut Vec<Site<'a>>,
+    document: &'a TomlTable,
+) -> Result<(), OutOfMemory>
+    ensures { OnOk result (map seen sites.new.items ≡ map seen sites.old.items ++ repeaters 1 (rows_at (table_view document.now) key.Repeater)) }
+{
+    push_repeaters(alloc, sites, &rows(alloc, document, Key::Repeater)?)
 }
 
 fn push_rows<'a>(
@@ -77,7 +104,7 @@ fn push_rows<'a>(
 {
     let mut row = 0u32;
     for members in rows {
-        row = row.checked_add(1).ok_or(OutOfMemory)?;
+        row = next_number(row)?;
         sites.push(Site {
             shape,
             row,
@@ -97,7 +124,7 @@ fn push_ports<'a>(
 {
     let mut port = 0u32;
     for members in rows {
-        port = port.checked_add(1).ok_or(OutOfMemory)?;
+        port = next_number(port)?;
         sites.push(Site {
             shape: Shape::Port,
             row,
@@ -106,6 +133,25 @@ fn push_ports<'a>(
         })?;
     }
     Ok(())
+}
+
+/// The table of a repeater, and those of its ports.
+fn push_repeater<'a>(
+    alloc: Global,
+    sites: &mut Vec<Site<'a>>,
+    row: u32,
+    members: &'a TomlTable,
+) -> Result<(), OutOfMemory>
+    ensures { OnOk result (map seen sites.new.items ≡ map seen sites.old.items ++ with_ports row (table_view members.now)) }
+{
+    let ports = rows(alloc, members, Key::Port)?;
+    sites.push(Site {
+        shape: Shape::Repeater,
+        row,
+        port: 0,
+        members,
+    })?;
+    push_ports(sites, row, &ports)
 }
 
 fn push_repeaters<'a>(
@@ -117,14 +163,8 @@ fn push_repeaters<'a>(
 {
     let mut row = 0u32;
     for members in repeater_rows {
-        row = row.checked_add(1).ok_or(OutOfMemory)?;
-        sites.push(Site {
-            shape: Shape::Repeater,
-            row,
-            port: 0,
-            members: *members,
-        })?;
-        push_ports(sites, row, &rows(alloc, *members, Key::Port)?)?;
+        row = next_number(row)?;
+        push_repeater(alloc, sites, row, *members)?;
     }
     Ok(())
 }

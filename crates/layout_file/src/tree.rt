@@ -1,8 +1,8 @@
 //! What a table of a document holds at a key.
-ghost use Rattle.std.specs.Prelude.{◌≡◌, option_map, option_and_then, length, IfOk, map, unwrap_or, []};
+ghost use Rattle.std.specs.Prelude.{◌≡◌, ◌+◌, option_map, option_and_then, length, IfOk, map, unwrap_or, []};
 ghost use Rattle.toml.specs.Data.{as_str};
 ghost use Rattle.toml.specs.View.{view, table_view, items_view};
-ghost use Rattle.layout_file.specs.Tree.{held, tables, rows_at, text_at, natural, number_at, is_listed, has_stranger, names_of};
+ghost use Rattle.layout_file.specs.Tree.{held, tables, rows_at, text_at, natural, number_at, is_listed, has_stranger, names_of, names_at};
 
 use crate::fault::Key;
 use crate::rules::Rule;
@@ -143,4 +143,29 @@ pub fn names<'a>(alloc: Global, rows: &[&'a TomlTable]) -> Result<Vec<&'a str>, 
         names.push(text(*row, Key::Name))?;
     }
     Ok(names)
+}
+
+/// The names of the rows at a key.
+pub fn names_in<'a>(
+    alloc: Global,
+    table: &'a TomlTable,
+    key: Key,
+) -> Result<Vec<&'a str>, OutOfMemory>
+    ensures { IfOk result (λ v. map (λ s. s.now) v.items ≡ names_at (table_view table.now) key) }
+{
+    names(alloc, &rows(alloc, table, key)?)
+}
+
+/// How many rows there are at a key.
+pub fn count_rows(alloc: Global, table: &TomlTable, key: Key) -> Result<usize, OutOfMemory>
+    ensures { IfOk result (λ n. n ≡ length (rows_at (table_view table.now) key)) }
+{
+    Ok(rows(alloc, table, key)?.len())
+}
+
+/// The number after this one.
+pub fn next_number(number: u32) -> Result<u32, OutOfMemory>
+    ensures { IfOk result (λ n. n ≡ number + 1) }
+{
+    number.checked_add(1).ok_or(OutOfMemory)
 }

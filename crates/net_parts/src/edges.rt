@@ -41,8 +41,8 @@ fn edges_on_segment(
     let repeaters = layout.repeaters.as_slice();
     let mut edges = List::new(alloc);
     let mut first = 0u32;
-    for k in 0..repeaters.len() {
-        let ports = repeaters[k].ports.as_slice();
+    for repeater in repeaters {
+        let ports = repeater.ports.as_slice();
         push_edges(&mut edges, segment, first, ports)?;
         first += ports.len() as u32;
     }

@@ -23,8 +23,7 @@ pub fn lookahead(layout: &Layout) -> u32
     let repeaters = layout.repeaters.as_slice();
     let mut least = MOST_LOOKAHEAD;
     let mut tap = layout.stations.len();
-    for k in 0..repeaters.len() {
-        let repeater = &repeaters[k];
+    for repeater in repeaters {
         least = least.min(least_of_ports(layout, repeater.delay, tap, repeater.ports.as_slice()));
         tap += repeater.ports.len();
     }
@@ -57,8 +56,8 @@ fn nearest(layout: &Layout, tap: usize, here: PortLine) -> u32
     let repeaters = layout.repeaters.as_slice();
     let mut least = nearest_station(tap, here, layout.stations.as_slice());
     let mut first = layout.stations.len();
-    for k in 0..repeaters.len() {
-        let ports = repeaters[k].ports.as_slice();
+    for repeater in repeaters {
+        let ports = repeater.ports.as_slice();
         least = least.min(nearest_port(tap, here, first, ports));
         first += ports.len();
     }
@@ -72,8 +71,8 @@ fn nearest_station(tap: usize, here: PortLine, stations: &[StationLine]) -> u32
     ensures most { result ≤ most_lookahead }
 {
     let mut least = MOST_LOOKAHEAD;
-    for k in 0..stations.len() {
-        least = least.min(way(here, stations[k].segment, stations[k].at, false));
+    for station in stations {
+        least = least.min(way(here, station.segment, station.at, false));
     }
     least
 }

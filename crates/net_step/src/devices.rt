@@ -139,8 +139,7 @@ pub fn resumed_relays(
 {
     let mut relays = Vec::new(alloc);
     let mut from = 0;
-    for k in 0..repeaters.len() {
-        let repeater = &repeaters[k];
+    for repeater in repeaters {
         let to = from + repeater.ports.len();
         relays.push(Relay::resume(alloc, repeater.delay, &guards[from..to], &rests[from..to])?)?;
         from = to;
@@ -183,7 +182,8 @@ pub fn resumed_captures(alloc: Global, captures: Captures) -> Result<Vec<TakenLi
     let mut rest = captures;
     let mut all = Vec::with_capacity(alloc, rest.len())?;
     while let Some(taken) = rest.pop() {
-        all.insert(0, taken)?;
+        all.push(taken)?;
     }
+    all.reverse();
     Ok(all)
 }

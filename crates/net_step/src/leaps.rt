@@ -40,8 +40,7 @@ pub fn calm_senders(t: u64, senders: &[Transmitter], most: u64) -> u64
     ensures calm { 0 < result → All (WaitsFor result) senders.now }
 {
     let mut calm = most;
-    for k in 0..senders.len() {
-        let sender = &senders[k];
+    for sender in senders {
         if is_sending(sender) {
             return 0;
         }
@@ -56,8 +55,8 @@ pub fn calm_relays(relays: &[Relay], most: u64) -> u64
     ensures calm { All (λ r. IsCalm r result) relays.now }
 {
     let mut calm = most;
-    for k in 0..relays.len() {
-        calm = calm.min(relays[k].calm());
+    for relay in relays {
+        calm = calm.min(relay.calm());
     }
     calm
 }
@@ -70,8 +69,7 @@ pub fn leap_senders(t: u64, count: u64, senders: &mut [Transmitter])
     ensures states { senders.new ≡ map (λ s. after_all s (replicate count Idle)) senders.old }
     ensures times { All (λ s. s.t ≡ t + count) senders.new }
 {
-    for k in 0..senders.len() {
-        let sender = &mut senders[k];
+    for sender in senders.iter_mut() {
         sender.leap(t, count, false);
     }
 }
@@ -85,8 +83,7 @@ pub fn leap_receivers(t: u64, count: u64, receivers: &mut [Receiver])
         Hears (receiver_after r (replicate count Idle) false) (slice_index_or receivers.new i d) }
     ensures steps { All (λ r. r.steps ≡ t + count) receivers.new }
 {
-    for k in 0..receivers.len() {
-        let receiver = &mut receivers[k];
+    for receiver in receivers.iter_mut() {
         receiver.leap_quiet(count);
     }
 }
@@ -97,8 +94,7 @@ pub fn leap_relays(count: u64, relays: &mut [Relay])
     ensures states { relays.new ≡ map (iterate silent_step count) relays.old }
     ensures ports { map (λ r. length r.guards) relays.new ≡ map (λ r. length r.guards) relays.old }
 {
-    for k in 0..relays.len() {
-        let relay = &mut relays[k];
+    for relay in relays.iter_mut() {
         relay.leap(count);
     }
 }

@@ -110,8 +110,7 @@ pub fn carry_all(segments: &mut [SegmentCable], emitted: &[Sym])
     requires { All (λ w. All (λ q. q < length emitted.now) w.taps) segments.old }
     ensures { segments.new ≡ map (carried emitted.now) segments.old }
 {
-    for s in 0..segments.len() {
-        let segment = &mut segments[s];
+    for segment in segments.iter_mut() {
         segment.carry(emitted);
     }
 }

@@ -98,8 +98,9 @@ fn ports_before(relays: &[Relay], count: usize) -> usize
     ensures few { result ≤ 32 * count }
 {
     let mut ports = 0;
-    for k in 0..count {
-        ports += relays[k].ports();
+    let before = &relays[..count];
+    for relay in before {
+        ports += relay.ports();
     }
     ports
 }

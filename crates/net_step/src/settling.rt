@@ -16,8 +16,7 @@ fn reach_over(here: PortLine, taps: &[PortLine]) -> u32
     ensures { result ≡ reach_over here taps.now }
 {
     let mut reach = 0;
-    for k in 0..taps.len() {
-        let tap = taps[k];
+    for tap in taps {
         if tap.segment == here.segment {
             reach = reach.max(tap.at.abs_diff(here.at));
         }
@@ -30,8 +29,8 @@ fn reaches_of(alloc: Global, taps: &[PortLine]) -> Result<Vec<u32>, OutOfMemory>
     ensures { IfOk result (λ reaches. reaches.items ≡ map (λ x. reach_over x taps.now) taps.now) }
 {
     let mut reaches = Vec::new(alloc);
-    for k in 0..taps.len() {
-        reaches.push(reach_over(taps[k], taps))?;
+    for tap in taps {
+        reaches.push(reach_over(*tap, taps))?;
     }
     Ok(reaches)
 }

@@ -41,8 +41,8 @@ pub fn states_of(alloc: Global, senders: &[Transmitter]) -> Result<SenderList, O
     ensures { IfOk result (λ states. states ≡ map state_of senders.now) }
 {
     let mut states = SenderList::new(alloc);
-    for k in 0..senders.len() {
-        states.push(senders[k].state())?;
+    for sender in senders {
+        states.push(sender.state())?;
     }
     Ok(states)
 }
@@ -52,8 +52,8 @@ pub fn guards_of(alloc: Global, relays: &[Relay]) -> Result<GuardList, OutOfMemo
     ensures { IfOk result (λ guards. guards ≡ flat_map (λ r. r.guards) relays.now) }
 {
     let mut guards = GuardList::new(alloc);
-    for k in 0..relays.len() {
-        relays[k].list_guards(&mut guards)?;
+    for relay in relays {
+        relay.list_guards(&mut guards)?;
     }
     Ok(guards)
 }
@@ -63,8 +63,8 @@ pub fn rests_of(alloc: Global, relays: &[Relay]) -> Result<NumberList, OutOfMemo
     ensures { IfOk result (λ rests. rests ≡ flat_map (λ r. map (λ c. c.rest) r.counts) relays.now) }
 {
     let mut rests = NumberList::new(alloc);
-    for k in 0..relays.len() {
-        relays[k].list_rests(&mut rests)?;
+    for relay in relays {
+        relay.list_rests(&mut rests)?;
     }
     Ok(rests)
 }

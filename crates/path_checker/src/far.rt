@@ -137,17 +137,16 @@ pub fn farthest(
     }
     let near = network.beside(way, from);
     let mut best = None;
-    for k in 0..near.len() {
-        let stop = near[k];
+    for stop in near {
         if is_same_tap(stop.tap, from.tap) {
             continue;
         }
-        let step = step_length(layout, way, from, &stop);
+        let step = step_length(layout, way, from, stop);
         if let Attachment::Station(station) = stop.tap {
             best = farther(best, lengthened(step, Some(Far { length: 0, station })));
             continue;
         }
-        let there = farthest(layout, network, table, other_way(way), &stop, room - 1);
+        let there = farthest(layout, network, table, other_way(way), stop, room - 1);
         best = farther(best, lengthened(step, there));
     }
     set_entry(table, way, from.tap, best);

@@ -62,9 +62,8 @@ pub fn branches_of(
 {
     let stops = network.taps_on(segment);
     let mut list = List::new(alloc);
-    for k in 0..stops.len() {
-        let stop = stops[k];
-        let far = off_cable(layout, network, table, &stop);
+    for stop in stops {
+        let far = off_cable(layout, network, table, stop);
         list.push(Branch { tap: stop.tap, far })?;
     }
     Ok(Branches { segment, list })
@@ -80,8 +79,7 @@ pub fn worst_over(layout: &Layout, branches: &Branches, high: u32) -> Option<Far
     let list = branches.list.as_slice();
     let mut below = None;
     let mut above = None;
-    for k in 0..list.len() {
-        let branch = list[k];
+    for branch in list {
         let at = at_of(layout, branch.tap);
         if at < high {
             below = farther(below, lengthened(high - at, branch.far));

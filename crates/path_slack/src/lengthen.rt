@@ -134,8 +134,8 @@ impl Piece {
         ensures { (result ≡ true)
             ↔ All (λ p. moved_place self.segment self.high self.by p.segment p.at ≤ greatest_place) ports.now }
     {
-        for k in 0..ports.len() {
-            if !self.fits(ports[k].segment, ports[k].at) {
+        for port in ports {
+            if !self.fits(port.segment, port.at) {
                 return false;
             }
         }

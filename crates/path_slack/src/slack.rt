@@ -110,8 +110,8 @@ fn first_place(layout: &Layout, branches: &Branches, from: u32) -> Option<u32>
 {
     let list = branches.list.as_slice();
     let mut first = None;
-    for k in 0..list.len() {
-        let at = at_of(layout, list[k].tap);
+    for branch in list {
+        let at = at_of(layout, branch.tap);
         if at < from {
             continue;
         }
@@ -127,8 +127,8 @@ fn last_place(layout: &Layout, branches: &Branches) -> u32
 {
     let list = branches.list.as_slice();
     let mut last = 0;
-    for k in 0..list.len() {
-        let at = at_of(layout, list[k].tap);
+    for branch in list {
+        let at = at_of(layout, branch.tap);
         if at <= last {
             continue;
         }

@@ -31,8 +31,7 @@ pub fn idle_front(symbols: &[Sym]) -> usize
 pub fn any_opens(guards: &[PortGuard]) -> bool
     ensures { result ≡ any_opens guards.now }
 {
-    for k in 0..guards.len() {
-        let guard = &guards[k];
+    for guard in guards {
         if guard.closed && guard.mend {
             return true;
         }
@@ -67,8 +66,7 @@ pub fn ports_calm(mode: Mode, counts: &[PortCount]) -> u64
 pub fn silent_guards(guards: &mut [PortGuard])
     ensures { guards.new ≡ map silent_guard guards.old }
 {
-    for k in 0..guards.len() {
-        let guard = &mut guards[k];
+    for guard in guards.iter_mut() {
         guard.step(false, false, false);
     }
 }
@@ -77,8 +75,7 @@ pub fn silent_guards(guards: &mut [PortGuard])
 pub fn silent_counts(counts: &mut [PortCount], n: u64)
     ensures { counts.new ≡ map (λ c. iterate silent_count n c) counts.old }
 {
-    for k in 0..counts.len() {
-        let count = &mut counts[k];
+    for count in counts.iter_mut() {
         count.be_silent(n);
     }
 }
@@ -93,8 +90,8 @@ fn is_fresh(count: &PortCount) -> bool
 pub fn counts_fresh(counts: &[PortCount]) -> bool
     ensures { IsTrue result → All (λ c. c ≡ resting_count 0) counts.now }
 {
-    for k in 0..counts.len() {
-        if !is_fresh(&counts[k]) {
+    for count in counts {
+        if !is_fresh(count) {
             return false;
         }
     }
@@ -111,8 +108,8 @@ fn guard_unchanged(guard: &PortGuard) -> bool
 pub fn guards_unchanged(guards: &[PortGuard]) -> bool
     ensures { IsTrue result → All (λ g. is_unchanged g ≡ true) guards.now }
 {
-    for k in 0..guards.len() {
-        if !guard_unchanged(&guards[k]) {
+    for guard in guards {
+        if !guard_unchanged(guard) {
             return false;
         }
     }
@@ -123,8 +120,8 @@ pub fn guards_unchanged(guards: &[PortGuard]) -> bool
 pub fn all_idle(symbols: &[Sym]) -> bool
     ensures { IsTrue result → All (λ s. s ≡ sym.Idle) symbols.now }
 {
-    for k in 0..symbols.len() {
-        if symbols[k] != Sym::Idle {
+    for symbol in symbols {
+        if *symbol != Sym::Idle {
             return false;
         }
     }

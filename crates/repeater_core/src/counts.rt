@@ -129,8 +129,8 @@ pub fn resting_counts(alloc: Global, rests: &[u32]) -> Result<Vec<PortCount>, Ou
     ensures { IfOk result (λ counts. counts.items ≡ map resting_count rests.now) }
 {
     let mut counts = Vec::with_capacity(alloc, rests.len())?;
-    for k in 0..rests.len() {
-        counts.push(PortCount::resting(rests[k]))?;
+    for rest in rests {
+        counts.push(PortCount::resting(*rest))?;
     }
     Ok(counts)
 }

@@ -150,9 +150,9 @@ pub fn leap_counts(counts: &mut [PortCount], decided: &[Sym], n: u32)
 fn set_text(decided: &mut [Sym], text: Sym)
     ensures { decided.new ≡ texted (map is_signal decided.old) text }
 {
-    for k in 0..decided.len() {
-        if is_signal(decided[k]) {
-            decided[k] = text;
+    for symbol in decided.iter_mut() {
+        if is_signal(*symbol) {
+            *symbol = text;
         }
     }
 }

@@ -46,8 +46,8 @@ fn count_ports(layout: &Layout) -> u32
 {
     let repeaters = layout.repeaters.as_slice();
     let mut ports = 0u32;
-    for k in 0..repeaters.len() {
-        ports += repeaters[k].ports.len() as u32;
+    for repeater in repeaters {
+        ports += repeater.ports.len() as u32;
     }
     ports
 }

@@ -36,8 +36,7 @@ fn are_idle(parcels: &[Parcel]) -> bool
 fn stamp_all(parcels: &mut [Parcel], window: u64)
     ensures { parcels.new ≡ map (stamped window) parcels.old }
 {
-    for e in 0..parcels.len() {
-        let parcel = &mut parcels[e];
+    for parcel in parcels.iter_mut() {
         parcel.window = window;
     }
 }
@@ -52,8 +51,8 @@ fn calm_of<K: PartKind>(parts: &[K], most: u64) -> u64
         (K.at s * lookahead (K.plan s).layout) (result * lookahead (K.plan s).layout)) parts.now }
 {
     let mut calm = most;
-    for k in 0..parts.len() {
-        calm = parts[k].quiet_windows(calm);
+    for part in parts {
+        calm = part.quiet_windows(calm);
     }
     calm
 }
@@ -68,8 +67,7 @@ fn leap_parts<K: PartKind>(parts: &mut [K], count: u64)
     ensures { (k : ℕ) (d : K) → k < length parts.new →
         IsLater K.plan K.number K.at count (slice_index_or parts.old k d) (slice_index_or parts.new k d) }
 {
-    for k in 0..parts.len() {
-        let part = &mut parts[k];
+    for part in parts.iter_mut() {
         part.leap(count);
     }
 }

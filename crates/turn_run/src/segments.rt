@@ -29,8 +29,8 @@ pub fn run_segments<S: Part, G: Gate>(
     ensures parcels { OnOk result (AreHalfway plan.now window (length plan.now.layout.segments) parcels.new) }
     ensures hand { length hand.new ≡ length hand.old }
 {
-    for s in 0..segments.len() {
-        run_segment(gate, &mut segments[s], parcels, hand)?;
+    for segment in segments.iter_mut() {
+        run_segment(gate, segment, parcels, hand)?;
     }
     Ok(())
 }

@@ -15,55 +15,55 @@ use Rattle.frame_table.proofs.routes.pass.Goals as goal
 abbrev nowhere : Stop
 nowhere = record { tap = Station 0; segment = 0; at = 0 }
 
-pub loop-k-init : goal.loop-k-init
-loop-k-init c = record {
+pub loop-stop-init : goal.loop-stop-init
+loop-stop-init c = record {
   led = λ a led before. before;
   stand = λ before. before;
   kept = λ q h. h;
   come = λ x among other. absurd among;
 }
 
-pub loop-k-preserved-then-is_same_tap : goal.loop-k-preserved-then-is_same_tap
-loop-k-preserved-then-is_same_tap c =
+pub loop-stop-preserved-then-is_same_tap : goal.loop-stop-preserved-then-is_same_tap
+loop-stop-preserved-then-is_same_tap c =
     let near = c.beside-near.result.now in
     let a = c.args.led.now.stop.tap in
     record {
-      led = c.loop-k.invariant.led;
-      stand = c.loop-k.invariant.stand;
-      kept = c.loop-k.invariant.kept;
+      led = c.loop-stop.invariant.led;
+      stand = c.loop-stop.invariant.stand;
+      kept = c.loop-stop.invariant.kept;
       come =
-          skip_taken (HasCome c.loop-k.next.items) near c.loop-k.k nowhere a c.loop-k-test.true
-          (same_tap_true (get_or near c.loop-k.k nowhere).tap a c.is_same_tap.result c.is_same_tap.ensures c.if-is_same_tap.true) c.loop-k.invariant.come;
+          skip_taken (HasCome c.loop-stop.next.items) near c.loop-stop.stop-index nowhere a c.loop-stop-test.true
+          (same_tap_true (get_or near c.loop-stop.stop-index nowhere).tap a c.is_same_tap.result c.is_same_tap.ensures c.if-is_same_tap.true) c.loop-stop.invariant.come;
     }
 
 pub gone_on-requires-clause-to : goal.gone_on-requires-clause-to
 gone_on-requires-clause-to c =
-    (beside_at c.args.layout.now c.args.network.now way.Repeater c.args.led.now.stop c.beside-near.result.now c.loop-k.k nowhere c.requires.sound c.requires.network c.requires.led c.beside-near.ensures c.loop-k-test.true).stands
+    (beside_at c.args.layout.now c.args.network.now way.Repeater c.args.led.now.stop c.beside-near.result.now c.loop-stop.stop-index nowhere c.requires.sound c.requires.network c.requires.led c.beside-near.ensures c.loop-stop-test.true).stands
 
-pub loop-k-preserved : goal.loop-k-preserved
-loop-k-preserved c =
+pub loop-stop-preserved : goal.loop-stop-preserved
+loop-stop-preserved c =
     let l = c.args.layout.now in
     let near = c.beside-near.result.now in
-    let stop : Stop = get_or near c.loop-k.k nowhere in
-    let old = c.loop-k.next.items in
+    let stop : Stop = get_or near c.loop-stop.stop-index nowhere in
+    let old = c.loop-stop.next.items in
     let new : Led = gone_on l way.Repeater c.args.led.now stop in
-    let stands : IsStop l stop = (beside_at l c.args.network.now way.Repeater c.args.led.now.stop near c.loop-k.k nowhere c.requires.sound c.requires.network c.requires.led c.beside-near.ensures c.loop-k-test.true).stands in
-    let step : IsStep l way.Repeater c.args.led.now.stop.tap stop.tap = next_step l c.args.network.now way.Repeater c.args.led.now.stop near c.loop-k.k nowhere c.is_same_tap.result c.requires.sound c.requires.network c.requires.led c.beside-near.ensures c.loop-k-test.true c.is_same_tap.ensures c.if-is_same_tap.false in
+    let stands : IsStop l stop = (beside_at l c.args.network.now way.Repeater c.args.led.now.stop near c.loop-stop.stop-index nowhere c.requires.sound c.requires.network c.requires.led c.beside-near.ensures c.loop-stop-test.true).stands in
+    let step : IsStep l way.Repeater c.args.led.now.stop.tap stop.tap = next_step l c.args.network.now way.Repeater c.args.led.now.stop near c.loop-stop.stop-index nowhere c.is_same_tap.result c.requires.sound c.requires.network c.requires.led c.beside-near.ensures c.loop-stop-test.true c.is_same_tap.ensures c.if-is_same_tap.false in
     let pushed : c.push.new.self.items ≡ old ++ new ∷ [] = c.in_ok-push.ensures.items ∙ ap (λ z. old ++ z ∷ []) c.in_ok-gone_on.ensures in
     record {
       led = λ a led before.
           subst (λ xs. All (IsLed l a way.Cable) xs) (sym pushed)
-          (All-append (IsLed l a way.Cable) old (new ∷ []) (c.loop-k.invariant.led a led before) (All-cons (IsLed l a way.Cable) new [] (led_on l a way.Repeater c.args.led.now stop led stands step) (All-nil (IsLed l a way.Cable))));
+          (All-append (IsLed l a way.Cable) old (new ∷ []) (c.loop-stop.invariant.led a led before) (All-cons (IsLed l a way.Cable) new [] (led_on l a way.Repeater c.args.led.now stop led stands step) (All-nil (IsLed l a way.Cable))));
       stand = λ before.
           subst (λ xs. All (StandsThere l) xs) (sym pushed)
-          (All-append (StandsThere l) old (new ∷ []) (c.loop-k.invariant.stand before) (All-cons (StandsThere l) new [] stands (All-nil (StandsThere l))));
-      kept = λ q h. come_more old c.push.new.self.items new q pushed (c.loop-k.invariant.kept q h);
+          (All-append (StandsThere l) old (new ∷ []) (c.loop-stop.invariant.stand before) (All-cons (StandsThere l) new [] stands (All-nil (StandsThere l))));
+      kept = λ q h. come_more old c.push.new.self.items new q pushed (c.loop-stop.invariant.kept q h);
       come =
-          one_taken (HasCome c.push.new.self.items) near c.loop-k.k nowhere c.args.led.now.stop.tap c.loop-k-test.true (come_end old c.push.new.self.items new stop.tap pushed refl)
-          (λ x among other. come_more old c.push.new.self.items new x.tap pushed (c.loop-k.invariant.come x among other));
+          one_taken (HasCome c.push.new.self.items) near c.loop-stop.stop-index nowhere c.args.led.now.stop.tap c.loop-stop-test.true (come_end old c.push.new.self.items new stop.tap pushed refl)
+          (λ x among other. come_more old c.push.new.self.items new x.tap pushed (c.loop-stop.invariant.come x among other));
     }
 
 pub returns-clause-come : goal.returns-clause-come
 returns-clause-come c =
-    each_beside (HasCome c.loop-k.next.items) c.args.layout.now c.args.network.now way.Repeater c.args.led.now.stop c.beside-near.result.now c.loop-k.k
-    c.requires.sound c.requires.network c.requires.led c.beside-near.ensures c.loop-k-test.false c.loop-k.invariant.come
+    each_beside (HasCome c.loop-stop.next.items) c.args.layout.now c.args.network.now way.Repeater c.args.led.now.stop c.beside-near.result.now c.loop-stop.stop-index
+    c.requires.sound c.requires.network c.requires.led c.beside-near.ensures c.loop-stop-test.false c.loop-stop.invariant.come

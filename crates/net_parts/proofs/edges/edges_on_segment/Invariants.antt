@@ -6,8 +6,8 @@ use Rattle.net_parts.proofs.edges.edges_on_segment.Given as goal
 use Rattle.mac_parameters.specs.Parameters.{most_ports}
 
 -- the edges so far and those of the repeaters that are left
-abbrev pub invariant-loop-k : goal.invariant-loop-k
-invariant-loop-k l = record {
-  so_far : l.edges ++ numbers_on l.segment l.first (flat_map (λ r. r.ports) (drop l.k l.repeaters)) ≡ (wiring l.layout l.segment).edges;
-  few : l.first ≤ most_ports * l.k;
+abbrev pub invariant-loop-repeater : goal.invariant-loop-repeater
+invariant-loop-repeater l = record {
+  so_far : l.edges ++ numbers_on l.segment l.first (flat_map (λ r. r.ports) (drop l.repeater-index l.repeaters)) ≡ (wiring l.layout l.segment).edges;
+  few : l.first ≤ most_ports * l.repeater-index;
 }

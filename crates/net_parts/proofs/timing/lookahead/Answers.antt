@@ -5,8 +5,8 @@ use Rattle.net_parts.specs.Windows.{least_of_repeaters, lookahead}
 use Rattle.net_parts.proofs.LookaheadLeads.{few_edges, some_lookahead}
 use Rattle.net_parts.proofs.timing.lookahead.Goals as goal
 
-pub loop-k-init : goal.loop-k-init
-loop-k-init c =
+pub loop-repeater-init : goal.loop-repeater-init
+loop-repeater-init c =
     let l = c.args.layout.now in
     let few = few_edges (taps_of l) (length l.stations) l.repeaters in
     let same = ap₂ (least_of_repeaters (taps_of l)) c.len-tap.ensures c.as_slice-repeaters.ensures in
@@ -17,9 +17,9 @@ loop-k-init c =
 pub returns-clause-value : goal.returns-clause-value
 unfolding lookahead
 returns-clause-value c =
-    let over = at_drop_all (least_of_repeaters (taps_of c.args.layout.now) c.loop-k.tap) c.as_slice-repeaters.result.now c.loop-k.k c.loop-k-test.false in
-    let so_far = c.loop-k.invariant.so_far in
-    let most = c.loop-k.invariant.most in
+    let over = at_drop_all (least_of_repeaters (taps_of c.args.layout.now) c.loop-repeater.tap) c.as_slice-repeaters.result.now c.loop-repeater.repeater-index c.loop-repeater-test.false in
+    let so_far = c.loop-repeater.invariant.so_far in
+    let most = c.loop-repeater.invariant.most in
     omega (arith, over, so_far, most)
 
 pub returns-clause-some : goal.returns-clause-some

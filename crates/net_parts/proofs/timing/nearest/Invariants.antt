@@ -7,9 +7,9 @@ use Rattle.net_parts.proofs.timing.nearest.Given as goal
 use Rattle.mac_parameters.specs.Parameters.{most_ports}
 
 -- the least so far and that of the repeaters that are left
-abbrev pub invariant-loop-k : goal.invariant-loop-k
-invariant-loop-k l = record {
-  so_far : min l.least (nearest l.tap l.here l.first (flat_map (λ r. r.ports) (drop l.k l.repeaters))) ≡ nearest l.tap l.here 0 (taps_of l.layout);
+abbrev pub invariant-loop-repeater : goal.invariant-loop-repeater
+invariant-loop-repeater l = record {
+  so_far : min l.least (nearest l.tap l.here l.first (flat_map (λ r. r.ports) (drop l.repeater-index l.repeaters))) ≡ nearest l.tap l.here 0 (taps_of l.layout);
   most : l.least ≤ most_lookahead;
-  few : l.first ≤ most_stations + most_ports * l.k;
+  few : l.first ≤ most_stations + most_ports * l.repeater-index;
 }

@@ -9,19 +9,19 @@ use Rattle.net_step.proofs.leaps.leap_relays.Goals as goal
 
 pub leap-requires : goal.leap-requires
 leap-requires c =
-    let d = c.index-relays-k.result in
-    let test = c.loop-k-test.true in
-    All-drop-first (λ (r : RepeaterDevice). IsCalm r c.args.count) c.loop-k.relays c.loop-k.k d (omega (arith, test, c.loop-k.auto.relays)) c.loop-k.invariant.calm
+    let d = c.relay-item.result in
+    let test = c.loop-relay-test.true in
+    All-drop-first (λ (r : RepeaterDevice). IsCalm r c.args.count) c.loop-relay.relays c.loop-relay.relay-index d (omega (arith, test, c.loop-relay.auto.relays)) c.loop-relay.invariant.calm
 
-pub loop-k-preserved : goal.loop-k-preserved
-loop-k-preserved c =
-    let k = c.loop-k.k in
-    let rs = c.loop-k.relays in
-    let r = c.index-relays-k.result in
+pub loop-relay-preserved : goal.loop-relay-preserved
+loop-relay-preserved c =
+    let k = c.loop-relay.relay-index in
+    let rs = c.loop-relay.relays in
+    let r = c.relay-item.result in
     let new = c.leap.new.self in
-    let inv = c.loop-k.invariant in
-    let test = c.loop-k-test.true in
-    let h : k < length rs = omega (arith, test, c.loop-k.auto.relays) in
+    let inv = c.loop-relay.invariant in
+    let test = c.loop-relay-test.true in
+    let h : k < length rs = omega (arith, test, c.loop-relay.auto.relays) in
     record {
       calm = All-drop-set (λ (x : RepeaterDevice). IsCalm x c.args.count) rs k new inv.calm;
       states = map_step (iterate silent_step c.args.count) rs k new r h c.leap.ensures.state ∙ inv.states;

@@ -10,19 +10,19 @@ use Rattle.net_step.proofs.leaps.leap_senders.Goals as goal
 
 pub leap-requires-clause-calm : goal.leap-requires-clause-calm
 leap-requires-clause-calm c =
-    let d = c.index-senders-k.result in
-    let test = c.loop-k-test.true in
-    (All-drop-first (WaitsFor c.args.count) c.loop-k.senders c.loop-k.k d (omega (arith, test, c.loop-k.auto.senders)) c.loop-k.invariant.calm).number
+    let d = c.sender-item.result in
+    let test = c.loop-sender-test.true in
+    (All-drop-first (WaitsFor c.args.count) c.loop-sender.senders c.loop-sender.sender-index d (omega (arith, test, c.loop-sender.auto.senders)) c.loop-sender.invariant.calm).number
 
-pub loop-k-preserved : goal.loop-k-preserved
-loop-k-preserved c =
-    let k = c.loop-k.k in
-    let ss = c.loop-k.senders in
-    let d = c.index-senders-k.result in
+pub loop-sender-preserved : goal.loop-sender-preserved
+loop-sender-preserved c =
+    let k = c.loop-sender.sender-index in
+    let ss = c.loop-sender.senders in
+    let d = c.sender-item.result in
     let s' = c.leap.new.self in
-    let inv = c.loop-k.invariant in
-    let test = c.loop-k-test.true in
-    let h : k < length ss = omega (arith, test, c.loop-k.auto.senders) in
+    let inv = c.loop-sender.invariant in
+    let test = c.loop-sender-test.true in
+    let h : k < length ss = omega (arith, test, c.loop-sender.auto.senders) in
     let idle = replicate c.args.count Idle in
     record {
       stepped = All-take-set (λ (s : Sender). s.t ≡ c.args.t + c.args.count) ss k s' h inv.stepped (c.leap.ensures.time ∙ ap (λ t. t + c.args.count) (All-drop-first (λ (s : Sender). s.t ≡ c.args.t) ss k d h inv.waiting));

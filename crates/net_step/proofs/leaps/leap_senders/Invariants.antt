@@ -4,11 +4,11 @@ use Rattle.mac_transmit.specs.Calm.{after_all}
 use Rattle.net_step.specs.CalmNets.{WaitsFor}
 use Rattle.net_step.proofs.leaps.leap_senders.Given as goal
 
--- the senders below k have leapt, and the others have not
-abbrev pub invariant-loop-k : goal.invariant-loop-k
-invariant-loop-k l = record {
-  stepped : All (λ s. s.t ≡ l.t + l.count) (take l.k l.senders);
-  waiting : All (λ s. s.t ≡ l.t) (drop l.k l.senders);
-  calm : All (WaitsFor l.count) (drop l.k l.senders);
-  states : take l.k l.senders ++ map (λ s. after_all s (replicate l.count Idle)) (drop l.k l.senders) ≡ map (λ s. after_all s (replicate l.count Idle)) l.fn.senders;
+-- the senders so far have leapt, and the others have not
+abbrev pub invariant-loop-sender : goal.invariant-loop-sender
+invariant-loop-sender l = record {
+  stepped : All (λ s. s.t ≡ l.t + l.count) (take l.sender-index l.senders);
+  waiting : All (λ s. s.t ≡ l.t) (drop l.sender-index l.senders);
+  calm : All (WaitsFor l.count) (drop l.sender-index l.senders);
+  states : take l.sender-index l.senders ++ map (λ s. after_all s (replicate l.count Idle)) (drop l.sender-index l.senders) ≡ map (λ s. after_all s (replicate l.count Idle)) l.fn.senders;
 }

@@ -6,8 +6,8 @@ use Rattle.path_checker.proofs.far.+farthest.Given as goal
 abbrev pub decreases-farthest : goal.decreases-farthest
 decreases-farthest l = l.room
 
-abbrev pub invariant-loop-k : goal.invariant-loop-k
-invariant-loop-k l = record {
-  best : IsFarthest (IsViaOne l.layout l.way l.from.tap (take l.k l.near)) l.best;
+abbrev pub invariant-loop-stop : goal.invariant-loop-stop
+invariant-loop-stop l = record {
+  best : IsFarthest (IsViaOne l.layout l.way l.from.tap (take l.stop-index l.near)) l.best;
   table : IsRight l.layout l.table;
 }

@@ -8,14 +8,14 @@ use Rattle.path_slack.proofs.slack.last_place.Goals as goal
 abbrev nowhere : Branch
 nowhere = record { tap = Station 0; far = None }
 
-pub loop-k-preserved-then-at-last : goal.loop-k-preserved-then-at-last
-loop-k-preserved-then-at-last c =
-    last_skip c.args.layout.now c.as_slice-list.result.now c.loop-k.k nowhere c.loop-k-test.true c.at_of-at.result c.loop-k.last c.at_of-at.ensures c.if-at-last.true c.loop-k.invariant
+pub loop-branch-preserved-then-at-last : goal.loop-branch-preserved-then-at-last
+loop-branch-preserved-then-at-last c =
+    last_skip c.args.layout.now c.as_slice-list.result.now c.loop-branch.branch-index nowhere c.loop-branch-test.true c.at_of-at.result c.loop-branch.last c.at_of-at.ensures c.if-at-last.true c.loop-branch.invariant
 
-pub loop-k-preserved : goal.loop-k-preserved
-loop-k-preserved c =
-    last_more c.args.layout.now c.as_slice-list.result.now c.loop-k.k nowhere c.loop-k-test.true c.at_of-at.result c.loop-k.last c.at_of-at.ensures c.if-at-last.false c.loop-k.invariant
+pub loop-branch-preserved : goal.loop-branch-preserved
+loop-branch-preserved c =
+    last_more c.args.layout.now c.as_slice-list.result.now c.loop-branch.branch-index nowhere c.loop-branch-test.true c.at_of-at.result c.loop-branch.last c.at_of-at.ensures c.if-at-last.false c.loop-branch.invariant
 
 pub returns : goal.returns
 returns c =
-    last_all c.args.layout.now c.args.branches.now.segment c.as_slice-list.result.now c.loop-k.k c.loop-k.last (subst (AreBranchesOf c.args.layout.now c.args.branches.now.segment) (sym c.as_slice-list.ensures) c.requires) c.loop-k-test.false c.loop-k.invariant
+    last_all c.args.layout.now c.args.branches.now.segment c.as_slice-list.result.now c.loop-branch.branch-index c.loop-branch.last (subst (AreBranchesOf c.args.layout.now c.args.branches.now.segment) (sym c.as_slice-list.ensures) c.requires) c.loop-branch-test.false c.loop-branch.invariant

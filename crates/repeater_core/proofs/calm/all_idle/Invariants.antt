@@ -3,5 +3,5 @@ use Rattle.std.specs.List.{All}
 use Rattle.manchester_line.specs.declared.Sym.TheVariants.{Idle}
 use Rattle.repeater_core.proofs.calm.all_idle.Given as goal
 
-abbrev pub invariant-loop-k : goal.invariant-loop-k
-invariant-loop-k l = All (λ s. s ≡ Idle) (take l.k l.symbols)
+abbrev pub invariant-loop-symbol : goal.invariant-loop-symbol
+invariant-loop-symbol l = All (λ s. s ≡ Idle) (take l.symbol-index l.symbols)

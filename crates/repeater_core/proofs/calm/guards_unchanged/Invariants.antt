@@ -3,5 +3,5 @@ use Rattle.std.specs.List.{All}
 use Rattle.repeater_core.specs.SilentParts.{is_unchanged}
 use Rattle.repeater_core.proofs.calm.guards_unchanged.Given as goal
 
-abbrev pub invariant-loop-k : goal.invariant-loop-k
-invariant-loop-k l = All (λ g. is_unchanged g ≡ true) (take l.k l.guards)
+abbrev pub invariant-loop-guard : goal.invariant-loop-guard
+invariant-loop-guard l = All (λ g. is_unchanged g ≡ true) (take l.guard-index l.guards)

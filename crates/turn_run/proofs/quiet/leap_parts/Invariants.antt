@@ -2,10 +2,10 @@ use Rattle.std.proofs.Common.{◌≡◌, ℕ, ◌<◌, ◌≤◌, length, slice_
 use Rattle.turn_run.specs.PartsInTurn.{IsLater}
 use Rattle.turn_run.proofs.quiet.leap_parts.Given as goal
 
--- those below k stand so many windows later, and the others as they stood
-abbrev pub invariant-loop-k : goal.invariant-loop-k
-invariant-loop-k g l = record {
+-- those so far stand so many windows later, and the others as they stood
+abbrev pub invariant-loop-part : goal.invariant-loop-part
+invariant-loop-part g l = record {
   len : length l.parts ≡ length l.fn.parts;
-  done : (q : ℕ) (d : g.row.K.Denot) → q < l.k → IsLater g.K.Part.plan g.K.Part.number g.K.Part.at l.count (slice_index_or l.fn.parts q d) (slice_index_or l.parts q d);
-  left : (q : ℕ) (d : g.row.K.Denot) → l.k ≤ q → slice_index_or l.parts q d ≡ slice_index_or l.fn.parts q d;
+  done : (q : ℕ) (d : g.row.K.Denot) → q < l.part-index → IsLater g.K.Part.plan g.K.Part.number g.K.Part.at l.count (slice_index_or l.fn.parts q d) (slice_index_or l.parts q d);
+  left : (q : ℕ) (d : g.row.K.Denot) → l.part-index ≤ q → slice_index_or l.parts q d ≡ slice_index_or l.fn.parts q d;
 }

@@ -10,11 +10,11 @@ use Rattle.path_slack.proofs.lengthen.Piece.all_fit.Goals as goal
 abbrev nowhere : PortLine
 nowhere = record { segment = 0; at = 0 }
 
-pub loop-k-preserved : goal.loop-k-preserved
-loop-k-preserved c =
-    All-more (λ (p : PortLine). moved_place c.args.self.segment c.args.self.high c.args.self.by p.segment p.at ≤ greatest_place) c.args.ports.now c.loop-k.k nowhere c.loop-k-test.true c.loop-k.invariant (c.fits.ensures.0 c.if-not-fits.false)
+pub loop-port-preserved : goal.loop-port-preserved
+loop-port-preserved c =
+    All-more (λ (p : PortLine). moved_place c.args.self.segment c.args.self.high c.args.self.by p.segment p.at ≤ greatest_place) c.args.ports.now c.loop-port.port-index nowhere c.loop-port-test.true c.loop-port.invariant (c.fits.ensures.0 c.if-not-fits.false)
 
 pub returns : goal.returns
 returns c =
     only_true (All (λ (p : PortLine). moved_place c.args.self.segment c.args.self.high c.args.self.by p.segment p.at ≤ greatest_place) c.args.ports.now)
-    (subst (All (λ (p : PortLine). moved_place c.args.self.segment c.args.self.high c.args.self.by p.segment p.at ≤ greatest_place)) (take_all c.loop-k.k c.args.ports.now c.loop-k-test.false) c.loop-k.invariant)
+    (subst (All (λ (p : PortLine). moved_place c.args.self.segment c.args.self.high c.args.self.by p.segment p.at ≤ greatest_place)) (take_all c.loop-port.port-index c.args.ports.now c.loop-port-test.false) c.loop-port.invariant)

@@ -4,5 +4,5 @@ use Rattle.layout.specs.declared.lines.PortLine.{PortLine}
 use Rattle.path_slack.specs.Lengthened.{moved_place}
 use Rattle.path_slack.proofs.lengthen.Piece.all_fit.Given as goal
 
-abbrev pub invariant-loop-k : goal.invariant-loop-k
-invariant-loop-k l = All (λ (p : PortLine). moved_place l.self.segment l.self.high l.self.by p.segment p.at ≤ greatest_place) (take l.k l.ports)
+abbrev pub invariant-loop-port : goal.invariant-loop-port
+invariant-loop-port l = All (λ (p : PortLine). moved_place l.self.segment l.self.high l.self.by p.segment p.at ≤ greatest_place) (take l.port-index l.ports)
