@@ -1,5 +1,5 @@
 -- The table, line by line and station by station.
-use Rattle.std.proofs.Common.{◌≡◌, ℕ, zero, suc, ◌+◌, ◌*◌, ◌<◌, ◌≤◌, refl, sym, ap, ap₂, ◌∙◌, subst, List, [], ◌∷◌, ◌++◌, length, drop, Option, Some, append_assoc, append-nil, arith, slice_get}
+use Rattle.std.proofs.Common.{◌≡◌, ℕ, zero, suc, ◌+◌, ◌<◌, ◌≤◌, refl, sym, ap, ap₂, ◌∙◌, List, [], ◌∷◌, ◌++◌, length, drop, Option, Some, append_assoc, append-nil, arith, slice_get}
 use Rattle.std.proofs.lemmas.List.{drop_all}
 use Rattle.frame_layout.specs.declared.queue.Ready.{Ready}
 use Rattle.layout.specs.Paths.{Path}
@@ -25,10 +25,6 @@ pub line_made : (plan : Plan) (paths : ℕ → ℕ → Path) (lines : List LogLi
     → line_text name number ready past reach ≡ line_of_frame plan paths lines a s.name n r
 line_made plan paths lines a n number half_bits octets s r ready name past reach name_is number_is ready_is past_is half_is octets_is reach_is =
     rw (reach_is, octets_is, half_is, past_is, ready_is, number_is, name_is) refl
-
--- what is twice as long as a run of bits has 64 bits
-pub twice_fits : (a b : ℕ) → a ≡ 2 → b ≤ 1000000000 → a * b < 18446744073709551616
-twice_fits a b is low = subst (λ n. n * b < 18446744073709551616) (sym is) (omega (arith, low))
 
 drop_got : {X : Type 0} (xs : List X) (k : ℕ) (x : X) → slice_get xs k ≡ Some x → drop k xs ≡ x ∷ drop (k + 1) xs
 drop_got [] k x e = absurd (cc)

@@ -24,7 +24,6 @@ use crate::told::{ToldByLog, told_by};
 use lists::{List, OutOfMemory};
 use load_plan::Plan;
 use log_meter::LogLines;
-use mac_parameters::HALF_BITS_A_BIT;
 use path_checker::{Network, network_of};
 use std::alloc::Global;
 
@@ -53,7 +52,7 @@ fn add_frame(
         text.new ≡ text.old ++ line_of_frame plan.now paths lines a s.name (n + 1) r) }
 {
     let ready = plan.queues.get(a).get(n);
-    let half_bits = u64::from(HALF_BITS_A_BIT) * plan.layout.until_bits;
+    let half_bits = plan.layout.half_bits();
     let octets = ready.frame.octets().len() as u32;
     let reach = reach_of(told, half_bits, octets, a, routes, past.end)?;
     let name = plan.layout.stations.get(a).name.as_str();

@@ -1,6 +1,7 @@
 pub mod Among
 pub mod Limits
 pub mod NameOctets
+pub mod RunLengths
 pub mod Taps
 pub mod Joined
 pub mod EdgePaths

@@ -6,6 +6,8 @@ mod edge;
 pub mod laws;
 mod limits;
 mod lines;
+mod runs;
+mod taps;
 mod ways;
 
 pub use edge::Edge;
@@ -17,4 +19,5 @@ pub use lines::{
     Layout, Octets, PortLine, PortLines, RepeaterLine, RepeaterLines, SegmentLine, SegmentLines,
     SendLine, SendLines, StationLine, StationLines,
 };
+pub use taps::{delays_of, places_on, taps_of};
 pub use ways::{Attachment, Way};

@@ -9,10 +9,10 @@ use Rattle.cable_segment.specs.Bus.{heard_among, heard_at}
 use Rattle.layout.specs.declared.lines.Layout.{Layout}
 use Rattle.layout.specs.declared.lines.PortLine.{PortLine}
 use Rattle.load_plan.specs.declared.plan.Plan.{Plan}
-use Rattle.layout.specs.Taps.{tap_of, taps_of}
+use Rattle.layout.specs.Taps.{tap_of, taps_of, positions_on}
 use Rattle.network.specs.Net.{emitted_before}
 use Rattle.network.specs.Times.{heard, emitted, decided, earlier, port_delays}
-use Rattle.network.specs.TapsOnSegments.{count_on, positions_on}
+use Rattle.network.specs.TapsOnSegments.{count_on}
 use Rattle.net_parts.specs.Windows.{edge_ports}
 use Rattle.net_parts.specs.Machines.{span, rows_before}
 use Rattle.net_parts.specs.SegmentParts.{Wiring, wiring, told_on}

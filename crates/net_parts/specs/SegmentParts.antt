@@ -7,7 +7,7 @@ use Rattle.collision_log.specs.declared.row.Body.{Body}
 use Rattle.collision_log.specs.declared.row.Row.{Row}
 use Rattle.cable_segment.specs.Bus.{heard_at}
 use Rattle.layout.specs.declared.lines.Layout.{Layout}
-use Rattle.layout.specs.Taps.{tap_of, taps_of}
+use Rattle.layout.specs.Taps.{tap_of, taps_of, positions_on}
 use Rattle.mac_transmit.specs.Sender.{Sender, SendOutcome}
 use Rattle.mac_receive.specs.Receiver.{Receiving, Reception}
 use Rattle.network.specs.declared.outputs.Taken.{Taken}
@@ -15,7 +15,7 @@ use Rattle.network.specs.Times.{port_delays}
 use Rattle.network.specs.Net.{emitted_before, sendings, receptions}
 use Rattle.network.specs.Rows.{row_of}
 use Rattle.network.specs.Captures.{captured}
-use Rattle.network.specs.TapsOnSegments.{numbers_on, positions_on}
+use Rattle.network.specs.TapsOnSegments.{numbers_on}
 use Rattle.net_parts.specs.Windows.{edge_ports}
 use Rattle.net_parts.specs.Machines.{span, Machine}
 

@@ -7,7 +7,6 @@ ghost use Rattle.net_parts.specs.Windows.{lookahead, windows, nearest, least_of_
 
 use layout::{Layout, PortLine, StationLine};
 use load_plan::Plan;
-use mac_parameters::HALF_BITS_A_BIT;
 
 /// The most half bits of a window.
 const MOST_LOOKAHEAD: u32 = 4_096;
@@ -114,7 +113,7 @@ pub fn count_windows(plan: &Plan, length: u32) -> u64
     requires some { 0 < length }
     ensures { result ≡ windows plan.now }
 {
-    let half_bits = u64::from(HALF_BITS_A_BIT) * plan.layout.until_bits;
+    let half_bits = plan.layout.half_bits();
     let window = u64::from(length);
     (half_bits + window - 1) / window
 }

@@ -1,10 +1,13 @@
 -- The places of a cable that a segment gets.
-use Rattle.std.proofs.Common.{◌≡◌, ℕ, ◌+◌, ◌<◌, ◌≤◌, List, [], ◌∷◌, ◌++◌, length, get_or, drop, append_assoc, refl, sym, ap, ◌∙◌, arith}
+use Rattle.std.proofs.Common.{◌≡◌, ℕ, ◌+◌, ◌<◌, ◌≤◌, eqb, List, [], ◌∷◌, ◌++◌, All, length, filter, get_or, drop, append_assoc, refl, sym, ap, ◌∙◌, arith}
 use Rattle.std.proofs.lemmas.List.{at_drop_more}
+use Rattle.std.proofs.lemmas.List.Elements.{All-filter, All-map}
+use Rattle.mac_parameters.specs.Parameters.{greatest_place}
 use Rattle.layout.specs.declared.lines.PortLine.{PortLine}
 use Rattle.net_step.specs.Wires.{cable_places}
-use Rattle.network.specs.TapsOnSegments.{numbers_on, positions_on}
-use Rattle.network.proofs.TapsOnSegments.{few_positions, length-numbers, numbers-here, numbers-there, positions-here, positions-there}
+use Rattle.layout.specs.Taps.{positions_on}
+use Rattle.network.specs.TapsOnSegments.{numbers_on}
+use Rattle.network.proofs.TapsOnSegments.{few_positions, length-numbers, numbers-here, numbers-there}
 
 -- one tap more of all taps, on the segment or not
 pub numbers_more : (s k : ℕ) (xs : List PortLine) (d : PortLine) (all before now : List ℕ) → k < length xs → (get_or xs k d).segment ≡ s → before ++ numbers_on s k (drop k xs) ≡ all → now ≡ before ++ k ∷ []
@@ -19,18 +22,10 @@ pub numbers_same : (s k : ℕ) (xs : List PortLine) (d : PortLine) (all before :
 numbers_same s k xs d all before l off h =
     ap (λ (ns : List ℕ). before ++ ns) (sym (at_drop_more (numbers_on s k) xs k d l ∙ numbers-there s k (get_or xs k d) (drop (k + 1) xs) off)) ∙ h
 
-pub positions_more : (s k : ℕ) (xs : List PortLine) (d : PortLine) (all before now : List ℕ) → k < length xs → (get_or xs k d).segment ≡ s → before ++ positions_on s (drop k xs) ≡ all → now ≡ before ++ (get_or xs k d).at ∷ []
-    → now ++ positions_on s (drop (k + 1) xs) ≡ all
-positions_more s k xs d all before now l on h more =
-    let rest = positions_on s (drop (k + 1) xs) in
-    let at = (get_or xs k d).at in
-    let here : positions_on s (drop k xs) ≡ at ∷ rest = at_drop_more (positions_on s) xs k d l ∙ positions-here s (get_or xs k d) (drop (k + 1) xs) on in
-    ap (λ (ns : List ℕ). ns ++ rest) more ∙ append_assoc before (at ∷ []) rest ∙ ap (λ (ns : List ℕ). before ++ ns) (sym here) ∙ h
-
-pub positions_same : (s k : ℕ) (xs : List PortLine) (d : PortLine) (all before : List ℕ) → k < length xs → ((get_or xs k d).segment ≡ s → ⊥) → before ++ positions_on s (drop k xs) ≡ all
-    → before ++ positions_on s (drop (k + 1) xs) ≡ all
-positions_same s k xs d all before l off h =
-    ap (λ (ns : List ℕ). before ++ ns) (sym (at_drop_more (positions_on s) xs k d l ∙ positions-there s (get_or xs k d) (drop (k + 1) xs) off)) ∙ h
+-- where all taps are near the cable's end, those of a segment are
+pub near_positions : (s : ℕ) (xs : List PortLine) → All (λ x. x.at ≤ greatest_place) xs → All (λ p. p ≤ greatest_place) (positions_on s xs)
+near_positions s xs h =
+    All-map (λ p. p ≤ greatest_place) (λ (x : PortLine). x.at) (filter (λ x. eqb x.segment s) xs) (All-filter (λ x. eqb x.segment s) (λ x. x.at ≤ greatest_place) xs h)
 
 -- a segment that has a tap has the places of its taps
 pub places_some : (ps : List ℕ) → 0 < length ps → cable_places ps ≡ ps

@@ -4,12 +4,14 @@ use Rattle.std.specs.List.{flat_map}
 use Rattle.std.proofs.lemmas.List.{length-replicate}
 use Rattle.std.proofs.lemmas.List.Sums.{sum_by-cons}
 use Rattle.collision_log.specs.declared.row.Row.{Row}
+use Rattle.layout.specs.Taps.{delays_of}
 use Rattle.layout.specs.declared.lines.RepeaterLine.{RepeaterLine}
 use Rattle.load_plan.specs.declared.plan.Plan.{Plan}
 use Rattle.mac_transmit.specs.Sender.{Sender}
 use Rattle.port_partition.specs.Guard.{Guard, new_guard}
 use Rattle.network.specs.Net.{Net, net, new_repeater, next}
 use Rattle.network.specs.Outputs.{captures, cut_rows, half_bits, rows}
+use Rattle.quiet_state.specs.LastSignals.{line_delays}
 use Rattle.quiet_state.specs.Resumed.{captures_from, captures_to, later_net, net_of, resumed_repeaters, rows_from, rows_to}
 use Rattle.quiet_state.specs.declared.state.NetState.{NetState}
 use Rattle.net_step.specs.KeptNet.{KeptNet, Stands}
@@ -27,6 +29,20 @@ resumed_ports (l ∷ ls) gs ws e =
     let sum = sum_by-cons (λ (x : RepeaterLine). length x.ports) l ls in
     ap₂ ◌∷◌ (length-take-le (length l.ports) gs (omega (arith, e, sum)))
     (resumed_ports ls (drop (length l.ports) gs) (drop (length l.ports) ws) (length-drop (length l.ports) gs ∙ omega (arith, e, sum)))
+
+-- the delays of new repeaters
+pub new_delays : (ls : List RepeaterLine) → line_delays (map new_repeater ls) ≡ delays_of ls
+new_delays [] = refl
+new_delays (l ∷ ls) = ap₂ (λ (xs ys : List ℕ). xs ++ ys) (ap (λ n. replicate n l.delay) (length-replicate (length l.ports) new_guard)) (new_delays ls)
+
+-- the delays of repeaters that go on
+pub resumed_delays : (ls : List RepeaterLine) (gs : List Guard) (ws : List ℕ) → length gs ≡ sum_by (λ l. length l.ports) ls
+    → line_delays (resumed_repeaters ls gs ws) ≡ delays_of ls
+resumed_delays [] gs ws e = refl
+resumed_delays (l ∷ ls) gs ws e =
+    let sum = sum_by-cons (λ (x : RepeaterLine). length x.ports) l ls in
+    ap₂ (λ (xs ys : List ℕ). xs ++ ys) (ap (λ n. replicate n l.delay) (length-take-le (length l.ports) gs (omega (arith, e, sum))))
+    (resumed_delays ls (drop (length l.ports) gs) (drop (length l.ports) ws) (length-drop (length l.ports) gs ∙ omega (arith, e, sum)))
 
 pub many_delays : (ls : List RepeaterLine) → length (flat_map (λ l. replicate (length l.ports) l.delay) ls) ≡ sum_by (λ l. length l.ports) ls
 many_delays [] = refl

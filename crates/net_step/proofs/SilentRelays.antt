@@ -7,11 +7,6 @@ use Rattle.repeater_core.specs.Counts.{Choice}
 use Rattle.repeater_core.specs.Step.{RepeaterDevice, chosen}
 use Rattle.repeater_core.proofs.Lawful.{length_chosen}
 
-pub same_delay : (m : ℕ) (r : RepeaterDevice) → (iterate silent_step m r).line.delay ≡ r.line.delay
-unfolding silent_step
-same_delay zero r = refl
-same_delay (suc m) r = same_delay m (silent_step r)
-
 one_on : (r : RepeaterDevice) → length (silent_step r).counts ≡ length r.counts
 unfolding silent_step
 one_on r = length-map (chosen (silent_symbols r) r) (λ (c : Choice). c.count) ∙ length_chosen (silent_symbols r) r

@@ -23,14 +23,14 @@ use Rattle.repeater_core.specs.Step.{RepeaterDevice, after, decided_by, emitted_
 use Rattle.network.specs.declared.outputs.Taken.{Taken}
 use Rattle.net_step.specs.declared.places.TapOnSegment.{TapOnSegment}
 use Rattle.network.specs.Hearing.{heard_of, heard_by}
-use Rattle.layout.specs.Taps.{taps_of, tap_of}
+use Rattle.layout.specs.Taps.{taps_of, tap_of, positions_on}
 use Rattle.network.specs.Net.{Net, next, emitted_before, heard_in, stations_hear, ports_hear, sendings, sendings_in, emitted_in, decided_in, receptions, each_repeater}
 use Rattle.mac_parameters.specs.Parameters.{greatest_place, most_ports}
 use Rattle.network.specs.Captures.{captured}
 use Rattle.network.specs.Rows.{repeater_rows, repeater_bodies, rows_of}
 use Rattle.network.specs.Runnable.{IsRunnable}
 use Rattle.net_step.specs.Wires.{Wire, no_wire, wire_at, symbols_of, told_from, carried, heard_at_place, cable_places, new_wire, places_from}
-use Rattle.network.specs.TapsOnSegments.{positions_on, count_on}
+use Rattle.network.specs.TapsOnSegments.{count_on}
 use Rattle.kept_devices.specs.KeptReceivers.{AllHear}
 use Rattle.net_step.specs.KeptNet.{KeptNet, heard_kept, stations_hear_kept, ports_hear_kept, sendings_kept, stations_emit_kept, emitted_kept, decided_kept, over_from, receptions_kept, AllGive, IsNextKept, IsSilentNet, IsWire, Stands}
 use Rattle.quiet_state.specs.LastSignals.{reach_over, line_delays}

@@ -18,10 +18,10 @@ use Rattle.load_plan.specs.declared.plan.Plan.{Plan}
 use Rattle.repeater_core.specs.Step.{RepeaterDevice, new_state}
 use Rattle.net_step.specs.declared.places.TapOnSegment.{TapOnSegment}
 use Rattle.network.specs.Runnable.{IsRunnable}
-use Rattle.layout.specs.Taps.{taps_of, tap_of}
+use Rattle.layout.specs.Taps.{taps_of, tap_of, positions_on}
 use Rattle.network.specs.Net.{ports_of}
 use Rattle.net_step.specs.Wires.{Wire, no_wire, wire_at, symbols_of, carried, heard_at_place, IsPlaced, new_wire, places_from}
-use Rattle.network.specs.TapsOnSegments.{positions_on, numbers_on, count_on}
+use Rattle.network.specs.TapsOnSegments.{numbers_on, count_on}
 use Rattle.net_step.specs.KeptNet.{KeptNet, heard_kept, IsKeptTap, IsSilentNet, kept_tap_number, IsWhole}
 use Rattle.network.proofs.TapsOnSegments.{numbers-here, numbers-there, count_below}
 use Rattle.net_step.proofs.CablePlaces.{places_some}

@@ -10,7 +10,7 @@ use Rattle.collision_log.specs.declared.row.Body.TheVariants.{Received}
 use Rattle.collision_log.specs.declared.row.Row.{Row}
 use Rattle.cable_segment.specs.Cable.{told_at}
 use Rattle.layout.specs.declared.lines.PortLine.{PortLine}
-use Rattle.layout.specs.Taps.{taps_of}
+use Rattle.layout.specs.Taps.{taps_of, positions_on}
 use Rattle.load_plan.specs.declared.plan.Plan.{Plan}
 use Rattle.mac_transmit.specs.Sender.{Sender, SendOutcome}
 use Rattle.mac_receive.specs.Receiver.{Receiving, Reception}
@@ -21,7 +21,7 @@ use Rattle.network.specs.declared.outputs.Taken.{Taken}
 use Rattle.kept_devices.specs.KeptReceivers.{AllHear}
 use Rattle.net_step.specs.declared.places.TapOnSegment.{TapOnSegment}
 use Rattle.net_step.specs.Wires.{Wire, wire_at, heard_at_place, carried, cable_places, new_wire, places_from, IsPlaced}
-use Rattle.network.specs.TapsOnSegments.{positions_on, numbers_on, count_on}
+use Rattle.network.specs.TapsOnSegments.{numbers_on, count_on}
 use Rattle.network.specs.Net.{Net, emitted_before, sendings, receptions, each_repeater, ports_of}
 use Rattle.network.specs.Captures.{captured}
 use Rattle.network.specs.Rows.{repeater_rows, told_bodies, repeater_bodies, rows_of}

@@ -7,7 +7,8 @@ use Rattle.cable_segment.specs.Bus.{heard_at}
 use Rattle.cable_segment.specs.Cable.{CableHistory, told_at, told, silent, advanced}
 use Rattle.layout.specs.declared.lines.PortLine.{PortLine}
 use Rattle.net_step.specs.declared.places.TapOnSegment.{TapOnSegment}
-use Rattle.network.specs.TapsOnSegments.{count_on, numbers_on, positions_on}
+use Rattle.layout.specs.Taps.{positions_on}
+use Rattle.network.specs.TapsOnSegments.{count_on, numbers_on}
 
 -- A segment: its cable, and the number of each of its taps among all taps.
 pub record Wire : Type 0 where

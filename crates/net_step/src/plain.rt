@@ -21,10 +21,10 @@ use crate::segment::SegmentCable;
 use crate::settling::Settling;
 use crate::states::{all_idle, all_still, guards_of, none_sends, rests_of, states_of};
 use collision_log::{Body, Rows};
-use kept_devices::taps_of;
+use layout::taps_of;
 use lists::OutOfMemory;
 use load_plan::Plan;
-use mac_parameters::{GREATEST_PLACE, HALF_BITS_A_BIT, most_octets};
+use mac_parameters::{GREATEST_PLACE, most_octets};
 use mac_receive::Receiver;
 use mac_transmit::{Phase, Transmitter};
 use manchester_line::Sym;
@@ -121,6 +121,7 @@ fn tap_number(stations: usize, relays: &[Relay], device: usize, port: usize) -> 
 impl PlainNet {
     ghost use Rattle.std.specs.Prelude.{◌≡◌, ◌<◌, ◌≤◌, ◌+◌, ◌-◌, ◌^◌, ◌++◌, ◌↔◌, ℕ, length, map, All, OnOk, IfOk, IsTrue, slice_index_or};
     ghost use Rattle.mac_parameters.specs.Parameters.{most_half_bits};
+    ghost use Rattle.layout.specs.Taps.{delays_of};
     ghost use Rattle.load_plan.specs.declared.plan.Plan.{Plan};
     ghost use Rattle.mac_transmit.specs.Sender.{Sender};
     ghost use Rattle.repeater_core.specs.Counts.{resting_count};
@@ -130,7 +131,7 @@ impl PlainNet {
     ghost use Rattle.network.specs.Outputs.{cut_rows};
     ghost use Rattle.net_step.specs.CalmNets.{IsCalmNet, IsSilentHalfBit};
     ghost use Rattle.net_step.specs.KeptNet.{IsNextKept, IsSilentNet, Stands, IsKeptTap, kept_tap_number};
-    ghost use Rattle.quiet_state.specs.LastSignals.{IsQuietAsKept};
+    ghost use Rattle.quiet_state.specs.LastSignals.{IsQuietAsKept, line_delays};
     ghost use Rattle.quiet_state.specs.PlanStates.{IsResumable};
     ghost use Rattle.quiet_state.specs.Resumed.{captures_to, later_net, net_of, net_state, rows_to};
 
@@ -147,6 +148,7 @@ impl PlainNet {
         requires receivers { length stations.1.items ≡ length plan.now.layout.stations }
         requires captures { length logs.1.items ≡ length plan.now.layout.stations }
         requires ports { map (λ r. length r.guards) relays.items ≡ map (λ r. length r.ports) plan.now.layout.repeaters }
+        requires delays { line_delays relays.items ≡ delays_of plan.now.layout.repeaters }
         requires times { All (λ s. s.t ≡ t) stations.0.items }
         requires steps { All (λ r. r.steps ≡ t) stations.1.items }
         ensures silent { IfOk result (λ made. IsSilentNet plan.now made) }
@@ -177,7 +179,7 @@ impl PlainNet {
             events: vec![in alloc; NOTHING; relays.len()]?,
             rows: logs.0,
             captures: logs.1,
-            settling: Settling::new(alloc, &taps, &relays)?,
+            settling: Settling::new(alloc, &taps, plan.layout.repeaters.as_slice())?,
             relays,
         })
     }
@@ -480,6 +482,6 @@ pub fn run_plain(alloc: Global, plan: &Plan) -> Result<Outputs, OutOfMemory>
     ensures captures { IfOk result (λ outputs. outputs.captures ≡ captures plan.now) }
 {
     let mut whole = PlainNet::new(alloc, plan)?;
-    whole.go_to(HALF_BITS_A_BIT as u64 * plan.layout.until_bits)?;
+    whole.go_to(plan.layout.half_bits())?;
     whole.outputs()
 }

@@ -1,5 +1,5 @@
 //! A repeater of the network.
-ghost use Rattle.std.specs.Prelude.{◌≡◌, ◌<◌, ◌≤◌, ◌++◌, length, map, replicate, All, IfOk, OnOk, IsTrue, ◌↔◌};
+ghost use Rattle.std.specs.Prelude.{◌≡◌, ◌<◌, ◌≤◌, ◌++◌, length, map, All, IfOk, OnOk, IsTrue, ◌↔◌};
 ghost use Rattle.mac_parameters.specs.Parameters.{jabber_rest};
 ghost use Rattle.repeater_core.specs.declared.modes.Mode.TheVariants.{Idle};
 ghost use Rattle.repeater_core.specs.Step.{RepeaterDevice, new_state, resumed_state, after, decided_by, emitted_by};
@@ -13,12 +13,11 @@ use repeater_core::{Mode, Repeater, RepeaterEvents};
 use std::alloc::Global;
 use std::marker::Model;
 
-/// A repeater, the number of its ports, and its delay in half bits.
+/// A repeater, and the number of its ports.
 #[derive(Drop)]
 pub struct Relay {
     repeater: Repeater,
     ports: u32,
-    delay: u32,
 }
 
 impl Model for Relay {
@@ -29,11 +28,11 @@ impl Model for Relay {
 
     ghost view = { λ r. r.repeater };
 
-    ghost invariant = { λ r. (r.ports ≡ length r.repeater.guards) × (r.ports ≤ 32) × (r.delay ≡ r.repeater.line.delay) × (length r.repeater.counts ≡ length r.repeater.guards) };
+    ghost invariant = { λ r. (r.ports ≡ length r.repeater.guards) × (r.ports ≤ 32) × (length r.repeater.counts ≡ length r.repeater.guards) };
 }
 
 impl Relay {
-    ghost use Rattle.std.specs.Prelude.{◌≡◌, ◌<◌, ◌≤◌, ◌++◌, length, map, replicate, slice_index_or, All, IfOk, OnOk, IsTrue, ◌↔◌};
+    ghost use Rattle.std.specs.Prelude.{◌≡◌, ◌<◌, ◌≤◌, ◌++◌, length, map, slice_index_or, All, IfOk, OnOk, IsTrue, ◌↔◌};
     ghost use Rattle.mac_parameters.specs.Parameters.{jabber_rest};
     ghost use Rattle.repeater_core.specs.Counts.{resting_count};
     ghost use Rattle.repeater_core.specs.declared.modes.Mode.TheVariants.{Idle};
@@ -54,7 +53,6 @@ impl Relay {
         Ok(Relay {
             repeater: Repeater::new(alloc, ports, delay)?,
             ports,
-            delay,
         })
     }
 
@@ -77,7 +75,6 @@ impl Relay {
         Ok(Relay {
             repeater: Repeater::resume(alloc, delay, guards, rests)?,
             ports: guards.len() as u32,
-            delay,
         })
     }
 
@@ -127,16 +124,6 @@ impl Relay {
     {
         for port in 0..self.ports {
             rests.push(self.repeater.rest(port))?;
-        }
-        Ok(())
-    }
-
-    /// Puts the delay of each of its ports at the end of a list.
-    pub fn list_delays(&self, delays: &mut Vec<u32>) -> Result<(), OutOfMemory>
-        ensures { OnOk result (delays.new.items ≡ delays.old.items ++ replicate (length self.now.guards) self.now.line.delay) }
-    {
-        for _port in 0..self.ports {
-            delays.push(self.delay)?;
         }
         Ok(())
     }

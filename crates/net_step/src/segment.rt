@@ -4,10 +4,10 @@ ghost use Rattle.mac_parameters.specs.Parameters.{greatest_place};
 ghost use Rattle.cable_segment.specs.Bus.{heard_at};
 ghost use Rattle.cable_segment.specs.Cable.{told_at};
 ghost use Rattle.net_step.specs.Wires.{symbols_of, told_from, carried, cable_places, new_wire};
-ghost use Rattle.network.specs.TapsOnSegments.{positions_on, numbers_on};
+ghost use Rattle.network.specs.TapsOnSegments.{numbers_on};
 
 use cable_segment::Cable;
-use layout::PortLine;
+use layout::{PortLine, places_on};
 use lists::OutOfMemory;
 use manchester_line::Sym;
 use std::alloc::Global;
@@ -44,22 +44,6 @@ fn numbers_on(alloc: Global, taps: &[PortLine], segment: usize) -> Result<Vec<u3
         numbers.push(k as u32)?;
     }
     Ok(numbers)
-}
-
-/// The places of the taps of a segment, in half bits from its end.
-fn positions_on(alloc: Global, taps: &[PortLine], segment: usize) -> Result<Vec<u32>, OutOfMemory>
-    requires { All (λ x. x.at ≤ greatest_place) taps.now }
-    ensures places { IfOk result (λ positions. positions.items ≡ positions_on segment taps.now) }
-    ensures near { IfOk result (λ positions. All (λ p. p ≤ greatest_place) positions.items) }
-{
-    let mut positions = Vec::new(alloc);
-    for tap in taps {
-        if tap.segment as usize != segment {
-            continue;
-        }
-        positions.push(tap.at)?;
-    }
-    Ok(positions)
 }
 
 /// The places of a cable's taps: a segment without a tap gets one that nobody uses.
@@ -104,7 +88,7 @@ impl SegmentCable {
         requires near { All (λ x. x.at ≤ greatest_place) taps.now }
         ensures { IfOk result (λ made. made ≡ new_wire taps.now segment) }
     {
-        let places = cable_places(positions_on(alloc, taps, segment)?)?;
+        let places = cable_places(places_on(alloc, taps, segment)?)?;
         Ok(SegmentCable {
             cable: Cable::new(alloc, &places, 0)?,
             taps: numbers_on(alloc, taps, segment)?,

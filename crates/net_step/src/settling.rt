@@ -3,10 +3,9 @@ ghost use Rattle.std.specs.Prelude.{◌≡◌, ◌<◌, ◌+◌, if◌then◌els
 ghost use Rattle.mac_parameters.specs.Parameters.{most_half_bits};
 ghost use Rattle.manchester_line.specs.Line.{is_signal};
 ghost use Rattle.net_step.specs.KeptNet.{over_from};
-ghost use Rattle.quiet_state.specs.LastSignals.{reach_over, line_delays};
+ghost use Rattle.quiet_state.specs.LastSignals.{reach_over};
 
-use crate::relay::Relay;
-use layout::PortLine;
+use layout::{PortLine, RepeaterLine, delays_of};
 use lists::OutOfMemory;
 use manchester_line::{Sym, is_signal};
 use std::alloc::Global;
@@ -33,17 +32,6 @@ fn reaches_of(alloc: Global, taps: &[PortLine]) -> Result<Vec<u32>, OutOfMemory>
         reaches.push(reach_over(*tap, taps))?;
     }
     Ok(reaches)
-}
-
-/// The delay of each port of these repeaters.
-fn delays_of(alloc: Global, relays: &[Relay]) -> Result<Vec<u32>, OutOfMemory>
-    ensures { IfOk result (λ delays. delays.items ≡ line_delays relays.now) }
-{
-    let mut delays = Vec::new(alloc);
-    for k in 0..relays.len() {
-        relays[k].list_delays(&mut delays)?;
-    }
-    Ok(delays)
 }
 
 /// The half bit from which on a symbol is over that is sent in half bit `t` and needs so many half bits; 0 where it is
@@ -85,17 +73,22 @@ impl Settling {
     ghost use Rattle.std.specs.Prelude.{◌≡◌, ◌<◌, max, map, IfOk};
     ghost use Rattle.mac_parameters.specs.Parameters.{most_half_bits};
     ghost use Rattle.net_step.specs.KeptNet.{over_from};
-    ghost use Rattle.quiet_state.specs.LastSignals.{reach_over, line_delays};
+    ghost use Rattle.layout.specs.Taps.{delays_of};
+    ghost use Rattle.quiet_state.specs.LastSignals.{reach_over};
 
     /// Of these taps and repeaters before the first signal.
-    pub fn new(alloc: Global, taps: &[PortLine], relays: &[Relay]) -> Result<Settling, OutOfMemory>
+    pub fn new(
+        alloc: Global,
+        taps: &[PortLine],
+        repeaters: &[RepeaterLine],
+    ) -> Result<Settling, OutOfMemory>
         ensures reaches { IfOk result (λ made. made.reaches.items ≡ map (λ x. reach_over x taps.now) taps.now) }
-        ensures delays { IfOk result (λ made. made.delays.items ≡ line_delays relays.now) }
+        ensures delays { IfOk result (λ made. made.delays.items ≡ delays_of repeaters.now) }
         ensures settled { IfOk result (λ made. made.settled ≡ 0) }
     {
         Ok(Settling {
             reaches: reaches_of(alloc, taps)?,
-            delays: delays_of(alloc, relays)?,
+            delays: delays_of(alloc, repeaters)?,
             settled: 0,
         })
     }

@@ -7,7 +7,6 @@ ghost use Rattle.quiet_state.specs.Resumed.{state_at, rows_from, captures_from};
 use crate::plain::PlainNet;
 use lists::OutOfMemory;
 use load_plan::Plan;
-use mac_parameters::HALF_BITS_A_BIT;
 use network::Outputs;
 use quiet_state::NetState;
 use std::alloc::Global;
@@ -19,7 +18,7 @@ pub fn stop_run(alloc: Global, plan: &Plan, from: u64) -> Result<Option<NetState
     ensures stopped { IfOk result (λ found. IfSome found (λ s. IsFirstQuiet plan.now from s.t × (s ≡ state_at plan.now s.t))) }
     ensures never { IfOk result (λ found. found ≡ None → HasNoQuiet plan.now from) }
 {
-    let half_bits = HALF_BITS_A_BIT as u64 * plan.layout.until_bits;
+    let half_bits = plan.layout.half_bits();
     let begin = from.min(half_bits);
     let mut whole = PlainNet::new(alloc, plan)?;
     whole.go_to(begin)?;
@@ -39,6 +38,6 @@ pub fn resume_run(alloc: Global, plan: &Plan, state: NetState) -> Result<Outputs
     ensures rows { IfOk result (λ outputs. outputs.rows ≡ rows_from plan.now state) }
     ensures captures { IfOk result (λ outputs. outputs.captures ≡ captures_from plan.now state) }
 {
-    let half_bits = HALF_BITS_A_BIT as u64 * plan.layout.until_bits;
+    let half_bits = plan.layout.half_bits();
     PlainNet::resume(alloc, plan, state)?.finish(half_bits)
 }

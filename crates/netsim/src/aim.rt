@@ -11,7 +11,6 @@ use crate::world::World;
 use layout::Layout;
 use line_probe::{Tap, find_tap};
 use lists::{List, Text};
-use mac_parameters::HALF_BITS_A_BIT;
 use outside::{Sink, Store};
 use program_endings::Ending;
 use program_texts::{line_of_range_fault, line_of_tap_fault};
@@ -75,7 +74,7 @@ pub(crate) fn aim<S: Store, K: Sink>(
             return Err(Ending::Probe);
         }
     };
-    if u64::from(to) > u64::from(HALF_BITS_A_BIT) * network.until_bits {
+    if u64::from(to) > network.half_bits() {
         world.say(line_of_range_fault(report).as_bytes());
         return Err(Ending::Probe);
     }

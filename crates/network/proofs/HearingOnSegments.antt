@@ -8,7 +8,8 @@ use Rattle.mac_parameters.specs.Distances.{distance}
 use Rattle.cable_segment.specs.Bus.{heard_among}
 use Rattle.layout.specs.declared.lines.PortLine.{PortLine}
 use Rattle.network.specs.Hearing.{heard_of}
-use Rattle.network.specs.TapsOnSegments.{count_on, positions_on}
+use Rattle.layout.specs.Taps.{positions_on}
+use Rattle.network.specs.TapsOnSegments.{count_on}
 use Rattle.network.proofs.TapsOnSegments.{count-here, count-there, positions-here, positions-there}
 
 -- a tap of the segment is left out in both ways, or told alike

@@ -3,7 +3,8 @@ use Rattle.std.proofs.Common.{◌≡◌, ℕ, zero, suc, ◌+◌, ◌<◌, ◌�
 use Rattle.std.proofs.lemmas.List.Sums.{sum_by-cons}
 use Rattle.std.proofs.lemmas.Bool.{cases_eq, eq-eqb, ne_eqb}
 use Rattle.layout.specs.declared.lines.PortLine.{PortLine}
-use Rattle.network.specs.TapsOnSegments.{positions_on, numbers_on, count_on}
+use Rattle.layout.specs.Taps.{positions_on}
+use Rattle.network.specs.TapsOnSegments.{numbers_on, count_on}
 
 -- one tap more before the others, on the segment or not
 pub count-here : (s : ℕ) (x : PortLine) (xs : List PortLine) → x.segment ≡ s → count_on s (x ∷ xs) ≡ suc (count_on s xs)

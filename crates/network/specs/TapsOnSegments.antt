@@ -1,6 +1,6 @@
 -- The taps of one segment among all taps, where they are numbered from 0 in the order of all taps (profile). Segments
 -- and taps count from 0.
-use Rattle.std.specs.Prelude.{ℕ, ◌+◌, ◌==◌, if◌then◌else◌, List, [], ◌∷◌, map, filter, count_by}
+use Rattle.std.specs.Prelude.{ℕ, ◌+◌, ◌==◌, if◌then◌else◌, List, [], ◌∷◌, count_by}
 use Rattle.layout.specs.declared.lines.PortLine.{PortLine}
 
 -- How many of these taps are on segment s.
@@ -11,7 +11,3 @@ count_on s taps = count_by (λ x. x.segment == s) taps
 abbrev pub numbers_on : ℕ → ℕ → List PortLine → List ℕ
 numbers_on s k [] = []
 numbers_on s k (x ∷ xs) = if x.segment == s then k ∷ numbers_on s (k + 1) xs else numbers_on s (k + 1) xs
-
--- Where the taps of these that are on segment s are on it, in half bits from its end.
-abbrev pub positions_on : ℕ → List PortLine → List ℕ
-positions_on s taps = map (λ x. x.at) (filter (λ x. x.segment == s) taps)

@@ -14,7 +14,6 @@ use crate::engine::{RepeaterEngine, make_window};
 use crate::parcels::turn_all;
 use lists::{List, OutOfMemory};
 use load_plan::Plan;
-use mac_parameters::HALF_BITS_A_BIT;
 use net_parts::{Pace, Parcel, Part, PartOutputs, edges_of};
 use std::alloc::Global;
 use std::snapshot::Snapshot;
@@ -75,7 +74,7 @@ impl RepeaterPart {
             window: 0,
             last: pace.windows,
             lookahead: pace.lookahead,
-            half_bits: u64::from(HALF_BITS_A_BIT) * layout.until_bits,
+            half_bits: layout.half_bits(),
             edges: edges_of(alloc, plan, part)?,
             engine,
             ready: false,

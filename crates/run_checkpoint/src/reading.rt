@@ -1,7 +1,5 @@
 //! The state whose text this is.
-ghost use Rattle.std.specs.Prelude.{◌≡◌, ◌*◌, ◌<◌, ◌≤◌, ◌↔◌, ℕ, Ok, Err, IfOk, length};
-ghost use Rattle.layout.specs.Sound.{IsSound};
-ghost use Rattle.mac_parameters.specs.Parameters.{half_bits_a_bit};
+ghost use Rattle.std.specs.Prelude.{◌≡◌, ◌<◌, ◌≤◌, ◌↔◌, ℕ, Ok, Err, IfOk, length};
 ghost use Rattle.quiet_state.specs.PlanStates.{IsResumable};
 ghost use Rattle.quiet_state.specs.Quiet.{IsQuiet};
 ghost use Rattle.quiet_state.specs.Resumed.{state_at};
@@ -16,22 +14,12 @@ use crate::entries_read::judged_entries;
 use crate::places::all_ports;
 use crate::states_read::{judged_guards, judged_senders, judged_time};
 use crate::text_line::line_in_front;
-use layout::Layout;
 use load_plan::Plan;
-use mac_parameters::HALF_BITS_A_BIT;
 use quiet_state::NetState;
 use std::alloc::Global;
 
 /// The most octets that the text of a state may have.
 pub const MOST_STATE_OCTETS: usize = 268_435_456;
-
-/// The half bits of a run.
-fn half_bits(layout: &Layout) -> u64
-    requires { IsSound layout.now }
-    ensures { result ≡ half_bits_a_bit * layout.now.until_bits }
-{
-    u64::from(HALF_BITS_A_BIT) * layout.until_bits
-}
 
 /// The state of this plan that octets which aren't too many tell, or their first fault.
 fn state_read(alloc: Global, plan: &Plan, octets: &[u8]) -> Result<NetState, StateFault>
@@ -41,7 +29,7 @@ fn state_read(alloc: Global, plan: &Plan, octets: &[u8]) -> Result<NetState, Sta
     let Some((line, rest)) = line_in_front(octets) else {
         return Err(StateFault::BadLine { line: 1 });
     };
-    let t = judged_time(half_bits(&plan.layout), line)?;
+    let t = judged_time(plan.layout.half_bits(), line)?;
     let stations = plan.layout.stations.as_slice();
     let (senders, rest) = judged_senders(alloc, stations, plan.queues.as_slice(), rest)?;
     let ports = all_ports(alloc, &plan.layout)?;

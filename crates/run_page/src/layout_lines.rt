@@ -6,7 +6,6 @@ ghost use Rattle.run_page.specs.LayoutLines.{layout_lines, place_words, port_lin
 use crate::names::{add_number, name_of_segment};
 use layout::{Layout, PortLine, RepeaterLine, SegmentLine, StationLine};
 use lists::{List, OutOfMemory};
-use mac_parameters::HALF_BITS_A_BIT;
 
 /// Puts the line of the half bits that a page shows at the end of a text.
 #[tactic(auto, unfolding(crate::specs::LayoutLines::window_line))]
@@ -27,7 +26,7 @@ pub fn add_run(text: &mut List<u8>, layout: &Layout) -> Result<(), OutOfMemory>
     ensures { OnOk result (text.new ≡ text.old ++ run_line layout.now) }
 {
     text.extend(b"run ")?;
-    add_number(text, u64::from(HALF_BITS_A_BIT) * layout.until_bits)?;
+    add_number(text, layout.half_bits())?;
     text.extend(b"\n")
 }
 

@@ -8,7 +8,6 @@ use crate::counts::counts_of;
 use collision_log::{Counters, Row};
 use lists::{List, OutOfMemory};
 use load_plan::Plan;
-use mac_parameters::HALF_BITS_A_BIT;
 use std::alloc::Global;
 
 /// The sums over all devices.
@@ -159,7 +158,7 @@ pub fn totals_of_rows(alloc: Global, plan: &Plan, rows: &[Row]) -> Result<List<u
     let counts = counts_of(alloc, plan, rows)?;
     let sums = totals(counts.as_slice())?;
     let mut text = List::new(alloc);
-    let half_bits = HALF_BITS_A_BIT as u64 * plan.layout.until_bits;
+    let half_bits = plan.layout.half_bits();
     add_field(&mut text, "half_bits ", half_bits)?;
     text.extend(b"\n")?;
     add_totals(&mut text, &sums)?;

@@ -13,7 +13,6 @@ mod segment;
 mod start;
 mod stations;
 mod steady;
-mod taps;
 mod window;
 
 pub use part::SegmentPart;

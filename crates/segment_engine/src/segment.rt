@@ -11,7 +11,6 @@ ghost use Rattle.net_parts.specs.SegmentParts.{wiring};
 use layout::{Layout, PortLine, StationLine};
 use lists::{List, OutOfMemory};
 use load_plan::Plan;
-use mac_parameters::HALF_BITS_A_BIT;
 use net_parts::{Pace, edges_of};
 use std::alloc::Global;
 use std::snapshot::Snapshot;
@@ -69,7 +68,7 @@ impl Segment {
             stations: stations_on(alloc, plan.layout.stations.as_slice(), number)?,
             edges: edges_of(alloc, plan, number)?,
             lookahead: pace.lookahead,
-            half_bits: u64::from(HALF_BITS_A_BIT) * plan.layout.until_bits,
+            half_bits: plan.layout.half_bits(),
             windows: pace.windows,
         })
     }

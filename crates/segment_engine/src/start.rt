@@ -9,9 +9,8 @@ ghost use Rattle.segment_engine.specs.RunningStates.{IsRunningAt};
 use crate::apart::Watch;
 use crate::running::Running;
 use crate::segment::Segment;
-use crate::taps::{delays_of, places_on};
 use backoff_draw::Draws;
-use kept_devices::taps_of;
+use layout::{delays_of, places_on, taps_of};
 use lists::OutOfMemory;
 use load_plan::Plan;
 use mac_parameters::most_octets;
@@ -116,7 +115,7 @@ pub fn start(alloc: Global, of: &Segment, plan: &Plan) -> Result<Running, OutOfM
     ensures time { IfOk result (λ state. state.t ≡ 0) }
 {
     let taps = taps_of(alloc, &plan.layout)?;
-    let places = places_on(alloc, &taps, of.number)?;
+    let places = places_on(alloc, &taps, of.number as usize)?;
     let delays = delays_of(alloc, plan.layout.repeaters.as_slice())?;
     let stations = of.stations.len();
     let edges = of.edges.as_slice();

@@ -17,7 +17,6 @@ use crate::segments::run_segments;
 use collision_log::RowsList;
 use lists::OutOfMemory;
 use load_plan::Plan;
-use mac_parameters::HALF_BITS_A_BIT;
 use net_parts::{Pace, Parcel, Part};
 use network::Outputs;
 use outside::Gate;
@@ -79,11 +78,10 @@ fn run_parts<S: PartKind, R: PartKind, G: Gate>(
 fn begin<G: Gate>(plan: &Plan, pace: &Pace, gate: &G) {
     let layout = &plan.layout;
     let parts = layout.segments.len().saturating_add(layout.repeaters.len());
-    let half_bits = layout.until_bits.saturating_mul(u64::from(HALF_BITS_A_BIT));
     gate.begin(
         u32::try_from(parts).unwrap_or(u32::MAX),
         pace.windows,
-        half_bits,
+        layout.half_bits(),
     );
 }
 

@@ -10,7 +10,6 @@ use crate::threads::run_threads;
 use exchange_core::PartList;
 use lists::OutOfMemory;
 use load_plan::Plan;
-use mac_parameters::HALF_BITS_A_BIT;
 use net_parts::{Pace, Part};
 use outside::Gate;
 use std::alloc::Global;
@@ -51,7 +50,7 @@ pub fn run_planned<
 {
     let layout = &plan.layout;
     let parts = layout.segments.len() as u32 + layout.repeaters.len() as u32;
-    let half_bits = layout.until_bits * u64::from(HALF_BITS_A_BIT);
+    let half_bits = layout.half_bits();
     gate.begin(parts, pace.windows, half_bits);
     run_boxed::<Brand, S, R, F, H, X>(rt, alloc, plan, pace, workers, make_segment, make_repeater)
 }

@@ -1,15 +1,14 @@
-use Rattle.std.proofs.Common.{ℕ, ◌+◌, ◌*◌, ◌++◌, List, length, ap, ◌∙◌, sym, arith, slice_get}
+use Rattle.std.proofs.Common.{ℕ, ◌+◌, ◌++◌, List, length, ap, ◌∙◌, sym, slice_get}
 use Rattle.std.proofs.lemmas.Option.{same_Some}
 use Rattle.std.proofs.lemmas.Result.{on_ok_weaker}
 use Rattle.frame_layout.specs.declared.queue.Ready.{Ready}
 use Rattle.layout.specs.declared.lines.StationLine.{StationLine}
 use Rattle.load_plan.proofs.PlansAreSound.{sound_of_plan}
-use Rattle.frame_table.proofs.TableSteps.{line_made, twice_fits}
+use Rattle.frame_table.proofs.TableSteps.{line_made}
 use Rattle.frame_table.proofs.table.add_frame.Goals as goal
 
-pub overflow_mul-half_bits : goal.overflow_mul-half_bits
-overflow_mul-half_bits c =
-    omega (arith, twice_fits c.from.result c.args.plan.now.layout.until_bits c.from.ensures (sound_of_plan c.args.plan.now).bits_most)
+pub half_bits-half_bits-requires : goal.half_bits-half_bits-requires
+half_bits-half_bits-requires c = (sound_of_plan c.args.plan.now).bits_most
 
 pub returns : goal.returns
 returns c =
@@ -21,6 +20,6 @@ returns c =
     let ready = same_Some c.get-ready.result.now r (sym c.get-ready.ensures ∙ ap (λ (x : List Ready). slice_get x c.args.n) queue ∙ r_is) in
     is ∙ ap (λ (x : List ℕ). c.args.text.now ++ x)
     (line_made plan paths lines c.args.a (c.args.n + 1) _ _ _ s r c.get-ready.result.now c.as_str-name.result.now c.args.past.now c.in_ok-reach.reach
-    (c.as_str-name.ensures ∙ ap (λ (x : StationLine). x.name) station) (ap (λ m. m + 1) c.from-2.ensures) ready past_is
-    (ap (λ m. m * plan.layout.until_bits) c.from.ensures) (ap length c.octets.ensures.octets) (c.in_ok-reach.ensures plan.layout lines paths known)))
+    (c.as_str-name.ensures ∙ ap (λ (x : StationLine). x.name) station) (ap (λ m. m + 1) c.from.ensures) ready past_is
+    c.half_bits-half_bits.ensures (ap length c.octets.ensures.octets) (c.in_ok-reach.ensures plan.layout lines paths known)))
     c.add_line.ensures

@@ -6,7 +6,7 @@ use Rattle.run_checkpoint.proofs.ReadParts.{few_lines, few_stations, parts, row_
 use Rattle.run_checkpoint.proofs.reading.state_read.Goals as goal
 
 pub half_bits-requires : goal.half_bits-requires
-half_bits-requires c = sound_of_plan c.args.plan.now
+half_bits-requires c = (sound_of_plan c.args.plan.now).bits_most
 
 pub judged_senders-requires-clause-room : goal.judged_senders-requires-clause-room
 judged_senders-requires-clause-room c = omega (arith, few_stations c.args.plan.now _ c.as_slice-stations.ensures)

@@ -6,7 +6,7 @@ use Rattle.kept_devices.specs.KeptReceivers.{AllHear}
 use Rattle.net_parts.specs.Standing.{receiver_at}
 use Rattle.segment_engine.specs.PartStates.{AreStationsAt}
 use Rattle.network.specs.Times.{port_delays}
-use Rattle.network.specs.TapsOnSegments.{positions_on}
+use Rattle.layout.specs.Taps.{positions_on}
 use Rattle.net_parts.specs.Windows.{lookahead}
 use Rattle.net_parts.specs.SegmentParts.{wiring}
 use Rattle.tap_lines.specs.TapLines.{TapLine, IsReachOf}

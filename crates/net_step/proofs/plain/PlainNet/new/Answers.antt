@@ -3,8 +3,9 @@ use Rattle.mac_parameters.specs.Parameters.{most_octets}
 use Rattle.repeater_core.specs.Step.{RepeaterDevice}
 use Rattle.network.specs.Net.{new_net, new_receiver, new_repeater, new_senders}
 use Rattle.network.proofs.RunnablePlans.{runnable_plan}
+use Rattle.quiet_state.specs.LastSignals.{line_delays}
 use Rattle.kept_devices.specs.KeptReceivers.{AllHear}
-use Rattle.net_step.proofs.GoingOn.{new_ports}
+use Rattle.net_step.proofs.GoingOn.{new_delays, new_ports}
 use Rattle.net_step.proofs.StandsForNet.{stands_silent, taps_near, taps_on}
 use Rattle.net_step.proofs.plain.PlainNet.new.Goals as goal
 
@@ -13,6 +14,12 @@ with_devices-requires-clause-ports c =
     let l = c.args.plan.now.layout in
     let repeaters : c.in_ok-relays.relays.items ≡ map new_repeater l.repeaters = search rules in
     ap (map (λ (r : RepeaterDevice). length r.guards)) repeaters ∙ new_ports l.repeaters
+
+pub with_devices-requires-clause-delays : goal.with_devices-requires-clause-delays
+with_devices-requires-clause-delays c =
+    let l = c.args.plan.now.layout in
+    let repeaters : c.in_ok-relays.relays.items ≡ map new_repeater l.repeaters = search rules in
+    ap line_delays repeaters ∙ new_delays l.repeaters
 
 pub returns-clause-stands : goal.returns-clause-stands
 returns-clause-stands c =

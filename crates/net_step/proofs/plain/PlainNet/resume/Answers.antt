@@ -4,9 +4,10 @@ use Rattle.mac_parameters.specs.Parameters.{most_octets}
 use Rattle.repeater_core.specs.Step.{RepeaterDevice}
 use Rattle.network.specs.Net.{new_receiver}
 use Rattle.network.proofs.RunnablePlans.{runnable_plan}
+use Rattle.quiet_state.specs.LastSignals.{line_delays}
 use Rattle.quiet_state.specs.Resumed.{net_of, resumed_repeaters, resumed_senders}
 use Rattle.kept_devices.specs.KeptReceivers.{AllHear}
-use Rattle.net_step.proofs.GoingOn.{resumed_ports, many_delays}
+use Rattle.net_step.proofs.GoingOn.{resumed_ports, resumed_delays, many_delays}
 use Rattle.net_step.proofs.StandsForNet.{stands_silent, taps_near, taps_on}
 use Rattle.net_step.proofs.plain.PlainNet.resume.Goals as goal
 
@@ -21,6 +22,13 @@ with_devices-requires-clause-ports c =
     let s = c.args.state in
     let repeaters : c.in_ok-relays.relays.items ≡ resumed_repeaters l.repeaters s.guards s.rests = search rules in
     ap (map (λ (r : RepeaterDevice). length r.guards)) repeaters ∙ resumed_ports l.repeaters s.guards s.rests (c.requires.guards_many ∙ many_delays l.repeaters)
+
+pub with_devices-requires-clause-delays : goal.with_devices-requires-clause-delays
+with_devices-requires-clause-delays c =
+    let l = c.args.plan.now.layout in
+    let s = c.args.state in
+    let repeaters : c.in_ok-relays.relays.items ≡ resumed_repeaters l.repeaters s.guards s.rests = search rules in
+    ap line_delays repeaters ∙ resumed_delays l.repeaters s.guards s.rests (c.requires.guards_many ∙ many_delays l.repeaters)
 
 pub returns-clause-stands : goal.returns-clause-stands
 returns-clause-stands c =

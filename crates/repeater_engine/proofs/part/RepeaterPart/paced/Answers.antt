@@ -1,4 +1,4 @@
-use Rattle.std.proofs.Common.{◌≡◌, ◌*◌, [], get_or, sym, subst, ap, ◌∙◌, arith, rules}
+use Rattle.std.proofs.Common.{[], get_or, sym, subst, ap, ◌∙◌, rules}
 use Rattle.load_plan.specs.declared.plan.Plan.{Plan}
 use Rattle.network.proofs.RunnablePlans.{runnable_plan}
 use Rattle.net_parts.specs.Windows.{time}
@@ -8,12 +8,8 @@ use Rattle.repeater_engine.specs.KeptRepeaters.{StandsAt}
 use Rattle.repeater_engine.proofs.RepeatersAsParts.{at_first}
 use Rattle.repeater_engine.proofs.part.RepeaterPart.paced.Goals as goal
 
-pub overflow_mul-result : goal.overflow_mul-result
-overflow_mul-result c =
-    let short = (runnable_plan c.args.plan.now).short in
-    let two : c.from.result ≡ 2 = search rules in
-    let twice = ap (λ m. m * c.args.plan.now.layout.until_bits) two in
-    omega (arith, short, twice)
+pub half_bits-requires : goal.half_bits-requires
+half_bits-requires c = (runnable_plan c.args.plan.now).short
 
 pub invariant_of-result-clause-stands : goal.invariant_of-result-clause-stands
 invariant_of-result-clause-stands c =

@@ -1,5 +1,5 @@
 use Rattle.std.proofs.Common.{◌≡◌, ◌++◌, replicate}
-use Rattle.segment_engine.proofs.taps.push_delays.Given as goal
+use Rattle.layout.proofs.taps.push_delays.Given as goal
 
 abbrev pub invariant-loop-port : goal.invariant-loop-port
 invariant-loop-port l = l.delays.items ≡ l.fn.delays.items ++ replicate l._port l.delay

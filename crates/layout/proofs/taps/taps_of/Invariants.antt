@@ -1,7 +1,7 @@
 use Rattle.std.proofs.Common.{◌≡◌, ◌++◌, map, take}
 use Rattle.std.specs.List.{flat_map}
 use Rattle.layout.specs.Taps.{tap_of}
-use Rattle.kept_devices.proofs.taps.taps_of.Given as goal
+use Rattle.layout.proofs.taps.taps_of.Given as goal
 
 abbrev pub invariant-loop-station : goal.invariant-loop-station
 invariant-loop-station l = l.taps.items ≡ map tap_of (take l.station-index l.layout.stations)

@@ -1,5 +1,0 @@
-use Rattle.std.proofs.Common.{◌≡◌, ◌++◌, replicate}
-use Rattle.net_step.proofs.relay.Relay.list_delays.Given as goal
-
-abbrev pub invariant-loop-port : goal.invariant-loop-port
-invariant-loop-port l = l.delays.items ≡ l.fn.delays.items ++ replicate l._port l.self-inside.delay
