@@ -13,7 +13,7 @@ use Rattle.layout_file.specs.GraphFaults.{first_graph_fault}
 use Rattle.layout_file.specs.JointFaults.{file_fault, first_crowd, first_same_name, first_taken}
 use Rattle.layout_file.specs.Lines.{layout_of}
 use Rattle.layout_file.specs.RowFaults.{Around, or_else, first_of}
-use Rattle.layout_file.specs.Spots.{spots}
+use Rattle.layout_file.specs.Spots.{Spot, spots}
 use Rattle.layout_file.specs.Tree.{rows_at, number_at, names_of}
 
 -- what the rows' tests know of the whole document
@@ -35,6 +35,22 @@ name_tests = test.NoSuchSegment ∷ test.NoSuchStation ∷ []
 -- what is sent
 abbrev pub frame_tests : List RowTest
 frame_tests = test.BadFrame ∷ []
+
+-- the first fault of what is named, joined and sent
+unfoldable pub first_network_fault : ℕ → Around → List Spot → Option LayoutFault
+first_network_fault repeaters around ss =
+    or_else (first_of around name_tests ss)
+    (or_else (first_taken [] ss)
+    (or_else (first_graph_fault repeaters around.segments ss)
+    (first_of around frame_tests ss)))
+
+-- the first fault of a document that has these tables
+abbrev pub first_fault_in : Around → Members → List Spot → Option LayoutFault
+first_fault_in around ms ss =
+    or_else (first_of around key_tests ss)
+    (or_else (first_crowd ms)
+    (or_else (first_same_name ms)
+    (first_network_fault (length (rows_at ms key.Repeater)) around ss)))
 
 -- the first fault of a document: for each code all places are tried before the next code
 unfoldable pub first_fault : Members → Option LayoutFault

@@ -54,6 +54,18 @@ send_of stations ms = record {
   octets = octets_of_digits (text_at ms key.Octets);
 }
 
+-- the layout that a document spells, where the segments and the stations have these names
+abbrev pub layout_by : List (List ℕ) → List (List ℕ) → Members → Layout
+layout_by segments stations ms = record {
+  format = number_at ms key.Format;
+  seed = number_at ms key.Seed;
+  until_bits = number_at ms key.UntilBits;
+  segments = map segment_of (rows_at ms key.Segment);
+  stations = map (station_of segments) (rows_at ms key.Station);
+  repeaters = map (repeater_of segments) (rows_at ms key.Repeater);
+  sends = map (send_of stations) (rows_at ms key.Send);
+}
+
 -- the layout that a document spells
 unfoldable pub layout_of : Members → Layout
 layout_of ms = record {

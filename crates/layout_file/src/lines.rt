@@ -1,13 +1,13 @@
 //! Makes a layout of what the values of a document spell.
 ghost use Rattle.std.specs.Prelude.{◌≡◌, [], ◌∷◌, ◌++◌, IfOk, OnOk, map};
 ghost use Rattle.toml.specs.View.{table_view};
-ghost use Rattle.layout_file.specs.Lines.{place_from, place_of, segment_of, station_of, port_of, repeater_of, send_of, layout_of};
+ghost use Rattle.layout_file.specs.Lines.{place_from, place_of, segment_of, station_of, port_of, repeater_of, send_of, layout_by, layout_of};
 ghost use Rattle.layout_file.specs.Tree.{rows_at};
 ghost use Rattle.layout_file.specs.declared.fault.Key.TheVariants as key;
 
 use crate::fault::Key;
 use crate::texts::octets;
-use crate::tree::{names, next_number, number, optional_text, rows, short_number, text};
+use crate::tree::{names_in, next_number, number, optional_text, rows, short_number, text};
 use layout::{
     Layout, PortLine, PortLines, RepeaterLine, RepeaterLines, SegmentLine, SegmentLines, SendLine,
     SendLines, StationLine, StationLines,
@@ -169,26 +169,68 @@ fn sends(alloc: Global, stations: &[&str], rows: &[&TomlTable]) -> Result<SendLi
     Ok(sends)
 }
 
+fn segments_in(alloc: Global, document: &TomlTable) -> Result<SegmentLines, OutOfMemory>
+    ensures { IfOk result (λ segments. segments ≡ map segment_of (rows_at (table_view document.now) key.Segment)) }
+{
+    segments(alloc, &rows(alloc, document, Key::Segment)?)
+}
+
+fn stations_in(
+    alloc: Global,
+    segments: &[&str],
+    document: &TomlTable,
+) -> Result<StationLines, OutOfMemory>
+    ensures { IfOk result (λ stations. stations ≡ map (station_of (map (λ s. s.now) segments.now)) (rows_at (table_view document.now) key.Station)) }
+{
+    stations(alloc, segments, &rows(alloc, document, Key::Station)?)
+}
+
+fn repeaters_in(
+    alloc: Global,
+    segments: &[&str],
+    document: &TomlTable,
+) -> Result<RepeaterLines, OutOfMemory>
+    ensures { IfOk result (λ repeaters. repeaters ≡ map (repeater_of (map (λ s. s.now) segments.now)) (rows_at (table_view document.now) key.Repeater)) }
+{
+    repeaters(alloc, segments, &rows(alloc, document, Key::Repeater)?)
+}
+
+fn sends_in(
+    alloc: Global,
+    stations: &[&str],
+    document: &TomlTable,
+) -> Result<SendLines, OutOfMemory>
+    ensures { IfOk result (λ sends. sends ≡ map (send_of (map (λ s. s.now) stations.now)) (rows_at (table_view document.now) key.Send)) }
+{
+    sends(alloc, stations, &rows(alloc, document, Key::Send)?)
+}
+
 /// The layout that a document spells.
 #[tactic(auto, unfolding(crate::specs::Lines::layout_of))]
 pub fn layout(alloc: Global, document: &TomlTable) -> Result<Layout, OutOfMemory>
     ensures { IfOk result (λ layout. layout ≡ layout_of (table_view document.now)) }
 {
-    let segment_rows = rows(alloc, document, Key::Segment)?;
-    let station_rows = rows(alloc, document, Key::Station)?;
-    let segment_names = names(alloc, &segment_rows)?;
-    let station_names = names(alloc, &station_rows)?;
+    let segments = names_in(alloc, document, Key::Segment)?;
+    let stations = names_in(alloc, document, Key::Station)?;
+    layout_by(alloc, &segments, &stations, document)
+}
+
+/// The layout, where the segments and the stations have these names.
+fn layout_by(
+    alloc: Global,
+    segments: &[&str],
+    stations: &[&str],
+    document: &TomlTable,
+) -> Result<Layout, OutOfMemory>
+    ensures { IfOk result (λ layout. layout ≡ layout_by (map (λ s. s.now) segments.now) (map (λ s. s.now) stations.now) (table_view document.now)) }
+{
     Ok(Layout {
         format: short_number(document, Key::Format)?,
         seed: number(document, Key::Seed),
         until_bits: number(document, Key::UntilBits),
-        segments: segments(alloc, &segment_rows)?,
-        stations: stations(alloc, &segment_names, &station_rows)?,
-        repeaters: repeaters(
-            alloc,
-            &segment_names,
-            &rows(alloc, document, Key::Repeater)?,
-        )?,
-        sends: sends(alloc, &station_names, &rows(alloc, document, Key::Send)?)?,
+        segments: segments_in(alloc, document)?,
+        stations: stations_in(alloc, segments, document)?,
+        repeaters: repeaters_in(alloc, segments, document)?,
+        sends: sends_in(alloc, stations, document)?,
     })
 }

@@ -1,7 +1,9 @@
 //! Reads a layout from octets.
-ghost use Rattle.std.specs.Prelude.{◌≡◌, Some, Ok, Err, IfOk, IfErr};
+ghost use Rattle.std.specs.Prelude.{◌≡◌, Some, Ok, Err, IfOk, IfErr, map};
 ghost use Rattle.toml.specs.View.{table_view};
-ghost use Rattle.layout_file.specs.Faults.{first_fault, document, is_too_long, judged_document, judged, IsMemory};
+ghost use Rattle.layout_file.specs.Arounds.{around};
+ghost use Rattle.layout_file.specs.Faults.{first_fault_in, first_network_fault, first_fault, document, is_too_long, judged_document, judged_tree, judged, IsMemory};
+ghost use Rattle.layout_file.specs.Sites.{seen};
 ghost use Rattle.layout_file.specs.JointFaults.{file_fault};
 ghost use Rattle.layout.specs.Sound.{IsSound};
 ghost use Rattle.layout_file.specs.declared.fault.Key.TheVariants as key;
@@ -11,8 +13,8 @@ use crate::graph::first_graph_fault;
 use crate::joint::{first_crowd, first_same_name, first_taken};
 use crate::lines::layout;
 use crate::rows::{RowTest, Surroundings, first_of};
-use crate::sites::sites;
-use crate::tree::{names, number, rows};
+use crate::sites::{Site, sites};
+use crate::tree::{count_rows, names_in, number};
 use layout::Layout;
 use lists::OutOfMemory;
 use std::alloc::Global;
@@ -59,7 +61,7 @@ fn file_fault(code: LayoutCode) -> LayoutFault
 /// the stations, the repeaters with their ports and the sends, each row's keys in their order. Want of memory alone is
 /// free. A layout that is answered is sound: its numbers are in their ranges, its names are different, what its rows
 /// name is there, no two taps share a place, and its network is a tree.
-#[tactic(auto, unfolding(crate::specs::Faults::judged), using(crate::proofs::SoundLayouts::sound))]
+#[tactic(auto, unfolding(crate::specs::Faults::judged))]
 pub fn read_layout(alloc: Global, bytes: &[u8]) -> Result<Layout, LayoutFault>
     ensures layout { IfOk result (λ layout. judged bytes.now ≡ Ok layout) }
     ensures fault { IfErr result (λ fault. ¬ IsMemory fault → judged bytes.now ≡ Err fault) }
@@ -68,10 +70,19 @@ pub fn read_layout(alloc: Global, bytes: &[u8]) -> Result<Layout, LayoutFault>
     if is_too_long(bytes) {
         return Err(file_fault(LayoutCode::TooMany));
     }
-    let document = parse(alloc, bytes)?;
-    match first_fault(alloc, &document)? {
+    judged_tree(alloc, &parse(alloc, bytes)?)
+}
+
+/// The layout of a document, or its first fault.
+#[tactic(auto, using(crate::proofs::SoundLayouts::sound))]
+fn judged_tree(alloc: Global, document: &TomlTable) -> Result<Layout, LayoutFault>
+    ensures layout { IfOk result (λ layout. judged_tree (table_view document.now) (first_fault (table_view document.now)) ≡ Ok layout) }
+    ensures fault { IfErr result (λ fault. ¬ IsMemory fault → judged_tree (table_view document.now) (first_fault (table_view document.now)) ≡ Err fault) }
+    ensures sound { IfOk result (λ layout. IsSound layout) }
+{
+    match first_fault(alloc, document)? {
         Some(fault) => Err(fault),
-        None => Ok(layout(alloc, &document)?),
+        None => Ok(layout(alloc, document)?),
     }
 }
 
@@ -95,19 +106,31 @@ pub fn parse(alloc: Global, bytes: &[u8]) -> Result<TomlTable, LayoutFault>
 }
 
 /// The first fault of a document: for each code all places are tried before the next code.
-#[tactic(auto, unfolding(crate::specs::Faults::around_of, crate::specs::Faults::first_fault))]
+#[tactic(auto, unfolding(crate::specs::Faults::around_of, crate::specs::Faults::first_fault, crate::specs::Faults::first_network_fault))]
 pub fn first_fault(alloc: Global, document: &TomlTable) -> Result<Option<LayoutFault>, OutOfMemory>
     ensures { IfOk result (λ fault. fault ≡ first_fault (table_view document.now)) }
 {
-    let segments = names(alloc, &rows(alloc, document, Key::Segment)?)?;
-    let stations = names(alloc, &rows(alloc, document, Key::Station)?)?;
+    let segments = names_in(alloc, document, Key::Segment)?;
+    let stations = names_in(alloc, document, Key::Station)?;
+    let sites = sites(alloc, document)?;
     let surroundings = Surroundings {
         two: number(document, Key::Format) == 2,
         segments: &segments,
         stations: &stations,
     };
-    let sites = sites(alloc, document)?;
-    if let Some(fault) = first_of(&surroundings, &KEY_TESTS, &sites) {
+    first_fault_in(alloc, &surroundings, document, &sites)
+}
+
+/// The first fault of a document whose tables these are.
+fn first_fault_in(
+    alloc: Global,
+    surroundings: &Surroundings,
+    document: &TomlTable,
+    sites: &[Site],
+) -> Result<Option<LayoutFault>, OutOfMemory>
+    ensures { IfOk result (λ fault. fault ≡ first_fault_in (around surroundings.now) (table_view document.now) (map seen sites.now)) }
+{
+    if let Some(fault) = first_of(surroundings, &KEY_TESTS, sites) {
         return Ok(Some(fault));
     }
     if let Some(fault) = first_crowd(alloc, document)? {
@@ -116,15 +139,28 @@ pub fn first_fault(alloc: Global, document: &TomlTable) -> Result<Option<LayoutF
     if let Some(fault) = first_same_name(alloc, document)? {
         return Ok(Some(fault));
     }
-    if let Some(fault) = first_of(&surroundings, &NAME_TESTS, &sites) {
+    let repeaters = count_rows(alloc, document, Key::Repeater)?;
+    first_network_fault(alloc, repeaters, surroundings, sites)
+}
+
+/// The first fault of what is named, joined and sent.
+#[tactic(auto, unfolding(crate::specs::Faults::first_network_fault))]
+fn first_network_fault(
+    alloc: Global,
+    repeaters: usize,
+    surroundings: &Surroundings,
+    sites: &[Site],
+) -> Result<Option<LayoutFault>, OutOfMemory>
+    ensures { IfOk result (λ fault. fault ≡ first_network_fault repeaters (around surroundings.now) (map seen sites.now)) }
+{
+    if let Some(fault) = first_of(surroundings, &NAME_TESTS, sites) {
         return Ok(Some(fault));
     }
-    if let Some(fault) = first_taken(&sites) {
+    if let Some(fault) = first_taken(sites) {
         return Ok(Some(fault));
     }
-    let repeaters = rows(alloc, document, Key::Repeater)?.len();
-    if let Some(fault) = first_graph_fault(alloc, repeaters, &segments, &sites)? {
+    if let Some(fault) = first_graph_fault(alloc, repeaters, surroundings.segments, sites)? {
         return Ok(Some(fault));
     }
-    Ok(first_of(&surroundings, &FRAME_TESTS, &sites))
+    Ok(first_of(surroundings, &FRAME_TESTS, sites))
 }
