@@ -1,7 +1,10 @@
 //! Files of a store in memory, read by pieces.
+ghost use Rattle.std.specs.Prelude.{◌<◌, ◌^◌};
+
 use file_pieces::read_pieces;
 use lists::{List, OutOfMemory};
 use outside::{MemoryStore, StoreFail};
+use std::alloc::Global;
 
 /// A file, by a room of so many octets and up to one octet past a limit.
 #[derive(Clone, Copy)]
@@ -13,11 +16,28 @@ struct Case<'a> {
     octets: &'a [u8],
 }
 
-#[test]
-fn files_by_pieces(rt: HostRuntime) -> Result<(), OutOfMemory> {
-    let mut store = MemoryStore::new(rt.alloc());
+/// A store with a file of ten octets and one of none.
+fn two_files(alloc: Global) -> Result<MemoryStore, OutOfMemory> {
+    let mut store = MemoryStore::new(alloc);
     store.put("ten", b"0123456789")?;
     store.put("none", b"")?;
+    Ok(store)
+}
+
+/// Whether a file is read as the case says.
+fn is_read(alloc: Global, store: &mut MemoryStore, case: &Case<'_>) -> Result<bool, OutOfMemory>
+    requires room { 0 < case.now.room }
+    requires limit { case.now.limit < 2 ^ 32 }
+{
+    let mut room = vec![in alloc; 0; case.room]?;
+    let mut octets = List::new(alloc);
+    let answer = read_pieces(store, case.name, case.limit, &mut room, &mut octets);
+    Ok(answer == case.answer && octets.as_slice() == case.octets)
+}
+
+#[test]
+fn files_by_pieces(rt: HostRuntime) -> Result<(), OutOfMemory> {
+    let mut store = two_files(rt.alloc())?;
     let whole = Case {
         name: "ten",
         room: 4,
@@ -52,11 +72,7 @@ fn files_by_pieces(rt: HostRuntime) -> Result<(), OutOfMemory> {
         ..whole
     };
     for case in [whole, exact, past, first, empty, gone] {
-        let mut room = vec![in rt.alloc(); 0; case.room]?;
-        let mut octets = List::new(rt.alloc());
-        let answer = read_pieces(&mut store, case.name, case.limit, &mut room, &mut octets);
-        assert!(rt; answer == case.answer);
-        assert!(rt; octets.as_slice() == case.octets);
+        assert!(rt; is_read(rt.alloc(), &mut store, &case)?);
     }
     Ok(())
 }

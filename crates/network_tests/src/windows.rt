@@ -1,14 +1,16 @@
 //! The windows of layouts, the edges of their parts, and the parcels with which a run begins.
+ghost use Rattle.std.specs.Prelude.{◌<◌, length};
 ghost use Rattle.layout.specs.Sound.{IsSound};
+ghost use Rattle.net_parts.specs.Parts.{parts};
 
 use case_support::{no_loads, plan_of};
 use demo_layout::demo;
 use layout::Layout;
 use layout_file::read_layout;
 use lists::OutOfMemory;
-use load_plan::make_plan;
+use load_plan::{Plan, make_plan};
 use manchester_line::Sym;
-use net_parts::{edges_of, lookahead, opening, windows};
+use net_parts::{Parcel, edges_of, lookahead, opening, windows};
 use std::alloc::Global;
 use std::test::Fail;
 
@@ -69,34 +71,42 @@ fn windows_are_as_short_as_the_nearest_taps_allow(rt: HostRuntime) -> Result<(),
     Ok(())
 }
 
+/// Whether a part has these edges.
+fn has_edges(alloc: Global, plan: &Plan, part: u32, edges: &[u32]) -> Result<bool, Fail>
+    requires { part < parts plan.now }
+{
+    Ok(edges_of(alloc, plan, part)?.as_slice() == edges)
+}
+
+/// Whether a parcel is the one of edge 1 with which a run begins: two half bits of Idle.
+fn is_idle(parcel: &Parcel) -> bool {
+    parcel.edge == 1
+        && parcel.window == 0
+        && !parcel.to_repeater
+        && !parcel.spoiled
+        && parcel.symbols.as_slice() == [Sym::Idle, Sym::Idle].as_slice()
+}
+
+/// Whether segment 1 begins with that parcel alone.
+fn opens_idle(alloc: Global, plan: &Plan) -> Result<bool, Fail>
+    requires { 1 < length plan.now.layout.segments }
+{
+    let parcels = opening(alloc, plan, 1)?;
+    match parcels.as_slice() {
+        [parcel] => Ok(is_idle(parcel)),
+        _ => Ok(false),
+    }
+}
+
 /// Each segment has one port, and the repeater, which is part 2, both.
 #[test]
 fn parts_have_their_edges(rt: HostRuntime) -> Result<(), Fail> {
     let plan = plan_of(rt.alloc(), SHORT)?;
     if plan.layout.segments.len() == 2 && plan.layout.repeaters.len() == 1 {
-        assert_eq!(rt; edges_of(rt.alloc(), &plan, 0)?.as_slice(), [0].as_slice());
-        assert_eq!(rt; edges_of(rt.alloc(), &plan, 1)?.as_slice(), [1].as_slice());
-        assert_eq!(rt;
-            edges_of(rt.alloc(), &plan, 2)?.as_slice(),
-            [0, 1].as_slice()
-        );
-        let parcels = opening(rt.alloc(), &plan, 1)?;
-        assert_eq!(rt; parcels.len(), 1);
-        for parcel in parcels.as_slice() {
-            assert_eq!(rt;
-                (
-                    parcel.edge,
-                    parcel.window,
-                    parcel.to_repeater,
-                    parcel.spoiled
-                ),
-                (1, 0, false, false)
-            );
-            assert_eq!(rt;
-                parcel.symbols.as_slice(),
-                [Sym::Idle, Sym::Idle].as_slice()
-            );
-        }
+        assert!(rt; has_edges(rt.alloc(), &plan, 0, &[0])?);
+        assert!(rt; has_edges(rt.alloc(), &plan, 1, &[1])?);
+        assert!(rt; has_edges(rt.alloc(), &plan, 2, &[0, 1])?);
+        assert!(rt; opens_idle(rt.alloc(), &plan)?);
     }
     Ok(())
 }

@@ -1,72 +1,129 @@
 //! What taps hear by their lines, with numbers worked out by hand.
+ghost use Rattle.std.specs.Prelude.{◌≡◌, ◌≤◌, IfSome, length};
+ghost use Rattle.tap_lines.specs.TapLines.{IsOnlySource, IsReachOf};
+ghost use Rattle.tap_lines.specs.TapLists.{AreLoudTaps};
 
 use lists::OutOfMemory;
 use manchester_line::Sym;
+use std::alloc::Global;
 use tap_lines::{Line, LoudTaps, classes_ahead, farthest, hear_all, hear_listed, piece_of};
+
+/// A line at place 0 that emits Idle, three signals and Idle.
+fn loud_line(alloc: Global) -> Result<Line, OutOfMemory> {
+    let mut line = Line::new(alloc, 0, 4, 20, 8)?;
+    line.extend(&[Sym::Idle, Sym::Hi, Sym::Lo, Sym::Hi, Sym::Idle]);
+    Ok(line)
+}
+
+/// A line at place 10 that emits Idle five times.
+fn quiet_line(alloc: Global) -> Result<Line, OutOfMemory> {
+    let mut line = Line::new(alloc, 10, 4, 20, 8)?;
+    line.rest(5);
+    Ok(line)
+}
+
+/// Whether tap 1 hears one signal of tap 0's line in half bit 13, and no more is known of what either hears.
+fn is_heard(lines: &[Line], source: Option<usize>, loud: &LoudTaps) -> bool
+    requires taps { length lines.now ≡ 2 }
+    requires reach { IsReachOf 10 4 lines.now }
+    requires source { IfSome source (IsOnlySource 3 lines.now) }
+    requires loud { AreLoudTaps 3 lines.now loud.now.taps }
+{
+    let heard = [Sym::Idle, Sym::Hi];
+    let piece = match piece_of(lines, source, 1, 4, 10, 13, 1) {
+        Some(piece) => piece == [Sym::Hi].as_slice(),
+        None => false,
+    };
+    piece
+        && piece_of(lines, source, 1, 4, 10, 13, 2).is_none()
+        && piece_of(lines, source, 0, 4, 10, 13, 1).is_none()
+        && classes_ahead(lines, 2, loud, 4, 10, 13, &heard, 5) == 1
+}
+
+/// Whether from half bit 3 on tap 0 alone is loud, and is heard so, and from half bit 4 on none is.
+fn is_only_heard(lines: &[Line], loud: &mut LoudTaps) -> bool
+    requires taps { length lines.now ≡ 2 }
+    requires room { 2 ≤ loud.old.room }
+{
+    if farthest(lines, 4) != 10 {
+        return false;
+    }
+    loud.find(lines, 4);
+    let none = loud.only() == None;
+    loud.find(lines, 3);
+    let source = loud.only();
+    none && source == Some(0) && is_heard(lines, source, loud)
+}
 
 /// Two taps 10 half bits apart: from half bit 0 on the first emits Idle, three signals and Idle, the other Idle, five
 /// times. A window has 4 half bits.
 #[test]
 fn one_line_is_heard_by_the_other_tap(rt: HostRuntime) -> Result<(), OutOfMemory> {
-    let mut first = Line::new(rt.alloc(), 0, 4, 20, 8)?;
-    let mut second = Line::new(rt.alloc(), 10, 4, 20, 8)?;
-    first.extend(&[Sym::Idle, Sym::Hi, Sym::Lo, Sym::Hi, Sym::Idle]);
-    second.rest(5);
-    let lines = [first, second];
-    let far = farthest(&lines, 4);
-    assert_eq!(rt; far, 10);
+    let lines = [loud_line(rt.alloc())?, quiet_line(rt.alloc())?];
     let mut loud = LoudTaps::new(rt.alloc(), 2)?;
-    loud.find(&lines, 4);
-    assert_eq!(rt; loud.only(), None);
-    loud.find(&lines, 3);
-    let source = loud.only();
-    assert_eq!(rt; source, Some(0));
-    let piece = piece_of(&lines, source, 1, 4, far, 13, 1);
-    assert_eq!(rt; piece.is_some(), true);
-    if let Some(heard) = piece {
-        assert_eq!(rt; heard, [Sym::Hi].as_slice());
-    }
-    assert_eq!(rt; piece_of(&lines, source, 1, 4, far, 13, 2).is_none(), true);
-    assert_eq!(rt; piece_of(&lines, source, 0, 4, far, 13, 1).is_none(), true);
-    let heard = [Sym::Idle, Sym::Hi];
-    assert_eq!(rt; classes_ahead(&lines, 2, &loud, 4, far, 13, &heard, 5), 1);
+    assert!(rt; is_only_heard(&lines, &mut loud));
     Ok(())
 }
 
-/// Tap 0 listens at place 20. Tap 1, at place 0, emits signals in half bits 0 to 3, and tap 2, at place 10, in half
-/// bits 13 to 16. So tap 0 hears the first 20 half bits later, in 20 to 23, and the others 10 half bits later, in 23
-/// to 26: in 23 they clash. Tap 1 hears tap 2 from half bit 23 on.
-#[test]
-fn a_tap_hears_two_lines_one_after_another(rt: HostRuntime) -> Result<(), OutOfMemory> {
-    let mut listener = Line::new(rt.alloc(), 20, 4, 20, 20)?;
-    let mut first = Line::new(rt.alloc(), 0, 4, 20, 20)?;
-    let mut second = Line::new(rt.alloc(), 10, 4, 20, 20)?;
-    listener.rest(17);
-    first.extend(&[Sym::Hi, Sym::Lo, Sym::Hi, Sym::Lo]);
-    first.rest(13);
-    second.rest(13);
-    second.extend(&[Sym::Hi, Sym::Lo, Sym::Hi, Sym::Lo]);
-    let lines = [listener, first, second];
-    let far = farthest(&lines, 4);
-    assert_eq!(rt; far, 20);
-    let mut loud = LoudTaps::new(rt.alloc(), 3)?;
-    loud.find(&lines, 17);
-    assert_eq!(rt; loud.len(), 0);
-    loud.find(&lines, 4);
-    assert_eq!(rt; loud.only(), Some(2));
-    loud.find(&lines, 0);
-    assert_eq!(rt; loud.len(), 2);
-    assert_eq!(rt; loud.only(), None);
-    assert_eq!(rt; loud.tap(0), 1);
-    assert_eq!(rt; loud.tap(1), 2);
+/// A line at place 20 that emits Idle 17 times.
+fn listener_line(alloc: Global) -> Result<Line, OutOfMemory> {
+    let mut line = Line::new(alloc, 20, 4, 20, 20)?;
+    line.rest(17);
+    Ok(line)
+}
+
+/// A line at place 0 that emits four signals, and then Idle.
+fn first_line(alloc: Global) -> Result<Line, OutOfMemory> {
+    let mut line = Line::new(alloc, 0, 4, 20, 20)?;
+    line.extend(&[Sym::Hi, Sym::Lo, Sym::Hi, Sym::Lo]);
+    line.rest(13);
+    Ok(line)
+}
+
+/// A line at place 10 that emits Idle, and then four signals.
+fn second_line(alloc: Global) -> Result<Line, OutOfMemory> {
+    let mut line = Line::new(alloc, 10, 4, 20, 20)?;
+    line.rest(13);
+    line.extend(&[Sym::Hi, Sym::Lo, Sym::Hi, Sym::Lo]);
+    Ok(line)
+}
+
+/// Whether from half bit 17 on no tap is loud, from 4 on tap 2 alone, and from 0 on taps 1 and 2.
+fn are_found(lines: &[Line], loud: &mut LoudTaps) -> bool
+    requires { length lines.now ≤ loud.old.room }
+    ensures { AreLoudTaps 0 lines.now loud.new.taps }
+{
+    loud.find(lines, 17);
+    let none = loud.len() == 0;
+    loud.find(lines, 4);
+    let one = loud.only() == Some(2);
+    loud.find(lines, 0);
+    none && one && loud.len() == 2 && loud.only() == None && loud.tap(0) == 1 && loud.tap(1) == 2
+}
+
+/// Whether all taps hear what they must in half bit 20, and for as long as they must.
+fn hear_now(lines: &[Line], loud: &LoudTaps) -> bool
+    requires taps { length lines.now ≡ 3 }
+    requires reach { IsReachOf 20 4 lines.now }
+    requires loud { AreLoudTaps 0 lines.now loud.now.taps }
+{
     let mut heard = [Sym::Clash; 3];
-    hear_all(&lines, 4, far, 20, &mut heard);
-    assert_eq!(rt; heard, [Sym::Hi, Sym::Idle, Sym::Idle]);
+    hear_all(lines, 4, 20, 20, &mut heard);
+    heard == [Sym::Hi, Sym::Idle, Sym::Idle]
+        && classes_ahead(lines, 1, loud, 4, 20, 20, &heard, 10) == 7
+        && classes_ahead(lines, 3, loud, 4, 20, 20, &heard, 10) == 3
+}
+
+/// Whether tap 0 hears what it must in the eight half bits from 20 on.
+fn hears_piece(lines: &[Line], loud: &LoudTaps) -> bool
+    requires taps { length lines.now ≡ 3 }
+    requires reach { IsReachOf 20 4 lines.now }
+    requires loud { AreLoudTaps 0 lines.now loud.now.taps }
+{
     let mut piece = [Sym::Clash; 8];
-    hear_listed(&lines, &loud, 0, 4, far, 20, &mut piece);
-    assert_eq!(rt;
-        piece,
-        [
+    hear_listed(lines, loud, 0, 4, 20, 20, &mut piece);
+    piece
+        == [
             Sym::Hi,
             Sym::Lo,
             Sym::Hi,
@@ -74,10 +131,33 @@ fn a_tap_hears_two_lines_one_after_another(rt: HostRuntime) -> Result<(), OutOfM
             Sym::Lo,
             Sym::Hi,
             Sym::Lo,
-            Sym::Idle
+            Sym::Idle,
         ]
-    );
-    assert_eq!(rt; classes_ahead(&lines, 1, &loud, 4, far, 20, &heard, 10), 7);
-    assert_eq!(rt; classes_ahead(&lines, 3, &loud, 4, far, 20, &heard, 10), 3);
+}
+
+/// Whether the taps are found and hear what they must.
+fn are_heard(lines: &[Line], loud: &mut LoudTaps) -> bool
+    requires taps { length lines.now ≡ 3 }
+    requires room { 3 ≤ loud.old.room }
+{
+    if farthest(lines, 4) != 20 {
+        return false;
+    }
+    are_found(lines, loud) && hear_now(lines, loud) && hears_piece(lines, loud)
+}
+
+/// Tap 0 listens at place 20. Tap 1, at place 0, emits signals in half bits 0 to 3, and tap 2, at place 10, in half
+/// bits 13 to 16. So tap 0 hears the first 20 half bits later, in 20 to 23, and the others 10 half bits later, in 23
+/// to 26: in 23 they clash. Tap 1 hears tap 2 from half bit 23 on.
+#[test]
+fn a_tap_hears_two_lines_one_after_another(rt: HostRuntime) -> Result<(), OutOfMemory> {
+    let alloc = rt.alloc();
+    let lines = [
+        listener_line(alloc)?,
+        first_line(alloc)?,
+        second_line(alloc)?,
+    ];
+    let mut loud = LoudTaps::new(alloc, 3)?;
+    assert!(rt; are_heard(&lines, &mut loud));
     Ok(())
 }

@@ -159,107 +159,173 @@ fn stand(parts: &PartList<FakePart>) -> Option<(u32, u64)> {
     Some((part.part(), part.window()))
 }
 
+/// The part of one segment in a share, which stands before its first window.
+fn lone_share(alloc: Global) -> Result<FakeShare, Fail> {
+    let plan = plan_of(alloc, ONE_SEGMENT)?;
+    share_of_segment(alloc, &plan, 0)
+}
+
+/// A part that may make its first window.
+const NEW: PartTold = PartTold {
+    window: 0,
+    ready: true,
+    clean: true,
+    lost: false,
+};
+
+/// A part that was given up before its first window.
+const GONE: PartTold = PartTold {
+    window: 1,
+    ready: false,
+    clean: false,
+    lost: true,
+};
+
+/// A repeater that waits for a parcel of its first window.
+const WAITS: PartTold = PartTold {
+    window: 0,
+    ready: false,
+    clean: false,
+    lost: false,
+};
+
+/// Whether the part is the share's own and new.
+fn is_lone(share: &FakeShare) -> bool {
+    share.owns(0) && !share.owns(1) && !share.refilled(0) && state_of(share, 0) == Some(NEW)
+}
+
+/// Whether the part makes a window.
+fn makes_one(share: &mut FakeShare) -> Result<bool, Fail> {
+    make_window(share, 0)?;
+    Ok(state_of(share, 0) == Some(PartTold { window: 1, ..NEW }))
+}
+
+/// Whether the part is handed out behind that window.
+fn is_handed_out(share: FakeShare) -> bool {
+    let (segments, repeaters) = share.into_parts();
+    segments.len() == 1 && repeaters.len() == 0 && stand(&segments) == Some((0, 1))
+}
+
 /// A part without edges makes a window and is handed out behind it.
 #[test]
 fn a_part_runs(rt: HostRuntime) -> Result<(), Fail> {
-    let plan = plan_of(rt.alloc(), ONE_SEGMENT)?;
-    let mut share = share_of_segment(rt.alloc(), &plan, 0)?;
-    assert!(rt; share.owns(0) && !share.owns(1) && !share.refilled(0));
-    let new = PartTold {
-        window: 0,
-        ready: true,
-        clean: true,
-        lost: false,
-    };
-    assert_eq!(rt; state_of(&share, 0), Some(new));
-    make_window(&mut share, 0)?;
-    assert_eq!(rt; state_of(&share, 0), Some(PartTold { window: 1, ..new }));
-    let (segments, repeaters) = share.into_parts();
-    assert_eq!(rt; (segments.len(), repeaters.len()), (1, 0));
-    assert_eq!(rt; stand(&segments), Some((0, 1)));
+    let mut share = lone_share(rt.alloc())?;
+    assert!(rt; is_lone(&share));
+    assert!(rt; makes_one(&mut share)?);
+    assert!(rt; is_handed_out(share));
     Ok(())
+}
+
+/// The first segment and the repeater, and the second segment, in two shares.
+fn two_shares(alloc: Global) -> Result<(FakeShare, FakeShare), Fail> {
+    let plan = plan_of(alloc, TWO_SEGMENTS)?;
+    let near = share_with_repeater(alloc, &plan)?;
+    let far = share_of_segment(alloc, &plan, 1)?;
+    Ok((near, far))
+}
+
+/// Whether both segments are in these states.
+fn are_both(near: &FakeShare, far: &FakeShare, told: PartTold) -> bool {
+    state_of(near, 0) == Some(told) && state_of(far, 1) == Some(told)
+}
+
+/// Whether both segments are new, and the repeater waits for them.
+fn are_new(near: &FakeShare, far: &FakeShare) -> bool {
+    are_both(near, far, NEW)
+        && state_of(near, 1) == None
+        && state_of(near, 2) == Some(WAITS)
+        && !near.refilled(0)
+        && !far.refilled(1)
+}
+
+/// Whether both segments are given up, and so hand out parcels.
+fn are_given_up(near: &mut FakeShare, far: &mut FakeShare) -> Result<bool, Fail> {
+    give_up(near, 0)?;
+    give_up(far, 1)?;
+    Ok(are_both(near, far, GONE) && near.refilled(0) && !near.refilled(1) && far.refilled(1))
+}
+
+/// Whether this is the parcel that the first segment handed out to the repeater.
+fn is_first(near: &FakeShare, far: &FakeShare, first: &Parcel) -> bool {
+    (first.edge, first.window, first.to_repeater) == (0, 0, true)
+        && near.awaits(first)
+        && !far.awaits(first)
+        && !near.refilled(0)
+}
+
+/// Whether the first segment's parcel goes to the repeater, which still waits.
+fn goes_first(near: &mut FakeShare, far: &FakeShare) -> Result<bool, Fail> {
+    let first = post(near, 0)?;
+    let right = is_first(near, far, &first);
+    take(near, first)?;
+    Ok(right && state_of(near, 2) == Some(WAITS))
+}
+
+/// Whether the second segment's parcel goes to the repeater, which then waits no more.
+fn goes_second(near: &mut FakeShare, far: &mut FakeShare) -> Result<bool, Fail> {
+    let second = post(far, 1)?;
+    let right = (second.edge, second.window, second.symbols.len()) == (1, 0, 0);
+    take(near, second)?;
+    let ready = PartTold {
+        ready: true,
+        ..WAITS
+    };
+    Ok(right && state_of(near, 2) == Some(ready))
+}
+
+/// Whether the repeater is given up, and its first parcel goes back within its share.
+fn goes_back(near: &mut FakeShare) -> Result<bool, Fail> {
+    pass_on(near, 2)?;
+    let gone = state_of(near, 2) == Some(GONE);
+    let back = post(near, 0)?;
+    let right = (back.edge, back.window, back.to_repeater) == (0, 1, false);
+    take(near, back)?;
+    Ok(gone && right)
+}
+
+/// Whether its second parcel goes to the other share, and both segments may go on.
+fn goes_across(near: &mut FakeShare, far: &mut FakeShare) -> Result<bool, Fail> {
+    let across = post(near, 1)?;
+    let right = !near.awaits(&across) && far.awaits(&across);
+    take(far, across)?;
+    let home = PartTold {
+        ready: true,
+        ..GONE
+    };
+    Ok(right && are_both(near, far, home))
+}
+
+/// Whether the second segment is given up before its second window too.
+fn is_passed_on(far: &mut FakeShare) -> Result<bool, Fail> {
+    pass_on(far, 1)?;
+    Ok(state_of(far, 1) == Some(PartTold { window: 2, ..GONE }))
+}
+
+/// Whether the parcels go round.
+fn go_round(near: &mut FakeShare, far: &mut FakeShare) -> Result<bool, Fail> {
+    if !are_new(near, far) || !are_given_up(near, far)? {
+        return Ok(false);
+    }
+    if !goes_first(near, far)? || !goes_second(near, far)? {
+        return Ok(false);
+    }
+    if !goes_back(near)? || !goes_across(near, far)? {
+        return Ok(false);
+    }
+    is_passed_on(far)
+}
+
+/// Whether the parts come out as they were made, since none made a window.
+fn are_as_made(near: FakeShare) -> bool {
+    let (segments, repeaters) = near.into_parts();
+    stand(&segments) == Some((0, 0)) && stand(&repeaters) == Some((2, 0))
 }
 
 /// Spoiled parcels go from both segments to the repeater and back, within a share and between two.
 #[test]
 fn parcels_go_round(rt: HostRuntime) -> Result<(), Fail> {
-    let plan = plan_of(rt.alloc(), TWO_SEGMENTS)?;
-    let mut near = share_with_repeater(rt.alloc(), &plan)?;
-    let mut far = share_of_segment(rt.alloc(), &plan, 1)?;
-    let new = PartTold {
-        window: 0,
-        ready: true,
-        clean: true,
-        lost: false,
-    };
-    let gone = PartTold {
-        window: 1,
-        ready: false,
-        clean: false,
-        lost: true,
-    };
-    let waits = PartTold {
-        window: 0,
-        ready: false,
-        clean: false,
-        lost: false,
-    };
-    assert_eq!(rt;
-        (state_of(&near, 0), state_of(&far, 1)),
-        (Some(new), Some(new))
-    );
-    assert_eq!(rt;
-        (state_of(&near, 1), state_of(&near, 2)),
-        (None, Some(waits))
-    );
-    assert!(rt; !near.refilled(0) && !far.refilled(1));
-    give_up(&mut near, 0)?;
-    give_up(&mut far, 1)?;
-    assert_eq!(rt;
-        (state_of(&near, 0), state_of(&far, 1)),
-        (Some(gone), Some(gone))
-    );
-    assert!(rt; near.refilled(0) && !near.refilled(1) && far.refilled(1));
-    let first = post(&mut near, 0)?;
-    assert_eq!(rt; (first.edge, first.window, first.to_repeater), (0, 0, true));
-    assert!(rt; near.awaits(&first) && !far.awaits(&first) && !near.refilled(0));
-    take(&mut near, first)?;
-    assert_eq!(rt; state_of(&near, 2), Some(waits));
-    let second = post(&mut far, 1)?;
-    assert_eq!(rt;
-        (second.edge, second.window, second.symbols.len()),
-        (1, 0, 0)
-    );
-    take(&mut near, second)?;
-    assert_eq!(rt;
-        state_of(&near, 2),
-        Some(PartTold {
-            ready: true,
-            ..waits
-        })
-    );
-    pass_on(&mut near, 2)?;
-    assert_eq!(rt; state_of(&near, 2), Some(gone));
-    let back = post(&mut near, 0)?;
-    assert_eq!(rt; (back.edge, back.window, back.to_repeater), (0, 1, false));
-    take(&mut near, back)?;
-    let across = post(&mut near, 1)?;
-    assert!(rt; !near.awaits(&across) && far.awaits(&across));
-    take(&mut far, across)?;
-    let home = PartTold {
-        ready: true,
-        ..gone
-    };
-    assert_eq!(rt;
-        (state_of(&near, 0), state_of(&far, 1)),
-        (Some(home), Some(home))
-    );
-    pass_on(&mut far, 1)?;
-    assert_eq!(rt; state_of(&far, 1), Some(PartTold { window: 2, ..gone }));
-    let (segments, repeaters) = near.into_parts();
-    assert_eq!(rt;
-        (stand(&segments), stand(&repeaters)),
-        (Some((0, 0)), Some((2, 0)))
-    );
+    let (mut near, mut far) = two_shares(rt.alloc())?;
+    assert!(rt; go_round(&mut near, &mut far)?);
+    assert!(rt; are_as_made(near));
     Ok(())
 }

@@ -4,6 +4,8 @@ use lists::OutOfMemory;
 use netsim::World;
 use outside::{MemorySink, MemoryStore};
 use std::alloc::Global;
+use std::sync::Wait;
+use std::thread::Threads;
 
 /// One segment with stations a and b, of which b has a load.
 const LOADED: &str =
@@ -59,11 +61,18 @@ fn long_load(alloc: Global) -> Result<Vec<u8>, OutOfMemory> {
     Ok(load)
 }
 
+/// Puts that layout and that load into a store.
+fn put_long(alloc: Global, store: &mut MemoryStore) -> Result<(), OutOfMemory> {
+    let layout = long_layout(alloc)?;
+    put(store, "l.toml", layout.as_bytes())?;
+    let load = long_load(alloc)?;
+    put(store, "b.pcap", load.as_slice())
+}
+
 /// A store with that layout and that load, and a sink.
 fn long_world(alloc: Global) -> Result<MemoryWorld, OutOfMemory> {
     let mut store = MemoryStore::new(alloc);
-    put(&mut store, "l.toml", long_layout(alloc)?.as_bytes())?;
-    put(&mut store, "b.pcap", long_load(alloc)?.as_slice())?;
+    put_long(alloc, &mut store)?;
     let out = MemorySink::new(alloc);
     Ok(World { store, out })
 }
@@ -75,17 +84,23 @@ fn held_length(store: &MemoryStore, name: &str) -> usize {
     }
 }
 
+/// Whether the run is told, b's capture holds 45 frames, and blocks were as long as they may be.
+fn is_captured(world: &MemoryWorld) -> bool {
+    world.out.bytes() == SAID.as_bytes()
+        && held_length(&world.store, "out.b.pcap") == 24 + 45 * (16 + 1_514)
+        && world.store.largest() == BLOCK
+}
+
+/// Whether the run ends with status 0, and is captured.
+fn is_run<R: Threads + Wait + Sync + AllocGlobal>(rt: &R) -> Result<bool, OutOfMemory> {
+    let mut world = long_world(rt.alloc())?;
+    let status = status_of(rt, &["plain", "l.toml", "out"], &mut world)?;
+    Ok(status == 0 && is_captured(&world))
+}
+
 /// A layout and a load of three blocks, whose records are skipped, and a capture of two.
 #[test]
 fn long_files(rt: HostRuntime) -> Result<(), OutOfMemory> {
-    let mut world = long_world(rt.alloc())?;
-    let status = status_of(&rt, &["plain", "l.toml", "out"], &mut world)?;
-    assert_eq!(rt; status, 0);
-    assert!(rt; world.out.bytes() == SAID.as_bytes());
-    assert_eq!(rt;
-        held_length(&world.store, "out.b.pcap"),
-        24 + 45 * (16 + 1_514)
-    );
-    assert_eq!(rt; world.store.largest(), BLOCK);
+    assert!(rt; is_run(&rt)?);
     Ok(())
 }

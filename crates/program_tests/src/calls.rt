@@ -116,15 +116,21 @@ fn empty_store(alloc: Global, case: &Case<'_>) -> Result<MemoryStore, OutOfMemor
     MemoryStore::with_failing(alloc, &[case.read], &[case.start], &[case.append])
 }
 
+/// Puts all files into a store.
+fn put_all(alloc: Global, store: &mut MemoryStore) -> Result<(), OutOfMemory> {
+    for name in ["b.pcap", "c.pcap"] {
+        put(store, name, &CAPTURE)?;
+    }
+    for (name, pieces) in TEXTS {
+        put_pieces(alloc, store, name, pieces)?;
+    }
+    Ok(())
+}
+
 /// A store with all files.
 fn store_of(alloc: Global, case: &Case<'_>) -> Result<MemoryStore, OutOfMemory> {
     let mut store = empty_store(alloc, case)?;
-    for name in ["b.pcap", "c.pcap"] {
-        put(&mut store, name, &CAPTURE)?;
-    }
-    for (name, pieces) in TEXTS {
-        put_pieces(alloc, &mut store, name, pieces)?;
-    }
+    put_all(alloc, &mut store)?;
     Ok(store)
 }
 
@@ -134,7 +140,7 @@ fn sink_of(alloc: Global, case: &Case<'_>) -> Result<MemorySink, OutOfMemory> {
 }
 
 /// A store with all files, and a sink to which nothing was written.
-pub fn world_of(alloc: Global, case: &Case<'_>) -> Result<MemoryWorld, OutOfMemory> {
+fn world_of(alloc: Global, case: &Case<'_>) -> Result<MemoryWorld, OutOfMemory> {
     let store = store_of(alloc, case)?;
     let out = sink_of(alloc, case)?;
     Ok(World { store, out })
@@ -156,13 +162,23 @@ fn is_told(case: &Case<'_>, world: &MemoryWorld) -> bool {
 }
 
 /// Whether the call gives the case's status and says what it must, by such blocks.
-pub fn is_right<R: Threads + Wait + Sync + AllocGlobal>(
+fn is_right<R: Threads + Wait + Sync + AllocGlobal>(
     rt: &R,
     case: &Case<'_>,
     world: &mut MemoryWorld,
 ) -> Result<bool, OutOfMemory> {
     let status = status_of(rt, case.words, world)?;
     Ok(status == case.status && is_told(case, world))
+}
+
+/// Whether the call of a case is right, and the store that it leaves.
+pub fn store_after<R: Threads + Wait + Sync + AllocGlobal>(
+    rt: &R,
+    case: &Case<'_>,
+) -> Result<(bool, MemoryStore), OutOfMemory> {
+    let mut world = world_of(rt.alloc(), case)?;
+    let right = is_right(rt, case, &mut world)?;
+    Ok((right, world.store))
 }
 
 /// Whether a file holds this text.
@@ -183,7 +199,6 @@ pub fn is_alone<R: Threads + Wait + Sync + AllocGlobal>(
     rt: &R,
     case: &Case<'_>,
 ) -> Result<bool, OutOfMemory> {
-    let mut world = world_of(rt.alloc(), case)?;
-    let right = is_right(rt, case, &mut world)?;
-    Ok(right && is_untouched(&world.store))
+    let (right, store) = store_after(rt, case)?;
+    Ok(right && is_untouched(&store))
 }

@@ -1,5 +1,5 @@
 //! What is said and left where a call of the store or of the sink fails: each call in turn, for each form of words.
-use crate::calls::{Case, LOG, RUN, RUNS, STATE, holds, is_alone, is_right, world_of};
+use crate::calls::{Case, LOG, RUN, RUNS, STATE, holds, is_alone, store_after};
 use lists::OutOfMemory;
 use outside::MemoryStore;
 use std::sync::Wait;
@@ -175,6 +175,18 @@ fn is_left(store: &MemoryStore, whole: &MemoryStore, count: u32, begun: bool) ->
     true
 }
 
+/// Whether the run of a case is right, and leaves the first so many files whole.
+fn is_right_and_left<R: Threads + Wait + Sync + AllocGlobal>(
+    rt: &R,
+    case: &Case<'_>,
+    whole: &MemoryStore,
+    count: u32,
+    begun: bool,
+) -> Result<bool, OutOfMemory> {
+    let (right, store) = store_after(rt, case)?;
+    Ok(right && is_left(&store, whole, count, begun))
+}
+
 /// Whether a run that can't begin the file of this number, from 1, or can't fill it, leaves what it must.
 fn file_is_left<R: Threads + Wait + Sync + AllocGlobal>(
     rt: &R,
@@ -192,9 +204,7 @@ fn file_is_left<R: Threads + Wait + Sync + AllocGlobal>(
         said: "",
         ..RUN
     };
-    let mut world = world_of(rt.alloc(), &case)?;
-    let right = is_right(rt, &case, &mut world)?;
-    Ok(right && is_left(&world.store, whole, number.saturating_sub(1), begun))
+    is_right_and_left(rt, &case, whole, number.saturating_sub(1), begun)
 }
 
 /// Whether a run whose summary can't be written leaves all its files.
@@ -210,24 +220,63 @@ fn all_are_left<R: Threads + Wait + Sync + AllocGlobal>(
         said: "",
         ..RUN
     };
-    let mut world = world_of(rt.alloc(), &case)?;
-    let right = is_right(rt, &case, &mut world)?;
-    Ok(right && is_left(&world.store, whole, 4, false))
+    is_right_and_left(rt, &case, whole, 4, false)
+}
+
+/// Whether a run by these words leaves what it must where a start, an append or the write of its summary fails.
+fn files_are_left<R: Threads + Wait + Sync + AllocGlobal>(
+    rt: &R,
+    words: &[&'static str],
+    whole: &MemoryStore,
+) -> Result<bool, OutOfMemory> {
+    for number in [1, 2, 3, 4] {
+        if !file_is_left(rt, words, whole, number, false)? {
+            return Ok(false);
+        }
+        if !file_is_left(rt, words, whole, number, true)? {
+            return Ok(false);
+        }
+    }
+    all_are_left(rt, words, whole)
+}
+
+/// The same of all words that run.
+fn runs_are_left<R: Threads + Wait + Sync + AllocGlobal>(
+    rt: &R,
+    whole: &MemoryStore,
+) -> Result<bool, OutOfMemory> {
+    for words in RUNS {
+        if !files_are_left(rt, words, whole)? {
+            return Ok(false);
+        }
+    }
+    Ok(true)
 }
 
 #[test]
 fn starts_and_appends_that_fail(rt: HostRuntime) -> Result<(), OutOfMemory> {
-    let mut whole = world_of(rt.alloc(), &RUN)?;
-    assert!(rt; is_right(&rt, &RUN, &mut whole)?);
-    assert!(rt; holds(&whole.store, "out.log", LOG));
-    for words in RUNS {
-        for number in [1, 2, 3, 4] {
-            assert!(rt; file_is_left(&rt, words, &whole.store, number, false)?);
-            assert!(rt; file_is_left(&rt, words, &whole.store, number, true)?);
-        }
-        assert!(rt; all_are_left(&rt, words, &whole.store)?);
-    }
+    let (right, whole) = store_after(&rt, &RUN)?;
+    assert!(rt; right && holds(&whole, "out.log", LOG));
+    assert!(rt; runs_are_left(&rt, &whole)?);
     Ok(())
+}
+
+/// Whether a store holds this state of a stop, or none.
+fn is_state(store: &MemoryStore, left: Option<&str>) -> bool {
+    match left {
+        Some(text) => holds(store, "new.state", text),
+        None => store.get("new.state").is_none(),
+    }
+}
+
+/// Whether the stop of a case is right, and leaves this state, or none.
+fn is_stopped<R: Threads + Wait + Sync + AllocGlobal>(
+    rt: &R,
+    case: &Case<'_>,
+    left: Option<&str>,
+) -> Result<bool, OutOfMemory> {
+    let (right, store) = store_after(rt, case)?;
+    Ok(right && is_state(&store, left))
 }
 
 /// Whether a stop of which these calls fail leaves the state that it must, or none.
@@ -247,12 +296,7 @@ fn stop_leaves<R: Threads + Wait + Sync + AllocGlobal>(
         said: "",
         ..RUN
     };
-    let mut world = world_of(rt.alloc(), &case)?;
-    let right = is_right(rt, &case, &mut world)?;
-    match left {
-        Some(text) => Ok(right && holds(&world.store, "new.state", text)),
-        None => Ok(right && world.store.get("new.state").is_none()),
-    }
+    is_stopped(rt, &case, left)
 }
 
 /// A state that isn't begun, one that is begun alone, and one that is written before the last line can't be.

@@ -62,16 +62,28 @@ fn is_answered<X: Threads + Wait + Sync>(
     Ok(same && (workers == 1 || entries.are_whole()))
 }
 
+/// The same of 1, 2, 3, 7 and 64 workers.
+fn are_answered<X: Threads + Wait + Sync>(
+    rt: &X,
+    alloc: Global,
+    plan: &Plan,
+    plain: &Outputs,
+) -> Result<bool, OutOfMemory> {
+    Ok(
+        is_answered(rt, alloc, plan, 1, plain)?
+            && is_answered(rt, alloc, plan, 2, plain)?
+            && is_answered(rt, alloc, plan, 3, plain)?
+            && is_answered(rt, alloc, plan, 7, plain)?
+            && is_answered(rt, alloc, plan, 64, plain)?,
+    )
+}
+
 /// There are nine parts. With enough memory no run is made again by one worker alone.
 #[test]
 fn workers_answer_as_one_thread_does(rt: HostRuntime) -> Result<(), Fail> {
     let plan = plan_of(rt.alloc(), FIVE_SEGMENTS)?;
     let plain = run_plain(rt.alloc(), &plan)?;
-    assert!(rt; is_answered(&rt, rt.alloc(), &plan, 1, &plain)?);
-    assert!(rt; is_answered(&rt, rt.alloc(), &plan, 2, &plain)?);
-    assert!(rt; is_answered(&rt, rt.alloc(), &plan, 3, &plain)?);
-    assert!(rt; is_answered(&rt, rt.alloc(), &plan, 7, &plain)?);
-    assert!(rt; is_answered(&rt, rt.alloc(), &plan, 64, &plain)?);
+    assert!(rt; are_answered(&rt, rt.alloc(), &plan, &plain)?);
     Ok(())
 }
 
@@ -91,13 +103,24 @@ fn is_watched<X: Threads + Wait + Sync>(
     Ok(whole && entries.are_whole())
 }
 
+/// The same of 1, 2, 3, 7 and 64 workers.
+fn are_watched<X: Threads + Wait + Sync>(
+    rt: &X,
+    alloc: Global,
+    plan: &Plan,
+) -> Result<bool, OutOfMemory> {
+    Ok(
+        is_watched(rt, alloc, plan, 1)?
+            && is_watched(rt, alloc, plan, 2)?
+            && is_watched(rt, alloc, plan, 3)?
+            && is_watched(rt, alloc, plan, 7)?
+            && is_watched(rt, alloc, plan, 64)?,
+    )
+}
+
 #[test]
 fn the_gate_comes_before_each_window(rt: HostRuntime) -> Result<(), Fail> {
     let plan = plan_of(rt.alloc(), FIVE_SEGMENTS)?;
-    assert!(rt; is_watched(&rt, rt.alloc(), &plan, 1)?);
-    assert!(rt; is_watched(&rt, rt.alloc(), &plan, 2)?);
-    assert!(rt; is_watched(&rt, rt.alloc(), &plan, 3)?);
-    assert!(rt; is_watched(&rt, rt.alloc(), &plan, 7)?);
-    assert!(rt; is_watched(&rt, rt.alloc(), &plan, 64)?);
+    assert!(rt; are_watched(&rt, rt.alloc(), &plan)?);
     Ok(())
 }
