@@ -59,6 +59,40 @@ fn is_past_run(said: &str) -> bool {
     said.starts_with("probe fault range") || said.starts_with("page fault range")
 }
 
+/// Puts the lines of a run that ended behind a text.
+fn tell_end<R: Files, S: Store>(
+    rt: &R,
+    alloc: Global,
+    out: &mut String,
+    ended: &Ended<'_>,
+    failure: Option<&Failure>,
+    store: &mut S,
+) -> Result<(), OutOfMemory> {
+    match ended.status {
+        0 => tell_warnings(rt, alloc, out, ended, store),
+        1 => tell_words(alloc, out, ended.help, ended.words),
+        2 => tell_layout(alloc, out, ended, store),
+        3 => tell_load(alloc, out, ended, store),
+        4 | 5 => match failure {
+            Some(failure) => tell_failure(out, ended.words, failure),
+            None => Ok(()),
+        },
+        7 if is_past_run(ended.said) => tell_range(alloc, out, ended, store),
+        7 => tell_tap(alloc, out, ended, store),
+        8 => tell_log(alloc, out, ended, store),
+        9 => tell_no_quiet(out, ended),
+        10 => tell_state(alloc, out, ended, store),
+        11 => tell_stranger(alloc, out, ended, store),
+        12 => tell_output(out, ended),
+        _ => {
+            out.push_str(
+                "netsim: there was not enough memory: what is on standard output isn't whole\n",
+            )?;
+            Ok(())
+        }
+    }
+}
+
 /// The lines for standard error: each begins with `netsim: `, and what can't be found out is left unsaid.
 pub fn hints<R: Files, S: Store>(
     rt: &R,
@@ -68,26 +102,6 @@ pub fn hints<R: Files, S: Store>(
     store: &mut S,
 ) -> Result<String, OutOfMemory> {
     let mut out = String::new(alloc);
-    match ended.status {
-        0 => tell_warnings(rt, alloc, &mut out, ended, store)?,
-        1 => tell_words(alloc, &mut out, ended.help, ended.words)?,
-        2 => tell_layout(alloc, &mut out, ended, store)?,
-        3 => tell_load(alloc, &mut out, ended, store)?,
-        4 | 5 => {
-            if let Some(failure) = failure {
-                tell_failure(&mut out, ended.words, failure)?;
-            }
-        }
-        7 if is_past_run(ended.said) => tell_range(alloc, &mut out, ended, store)?,
-        7 => tell_tap(alloc, &mut out, ended, store)?,
-        8 => tell_log(alloc, &mut out, ended, store)?,
-        9 => tell_no_quiet(&mut out, ended)?,
-        10 => tell_state(alloc, &mut out, ended, store)?,
-        11 => tell_stranger(alloc, &mut out, ended, store)?,
-        12 => tell_output(&mut out, ended)?,
-        _ => out.push_str(
-            "netsim: there was not enough memory: what is on standard output isn't whole\n",
-        )?,
-    }
+    tell_end(rt, alloc, &mut out, ended, failure, store)?;
     Ok(out)
 }
