@@ -3,3 +3,4 @@ pub mod GatheredParts
 pub mod SteppedParts
 pub mod SameBoxes
 pub mod TakenParcels
+mod FreeNumbers

@@ -1,6 +1,7 @@
 //! The kits of a run.
 ghost use Rattle.std.specs.Prelude.{◌≡◌, ◌<◌, ◌+◌, IfOk, Some, length};
 ghost use Rattle.worker_gate.specs.PartMakers.{MakesSegments, MakesRepeaters};
+ghost use Rattle.worker_gate.specs.PlannedShares.{HasNoneFrom};
 
 use crate::desk::{Desk, Segments};
 use crate::kit::Kit;
@@ -50,6 +51,7 @@ pub fn make_kits<
 }
 
 /// The kit of one worker.
+#[tactic(auto, using(crate::proofs::FreeNumbers::same_from))]
 fn make_kit<
     P: Planned,
     S: Part,
@@ -94,6 +96,7 @@ fn make_kit<
 }
 
 /// The segments of one worker, and its duties with them.
+#[tactic(auto, using(crate::proofs::FreeNumbers::nothing_from, crate::proofs::FreeNumbers::later_from, crate::proofs::FreeNumbers::free_from, crate::proofs::FreeNumbers::segment_from))]
 fn deal_segments<P: Planned, S: Part, R: Part, F: Fn(u32) -> Result<S, OutOfMemory>>(
     alloc: Global,
     plan: &Plan,
@@ -106,6 +109,7 @@ fn deal_segments<P: Planned, S: Part, R: Part, F: Fn(u32) -> Result<S, OutOfMemo
     requires boxed { Some plan.now ≡ P.plan }
     requires paced { pace.now.plan.value ≡ plan.now }
     requires segments { MakesSegments S.plan S.number S.at plan.now (F.pre segment.now) (F.post segment.now) }
+    ensures { IfOk result (λ segments. HasNoneFrom (length plan.now.layout.segments) segments.share) }
 {
     let mut segments = Segments::new(alloc);
     for i in 0..plan.layout.segments.len() as u32 {
@@ -121,6 +125,7 @@ fn deal_segments<P: Planned, S: Part, R: Part, F: Fn(u32) -> Result<S, OutOfMemo
 }
 
 /// Gives one worker its repeaters, and its duties with them.
+#[tactic(auto, using(crate::proofs::FreeNumbers::later_from, crate::proofs::FreeNumbers::free_from, crate::proofs::FreeNumbers::repeater_from))]
 fn deal_repeaters<P: Planned, S: Part, R: Part, H: Fn(u32) -> Result<R, OutOfMemory>>(
     alloc: Global,
     plan: &Plan,
@@ -132,6 +137,7 @@ fn deal_repeaters<P: Planned, S: Part, R: Part, H: Fn(u32) -> Result<R, OutOfMem
 ) -> Result<(), OutOfMemory>
     requires boxed { Some plan.now ≡ P.plan }
     requires repeaters { MakesRepeaters R.plan R.number R.at plan.now (H.pre repeater.now) (H.post repeater.now) }
+    requires free { HasNoneFrom (length plan.now.layout.segments) desk.old.share }
 {
     let segments = plan.layout.segments.len();
     for i in 0..plan.layout.repeaters.len() as u32 {

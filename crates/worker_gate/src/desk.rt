@@ -55,13 +55,11 @@ impl<P: Planned, S: Part, R: Part> Segments<P, S, R> {
         requires plan { S.plan part ≡ plan.now }
         requires number { S.number part < length plan.now.layout.segments }
         requires start { S.at part ≡ 0 }
+        requires free { owns (S.number part) self.old.share ≡ false }
         ensures ok { OnOk result (self.new.share ≡ with_segment (added_segment (S.plan part) (S.number part) (S.at part) (arrived plan.now (S.number part) 0)) self.old.share) }
         ensures err { OnErr result (self.new.share ≡ self.old.share) }
     {
         let number = part.part();
-        if self.share.owns(number) {
-            return Err(OutOfMemory);
-        }
         let parcels = paced_opening(alloc, plan, pace, number)?;
         self.share.add_segment(part, parcels)
     }
@@ -84,12 +82,10 @@ impl<P: Planned, S: Part, R: Part> Desk<P, S, R> {
         requires boxed { Some plan.now ≡ P.plan }
         requires plan { R.plan part ≡ plan.now }
         requires number { length plan.now.layout.segments ≤ R.number part }
+        requires free { owns (R.number part) self.old.share ≡ false }
         ensures ok { OnOk result (self.new.share ≡ with_repeater (added_repeater (R.plan part) (R.number part) (R.at part)) self.old.share) }
         ensures err { OnErr result (self.new.share ≡ self.old.share) }
     {
-        if self.share.owns(part.part()) {
-            return Err(OutOfMemory);
-        }
         self.share.add_repeater(part)
     }
 

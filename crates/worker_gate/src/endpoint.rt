@@ -103,8 +103,8 @@ fn endpoints_to<P: Planned>(
     ensures kept { OnOk result (map (λ p. arc_value p.mailbox) boxes.new.items ≡ map (λ p. arc_value p.mailbox) boxes.old.items) }
 {
     let mut ends = Vec::new(alloc);
-    for i in 0..boxes.len() {
-        ends.push(boxes[i].endpoint()?)?;
+    for fresh in boxes.iter_mut() {
+        ends.push(fresh.endpoint()?)?;
     }
     Ok(ends)
 }

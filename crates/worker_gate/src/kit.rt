@@ -139,11 +139,10 @@ fn turn<P: Planned, S: Part, R: Part, X: Wait>(
     boxes: &mut Vec<Endpoint<P>>,
 ) -> bool {
     let mut made = false;
-    for i in 0..duties.turns.len() {
-        let duty = duties.turns[i];
+    for duty in duties.turns.as_slice() {
         if desk.step(duty.part) {
             made = true;
-            hand_on(rt, desk, duty, duties.outlets.as_slice(), number, boxes);
+            hand_on(rt, desk, *duty, duties.outlets.as_slice(), number, boxes);
         }
     }
     made
@@ -158,13 +157,14 @@ fn hand_on<P: Planned, S: Part, R: Part, X: Wait>(
     number: u32,
     boxes: &mut Vec<Endpoint<P>>,
 ) {
-    for k in duty.first..duty.end.min(outlets.len()) {
-        if outlets[k].worker == number {
-            desk.carry(outlets[k].edge, duty.is_segment());
+    let end = duty.end.min(outlets.len());
+    for outlet in &outlets[duty.first.min(end)..end] {
+        if outlet.worker == number {
+            desk.carry(outlet.edge, duty.is_segment());
             continue;
         }
-        if let Some(parcel) = desk.post(outlets[k].edge) {
-            send_to(rt, boxes, outlets[k].worker, parcel);
+        if let Some(parcel) = desk.post(outlet.edge) {
+            send_to(rt, boxes, outlet.worker, parcel);
         }
     }
 }

@@ -1,6 +1,7 @@
 //! Workers in threads of their own, and the caller among them.
-ghost use Rattle.std.specs.Prelude.{◌≡◌, ◌<◌, ◌≤◌, length};
+ghost use Rattle.std.specs.Prelude.{◌≡◌, ◌<◌, ◌≤◌, false, length, true};
 ghost use denote.Param.Send.{IsSend};
+ghost use Rattle.worker_gate.specs.SteppedShares.{ArePast};
 
 use crate::endpoint::{Endpoint, make_endpoints};
 use crate::kit::Kit;
@@ -16,16 +17,21 @@ use std::thread::{JoinHandle, Scope, SpawnError, Threads};
 use std::{slice, thread};
 use window_exchange::Planned;
 
-/// Makes all windows of a kit, unless that of this number was refused a thread and is this one.
+/// Makes all windows of a kit, unless no thread could be made for it: then it is as it was.
 fn live<P: Planned, S: Part, R: Part, X: Wait>(
     rt: &X,
     kit: Kit<P, S, R>,
     boxes: Vec<Endpoint<P>>,
-    refused: &AtomicU64,
-) -> Kit<P, S, R> {
+    is_refused: bool,
+) -> Kit<P, S, R>
+    ensures done { is_refused ≡ false → ArePast result.windows result.desk.share result.duties.turns.items }
+    ensures windows { result.windows ≡ kit.windows }
+    ensures duties { result.duties ≡ kit.duties }
+    ensures refused { is_refused ≡ true → result ≡ kit }
+{
     let mut kit = kit;
     let mut boxes = boxes;
-    if refused.load(Ordering::SeqCst) != u64::from(kit.number()) {
+    if !is_refused {
         work(rt, slice::from_mut(&mut kit), &mut boxes);
     }
     kit
@@ -40,7 +46,10 @@ fn start<'s, E, P: Planned + Send + 's, S: Part + 's, R: Part + 's, X: Wait + Sy
     refused: &'s AtomicU64,
 ) -> Result<JoinHandle<Kit<P, S, R>>, Kit<P, S, R>> {
     let number = u64::from(kit.number());
-    match scope.spawn(move || -> Kit<P, S, R> { live(rt, kit, boxes, refused) }) {
+    match scope.spawn(move || -> Kit<P, S, R> {
+        let is_refused = refused.load(Ordering::SeqCst) == number;
+        live(rt, kit, boxes, is_refused)
+    }) {
         Ok(handle) => Ok(handle),
         Err(SpawnError { value: back }) => {
             refused.store(number, Ordering::SeqCst);

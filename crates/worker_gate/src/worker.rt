@@ -40,8 +40,7 @@ fn turn_all<P: Planned, S: Part, R: Part, X: Wait>(
     ensures duties { map (λ kit. kit.duties) kits.new ≡ map (λ kit. kit.duties) kits.old }
 {
     let mut made = false;
-    for i in 0..kits.len() {
-        let kit = &mut kits[i];
+    for kit in kits.iter_mut() {
         let goes = kit.turn(rt, boxes);
         made = made || goes;
     }
@@ -83,8 +82,7 @@ fn take_all<P: Planned, S: Part, R: Part>(
     ensures duties { map (λ kit. kit.duties) kits.new ≡ map (λ kit. kit.duties) kits.old }
 {
     let mut came = false;
-    for i in 0..kits.len() {
-        let kit = &mut kits[i];
+    for kit in kits.iter_mut() {
         let comes = kit.take_all(boxes);
         came = came || comes;
     }

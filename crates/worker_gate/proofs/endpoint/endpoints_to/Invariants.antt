@@ -5,9 +5,9 @@ use Rattle.window_exchange.specs.Balance.{name_lists}
 use Rattle.worker_gate.proofs.endpoint.endpoints_to.Given as goal
 
 -- an endpoint of each box so far, in their order
-abbrev pub invariant-loop-i : goal.invariant-loop-i
-invariant-loop-i g l = record {
-  boxes : map (λ p. arc_value p.mailbox) l.ends.items ≡ map (λ p. arc_value p.mailbox) (take l.i l.initial.boxes.items);
+abbrev pub invariant-loop-fresh : goal.invariant-loop-fresh
+invariant-loop-fresh g l = record {
+  boxes : map (λ p. arc_value p.mailbox) l.ends.items ≡ map (λ p. arc_value p.mailbox) (take l.fresh-index l.fn.boxes.items);
   lists : All (λ p. view p.pass.pass ≡ name_lists [] []) l.ends.items;
-  kept : map (λ p. arc_value p.mailbox) l.boxes.items ≡ map (λ p. arc_value p.mailbox) l.initial.boxes.items;
+  kept : map (λ p. arc_value p.mailbox) l.fresh-items ≡ map (λ p. arc_value p.mailbox) l.fn.boxes.items;
 }
