@@ -3,6 +3,7 @@ pub mod KeptReceivers
 pub mod RepeatersInARow
 pub mod StandsForNet
 pub mod WholeNet
+pub mod WrittenLists
 pub mod CablePlaces
 pub mod SignalsSettle
 pub mod QuietAndKept

@@ -1,12 +1,12 @@
 //! The devices of a plan before half bit 0, and those that go on from a state.
 ghost use Rattle.std.specs.Prelude.{◌≡◌, ◌<◌, ◌≤◌, ◌^◌, [], All, length, map, sum_by, IfOk};
 ghost use Rattle.mac_parameters.specs.Parameters.{IsMost, greatest_place, jabber_rest, most_half_bits};
-ghost use Rattle.network.specs.Net.{new_receiver, new_repeater, new_senders};
+ghost use Rattle.network.specs.Net.{new_net, new_receiver, new_repeater, new_senders};
 ghost use Rattle.kept_devices.specs.KeptReceivers.{AllHear};
 ghost use Rattle.std.specs.List.{range_with_len};
 ghost use Rattle.net_step.specs.Wires.{new_wire};
-ghost use Rattle.quiet_state.specs.PlanStates.{AreStatesOf};
-ghost use Rattle.quiet_state.specs.Resumed.{resumed_repeaters, resumed_senders};
+ghost use Rattle.quiet_state.specs.PlanStates.{AreStatesOf, IsResumable};
+ghost use Rattle.quiet_state.specs.Resumed.{net_of, resumed_repeaters, resumed_senders};
 
 use crate::relay::Relay;
 use crate::segment::SegmentCable;
@@ -14,10 +14,13 @@ use backoff_draw::Draws;
 use frame_layout::Queue;
 use layout::{PortLine, RepeaterLine, StationLine};
 use lists::OutOfMemory;
+use load_plan::Plan;
+use mac_parameters::most_octets;
 use mac_receive::Receiver;
 use mac_transmit::{SenderState, Transmitter};
 use network::{Captures, TakenList};
 use port_partition::PortGuard;
+use quiet_state::NetState;
 use std::alloc::Global;
 
 /// The senders of these queues before half bit 0: number k, from 0, is the station of queue k.
@@ -145,6 +148,58 @@ pub fn resumed_relays(
         from = to;
     }
     Ok(relays)
+}
+
+/// The senders and receivers of the stations, and the repeaters.
+#[derive(Drop)]
+pub struct Devices {
+    pub senders: Vec<Transmitter>,
+    pub receivers: Vec<Receiver>,
+    pub relays: Vec<Relay>,
+}
+
+/// The devices of a plan before half bit 0.
+#[tactic(auto, using(network::proofs::RunnablePlans::runnable_plan))]
+pub fn new_devices(alloc: Global, plan: &Plan) -> Result<Devices, OutOfMemory>
+    ensures senders { IfOk result (λ made. made.senders.items ≡ (new_net plan.now).senders) }
+    ensures receivers { IfOk result (λ made. AllHear (new_net plan.now).receivers made.receivers.items) }
+    ensures repeaters { IfOk result (λ made. made.relays.items ≡ (new_net plan.now).repeaters) }
+    ensures times { IfOk result (λ made. All (λ s. s.t ≡ 0) made.senders.items) }
+    ensures steps { IfOk result (λ made. All (λ r. r.steps ≡ 0) made.receivers.items) }
+    ensures sending { IfOk result (λ made. length made.senders.items ≡ length plan.now.layout.stations) }
+    ensures receiving { IfOk result (λ made. length made.receivers.items ≡ length plan.now.layout.stations) }
+{
+    let layout = &plan.layout;
+    let most = most_octets(layout.format == 2);
+    Ok(Devices {
+        senders: new_transmitters(alloc, layout.seed, plan.queues.as_slice())?,
+        receivers: new_receivers(alloc, most, layout.stations.as_slice())?,
+        relays: new_relays(alloc, layout.repeaters.as_slice())?,
+    })
+}
+
+/// The devices of a plan that go on from a state.
+#[tactic(auto, using(network::proofs::RunnablePlans::runnable_plan))]
+pub fn resumed_devices(alloc: Global, plan: &Plan, state: &NetState) -> Result<Devices, OutOfMemory>
+    requires { IsResumable plan.now state.now }
+    ensures senders { IfOk result (λ made. made.senders.items ≡ (net_of plan.now state.now).senders) }
+    ensures receivers { IfOk result (λ made. AllHear (net_of plan.now state.now).receivers made.receivers.items) }
+    ensures repeaters { IfOk result (λ made. made.relays.items ≡ (net_of plan.now state.now).repeaters) }
+    ensures times { IfOk result (λ made. All (λ s. s.t ≡ state.now.t) made.senders.items) }
+    ensures steps { IfOk result (λ made. All (λ r. r.steps ≡ state.now.t) made.receivers.items) }
+    ensures sending { IfOk result (λ made. length made.senders.items ≡ length plan.now.layout.stations) }
+    ensures receiving { IfOk result (λ made. length made.receivers.items ≡ length plan.now.layout.stations) }
+{
+    let layout = &plan.layout;
+    let most = most_octets(layout.format == 2);
+    let states = state.senders.as_slice();
+    let guards = state.guards.as_slice();
+    let rests = state.rests.as_slice();
+    Ok(Devices {
+        senders: resumed_transmitters(alloc, layout.seed, state.t, plan.queues.as_slice(), states)?,
+        receivers: resumed_receivers(alloc, most, state.t, layout.stations.as_slice())?,
+        relays: resumed_relays(alloc, layout.repeaters.as_slice(), guards, rests)?,
+    })
 }
 
 /// The segments from number 0 to below `count`, with these taps, before half bit 0.

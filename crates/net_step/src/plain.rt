@@ -4,12 +4,9 @@ ghost use Rattle.mac_parameters.specs.Parameters.{most_half_bits};
 ghost use Rattle.network.specs.Outputs.{cut_rows, half_bits, rows, captures};
 ghost use Rattle.net_step.specs.KeptNet.{kept_tap_number, Stands};
 ghost use Rattle.network.specs.Net.{ports_of, Net};
-ghost use Rattle.quiet_state.specs.Resumed.{later_net};
+ghost use Rattle.quiet_state.specs.Resumed.{later_net, net_state};
 
-use crate::devices::{
-    new_receivers, new_relays, new_segments, new_transmitters, no_captures, resumed_captures,
-    resumed_receivers, resumed_relays, resumed_transmitters,
-};
+use crate::devices::{new_devices, new_segments, no_captures, resumed_captures, resumed_devices};
 use crate::leaps::{
     calm_relays, calm_senders, leap_receivers, leap_relays, leap_senders, none_receives,
 };
@@ -24,7 +21,7 @@ use collision_log::{Body, Rows};
 use layout::taps_of;
 use lists::OutOfMemory;
 use load_plan::Plan;
-use mac_parameters::{GREATEST_PLACE, most_octets};
+use mac_parameters::GREATEST_PLACE;
 use mac_receive::Receiver;
 use mac_transmit::{Phase, Transmitter};
 use manchester_line::Sym;
@@ -41,6 +38,56 @@ const NOTHING: RepeaterEvents = RepeaterEvents {
     opened: 0,
     halted: 0,
 };
+
+/// The symbols of a half bit, as `PlainNet` keeps them.
+#[derive(Drop)]
+struct HalfBitSymbols {
+    heard: Vec<Sym>,
+    emitted: Vec<Sym>,
+    port_emitted: Vec<Sym>,
+    decided: Vec<Sym>,
+    row: Vec<Sym>,
+}
+
+/// The events of a half bit: one of each kind for each station, and one for each repeater.
+#[derive(Drop)]
+struct HalfBitEvents {
+    sent: Vec<Option<Body>>,
+    received: Vec<Option<Body>>,
+    repeaters: Vec<RepeaterEvents>,
+}
+
+/// No symbols, for so many taps, of which the first ones are the stations'.
+fn idle_symbols(alloc: Global, taps: usize, stations: usize) -> Result<HalfBitSymbols, OutOfMemory>
+    requires { stations ≤ taps }
+    ensures heard { IfOk result (λ made. length made.heard.items ≡ taps) }
+    ensures emitted { IfOk result (λ made. length made.emitted.items ≡ stations) }
+    ensures port_emitted { IfOk result (λ made. length made.port_emitted.items ≡ taps - stations) }
+    ensures decided { IfOk result (λ made. length made.decided.items ≡ taps - stations) }
+    ensures row { IfOk result (λ made. length made.row.items ≡ taps) }
+{
+    let ports = taps - stations;
+    Ok(HalfBitSymbols {
+        heard: vec![in alloc; Sym::Idle; taps]?,
+        emitted: vec![in alloc; Sym::Idle; stations]?,
+        port_emitted: vec![in alloc; Sym::Idle; ports]?,
+        decided: vec![in alloc; Sym::Idle; ports]?,
+        row: vec![in alloc; Sym::Idle; taps]?,
+    })
+}
+
+/// No events, for so many stations and repeaters.
+fn no_events(alloc: Global, stations: usize, repeaters: usize) -> Result<HalfBitEvents, OutOfMemory>
+    ensures sent { IfOk result (λ made. length made.sent.items ≡ stations) }
+    ensures received { IfOk result (λ made. length made.received.items ≡ stations) }
+    ensures repeaters { IfOk result (λ made. length made.repeaters.items ≡ repeaters) }
+{
+    Ok(HalfBitEvents {
+        sent: vec![in alloc; None; stations]?,
+        received: vec![in alloc; None; stations]?,
+        repeaters: vec![in alloc; NOTHING; repeaters]?,
+    })
+}
 
 /// A network, stepped half bit by half bit: its stations' senders and receivers, its repeaters and its segments.
 /// `heard` and `row` have a symbol for each tap, the stations' taps first; `emitted` has one for each station, and
@@ -88,6 +135,46 @@ fn listed(alloc: Global, captures: Vec<TakenList>) -> Result<Captures, OutOfMemo
         list.push(taken)?;
     }
     Ok(list)
+}
+
+/// The rows and captures of a run that ends before half bit `t`, where the net has these.
+fn ended(
+    alloc: Global,
+    t: u64,
+    senders: &[Transmitter],
+    rows: Rows,
+    captures: Vec<TakenList>,
+) -> Result<Outputs, OutOfMemory>
+    requires { length senders.now < 2 ^ 32 }
+    ensures rows { IfOk result (λ outputs. outputs.rows ≡ rows ++ cut_rows t 0 senders.now) }
+    ensures captures { IfOk result (λ outputs. outputs.captures ≡ captures.items) }
+{
+    let mut all = rows;
+    log_cut(t, senders, &mut all)?;
+    Ok(Outputs {
+        rows: all,
+        captures: listed(alloc, captures)?,
+    })
+}
+
+/// The state that a network before half bit `t` goes on from, which has these devices, rows and captures.
+fn left_state(
+    alloc: Global,
+    t: u64,
+    senders: &[Transmitter],
+    relays: &[Relay],
+    logs: (Rows, Vec<TakenList>),
+) -> Result<NetState, OutOfMemory>
+    ensures { (n : Net) → t ≡ n.t → senders.now ≡ n.senders → relays.now ≡ n.repeaters → logs.0 ≡ n.rows → logs.1.items ≡ n.captures → IfOk result (λ state. state ≡ net_state n) }
+{
+    Ok(NetState {
+        t,
+        senders: states_of(alloc, senders)?,
+        guards: guards_of(alloc, relays)?,
+        rests: rests_of(alloc, relays)?,
+        rows: logs.0,
+        captures: listed(alloc, logs.1)?,
+    })
 }
 
 /// The ports of the first `count` of these repeaters.
@@ -160,8 +247,9 @@ impl PlainNet {
         ensures captures { IfOk result (λ made. made.captures ≡ logs.1.items) }
     {
         let taps = taps_of(alloc, &plan.layout)?;
-        let all = taps.len();
         let count = plan.layout.stations.len();
+        let symbols = idle_symbols(alloc, taps.len(), count)?;
+        let events = no_events(alloc, count, relays.len())?;
         Ok(PlainNet {
             alloc,
             t,
@@ -169,14 +257,14 @@ impl PlainNet {
             receivers: stations.1,
             segments: new_segments(alloc, plan.layout.segments.len(), &taps)?,
             places: places_of(alloc, &taps)?,
-            heard: vec![in alloc; Sym::Idle; all]?,
-            emitted: vec![in alloc; Sym::Idle; count]?,
-            port_emitted: vec![in alloc; Sym::Idle; all - count]?,
-            decided: vec![in alloc; Sym::Idle; all - count]?,
-            row: vec![in alloc; Sym::Idle; all]?,
-            sent: vec![in alloc; None; count]?,
-            received: vec![in alloc; None; count]?,
-            events: vec![in alloc; NOTHING; relays.len()]?,
+            heard: symbols.heard,
+            emitted: symbols.emitted,
+            port_emitted: symbols.port_emitted,
+            decided: symbols.decided,
+            row: symbols.row,
+            sent: events.sent,
+            received: events.received,
+            events: events.repeaters,
             rows: logs.0,
             captures: logs.1,
             settling: Settling::new(alloc, &taps, plan.layout.repeaters.as_slice())?,
@@ -190,13 +278,13 @@ impl PlainNet {
         ensures stands { IfOk result (λ made. Stands (net plan.now 0) made) }
         ensures time { IfOk result (λ made. made.t ≡ 0) }
     {
-        let layout = &plan.layout;
-        let stations = layout.stations.as_slice();
-        let senders = new_transmitters(alloc, layout.seed, plan.queues.as_slice())?;
-        let receivers = new_receivers(alloc, most_octets(layout.format == 2), stations)?;
-        let relays = new_relays(alloc, layout.repeaters.as_slice())?;
-        let logs = (Rows::new(alloc), no_captures(alloc, stations)?);
-        let whole = PlainNet::with_devices(alloc, plan, 0, (senders, receivers), relays, logs)?;
+        let made = new_devices(alloc, plan)?;
+        let logs = (
+            Rows::new(alloc),
+            no_captures(alloc, plan.layout.stations.as_slice())?,
+        );
+        let stations = (made.senders, made.receivers);
+        let whole = PlainNet::with_devices(alloc, plan, 0, stations, made.relays, logs)?;
         Ok(whole)
     }
 
@@ -207,25 +295,11 @@ impl PlainNet {
         ensures stands { IfOk result (λ made. Stands (net_of plan.now state) made) }
         ensures time { IfOk result (λ made. made.t ≡ state.t) }
     {
-        let layout = &plan.layout;
         let t = state.t;
-        let most = most_octets(layout.format == 2);
-        let senders = resumed_transmitters(
-            alloc,
-            layout.seed,
-            t,
-            plan.queues.as_slice(),
-            state.senders.as_slice(),
-        )?;
-        let receivers = resumed_receivers(alloc, most, t, layout.stations.as_slice())?;
-        let relays = resumed_relays(
-            alloc,
-            layout.repeaters.as_slice(),
-            state.guards.as_slice(),
-            state.rests.as_slice(),
-        )?;
+        let made = resumed_devices(alloc, plan, &state)?;
         let logs = (state.rows, resumed_captures(alloc, state.captures)?);
-        let whole = PlainNet::with_devices(alloc, plan, t, (senders, receivers), relays, logs)?;
+        let stations = (made.senders, made.receivers);
+        let whole = PlainNet::with_devices(alloc, plan, t, stations, made.relays, logs)?;
         Ok(whole)
     }
 
@@ -424,14 +498,8 @@ impl PlainNet {
     pub fn state(self) -> Result<NetState, OutOfMemory>
         ensures { (n : Net) → Stands n self → IfOk result (λ state. state ≡ net_state n) }
     {
-        Ok(NetState {
-            t: self.t,
-            senders: states_of(self.alloc, &self.senders)?,
-            guards: guards_of(self.alloc, &self.relays)?,
-            rests: rests_of(self.alloc, &self.relays)?,
-            rows: self.rows,
-            captures: listed(self.alloc, self.captures)?,
-        })
+        let logs = (self.rows, self.captures);
+        left_state(self.alloc, self.t, &self.senders, &self.relays, logs)
     }
 
     /// The rows and captures of a run that ends before half bit `t`.
@@ -439,12 +507,9 @@ impl PlainNet {
         ensures rows { IfOk result (λ outputs. outputs.rows ≡ self.rows ++ cut_rows self.t 0 self.senders) }
         ensures captures { IfOk result (λ outputs. outputs.captures ≡ self.captures) }
     {
-        let mut rows = self.rows;
-        log_cut(self.t, &self.senders, &mut rows)?;
-        Ok(Outputs {
-            rows,
-            captures: listed(self.alloc, self.captures)?,
-        })
+        let rows = self.rows;
+        let captures = self.captures;
+        ended(self.alloc, self.t, &self.senders, rows, captures)
     }
 
     /// Goes on to the end of a run of so many half bits: its rows and captures.

@@ -27,6 +27,7 @@ pub mod RowsApart
 pub mod GoneApart
 pub mod NearExample
 pub mod TakenExample
+pub mod ApartExample
 pub mod FirstRows
 pub mod FirstReceptions
 pub mod PieceRoom

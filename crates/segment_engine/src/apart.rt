@@ -399,8 +399,8 @@ fn first_due(watches: &[Watch], end: u64) -> u64
     ensures due { (u : ℕ) → u ≤ end → ((i : ℕ) (w : Watch) → i < length watches.now → u ≤ (slice_index_or watches.now i w).until) → u ≤ result }
 {
     let mut due = end;
-    for k in 0..watches.len() {
-        due = due.min(watches[k].until);
+    for watch in watches {
+        due = due.min(watch.until);
     }
     due
 }
@@ -410,8 +410,7 @@ fn watch_all(t: u64, watches: &mut [Watch])
     ensures since { (i : ℕ) (w : Watch) → i < length watches.new → (slice_index_or watches.new i w).since ≡ t }
     ensures until { (i : ℕ) (w : Watch) → i < length watches.new → (slice_index_or watches.new i w).until ≡ t }
 {
-    for k in 0..watches.len() {
-        let watch = &mut watches[k];
+    for watch in watches.iter_mut() {
         watch.since = t;
         watch.until = t;
     }
@@ -499,6 +498,7 @@ pub fn go_apart(
     let _ = window;
     let t = state.t;
     let far = state.far;
+    let lookahead = of.lookahead;
     let stations = of.stations.len();
     if state.watches.len() != stations {
         return 0;
@@ -524,15 +524,7 @@ pub fn go_apart(
     keep_classes(watches, &mut state.heard);
     let part = &mut piece[..(u - t) as usize];
     put_all(
-        t,
-        k as usize,
-        lines,
-        loud,
-        stations,
-        of.lookahead,
-        far,
-        parcels,
-        part,
+        t, k as usize, lines, loud, stations, lookahead, far, parcels, part,
     );
     cut_all(&mut state.lines, stations, u);
     state.t = u;

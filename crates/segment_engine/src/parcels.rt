@@ -23,8 +23,7 @@ pub fn fill(parcels: &mut [Parcel], k: usize, heard: &[Sym])
 pub fn turn(parcels: &mut [Parcel], count: usize)
     ensures { parcels.new ≡ map (turned_to_repeater count) parcels.old }
 {
-    for p in 0..parcels.len() {
-        let parcel = &mut parcels[p];
+    for parcel in parcels.iter_mut() {
         parcel.symbols.cut(count);
         parcel.to_repeater = true;
     }

@@ -23,7 +23,7 @@ use mac_parameters::most_octets;
 use mac_transmit::Transmitter;
 use net_parts::{Pace, Parcel, Part, PartOutputs};
 use std::alloc::Global;
-use window_room::reserve_stations;
+use window_room::{RowRoom, reserve_stations};
 
 /// The most half bits that are passed over at once.
 const MOST_AT_ONCE: u32 = 4_096;
@@ -57,6 +57,33 @@ fn log_cut(
         push_row(rows, t, stations[k], senders[k].cut())?;
     }
     Ok(())
+}
+
+/// The rows and captures of a room; with the Cut rows of these senders, when all windows were made.
+fn hand_out(
+    of: &Segment,
+    window: u64,
+    t: u64,
+    senders: &[Transmitter],
+    mut room: RowRoom,
+) -> Result<PartOutputs, OutOfMemory>
+    requires { length senders.now ≡ length of.now.stations.items }
+    ensures part { IfOk result (λ outputs. outputs.part ≡ of.now.number) }
+    ensures so_far { window < of.now.windows → IfOk result (λ outputs. outputs.rows ≡ room.rows) }
+    ensures rows { window ≡ of.now.windows →
+        IfOk result (λ outputs. outputs.rows ≡ room.rows ++ cut_rows_on t of.now.stations.items senders.now) }
+    ensures captures { IfOk result (λ outputs. outputs.captures ≡ room.captures) }
+{
+    room.settle()?;
+    let mut outputs = room.into_outputs();
+    if window == of.windows {
+        log_cut(t, &of.stations, senders, &mut outputs.rows)?;
+    }
+    Ok(PartOutputs {
+        part: of.number,
+        rows: outputs.rows,
+        captures: outputs.captures,
+    })
 }
 
 impl SegmentPart {
@@ -156,18 +183,9 @@ impl SegmentPart {
             heard: _,
             emitted: _,
             piece: _,
-            mut room,
+            room,
         } = state;
-        room.settle()?;
-        let mut outputs = room.into_outputs();
-        if window == segment.windows {
-            log_cut(t, &segment.stations, &senders, &mut outputs.rows)?;
-        }
-        Ok(PartOutputs {
-            part: segment.number,
-            rows: outputs.rows,
-            captures: outputs.captures,
-        })
+        hand_out(&segment, window, t, &senders, room)
     }
 }
 

@@ -22,8 +22,8 @@ use tap_lines::{are_idle_from, pass_all, rest_all};
 fn are_at_rest(receivers: &[LateReceiver]) -> bool
     ensures { result ≡ true → AreAtRest receivers.now }
 {
-    for k in 0..receivers.len() {
-        if receivers[k].is_receiving() {
+    for receiver in receivers {
+        if receiver.is_receiving() {
             return false;
         }
     }
@@ -48,8 +48,7 @@ fn calm_half_bits(t: u64, senders: &[Transmitter], most: u32) -> u32
     ensures calm { 0 < result → All (IsCalmFor result) senders.now }
 {
     let mut calm = most;
-    for k in 0..senders.len() {
-        let sender = &senders[k];
+    for sender in senders {
         if is_sending(sender) {
             return 0;
         }
@@ -81,8 +80,7 @@ fn leap_senders(t: u64, count: u32, senders: &mut [Transmitter])
         slice_index_or senders.new i d ≡ after_all (slice_index_or senders.old i d) (replicate count Idle) }
     ensures times { All (λ s. s.t ≡ t + count) senders.new }
 {
-    for k in 0..senders.len() {
-        let sender = &mut senders[k];
+    for sender in senders.iter_mut() {
         sender.leap(t, u64::from(count), false);
     }
 }
@@ -96,8 +94,7 @@ fn leap_receivers(t: u64, count: u32, receivers: &mut [LateReceiver])
         Hears (receiver_after r (replicate count Idle) false) (slice_index_or receivers.new i d) }
     ensures steps { All (λ r. r.steps ≡ t + count) receivers.new }
 {
-    for k in 0..receivers.len() {
-        let receiver = &mut receivers[k];
+    for receiver in receivers.iter_mut() {
         receiver.leap_quiet(u64::from(count));
     }
 }

@@ -1,9 +1,12 @@
 //! A segment before half bit 0.
 ghost use Rattle.std.specs.Prelude.{◌≡◌, ◌<◌, ◌≤◌, ◌+◌, ◌*◌, All, length, map, IfOk};
 ghost use Rattle.network.specs.Attempts.{sender_at};
+ghost use Rattle.net_parts.specs.SegmentParts.{wiring};
 ghost use Rattle.net_parts.specs.Standing.{receiver_at};
+ghost use Rattle.net_parts.specs.Windows.{lookahead as lookahead_of};
 ghost use Rattle.kept_devices.specs.KeptReceivers.{AllHear};
 ghost use Rattle.segment_engine.specs.NewLines.{AreNewLines, AreWithin, new_delay};
+ghost use Rattle.segment_engine.specs.PartStates.{AreLinesAt};
 ghost use Rattle.segment_engine.specs.RunningStates.{IsRunningAt};
 
 use crate::apart::Watch;
@@ -24,6 +27,15 @@ use window_room::RowRoom;
 /// How many more symbols a line has room for than it must, so that it slides seldom.
 const SPARE_ROOM: usize = 256;
 
+/// The symbols that a segment keeps, and which of its lines may sound.
+#[derive(Drop)]
+struct Silence {
+    loud: LoudTaps,
+    heard: Vec<Sym>,
+    emitted: Vec<Sym>,
+    piece: Vec<Sym>,
+}
+
 /// The senders of these stations.
 fn senders_of(alloc: Global, plan: &Plan, stations: &[u32]) -> Result<Vec<Transmitter>, OutOfMemory>
     requires { All (λ k. k < length plan.now.layout.stations) stations.now }
@@ -32,9 +44,11 @@ fn senders_of(alloc: Global, plan: &Plan, stations: &[u32]) -> Result<Vec<Transm
     let queues = plan.queues.as_slice();
     let seed = plan.layout.seed;
     let mut senders = Vec::new(alloc);
-    for i in 0..stations.len() {
-        let k = stations[i];
-        senders.push(Transmitter::new(queues[k as usize].copy()?, Draws::new(seed, k)))?;
+    for station in stations {
+        senders.push(Transmitter::new(
+            queues[*station as usize].copy()?,
+            Draws::new(seed, *station),
+        ))?;
     }
     Ok(senders)
 }
@@ -52,8 +66,8 @@ fn receivers_of(
     let lines = plan.layout.stations.as_slice();
     let most = most_octets(plan.layout.format == 2);
     let mut receivers = Vec::new(alloc);
-    for i in 0..stations.len() {
-        receivers.push(LateReceiver::new_for(alloc, lines[stations[i] as usize].lose, most)?)?;
+    for station in stations {
+        receivers.push(LateReceiver::new_for(alloc, lines[*station as usize].lose, most)?)?;
     }
     Ok(receivers)
 }
@@ -77,9 +91,9 @@ fn width_of(places: &[u32]) -> u32
 {
     let mut low = u32::MAX;
     let mut high = 0;
-    for r in 0..places.len() {
-        low = low.min(places[r]);
-        high = high.max(places[r]);
+    for place in places {
+        low = low.min(*place);
+        high = high.max(*place);
     }
     high.saturating_sub(low)
 }
@@ -108,39 +122,75 @@ fn lines_of(
     Ok(lines)
 }
 
-/// A segment before half bit 0.
-pub fn start(alloc: Global, of: &Segment, plan: &Plan) -> Result<Running, OutOfMemory>
+/// The lines of a segment's taps before half bit 0.
+fn first_lines(alloc: Global, of: &Segment, plan: &Plan) -> Result<Vec<Line>, OutOfMemory>
     requires { of.now.plan.value ≡ plan.now }
-    ensures at { IfOk result (λ state. IsRunningAt plan.now of.now.number 0 state) }
-    ensures time { IfOk result (λ state. state.t ≡ 0) }
+    ensures { IfOk result (λ lines.
+        AreLinesAt plan.now (wiring plan.now.layout of.now.number) (lookahead_of plan.now.layout) 0 0 lines.items) }
 {
     let taps = taps_of(alloc, &plan.layout)?;
     let places = places_on(alloc, &taps, of.number as usize)?;
     let delays = delays_of(alloc, plan.layout.repeaters.as_slice())?;
     let stations = of.stations.len();
     let edges = of.edges.as_slice();
-    let senders = senders_of(alloc, plan, &of.stations)?;
-    let receivers = receivers_of(alloc, plan, &of.stations)?;
-    let teller = Teller::new(alloc)?;
-    let lines = lines_of(alloc, &places, stations, of.lookahead, edges, &delays)?;
-    let far = farthest(&lines, of.lookahead);
-    let no_watch = Watch {
+    lines_of(alloc, &places, stations, of.lookahead, edges, &delays)
+}
+
+/// What the taps hear, what the stations emit, and the symbols of a piece: Idle before half bit 0.
+fn all_idle(
+    alloc: Global,
+    taps: usize,
+    stations: usize,
+    lookahead: u32,
+) -> Result<Silence, OutOfMemory>
+    ensures loud { IfOk result (λ silence. silence.loud.room ≡ taps) }
+    ensures heard { IfOk result (λ silence. length silence.heard.items ≡ taps) }
+    ensures emitted { IfOk result (λ silence. length silence.emitted.items ≡ stations) }
+{
+    Ok(Silence {
+        loud: LoudTaps::new(alloc, taps)?,
+        heard: vec![in alloc; Sym::Idle; taps]?,
+        emitted: vec![in alloc; Sym::Idle; stations]?,
+        piece: vec![in alloc; Sym::Idle; lookahead as usize]?,
+    })
+}
+
+/// A watch for each of so many stations.
+fn watches_of(alloc: Global, stations: usize) -> Result<Vec<Watch>, OutOfMemory> {
+    let watch = Watch {
         since: 0,
         until: 0,
         carrier: false,
     };
+    Ok(vec![in alloc; watch; stations]?)
+}
+
+/// A segment before half bit 0.
+pub fn start(alloc: Global, of: &Segment, plan: &Plan) -> Result<Running, OutOfMemory>
+    requires { of.now.plan.value ≡ plan.now }
+    ensures at { IfOk result (λ state. IsRunningAt plan.now of.now.number 0 state) }
+    ensures time { IfOk result (λ state. state.t ≡ 0) }
+{
+    let stations = of.stations.len();
+    let teller = Teller::new(alloc)?;
+    let watches = watches_of(alloc, stations)?;
+    let room = RowRoom::new(alloc, stations)?;
+    let lines = first_lines(alloc, of, plan)?;
+    let silence = all_idle(alloc, lines.len(), stations, of.lookahead)?;
+    let senders = senders_of(alloc, plan, &of.stations)?;
+    let receivers = receivers_of(alloc, plan, &of.stations)?;
     Ok(Running {
         t: 0,
         senders,
         receivers,
         teller,
+        far: farthest(&lines, of.lookahead),
         lines,
-        far,
-        loud: LoudTaps::new(alloc, places.len())?,
-        heard: vec![in alloc; Sym::Idle; places.len()]?,
-        emitted: vec![in alloc; Sym::Idle; stations]?,
-        piece: vec![in alloc; Sym::Idle; of.lookahead as usize]?,
-        watches: vec![in alloc; no_watch; stations]?,
-        room: RowRoom::new(alloc, stations)?,
+        loud: silence.loud,
+        heard: silence.heard,
+        emitted: silence.emitted,
+        piece: silence.piece,
+        watches,
+        room,
     })
 }

@@ -4,12 +4,12 @@ use Rattle.std.proofs.lemmas.List.{get_or_default}
 use Rattle.segment_engine.specs.declared.apart.Watch.{Watch}
 use Rattle.segment_engine.proofs.apart.first_due.Goals as goal
 
-pub loop-k-preserved : goal.loop-k-preserved
-loop-k-preserved c =
-    let k = c.loop-k.k in
+pub loop-watch-preserved : goal.loop-watch-preserved
+loop-watch-preserved c =
+    let k = c.loop-watch.watch-index in
     let ws = c.args.watches.now in
-    let inv = c.loop-k.invariant in
-    let test = c.loop-k-test.true in
+    let inv = c.loop-watch.invariant in
+    let test = c.loop-watch-test.true in
     let is = c.min-due.ensures in
     let none : Watch = record { since = 0; until = 0; carrier = false } in
     record {

@@ -8,22 +8,22 @@ use Rattle.segment_engine.proofs.quiet.leap_receivers.Goals as goal
 
 pub leap_quiet-requires-clause-none : goal.leap_quiet-requires-clause-none
 leap_quiet-requires-clause-none c =
-    let k = c.loop-k.k in
-    let d = c.index-receivers-k.result in
-    let test = c.loop-k-test.true in
-    let same = c.loop-k.invariant.left k d (omega arith) in
-    let rest = c.requires.rest k d (omega (arith, test, c.loop-k.auto.receivers)) in
+    let k = c.loop-receiver.receiver-index in
+    let d = c.receiver-item.result in
+    let test = c.loop-receiver-test.true in
+    let same = c.loop-receiver.invariant.left k d (omega arith) in
+    let rest = c.requires.rest k d (omega (arith, test, c.loop-receiver.auto.receivers)) in
     subst (λ (x : KeptReception). x.halves ≡ 0) (sym same) rest
 
-pub loop-k-preserved : goal.loop-k-preserved
-loop-k-preserved c =
-    let k = c.loop-k.k in
-    let ks = c.loop-k.receivers in
-    let dk = c.index-receivers-k.result in
+pub loop-receiver-preserved : goal.loop-receiver-preserved
+loop-receiver-preserved c =
+    let k = c.loop-receiver.receiver-index in
+    let ks = c.loop-receiver.receivers in
+    let dk = c.receiver-item.result in
     let k' = c.leap_quiet.new.self in
-    let inv = c.loop-k.invariant in
-    let test = c.loop-k-test.true in
-    let h : k < length ks = omega (arith, test, c.loop-k.auto.receivers) in
+    let inv = c.loop-receiver.invariant in
+    let test = c.loop-receiver-test.true in
+    let h : k < length ks = omega (arith, test, c.loop-receiver.auto.receivers) in
     record {
       len = length-set ks k k' ∙ inv.len;
       done = λ q d r l hears. elim (cases_lt q k) [
@@ -43,7 +43,7 @@ loop-k-preserved c =
             let e : k ≡ q = omega (arith, l, now) in
             subst (λ z. (get_or (set ks k k') z d).steps ≡ c.args.t + c.args.count) e
             (ap (λ (x : KeptReception). x.steps) (get_or-set_same ks k k' d h) ∙ c.leap_quiet.ensures.steps
-            ∙ ap₂ ◌+◌ (ap (λ (x : KeptReception). x.steps) (inv.left k dk (omega arith)) ∙ c.requires.steps k dk (omega (arith, test, c.loop-k.auto.receivers))) c.from.ensures)
+            ∙ ap₂ ◌+◌ (ap (λ (x : KeptReception). x.steps) (inv.left k dk (omega arith)) ∙ c.requires.steps k dk (omega (arith, test, c.loop-receiver.auto.receivers))) c.from.ensures)
       ];
       left = λ q d l. get_or-set_other ks k q k' d (λ e. omega (arith, e, l)) ∙ inv.left q d (omega (arith, l));
     }

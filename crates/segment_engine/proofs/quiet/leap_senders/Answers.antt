@@ -9,24 +9,24 @@ use Rattle.segment_engine.proofs.quiet.leap_senders.Goals as goal
 
 pub leap-requires-clause-calm : goal.leap-requires-clause-calm
 leap-requires-clause-calm c =
-    let k = c.loop-k.k in
-    let d = c.index-senders-k.result in
-    let test = c.loop-k-test.true in
-    let same = c.loop-k.invariant.left k d (omega arith) in
-    let calm = (c.requires.calm k d (omega (arith, test, c.loop-k.auto.senders))).number in
+    let k = c.loop-sender.sender-index in
+    let d = c.sender-item.result in
+    let test = c.loop-sender-test.true in
+    let same = c.loop-sender.invariant.left k d (omega arith) in
+    let calm = (c.requires.calm k d (omega (arith, test, c.loop-sender.auto.senders))).number in
     let many = c.from.ensures in
     let enough : c.from.result ≤ calm_of (get_or c.args.senders.now k d) false = omega (arith, calm, many) in
     subst (λ (x : Sender). c.from.result ≤ calm_of x false) (sym same) enough
 
-pub loop-k-preserved : goal.loop-k-preserved
-loop-k-preserved c =
-    let k = c.loop-k.k in
-    let ss = c.loop-k.senders in
-    let ds = c.index-senders-k.result in
+pub loop-sender-preserved : goal.loop-sender-preserved
+loop-sender-preserved c =
+    let k = c.loop-sender.sender-index in
+    let ss = c.loop-sender.senders in
+    let ds = c.sender-item.result in
     let s' = c.leap.new.self in
-    let inv = c.loop-k.invariant in
-    let test = c.loop-k-test.true in
-    let h : k < length ss = omega (arith, test, c.loop-k.auto.senders) in
+    let inv = c.loop-sender.invariant in
+    let test = c.loop-sender-test.true in
+    let h : k < length ss = omega (arith, test, c.loop-sender.auto.senders) in
     let idle = replicate c.args.count Idle in
     record {
       len = length-set ss k s' ∙ inv.len;
@@ -42,7 +42,7 @@ loop-k-preserved c =
         | inl before ↦ ap (λ (x : Sender). x.t) (get_or-set_other ss k q s' d (λ e. omega (arith, e, before))) ∙ inv.stepped q d before
         | inr now ↦
             let e : k ≡ q = omega (arith, l, now) in
-            subst (λ z. (get_or (set ss k s') z d).t ≡ c.args.t + c.args.count) e (ap (λ (x : Sender). x.t) (get_or-set_same ss k s' d h) ∙ c.leap.ensures.time ∙ ap₂ ◌+◌ (ap (λ (x : Sender). x.t) (inv.left k ds (omega arith)) ∙ c.requires.times k ds (omega (arith, test, c.loop-k.auto.senders))) c.from.ensures)
+            subst (λ z. (get_or (set ss k s') z d).t ≡ c.args.t + c.args.count) e (ap (λ (x : Sender). x.t) (get_or-set_same ss k s' d h) ∙ c.leap.ensures.time ∙ ap₂ ◌+◌ (ap (λ (x : Sender). x.t) (inv.left k ds (omega arith)) ∙ c.requires.times k ds (omega (arith, test, c.loop-sender.auto.senders))) c.from.ensures)
       ];
       left = λ q d l. get_or-set_other ss k q s' d (λ e. omega (arith, e, l)) ∙ inv.left q d (omega (arith, l));
     }

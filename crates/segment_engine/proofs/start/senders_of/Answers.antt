@@ -5,17 +5,17 @@ use Rattle.network.specs.Attempts.{sender_at}
 use Rattle.segment_engine.proofs.Beginnings.{sender_new, map_more}
 use Rattle.segment_engine.proofs.start.senders_of.Goals as goal
 
-pub loop-i-preserved : goal.loop-i-preserved
-loop-i-preserved c =
+pub loop-station-preserved : goal.loop-station-preserved
+loop-station-preserved c =
     let plan = c.args.plan.now in
     let ks = c.args.stations.now in
-    let i = c.loop-i.i in
-    let h : i < length ks = omega (arith, c.loop-i-test.true) in
+    let i = c.loop-station.station-index in
+    let h : i < length ks = omega (arith, c.loop-station-test.true) in
     let k = get_or ks i 0 in
     let in_it : k < length plan.layout.stations = c.requires i 0 h in
-    let d = c.index-queues-k.result in
+    let d = c.index-queues-station.result in
     let queued = plan.queued in
-    let queue : c.in_ok-copy.field-0 ≡ get_or plan.queues k d = c.in_ok-copy.ensures ∙ c.index-queues-k.is ∙ ap (λ qs. get_or qs k d) c.as_slice-queues.ensures in
+    let queue : c.in_ok-copy.field-0 ≡ get_or plan.queues k d = c.in_ok-copy.ensures ∙ c.index-queues-station.is ∙ ap (λ qs. get_or qs k d) c.as_slice-queues.ensures in
     let same = get_or_default plan.queues k d [] (omega (arith, in_it, queued)) in
-    let now : c.new-in-loop-i.result ≡ sender_at plan k 0 = c.new-in-loop-i.ensures ∙ ap₂ new_sender (queue ∙ same) c.new.ensures ∙ sym (sender_new plan k in_it) in
-    map_more (λ j. sender_at plan j 0) ks i c.loop-i.senders.items c.push.new.self.items c.new-in-loop-i.result h c.loop-i.invariant now c.in_ok-push.ensures.items
+    let now : c.new-in-loop-station.result ≡ sender_at plan k 0 = c.new-in-loop-station.ensures ∙ ap₂ new_sender (queue ∙ same) c.new.ensures ∙ sym (sender_new plan k in_it) in
+    map_more (λ j. sender_at plan j 0) ks i c.loop-station.senders.items c.push.new.self.items c.new-in-loop-station.result h c.loop-station.invariant now c.in_ok-push.ensures.items

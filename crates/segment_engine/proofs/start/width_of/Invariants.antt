@@ -1,10 +1,10 @@
 use Rattle.std.proofs.Common.{ℕ, ◌<◌, ◌≤◌, get_or}
 use Rattle.segment_engine.proofs.start.width_of.Given as goal
 
--- the places below r are within these bounds
-abbrev pub invariant-loop-r : goal.invariant-loop-r
-invariant-loop-r l = record {
+-- the places so far are within these bounds
+abbrev pub invariant-loop-place : goal.invariant-loop-place
+invariant-loop-place l = record {
   high_fits : l.high < 4294967296;
-  least : (q : ℕ) → q < l.r → l.low ≤ get_or l.places q 0;
-  most : (q : ℕ) → q < l.r → get_or l.places q 0 ≤ l.high;
+  least : (q : ℕ) → q < l.place-index → l.low ≤ get_or l.places q 0;
+  most : (q : ℕ) → q < l.place-index → get_or l.places q 0 ≤ l.high;
 }

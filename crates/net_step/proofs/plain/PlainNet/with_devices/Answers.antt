@@ -6,7 +6,7 @@ use Rattle.mac_parameters.specs.Parameters.{greatest_place}
 use Rattle.quiet_state.specs.LastSignals.{reach_over, line_delays}
 use Rattle.net_step.specs.Wires.{new_wire, places_from}
 use Rattle.net_step.proofs.StandsForNet.{taps_near, few_taps}
-use Rattle.net_step.proofs.WholeNet.{whole_silent}
+use Rattle.net_step.proofs.WholeNet.{stations_within, whole_silent}
 use Rattle.network.proofs.RunnablePlans.{runnable_plan}
 use Rattle.net_step.proofs.plain.PlainNet.with_devices.Goals as goal
 
@@ -17,6 +17,11 @@ pub new_segments-requires-clause-near : goal.new_segments-requires-clause-near
 new_segments-requires-clause-near c =
     subst (All (λ (x : PortLine). x.at ≤ greatest_place)) (sym (c.deref.ensures.value ∙ c.in_ok-taps.ensures)) (taps_near c.args.plan.now.layout (runnable_plan c.args.plan.now))
 
+pub idle_symbols-requires : goal.idle_symbols-requires
+idle_symbols-requires c =
+    let within = stations_within c.args.plan.now.layout in
+    omega (arith, within, c.len.ensures, c.in_ok-taps.taps.ok.0, ap length c.in_ok-taps.ensures, c.len-count.ensures)
+
 pub places_of-requires : goal.places_of-requires
 places_of-requires c = omega (arith, few_taps c.args.plan.now.layout (runnable_plan c.args.plan.now), ap length (c.deref-2.ensures.value ∙ c.in_ok-taps.ensures))
 
@@ -26,30 +31,24 @@ invariant_of-result c =
     let l = plan.layout in
     let all : c.in_ok-taps.taps.items ≡ taps_of l = c.in_ok-taps.ensures in
     let many : length c.in_ok-taps.taps.items ≡ length (taps_of l) = ap length all in
-    let wires : c.in_ok-new_segments.field-0.items ≡ map (new_wire (taps_of l)) (range_with_len 0 (length l.segments)) = c.in_ok-new_segments.ensures ∙ ap₂ (λ n (ts : List PortLine). map (new_wire ts) (range_with_len 0 n)) c.len.ensures (c.deref.ensures.value ∙ all) in
+    let wires : c.in_ok-new_segments.field-0.items ≡ map (new_wire (taps_of l)) (range_with_len 0 (length l.segments)) = c.in_ok-new_segments.ensures ∙ ap₂ (λ n (ts : List PortLine). map (new_wire ts) (range_with_len 0 n)) c.len-3.ensures (c.deref.ensures.value ∙ all) in
     let places : c.in_ok-places_of.field-0.items ≡ places_from 0 (taps_of l) (taps_of l) = c.in_ok-places_of.ensures ∙ ap (λ ts. places_from 0 ts ts) (c.deref-2.ensures.value ∙ all) in
     let reaches : c.in_ok-new.field-0.reaches.items ≡ map (λ x. reach_over x (taps_of l)) (taps_of l) = c.in_ok-new.ensures.reaches ∙ ap (λ (ts : List PortLine). map (λ (x : PortLine). reach_over x ts) ts) (c.deref-3.ensures.value ∙ all) in
     let delays : c.in_ok-new.field-0.delays.items ≡ line_delays c.args.relays.items = c.in_ok-new.ensures.delays ∙ ap delays_of c.as_slice.ensures ∙ sym c.requires.delays in
-    let heard_len : length c.in_ok-vec.field-0.items ≡ length c.in_ok-taps.taps.items = search rules in
-    let heard : length c.in_ok-vec.field-0.items ≡ length (taps_of l) = heard_len ∙ many in
-    let emitted : length c.in_ok-vec-2.field-0.items ≡ length l.stations = search rules in
-    let ports_len : length c.in_ok-vec-3.field-0.items ≡ length c.in_ok-taps.taps.items - length l.stations = search rules in
-    let ports : length c.in_ok-vec-3.field-0.items ≡ length (taps_of l) - length l.stations = omega (arith, ports_len, many) in
-    let decided_len : length c.in_ok-vec-4.field-0.items ≡ length c.in_ok-taps.taps.items - length l.stations = search rules in
-    let decided : length c.in_ok-vec-4.field-0.items ≡ length (taps_of l) - length l.stations = omega (arith, decided_len, many) in
-    let row_len : length c.in_ok-vec-5.field-0.items ≡ length c.in_ok-taps.taps.items = search rules in
-    let row : length c.in_ok-vec-5.field-0.items ≡ length (taps_of l) = row_len ∙ many in
-    let sent : length c.in_ok-vec-6.field-0.items ≡ length l.stations = search rules in
-    let received : length c.in_ok-vec-7.field-0.items ≡ length l.stations = search rules in
-    let events : length c.in_ok-vec-8.field-0.items ≡ length c.args.relays.items = search rules in
+    let size = c.len.ensures ∙ c.in_ok-taps.taps.ok.0 ∙ many in
+    let count = c.len-count.ensures in
+    let made = c.in_ok-symbols.ensures in
+    let quiet = c.in_ok-events.ensures in
+    let ports = ap₂ (λ m n. m - n) size count in
     whole_silent plan _ _ _ _ _ _ _ _ _ (runnable_plan plan) (record { wires = wires; places = places; reaches = reaches; delays = delays; settled = c.in_ok-new.ensures.settled })
-    c.requires.senders c.requires.receivers c.requires.captures c.requires.ports heard emitted ports decided row sent received events c.requires.times c.requires.steps
+    c.requires.senders c.requires.receivers c.requires.captures c.requires.ports (made.heard ∙ size) (made.emitted ∙ count) (made.port_emitted ∙ ports) (made.decided ∙ ports) (made.row ∙ size)
+    (quiet.sent ∙ count) (quiet.received ∙ count) (quiet.repeaters ∙ c.len-2.ensures ∙ c.args.relays.ok.0) c.requires.times c.requires.steps
 
 pub returns-clause-silent : goal.returns-clause-silent
 returns-clause-silent c =
     let l = c.args.plan.now.layout in
     let all : c.in_ok-taps.taps.items ≡ taps_of l = c.in_ok-taps.ensures in
-    let wires : c.in_ok-new_segments.field-0.items ≡ map (new_wire (taps_of l)) (range_with_len 0 (length l.segments)) = c.in_ok-new_segments.ensures ∙ ap₂ (λ n (ts : List PortLine). map (new_wire ts) (range_with_len 0 n)) c.len.ensures (c.deref.ensures.value ∙ all) in
+    let wires : c.in_ok-new_segments.field-0.items ≡ map (new_wire (taps_of l)) (range_with_len 0 (length l.segments)) = c.in_ok-new_segments.ensures ∙ ap₂ (λ n (ts : List PortLine). map (new_wire ts) (range_with_len 0 n)) c.len-3.ensures (c.deref.ensures.value ∙ all) in
     let places : c.in_ok-places_of.field-0.items ≡ places_from 0 (taps_of l) (taps_of l) = c.in_ok-places_of.ensures ∙ ap (λ ts. places_from 0 ts ts) (c.deref-2.ensures.value ∙ all) in
     let reaches : c.in_ok-new.field-0.reaches.items ≡ map (λ x. reach_over x (taps_of l)) (taps_of l) = c.in_ok-new.ensures.reaches ∙ ap (λ (ts : List PortLine). map (λ (x : PortLine). reach_over x ts) ts) (c.deref-3.ensures.value ∙ all) in
     let delays : c.in_ok-new.field-0.delays.items ≡ line_delays c.args.relays.items = c.in_ok-new.ensures.delays ∙ ap delays_of c.as_slice.ensures ∙ sym c.requires.delays in
