@@ -43,8 +43,8 @@ fn all_of(symbols: &[Sym], one: Sym, twin: Sym) -> bool
     ensures { IsTrue result → (j : ℕ) → j < length symbols.now → class_of (slice_index_or symbols.now j Idle) ≡ class_of one }
 {
     let mut all = true;
-    for j in 0..symbols.len() {
-        all &= (symbols[j] == one) | (symbols[j] == twin);
+    for symbol in symbols {
+        all &= (*symbol == one) | (*symbol == twin);
     }
     all
 }

@@ -97,8 +97,7 @@ pub fn put_pieces(parcels: &mut [Parcel], k: usize, decided: &[Sym], sent: &[Sym
 pub fn turn_all(parcels: &mut [Parcel], stamp: u64)
     ensures { parcels.new ≡ map (turned_to_segment stamp) parcels.old }
 {
-    for p in 0..parcels.len() {
-        let parcel = &mut parcels[p];
+    for parcel in parcels.iter_mut() {
         parcel.window = stamp;
         parcel.to_repeater = false;
     }

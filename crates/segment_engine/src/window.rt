@@ -1,5 +1,5 @@
 //! A window of a segment.
-ghost use Rattle.std.specs.Prelude.{◌≡◌, ◌<◌, ◌≤◌, ◌+◌, ◌*◌, map};
+ghost use Rattle.std.specs.Prelude.{◌≡◌, ◌<◌, ◌≤◌, ◌+◌, ◌*◌, length, map};
 ghost use Rattle.mac_parameters.specs.Parameters.{most_half_bits};
 ghost use Rattle.net_parts.specs.Windows.{time};
 ghost use Rattle.net_parts.specs.SegmentParts.{wiring};
@@ -11,15 +11,18 @@ ghost use Rattle.window_room.specs.NeededRoom.{Covers, stations_demand};
 
 use crate::apart::go_apart;
 use crate::parcels::turn;
-use crate::quiet::{leap_quiet, quiet_half_bits};
+use crate::quiet::{is_sending, leap_quiet, quiet_half_bits};
 use crate::running::{Running, half_bit};
 use crate::segment::Segment;
 use crate::steady::{calm_ahead, leap_steady};
 use net_parts::Parcel;
 use tap_lines::{slide_all, take_in};
 
-/// The half bits that are told ahead at first, and after a piece that was cut.
-const FEW_AHEAD: u32 = 64;
+/// The half bits that are told ahead at first, and after a half bit in which a station didn't go on with what it emits.
+const FEW_AHEAD: u32 = 192;
+
+/// How many times as many are told ahead after a piece that stood as a whole.
+const MORE_AHEAD: u32 = 6;
 
 /// What came in for the ports in a window is put on their lines, and there is room for what the stations emit in it.
 fn begin(of: &Segment, window: u64, state: &mut Running, parcels: &[Parcel])
@@ -39,9 +42,23 @@ fn begin(of: &Segment, window: u64, state: &mut Running, parcels: &[Parcel])
     take_in(&mut state.lines, of.stations.len(), parcels);
 }
 
+/// How many half bits, at most `most`, are told ahead: at most `ahead` of them where a station sends.
+fn told_ahead(ahead: u32, most: u32, state: &Running) -> u32
+    ensures within { result ≤ most }
+    ensures piece { result ≤ length state.now.piece.items }
+{
+    let count = (most as usize).min(state.piece.len()) as u32;
+    for sender in &state.senders {
+        if is_sending(sender) {
+            return count.min(ahead);
+        }
+    }
+    count
+}
+
 /// Half bits of a window of a segment from half bit `k` on, from 0, at most `most`, in which each station hears what it
 /// was last said to hear, a signal or Idle, and goes on with what it does: what they emit is told ahead for at most
-/// `ahead` of them. It answers how many.
+/// `ahead` of them, where one sends. It answers how many.
 fn go_as_heard(
     of: &Segment,
     window: u64,
@@ -51,14 +68,13 @@ fn go_as_heard(
     state: &mut Running,
     parcels: &mut [Parcel],
 ) -> u32
-    requires some { 0 < most }
     requires stands { MayGoOnFor of.now window k most state.old parcels.old }
     requires room { Covers (stations_demand most state.old.senders.items state.old.receivers.items) state.old.room }
     ensures within { result ≤ most }
     ensures gone { HasGoneOn of.now window k result state.old state.new parcels.new }
 {
     let t = state.t;
-    let most = (most.min(ahead) as usize).min(state.piece.len()) as u32;
+    let most = told_ahead(ahead, most, state);
     let calm = calm_ahead(t, &state.heard, &state.senders, most);
     if calm == 0 {
         return 0;
@@ -66,63 +82,76 @@ fn go_as_heard(
     leap_steady(of, window, k, calm, state, parcels)
 }
 
-/// Half bits of a window of a segment from half bit `k` on, from 0, at most `most`, in which all stations go on with what
-/// they emit, each of them from one change of what it hears to the next: what they emit is told ahead for at most
-/// `ahead` of them. It answers how many.
+/// Half bits of a window of a segment from half bit `k` on, from 0, at least one and at most `most`: all stations go on
+/// with what they emit, each of them from one change of what it hears to the next, up to a half bit in which one of
+/// them doesn't, which is made too. What they emit is told ahead for at most `ahead` half bits where one sends: for
+/// more next time if all that was told stood. It answers how many.
 fn go_each(
     of: &Segment,
     window: u64,
     k: u32,
     most: u32,
-    ahead: u32,
-    state: &mut Running,
-    parcels: &mut [Parcel],
-) -> u32
-    requires stands { MayGoOnFor of.now window k most state.old parcels.old }
-    requires room { Covers (stations_demand most state.old.senders.items state.old.receivers.items) state.old.room }
-    ensures within { result ≤ most }
-    ensures gone { HasGoneOn of.now window k result state.old state.new parcels.new }
-{
-    let count = (most.min(ahead) as usize).min(state.piece.len()) as u32;
-    go_apart(of, window, k, count, state, parcels)
-}
-
-/// Half bits of a window of a segment from half bit `k` on, from 0, at most `most`, in which each station goes on with
-/// what it does: what they emit is told ahead for at most `ahead` of them. It answers how many. At the front of a
-/// window the stations mostly hear what they heard before, so that is tried first.
-fn go_steadily(
-    of: &Segment,
-    window: u64,
-    k: u32,
-    most: u32,
-    ahead: u32,
+    ahead: &mut u32,
     state: &mut Running,
     parcels: &mut [Parcel],
 ) -> u32
     requires some { 0 < most }
     requires stands { MayGoOnFor of.now window k most state.old parcels.old }
     requires room { Covers (stations_demand most state.old.senders.items state.old.receivers.items) state.old.room }
+    ensures some { 0 < result }
+    ensures within { result ≤ most }
+    ensures gone { HasGoneOn of.now window k result state.old state.new parcels.new }
+{
+    let count = told_ahead(*ahead, most, state);
+    let apart = go_apart(of, window, k, count, state, parcels);
+    if apart >= count.max(1) {
+        *ahead = ahead.saturating_mul(MORE_AHEAD);
+        return apart;
+    }
+    *ahead = FEW_AHEAD;
+    let _lookahead = of.lookahead;
+    let next = k + apart;
+    half_bit(of, window, next, state, parcels);
+    apart + 1
+}
+
+/// Half bits of a window of a segment from half bit `k` on, from 0, at least one and at most `most`, of which at most
+/// `ahead` are told ahead where a station sends. It answers how many. At the front of a window the stations mostly hear
+/// what they heard before, so that is tried first.
+fn go_steadily(
+    of: &Segment,
+    window: u64,
+    k: u32,
+    most: u32,
+    ahead: &mut u32,
+    state: &mut Running,
+    parcels: &mut [Parcel],
+) -> u32
+    requires some { 0 < most }
+    requires stands { MayGoOnFor of.now window k most state.old parcels.old }
+    requires room { Covers (stations_demand most state.old.senders.items state.old.receivers.items) state.old.room }
+    ensures some { 0 < result }
     ensures within { result ≤ most }
     ensures gone { HasGoneOn of.now window k result state.old state.new parcels.new }
 {
     if k > 0 {
         return go_each(of, window, k, most, ahead, state, parcels);
     }
-    let steady = go_as_heard(of, window, k, most, ahead, state, parcels);
+    let steady = go_as_heard(of, window, k, most, *ahead, state, parcels);
     if steady > 0 {
         return steady;
     }
     go_each(of, window, k, most, ahead, state, parcels)
 }
 
-/// Half bits of a window of a segment from half bit `k` on, from 0, at least one and at most `most`: as many as nothing
-/// happens in, of which at most `ahead` are told ahead, and else one. It answers how many.
+/// Half bits of a window of a segment from half bit `k` on, from 0, at least one and at most `most`: at first those in
+/// which nothing happens, if there are any. At most `ahead` are told ahead where a station sends. It answers how many.
 fn go_on(
     of: &Segment,
     window: u64,
     k: u32,
     most: u32,
-    ahead: u32,
+    ahead: &mut u32,
     state: &mut Running,
     parcels: &mut [Parcel],
 ) -> u32
@@ -138,22 +167,7 @@ fn go_on(
         leap_quiet(of, window, quiet, state);
         return quiet;
     }
-    let steady = go_steadily(of, window, k, most, ahead, state, parcels);
-    if steady > 0 {
-        return steady;
-    }
-    half_bit(of, window, k, state, parcels);
-    1
-}
-
-/// How many half bits are told ahead after `made` half bits were made where `ahead` were told: twice as many if all
-/// that were told stood, and else as few as at first.
-fn next_ahead(ahead: u32, made: u32) -> u32 {
-    if made < ahead {
-        FEW_AHEAD
-    } else {
-        ahead.saturating_mul(4)
-    }
+    go_steadily(of, window, k, most, ahead, state, parcels)
 }
 
 /// A window of a segment, which refills the parcels and turns them.
@@ -172,9 +186,7 @@ pub fn run(of: &Segment, window: u64, state: &mut Running, parcels: &mut [Parcel
     let mut ahead = FEW_AHEAD;
     let mut k = 0;
     while k < count {
-        let made = go_on(of, window, k, count - k, ahead, state, parcels);
-        ahead = next_ahead(ahead, made);
-        k += made;
+        k += go_on(of, window, k, count - k, &mut ahead, state, parcels);
     }
     turn(parcels, count as usize);
 }

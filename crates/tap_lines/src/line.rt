@@ -97,8 +97,8 @@ fn is_idle(piece: &[Sym]) -> bool
     ensures other { result ≡ false → piece.now ≢ replicate (length piece.now) Idle }
 {
     let mut all = true;
-    for j in 0..piece.len() {
-        all &= piece[j] == Sym::Idle;
+    for symbol in piece {
+        all &= *symbol == Sym::Idle;
     }
     all
 }
@@ -109,8 +109,8 @@ fn are_signals(piece: &[Sym]) -> bool
     ensures other { result ≡ false → ¬ ((j : ℕ) → j < length piece.now → is_signal_of (slice_index_or piece.now j Idle) ≡ true) }
 {
     let mut all = true;
-    for j in 0..piece.len() {
-        all &= piece[j] != Sym::Idle;
+    for symbol in piece {
+        all &= *symbol != Sym::Idle;
     }
     all
 }
@@ -352,8 +352,8 @@ impl Line {
             self.put(piece);
             return;
         }
-        for i in 0..piece.len() {
-            self.push(piece[i]);
+        for symbol in piece {
+            self.push(*symbol);
         }
     }
 

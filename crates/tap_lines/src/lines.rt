@@ -44,10 +44,10 @@ pub fn farthest(lines: &[Line], lookahead: u32) -> u64
     let mut low = u32::MAX;
     let mut high = 0;
     let mut longest = 0;
-    for r in 0..lines.len() {
-        low = low.min(lines[r].place());
-        high = high.max(lines[r].place());
-        longest = longest.max(lines[r].delay());
+    for line in lines {
+        low = low.min(line.place());
+        high = high.max(line.place());
+        longest = longest.max(line.delay());
     }
     let way = u64::from(high.saturating_sub(low)) + u64::from(longest);
     way.saturating_sub(u64::from(lookahead))
@@ -103,8 +103,8 @@ pub fn are_idle_from(lines: &[Line], u: u64) -> bool
     ensures idle { result ≡ true → AreIdleFrom u lines.now }
     ensures loud { result ≡ false → ¬ AreIdleFrom u lines.now }
 {
-    for r in 0..lines.len() {
-        if !lines[r].is_quiet_from(u) {
+    for line in lines {
+        if !line.is_quiet_from(u) {
             return false;
         }
     }
@@ -118,8 +118,8 @@ pub fn slide_all(lines: &mut [Line], room: usize)
     ensures { (r : ℕ) (d : TapLine) → r < length lines.new →
         slice_index_or lines.new r d ≡ slid room (slice_index_or lines.old r d) }
 {
-    for r in 0..lines.len() {
-        lines[r].slide(room);
+    for line in lines.iter_mut() {
+        line.slide(room);
     }
 }
 
@@ -132,8 +132,8 @@ pub fn pass_all(lines: &mut [Line], count: usize)
     ensures { (r : ℕ) (d : TapLine) → r < length lines.new →
         slice_index_or lines.new r d ≡ passed count (slice_index_or lines.old r d) }
 {
-    for r in 0..lines.len() {
-        lines[r].pass(count);
+    for line in lines.iter_mut() {
+        line.pass(count);
     }
 }
 

@@ -3,9 +3,9 @@ use Rattle.manchester_line.specs.declared.Sym.TheVariants.{Idle}
 use Rattle.manchester_line.specs.Line.{is_signal}
 use Rattle.tap_lines.proofs.line.are_signals.Given as goal
 
--- whether those below j are signals
-abbrev pub invariant-loop-j : goal.invariant-loop-j
-invariant-loop-j l = record {
-  signals : l.all ≡ true → (i : ℕ) → i < l.j → is_signal (slice_index_or l.piece i Idle) ≡ true;
-  other : l.all ≡ false → ¬ ((i : ℕ) → i < l.j → is_signal (slice_index_or l.piece i Idle) ≡ true);
+-- whether those before are signals
+abbrev pub invariant-loop-symbol : goal.invariant-loop-symbol
+invariant-loop-symbol l = record {
+  signals : l.all ≡ true → (i : ℕ) → i < l.symbol-index → is_signal (slice_index_or l.piece i Idle) ≡ true;
+  other : l.all ≡ false → ¬ ((i : ℕ) → i < l.symbol-index → is_signal (slice_index_or l.piece i Idle) ≡ true);
 }

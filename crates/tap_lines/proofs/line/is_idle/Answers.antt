@@ -7,6 +7,6 @@ pub returns-clause-idle : goal.returns-clause-idle
 returns-clause-idle c = λ yes.
     let xs = c.args.piece.now in
     let n = length xs in
-    let ended = c.loop-j-test.false in
+    let ended = c.loop-symbol-test.false in
     same_lists xs (replicate n Idle) (sym (length-replicate n Idle)) (λ j d h.
-    sym (get_or_default xs j Idle d h) ∙ c.loop-j.invariant.idle yes j (omega (arith, h, ended)) ∙ sym (get_or-replicate n j Idle d h))
+    sym (get_or_default xs j Idle d h) ∙ c.loop-symbol.invariant.idle yes j (omega (arith, h, ended)) ∙ sym (get_or-replicate n j Idle d h))

@@ -5,7 +5,7 @@ use Rattle.tap_lines.proofs.lines.are_idle_from.Goals as goal
 
 pub returns-then-not-is_quiet_from-clause-loud : goal.returns-then-not-is_quiet_from-clause-loud
 returns-then-not-is_quiet_from-clause-loud c = λ no all.
-    let r = c.loop-r.r in
-    let test = c.loop-r-test.true in
+    let r = c.loop-line.line-index in
+    let test = c.loop-line-test.true in
     let line : c.index-lines-r.result ≡ get_or c.args.lines.now r no_line = get_or_read c.args.lines.now r c.index-lines-r.result (omega (arith, test)) c.index-lines-r.is no_line in
     c.is_quiet_from.ensures.loud (search rules) (subst (IsIdleFrom c.args.u) (sym line) (λ v late. all r v (omega (arith, test)) late))
