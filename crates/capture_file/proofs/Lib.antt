@@ -1,3 +1,4 @@
 pub mod Walk
 pub mod Stream
+pub mod Joined
 pub mod Written

@@ -25,7 +25,7 @@ ended_open : (form : Form) (rs : List Record) (rest : List ℕ) → is_overlong 
 ended_open form rs rest h = rw h refl
 
 -- the records so far and the rest, with more octets after them
-joined : (form : Form) (rs : List Record) (octets piece : List ℕ) → walked form rs (octets ++ piece) ≡ walked form (rs ++ records_in form 0 octets) (rest_in form 0 octets ++ piece)
+pub joined : (form : Form) (rs : List Record) (octets piece : List ℕ) → walked form rs (octets ++ piece) ≡ walked form (rs ++ records_in form 0 octets) (rest_in form 0 octets ++ piece)
 unfolding walked
 joined form rs octets piece =
     let g = goes_on form octets piece in

@@ -1,5 +1,5 @@
 //! What a reader keeps of a capture that comes in pieces.
-ghost use Rattle.std.specs.Prelude.{◌≡◌, ◌+◌, ◌-◌, ◌*◌, ◌<◌, ◌≤◌, ◌++◌, false, List, IfOk, OnOk, OnErr, IsOk, length, take, drop};
+ghost use Rattle.std.specs.Prelude.{◌≡◌, ◌+◌, ◌-◌, ◌*◌, ◌<◌, ◌≤◌, ◌++◌, ℕ, false, List, IfOk, OnOk, OnErr, IsOk, IsTrue, length, take, drop};
 ghost use Rattle.capture_file.specs.Captures.{is_whole, records_in, rest_in};
 ghost use Rattle.capture_file.specs.Reading.{IsReadTo, failed, new_reading, read_on, walked};
 
@@ -116,6 +116,23 @@ fn last_of(alloc: Global, octets: &[u8], count: usize) -> Result<FrameOctets, Ou
     Ok(last)
 }
 
+/// How many octets of a piece belong to the record whose octets before the piece are these; all of them before the
+/// header is whole.
+fn lacking(stage: Stage, rest: &[u8], piece: &[u8]) -> usize
+    ensures { result ≤ length piece.now }
+{
+    let Stage::Entries(form) = stage else {
+        return piece.len();
+    };
+    let kept = rest.len().min(RECORD_OCTETS);
+    let lent = piece.len().min(RECORD_OCTETS - kept);
+    let mut head = [0; RECORD_OCTETS];
+    head[..kept].copy_from_slice(&rest[..kept]);
+    head[kept..kept + lent].copy_from_slice(&piece[..lent]);
+    let whole = RECORD_OCTETS.saturating_add(captured(form, &head));
+    whole.saturating_sub(rest.len()).min(piece.len())
+}
+
 impl Reading {
     /// Nothing has come yet.
     pub fn new(alloc: Global) -> Reading
@@ -139,7 +156,9 @@ impl Reading {
         }
     }
 
-    /// One more piece. On refusal there may be more records and octets.
+    /// One more piece. Of a record that was cut before it the piece's octets are joined to those that are kept, and what
+    /// comes after that record is read where it stands. On refusal there may be more records and octets.
+    #[tactic(auto, using(crate::proofs::Joined::front_of_front))]
     pub fn take_in(&mut self, alloc: Global, piece: &[u8]) -> Result<(), OutOfMemory>
         requires { 16 * length self.old.records + length self.old.rest + length piece.now ≤ 67108864 }
         ensures ok { OnOk result (self.new ≡ read_on self.old.stage self.old.records (self.old.rest ++ piece.now)) }
@@ -150,11 +169,42 @@ impl Reading {
         ensures rest { OnErr result (take (length self.old.rest) self.new.rest ≡ self.old.rest) }
     {
         if self.rest.len() == 0 {
-            let (stage, left) = read_on(alloc, self.stage, &mut self.records, piece)?;
-            self.rest = last_of(alloc, piece, left)?;
-            self.stage = stage;
-            return Ok(());
+            return self.take_from(alloc, piece);
         }
+        let behind = self.join(piece)?;
+        let whole = self.take_joined(alloc)?;
+        if whole {
+            return self.take_from(alloc, behind);
+        }
+        self.take_all(alloc, behind)
+    }
+
+    /// Goes on with these octets in place of the rest.
+    fn take_from(&mut self, alloc: Global, octets: &[u8]) -> Result<(), OutOfMemory>
+        requires { 16 * length self.old.records + length octets.now ≤ 67108864 }
+        ensures ok { OnOk result (self.new ≡ read_on self.old.stage self.old.records octets.now) }
+        ensures room { OnOk result (16 * length self.new.records + length self.new.rest ≤ 16 * length self.old.records + length octets.now) }
+        ensures few { OnOk result (length self.new.rest ≤ 262159) }
+        ensures stage { OnErr result (self.new.stage ≡ self.old.stage) }
+        ensures records { OnErr result (take (length self.old.records) self.new.records ≡ self.old.records) }
+        ensures rest { OnErr result (self.new.rest ≡ self.old.rest) }
+    {
+        let (stage, left) = read_on(alloc, self.stage, &mut self.records, octets)?;
+        self.rest = last_of(alloc, octets, left)?;
+        self.stage = stage;
+        Ok(())
+    }
+
+    /// Goes on with a piece behind the rest.
+    fn take_all(&mut self, alloc: Global, piece: &[u8]) -> Result<(), OutOfMemory>
+        requires { 16 * length self.old.records + length self.old.rest + length piece.now ≤ 67108864 }
+        ensures ok { OnOk result (self.new ≡ read_on self.old.stage self.old.records (self.old.rest ++ piece.now)) }
+        ensures room { OnOk result (16 * length self.new.records + length self.new.rest ≤ 16 * length self.old.records + length self.old.rest + length piece.now) }
+        ensures few { OnOk result (length self.new.rest ≤ 262159) }
+        ensures stage { OnErr result (self.new.stage ≡ self.old.stage) }
+        ensures records { OnErr result (take (length self.old.records) self.new.records ≡ self.old.records) }
+        ensures rest { OnErr result (take (length self.old.rest) self.new.rest ≡ self.old.rest) }
+    {
         self.rest.extend(piece)?;
         let octets = self.rest.as_slice();
         let (stage, left) = read_on(alloc, self.stage, &mut self.records, octets)?;
@@ -163,6 +213,45 @@ impl Reading {
         }
         self.stage = stage;
         Ok(())
+    }
+
+    /// Puts those octets of a piece that belong to the record in the rest behind the rest, and answers the others.
+    fn join<'a>(&mut self, piece: &'a [u8]) -> Result<&'a [u8], OutOfMemory>
+        ensures joined { IfOk result (λ behind. self.new.rest ++ behind.now ≡ self.old.rest ++ piece.now) }
+        ensures count { IfOk result (λ behind. length self.new.rest + length behind.now ≡ length self.old.rest + length piece.now) }
+        ensures rest { take (length self.old.rest) self.new.rest ≡ self.old.rest }
+        ensures records { self.new.records ≡ self.old.records }
+        ensures stage { self.new.stage ≡ self.old.stage }
+    {
+        let count = lacking(self.stage, self.rest.as_slice(), piece);
+        let (front, behind) = piece.split_at(count);
+        self.rest.extend(front)?;
+        Ok(behind)
+    }
+
+    /// Puts the record in the rest behind the others where the rest is just that whole record, and says whether it is.
+    #[tactic(auto, using(crate::proofs::Joined::joined_is))]
+    fn take_joined(&mut self, alloc: Global) -> Result<bool, OutOfMemory>
+        ensures joined { IfOk result (λ b. IsTrue b → (piece : List ℕ) →
+            read_on self.new.stage self.new.records piece ≡ read_on self.old.stage self.old.records (self.old.rest ++ piece)) }
+        ensures room { IfOk result (λ b. IsTrue b → 16 * length self.new.records ≤ 16 * length self.old.records + length self.old.rest) }
+        ensures none { IfOk result (λ b. b ≡ false → self.new.records ≡ self.old.records) }
+        ensures records { take (length self.old.records) self.new.records ≡ self.old.records }
+        ensures rest { self.new.rest ≡ self.old.rest }
+        ensures stage { self.new.stage ≡ self.old.stage }
+    {
+        let Stage::Entries(form) = self.stage else {
+            return Ok(false);
+        };
+        let octets = self.rest.as_slice();
+        if !is_whole(form, octets) {
+            return Ok(false);
+        }
+        if RECORD_OCTETS + captured(form, octets) < octets.len() {
+            return Ok(false);
+        }
+        self.records.push(record_at(alloc, form, octets)?)?;
+        Ok(true)
     }
 
     /// Drops what came after these records and octets.
