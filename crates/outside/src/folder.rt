@@ -5,30 +5,20 @@ ghost use Rattle.outside.specs.Folder.{read_faults_of, write_faults_of};
 use crate::failure::{Act, Failure};
 use crate::reads::{Reads, Unread, read_at};
 use crate::{Store, StoreFail};
-use lists::Text;
 use std::alloc::Global;
 use std::fs::OpenOptions;
 use std::io::Write;
 use std::rt::Files;
 use std::{fs, io};
 
-/// The file that was started last, with its name.
-#[derive(Drop)]
-struct Started<F: Drop> {
-    name: Text,
-    file: F,
-}
-
 /// The files of the system, by their paths. It tells no content, so a file that isn't there is `Failed`.
 /// One call of the system reads or writes; how much went is the answer, and the caller goes on. A file stays open while
-/// its reads go on in order, so that a pipe can be read, once; and the file that was started last stays open for what is
-/// appended. It keeps what failed first.
+/// its reads go on in order, so that a pipe can be read, once. It keeps what failed first.
 #[derive(Drop)]
 pub struct FolderStore<R: Files + Drop> {
     rt: R,
     alloc: Global,
     reads: Reads<R::File>,
-    started: Option<Started<R::File>>,
     read_faults: u64,
     write_faults: u64,
     first: Option<Failure>,
@@ -44,7 +34,6 @@ impl<R: Files + Drop> FolderStore<R> {
             rt,
             alloc,
             reads: Reads::new(alloc),
-            started: None,
             read_faults: 0,
             write_faults: 0,
             first: None,
@@ -73,20 +62,10 @@ fn keep(
     }
 }
 
-/// Writes once at the end of a file, which is open where it is the one that was started last.
-fn append_to<R: Files>(
-    rt: &R,
-    started: &mut Option<Started<R::File>>,
-    name: &str,
-    bytes: &[u8],
-) -> io::Result<usize>
+/// Writes once at the end.
+fn append_to<R: Files>(rt: &R, name: &str, bytes: &[u8]) -> io::Result<usize>
     ensures { IfOk result (λ n. n ≤ length bytes.now) }
 {
-    if let Some(open) = started {
-        if open.name.as_str() == name {
-            return open.file.write(bytes);
-        }
-    }
     let mut file = OpenOptions::new().append(true).open(rt, name)?;
     file.write(bytes)
 }
@@ -113,15 +92,8 @@ impl<R: Files + Drop> Store for FolderStore<R> {
     }
 
     fn start(&mut self, name: &str) -> Result<(), StoreFail> {
-        self.started = None;
         match fs::create(&self.rt, name) {
-            Ok(file) => {
-                // Without memory for its name it is opened anew for each piece.
-                if let Ok(name) = Text::new(self.alloc, name) {
-                    self.started = Some(Started { name, file });
-                }
-                Ok(())
-            }
+            Ok(_) => Ok(()),
             Err(error) => {
                 keep(&mut self.first, self.alloc, Act::Write, name, Some(error));
                 self.write_faults = self.write_faults.saturating_add(1);
@@ -131,7 +103,7 @@ impl<R: Files + Drop> Store for FolderStore<R> {
     }
 
     fn append(&mut self, name: &str, bytes: &[u8]) -> Result<usize, StoreFail> {
-        let error = match append_to(&self.rt, &mut self.started, name, bytes) {
+        let error = match append_to(&self.rt, name, bytes) {
             Ok(count) if count > 0 || bytes.is_empty() => return Ok(count),
             Ok(_) => None,
             Err(error) => Some(error),
