@@ -1,5 +1,5 @@
 -- A record that is put together from two pieces.
-use Rattle.std.proofs.Common.{◌≡◌, ℕ, ◌+◌, ◌≤◌, true, List, [], ◌∷◌, ◌++◌, length, take, drop, refl, sym, ap, ap₂, ◌∙◌, arith, length-take}
+use Rattle.std.proofs.Common.{◌≡◌, ℕ, ◌+◌, ◌≤◌, true, List, [], ◌∷◌, ◌++◌, length, take, sym, ap, ap₂, ◌∙◌, arith, length-take}
 use Rattle.std.proofs.lemmas.List.{drop_all, take-take}
 use Rattle.capture_file.specs.declared.entries.Record.{Record}
 use Rattle.capture_file.specs.declared.form.Form.{Form}
