@@ -15,8 +15,6 @@ from runs import Wrong, expect
 
 MOST_WORK = 20_000_000
 STATUSES = range(13)
-NAMES_READ = {"check": 1, "slack": 1, "plain": 1, "run": 1, "stop": 1, "resume": 1, "probe": 1, "waves": 1, "meter": 1,
-              "picture": 2}
 
 
 @dataclass

@@ -1,10 +1,12 @@
 //! Runs by windows, on more workers than there may be processors, beside the run half bit by half bit.
 ghost use Rattle.std.specs.Prelude.{◌≤◌};
+ghost use Rattle.layout.specs.Limits.{most_repeaters};
 
 use crate::entries::{Entries, is_run_watched};
-use case_support::plan_of;
+use case_support::{no_loads, plan_of};
+use demo_layout::demo;
 use lists::OutOfMemory;
-use load_plan::Plan;
+use load_plan::{Plan, make_plan};
 use net_step::run_plain;
 use network::Outputs;
 use repeater_engine::RepeaterPart;
@@ -84,6 +86,36 @@ fn workers_answer_as_one_thread_does(rt: HostRuntime) -> Result<(), Fail> {
     let plan = plan_of(rt.alloc(), FIVE_SEGMENTS)?;
     let plain = run_plain(rt.alloc(), &plan)?;
     assert!(rt; are_answered(&rt, rt.alloc(), &plan, &plain)?);
+    Ok(())
+}
+
+/// The plan of the layout of demo of a number.
+fn plan_of_demo(alloc: Global, number: u32) -> Result<Plan, OutOfMemory>
+    requires least { 1 ≤ number }
+    requires most { number ≤ most_repeaters }
+{
+    let layout = demo(alloc, number)?;
+    let loads = no_loads(alloc, layout.stations.len())?;
+    make_plan(alloc, layout, loads)
+}
+
+/// Whether two workers make a run of a plan of so many parts that is begun once: none is missed when they are gathered.
+fn is_begun_once<X: Threads + Wait + Sync>(
+    rt: &X,
+    alloc: Global,
+    plan: &Plan,
+    parts: usize,
+) -> Result<bool, OutOfMemory> {
+    let entries = Entries::new(alloc, parts)?;
+    run_by_windows(rt, alloc, plan, 2, &entries)?;
+    Ok(entries.are_whole())
+}
+
+/// 65 segments and 64 repeaters.
+#[test]
+fn parts_of_a_large_network_are_gathered(rt: HostRuntime) -> Result<(), Fail> {
+    let plan = plan_of_demo(rt.alloc(), 64)?;
+    assert!(rt; is_begun_once(&rt, rt.alloc(), &plan, 129)?);
     Ok(())
 }
 
