@@ -7,5 +7,5 @@ pub returns-then-not-is_quiet_from-clause-loud : goal.returns-then-not-is_quiet_
 returns-then-not-is_quiet_from-clause-loud c = λ no all.
     let r = c.loop-line.line-index in
     let test = c.loop-line-test.true in
-    let line : c.index-lines-r.result ≡ get_or c.args.lines.now r no_line = get_or_read c.args.lines.now r c.index-lines-r.result (omega (arith, test)) c.index-lines-r.is no_line in
+    let line : c.line-item.result ≡ get_or c.args.lines.now r no_line = get_or_read c.args.lines.now r c.line-item.result (omega (arith, test)) c.line-item.is no_line in
     c.is_quiet_from.ensures.loud (search rules) (subst (IsIdleFrom c.args.u) (sym line) (λ v late. all r v (omega (arith, test)) late))
