@@ -1,4 +1,4 @@
-use Rattle.std.proofs.Common.{◌∙◌, ap}
+use Rattle.std.proofs.Common.{◌∙◌}
 use Rattle.std.proofs.Math.Seq.{map-set_same}
 use Rattle.worker_gate.proofs.worker.turn_all.Goals as goal
 
@@ -8,6 +8,6 @@ loop-kit-preserved g c =
     let i = c.loop-kit.kit-index in
     let kit = c.kit-item.result in
     let new = c.turn-goes.new.self in (
-      map-set_same (λ k. k.windows) kits i new kit (c.turn-goes.ensures.windows ∙ ap (λ k. k.windows) c.kit-item.is) ∙ c.loop-kit.invariant.0,
-      map-set_same (λ k. k.duties) kits i new kit (c.turn-goes.ensures.duties ∙ ap (λ k. k.duties) c.kit-item.is) ∙ c.loop-kit.invariant.1,
+      map-set_same (λ k. k.windows) kits i new kit c.turn-goes.ensures.windows ∙ c.loop-kit.invariant.0,
+      map-set_same (λ k. k.duties) kits i new kit c.turn-goes.ensures.duties ∙ c.loop-kit.invariant.1,
     )
