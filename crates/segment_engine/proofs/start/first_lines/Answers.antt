@@ -1,8 +1,8 @@
-use Rattle.std.proofs.Common.{◌≡◌, ◌<◌, List, All, length, sym, subst, ap, ◌∙◌, arith, rules}
+use Rattle.std.proofs.Common.{◌≡◌, ◌<◌, ℕ, List, All, length, sym, subst, ap, ◌∙◌, arith, rules}
 use Rattle.std.proofs.lemmas.Result.{IfOk-weaker}
 use Rattle.load_plan.specs.declared.plan.Plan.{Plan}
 use Rattle.network.specs.Times.{port_delays}
-use Rattle.network.specs.TapsOnSegments.{positions_on}
+use Rattle.layout.specs.Taps.{positions_on}
 use Rattle.net_parts.specs.Windows.{lookahead}
 use Rattle.net_parts.specs.SegmentParts.{Wiring, wiring}
 use Rattle.segment_engine.specs.NewLines.{AreNewLines}
