@@ -68,6 +68,7 @@ fn go_as_heard(
     state: &mut Running,
     parcels: &mut [Parcel],
 ) -> u32
+    requires some { 0 < most }
     requires stands { MayGoOnFor of.now window k most state.old parcels.old }
     requires room { Covers (stations_demand most state.old.senders.items state.old.receivers.items) state.old.room }
     ensures within { result ≤ most }

@@ -51,10 +51,10 @@ loop-k-init c =
 pub loop-k-preserved : goal.loop-k-preserved
 loop-k-preserved c =
     let k = c.loop-k.k in
-    let n = c.go_on.result in
+    let n = c.go_on-k.result in
     let a = c.loop-k.state in
     let inv = c.loop-k.invariant in
-    let one = c.go_on.ensures in
+    let one = c.go_on-k.ensures in
     let made = one.within in
     let in_it = inv.within in
     let count = c.min-count.result in
