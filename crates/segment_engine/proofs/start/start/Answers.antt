@@ -34,7 +34,7 @@ returns-clause-at c =
     let long : c.args.of.now.lookahead ≡ lookahead plan.layout = c.args.of.now.window_length ∙ ap (λ (p : Plan). lookahead p.layout) c.requires in
     let sized = ap length numbers in
     let count : c.len-stations.result ≡ length w.stations = let n = c.len-stations.ensures in omega (arith, n, sized) in
-    let taps : c.len.result ≡ length c.in_ok-lines.lines.items = c.len.ensures in
+    let taps : c.len.result ≡ length c.in_ok-lines.lines.items = search rules in
     let room = c.in_ok-room.ensures in
     let P : List Row → Type 0 = λ rows. AreStationsAt plan w.stations 0 c.in_ok-senders.senders.items c.in_ok-receivers.receivers.items rows c.in_ok-room.room.captures in
     record {
