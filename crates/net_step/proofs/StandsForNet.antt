@@ -23,7 +23,7 @@ use Rattle.repeater_core.specs.Step.{RepeaterDevice, after, decided_by, emitted_
 use Rattle.network.specs.declared.outputs.Taken.{Taken}
 use Rattle.net_step.specs.declared.places.TapOnSegment.{TapOnSegment}
 use Rattle.network.specs.Hearing.{heard_of, heard_by}
-use Rattle.layout.specs.Taps.{taps_of, tap_of, positions_on}
+use Rattle.layout.specs.Taps.{delays_of, taps_of, tap_of, positions_on}
 use Rattle.network.specs.Net.{Net, next, emitted_before, heard_in, stations_hear, ports_hear, sendings, sendings_in, emitted_in, decided_in, receptions, each_repeater}
 use Rattle.mac_parameters.specs.Parameters.{greatest_place, most_ports}
 use Rattle.network.specs.Captures.{captured}
@@ -289,9 +289,9 @@ is_new_wire all s = record { positions = refl; taps = refl; ahead = refl; window
 
 -- what is kept of a network in which nothing was emitted or decided
 pub stands_silent : (plan : Plan) (n : Net) (k : KeptNet) → n.taps ≡ taps_of plan.layout → n.emitted ≡ [] → n.decided ≡ [] →
-    All (λ x. x.at ≤ greatest_place) (taps_of plan.layout) → All (λ x. x.segment < length plan.layout.segments) (taps_of plan.layout) → IsSilentNet plan k →
+    All (λ x. x.at ≤ greatest_place) (taps_of plan.layout) → All (λ x. x.segment < length plan.layout.segments) (taps_of plan.layout) → line_delays n.repeaters ≡ delays_of plan.layout.repeaters → IsSilentNet plan k →
     k.t ≡ n.t → k.senders ≡ n.senders → AllHear n.receivers k.receivers → k.repeaters ≡ n.repeaters → k.rows ≡ n.rows → k.captures ≡ n.captures → Stands n k
-stands_silent plan n k taps emitted decided near on silent time senders receivers repeaters rows captures =
+stands_silent plan n k taps emitted decided near on lines silent time senders receivers repeaters rows captures =
     let all = taps_of plan.layout in
     let m = length plan.layout.segments in
     let size : length k.wires ≡ m = ap length silent.wires ∙ length-map-range_with_len (new_wire all) 0 m in
@@ -309,7 +309,7 @@ stands_silent plan n k taps emitted decided near on silent time senders receiver
       told = subst (λ (ts : List PortLine). (back q : ℕ) (d : PortLine) → back ≤ greatest_place → q < length ts → told_at (wire_at k.wires (get_or ts q d).segment).cable back (count_on (get_or ts q d).segment (take q ts)) ≡ emitted_before n.emitted back q) (sym taps)
           (subst (λ (h : List (List Sym)). (back q : ℕ) (d : PortLine) → back ≤ greatest_place → q < length all → told_at (wire_at k.wires (get_or all q d).segment).cable back (count_on (get_or all q d).segment (take q all)) ≡ emitted_before h back q) (sym emitted) (silent_told plan k on silent));
       reaches = silent.reaches ∙ ap (λ (ts : List PortLine). map (λ (x : PortLine). reach_over x ts) ts) (sym taps);
-      delays = silent.delays ∙ ap line_delays repeaters;
+      delays = silent.delays ∙ sym lines;
       settled = λ t. subst (λ (ds : List (List Sym)). (k.settled ≤ t) ↔ AllOver t n.t k.reaches k.delays n.emitted ds) (sym decided) (subst (λ (es : List (List Sym)). (k.settled ≤ t) ↔ AllOver t n.t k.reaches k.delays es []) (sym emitted) (settled_first k.settled n.t k.reaches k.delays silent.settled t));
     }
   where

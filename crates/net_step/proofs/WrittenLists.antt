@@ -13,4 +13,4 @@ pub still_many : {X Z : Type 0} (v : Vec X Z) (old new seen : List X) (n : ℕ) 
 still_many v old new seen n kept is sees many = ap length (sees ∙ written_over v old new kept is) ∙ kept ∙ ap length is ∙ many
 
 pub same_items : {X Z : Type 0} (v w : Vec X Z) → v ≡ w → v.items ≡ w.items
-same_items v w e = ap (λ (x : Vec X Z). x.items) e
+same_items {X = X} {Z = Z} v w e = ap (λ (x : Vec X Z). x.items) e

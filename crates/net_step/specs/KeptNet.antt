@@ -10,7 +10,7 @@ use Rattle.collision_log.specs.declared.row.Body.TheVariants.{Received}
 use Rattle.collision_log.specs.declared.row.Row.{Row}
 use Rattle.cable_segment.specs.Cable.{told_at}
 use Rattle.layout.specs.declared.lines.PortLine.{PortLine}
-use Rattle.layout.specs.Taps.{taps_of, positions_on}
+use Rattle.layout.specs.Taps.{delays_of, taps_of, positions_on}
 use Rattle.load_plan.specs.declared.plan.Plan.{Plan}
 use Rattle.mac_transmit.specs.Sender.{Sender, SendOutcome}
 use Rattle.mac_receive.specs.Receiver.{Receiving, Reception}
@@ -183,7 +183,7 @@ pub record IsSilentNet (plan : Plan) (k : KeptNet) : Type 0 where
   pub wires : k.wires ≡ map (new_wire (taps_of plan.layout)) (range_with_len 0 (length plan.layout.segments))
   pub places : k.places ≡ places_from 0 (taps_of plan.layout) (taps_of plan.layout)
   pub reaches : k.reaches ≡ map (λ x. reach_over x (taps_of plan.layout)) (taps_of plan.layout)
-  pub delays : k.delays ≡ line_delays k.repeaters
+  pub delays : k.delays ≡ delays_of plan.layout.repeaters
   pub settled : k.settled ≡ 0
 
 -- There is a sender and a receiver for each station, the lists of a half bit, of these lengths, have one entry for each

@@ -208,7 +208,6 @@ fn tap_number(stations: usize, relays: &[Relay], device: usize, port: usize) -> 
 impl PlainNet {
     ghost use Rattle.std.specs.Prelude.{◌≡◌, ◌<◌, ◌≤◌, ◌+◌, ◌-◌, ◌^◌, ◌++◌, ◌↔◌, ℕ, length, map, All, OnOk, IfOk, IsTrue, slice_index_or};
     ghost use Rattle.mac_parameters.specs.Parameters.{most_half_bits};
-    ghost use Rattle.layout.specs.Taps.{delays_of};
     ghost use Rattle.load_plan.specs.declared.plan.Plan.{Plan};
     ghost use Rattle.mac_transmit.specs.Sender.{Sender};
     ghost use Rattle.repeater_core.specs.Counts.{resting_count};
@@ -218,7 +217,7 @@ impl PlainNet {
     ghost use Rattle.network.specs.Outputs.{cut_rows};
     ghost use Rattle.net_step.specs.CalmNets.{IsCalmNet, IsSilentHalfBit};
     ghost use Rattle.net_step.specs.KeptNet.{IsNextKept, IsSilentNet, Stands, IsKeptTap, kept_tap_number};
-    ghost use Rattle.quiet_state.specs.LastSignals.{IsQuietAsKept, line_delays};
+    ghost use Rattle.quiet_state.specs.LastSignals.{IsQuietAsKept};
     ghost use Rattle.quiet_state.specs.PlanStates.{IsResumable};
     ghost use Rattle.quiet_state.specs.Resumed.{captures_to, later_net, net_of, net_state, rows_to};
 
@@ -235,7 +234,6 @@ impl PlainNet {
         requires receivers { length stations.1.items ≡ length plan.now.layout.stations }
         requires captures { length logs.1.items ≡ length plan.now.layout.stations }
         requires ports { map (λ r. length r.guards) relays.items ≡ map (λ r. length r.ports) plan.now.layout.repeaters }
-        requires delays { line_delays relays.items ≡ delays_of plan.now.layout.repeaters }
         requires times { All (λ s. s.t ≡ t) stations.0.items }
         requires steps { All (λ r. r.steps ≡ t) stations.1.items }
         ensures silent { IfOk result (λ made. IsSilentNet plan.now made) }

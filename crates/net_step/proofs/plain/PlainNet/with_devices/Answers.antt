@@ -3,7 +3,7 @@ use Rattle.std.specs.List.{range_with_len}
 use Rattle.layout.specs.declared.lines.PortLine.{PortLine}
 use Rattle.layout.specs.Taps.{delays_of, taps_of}
 use Rattle.mac_parameters.specs.Parameters.{greatest_place}
-use Rattle.quiet_state.specs.LastSignals.{reach_over, line_delays}
+use Rattle.quiet_state.specs.LastSignals.{reach_over}
 use Rattle.net_step.specs.Wires.{new_wire, places_from}
 use Rattle.net_step.proofs.StandsForNet.{taps_near, few_taps}
 use Rattle.net_step.proofs.WholeNet.{stations_within, whole_silent}
@@ -34,7 +34,7 @@ invariant_of-result c =
     let wires : c.in_ok-new_segments.field-0.items ≡ map (new_wire (taps_of l)) (range_with_len 0 (length l.segments)) = c.in_ok-new_segments.ensures ∙ ap₂ (λ n (ts : List PortLine). map (new_wire ts) (range_with_len 0 n)) c.len-3.ensures (c.deref.ensures.value ∙ all) in
     let places : c.in_ok-places_of.field-0.items ≡ places_from 0 (taps_of l) (taps_of l) = c.in_ok-places_of.ensures ∙ ap (λ ts. places_from 0 ts ts) (c.deref-2.ensures.value ∙ all) in
     let reaches : c.in_ok-new.field-0.reaches.items ≡ map (λ x. reach_over x (taps_of l)) (taps_of l) = c.in_ok-new.ensures.reaches ∙ ap (λ (ts : List PortLine). map (λ (x : PortLine). reach_over x ts) ts) (c.deref-3.ensures.value ∙ all) in
-    let delays : c.in_ok-new.field-0.delays.items ≡ line_delays c.args.relays.items = c.in_ok-new.ensures.delays ∙ ap delays_of c.as_slice.ensures ∙ sym c.requires.delays in
+    let delays : c.in_ok-new.field-0.delays.items ≡ delays_of l.repeaters = c.in_ok-new.ensures.delays ∙ ap delays_of c.as_slice.ensures in
     let size = c.len.ensures ∙ c.in_ok-taps.taps.ok.0 ∙ many in
     let count = c.len-count.ensures in
     let made = c.in_ok-symbols.ensures in
@@ -51,5 +51,5 @@ returns-clause-silent c =
     let wires : c.in_ok-new_segments.field-0.items ≡ map (new_wire (taps_of l)) (range_with_len 0 (length l.segments)) = c.in_ok-new_segments.ensures ∙ ap₂ (λ n (ts : List PortLine). map (new_wire ts) (range_with_len 0 n)) c.len-3.ensures (c.deref.ensures.value ∙ all) in
     let places : c.in_ok-places_of.field-0.items ≡ places_from 0 (taps_of l) (taps_of l) = c.in_ok-places_of.ensures ∙ ap (λ ts. places_from 0 ts ts) (c.deref-2.ensures.value ∙ all) in
     let reaches : c.in_ok-new.field-0.reaches.items ≡ map (λ x. reach_over x (taps_of l)) (taps_of l) = c.in_ok-new.ensures.reaches ∙ ap (λ (ts : List PortLine). map (λ (x : PortLine). reach_over x ts) ts) (c.deref-3.ensures.value ∙ all) in
-    let delays : c.in_ok-new.field-0.delays.items ≡ line_delays c.args.relays.items = c.in_ok-new.ensures.delays ∙ ap delays_of c.as_slice.ensures ∙ sym c.requires.delays in
+    let delays : c.in_ok-new.field-0.delays.items ≡ delays_of l.repeaters = c.in_ok-new.ensures.delays ∙ ap delays_of c.as_slice.ensures in
     record { wires = wires; places = places; reaches = reaches; delays = delays; settled = c.in_ok-new.ensures.settled }
