@@ -1,4 +1,4 @@
-use Rattle.std.proofs.Common.{◌≡◌, length, map, refl, sym, subst, ap, ◌∙◌}
+use Rattle.std.proofs.Common.{length, map, refl, sym, subst, ap, ◌∙◌}
 use Rattle.repeater_core.specs.Step.{RepeaterDevice}
 use Rattle.network.proofs.RunnablePlans.{runnable_plan}
 use Rattle.quiet_state.specs.Resumed.{net_of}

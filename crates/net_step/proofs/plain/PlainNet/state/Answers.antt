@@ -1,4 +1,4 @@
-use Rattle.std.proofs.Common.{◌≡◌, sym, subst, ◌∙◌}
+use Rattle.std.proofs.Common.{sym, subst, ◌∙◌}
 use Rattle.net_step.specs.KeptNet.{Stands}
 use Rattle.net_step.proofs.plain.PlainNet.state.Goals as goal
 

@@ -1,4 +1,4 @@
-use Rattle.std.proofs.Common.{◌≡◌, length, sym, ap, ◌∙◌}
+use Rattle.std.proofs.Common.{length, sym, ap, ◌∙◌}
 use Rattle.repeater_core.specs.Step.{RepeaterDevice}
 use Rattle.net_step.proofs.SilentRelays.{same_counts}
 use Rattle.net_step.proofs.relay.Relay.leap.Goals as goal
