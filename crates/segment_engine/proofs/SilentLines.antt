@@ -1,5 +1,5 @@
 -- The lines of a segment on which nothing happens, over half bits in which nothing but Idle comes in for its ports.
-use Rattle.std.proofs.Common.{◌≡◌, ℕ, zero, suc, ◌+◌, ◌-◌, ◌<◌, ◌≤◌, min, cond, leb, inl, inr, All, List, [], ◌∷◌, ◌++◌, map, drop, length, length-append, replicate, get_or, refl, sym, subst, ap, ap₂, ◌∙◌, arith}
+use Rattle.std.proofs.Common.{◌≡◌, ℕ, zero, suc, ◌+◌, ◌-◌, ◌<◌, ◌≤◌, min, cond, leb, inl, inr, List, [], ◌∷◌, ◌++◌, map, drop, length, length-append, replicate, get_or, refl, sym, subst, ap, ap₂, ◌∙◌, arith}
 use Rattle.std.proofs.lemmas.List.{get_or-map, length-map, length-drop, length-replicate, drop_all}
 use Rattle.std.proofs.lemmas.Grind.{same_number_lists}
 use Rattle.std.proofs.lemmas.Bool.{cases_lt}
@@ -14,7 +14,7 @@ use Rattle.net_parts.specs.Windows.{lookahead}
 use Rattle.tap_lines.specs.TapLines.{TapLine, no_line, symbol_on, line_extended, dropped_from, passed, AreIdleFrom, IsReachOf}
 use Rattle.segment_engine.specs.declared.running.Running.{Running}
 use Rattle.segment_engine.specs.PartStates.{IsLineOf, AreLinesAt}
-use Rattle.segment_engine.specs.QuietHalfBits.{IsCalmFor, IsQuietFor, ComeInIdle, GoOutIdle}
+use Rattle.segment_engine.specs.QuietHalfBits.{IsQuietFor, ComeInIdle, GoOutIdle}
 use Rattle.segment_engine.specs.RunningStates.{IsRunningAt}
 use Rattle.segment_engine.proofs.HeldLines.{line_more, line_size, line_later, dropped_line}
 use Rattle.segment_engine.proofs.LinesHear.{same_reach}

@@ -1,10 +1,9 @@
 -- A segment that stands at a window, and the windows after it in which nothing happens.
-use Rattle.std.proofs.Common.{◌≡◌, ℕ, true, ◌+◌, ◌*◌, ◌/◌, ◌<◌, ◌≤◌, min, List, length, sym, subst, ap, ◌∙◌, arith, mul-le-mul_right}
+use Rattle.std.proofs.Common.{◌≡◌, ℕ, true, ◌+◌, ◌*◌, ◌/◌, ◌<◌, ◌≤◌, min, length, sym, subst, ap, ◌∙◌, arith, mul-le-mul_right}
 use Rattle.std.proofs.lemmas.Bool.Decides.{nat_tests}
 use Rattle.std.proofs.lemmas.Nat.{div-add-mod'}
 use Rattle.mac_parameters.specs.Parameters.{most_half_bits}
 use Rattle.load_plan.specs.declared.plan.Plan.{Plan}
-use Rattle.network.specs.Outputs.{half_bits}
 use Rattle.network.proofs.RunnablePlans.{runnable_plan}
 use Rattle.net_parts.specs.Parts.{is_segment_part, edges_of_part, edges_of_kind}
 use Rattle.net_parts.specs.SegmentParts.{wiring}

@@ -4,7 +4,7 @@ use Rattle.load_plan.specs.declared.plan.Plan.{Plan}
 use Rattle.network.specs.Times.{port_delays}
 use Rattle.layout.specs.Taps.{positions_on}
 use Rattle.net_parts.specs.Windows.{lookahead}
-use Rattle.net_parts.specs.SegmentParts.{Wiring, wiring}
+use Rattle.net_parts.specs.SegmentParts.{wiring}
 use Rattle.segment_engine.specs.NewLines.{AreNewLines}
 use Rattle.segment_engine.proofs.Beginnings.{edges_within, taps_many, lines_new}
 use Rattle.segment_engine.proofs.start.first_lines.Goals as goal

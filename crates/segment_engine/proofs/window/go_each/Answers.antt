@@ -1,5 +1,4 @@
-use Rattle.std.proofs.Common.{◌≡◌, ◌+◌, ◌≤◌, subst, arith}
-use Rattle.window_room.specs.NeededRoom.{Covers, stations_demand}
+use Rattle.std.proofs.Common.{◌+◌, ◌≤◌, arith}
 use Rattle.segment_engine.proofs.WindowParcels.{covers_fewer}
 use Rattle.segment_engine.proofs.Strides.{may_fewer, may_still, gone_in_all}
 use Rattle.segment_engine.proofs.window.go_each.Goals as goal
