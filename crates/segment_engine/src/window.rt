@@ -110,7 +110,6 @@ fn go_each(
         return apart;
     }
     *ahead = FEW_AHEAD;
-    let _lookahead = of.lookahead;
     let next = k + apart;
     half_bit(of, window, next, state, parcels);
     apart + 1
