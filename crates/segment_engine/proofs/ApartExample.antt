@@ -1,7 +1,7 @@
 -- An example of two stations that go on one by one: one at rest, which hears Idle from half bit 7 on, and one that
 -- stands before half bit 9, with three half bits of a reception. Of two taps 3 half bits apart, the second emits one
 -- signal, in half bit 1.
-use Rattle.std.proofs.Common.{◌≡◌, ℕ, Bool, true, false, ◌<◌, ◌≤◌, List, [], ◌∷◌, get_or, refl, sym, arith}
+use Rattle.std.proofs.Common.{◌≡◌, ℕ, Bool, true, false, ◌≤◌, List, [], ◌∷◌, get_or, refl, sym, arith}
 use Rattle.std.proofs.lemmas.Bool.{false≢true}
 use Rattle.manchester_line.specs.declared.Sym.TheVariants.{Idle, Hi}
 use Rattle.manchester_line.specs.Decoding.{new_decoding}
@@ -10,7 +10,6 @@ use Rattle.load_plan.specs.declared.plan.Plan.{Plan}
 use Rattle.mac_receive.specs.KeptReceiver.{KeptReception}
 use Rattle.mac_transmit.specs.Sender.{Sender, new_sender}
 use Rattle.tap_lines.specs.TapLines.{TapLine}
-use Rattle.window_room.specs.NeededRoom.{Demand}
 use Rattle.window_room.specs.Rooms.{Room}
 use Rattle.segment_engine.specs.declared.apart.Watch.{Watch}
 use Rattle.segment_engine.specs.StationsApart.{StandsBehind, IsStillBy, EndsAt, CoversApart, behind_demand, first_demands}
