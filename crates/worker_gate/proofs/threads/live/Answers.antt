@@ -9,14 +9,14 @@ f_of_one f old new x same is = sym (get_or-map f new 0 x) ∙ ap (λ ms. get_or 
 
 pub returns-clause-windows : goal.returns-clause-windows
 returns-clause-windows g c = elim c.if-not-is_refused.branch [
-    | then-not-is_refused w ↦ ap (λ k. k.windows) w.kit-is
-        ∙ f_of_one (λ k. k.windows) w.from_mut.result.now w.work.new.kits c.args.kit w.work.ensures.windows w.from_mut.ensures.value
-    | else-not-is_refused w ↦ ap (λ k. k.windows) w.kit-is
-  ]
+  | then-not-is_refused w ↦ ap (λ k. k.windows) w.kit-is
+      ∙ f_of_one (λ k. k.windows) w.from_mut.result.now w.work.new.kits c.args.kit w.work.ensures.windows w.from_mut.ensures.value
+  | else-not-is_refused w ↦ ap (λ k. k.windows) w.kit-is
+]
 
 pub returns-clause-duties : goal.returns-clause-duties
 returns-clause-duties g c = elim c.if-not-is_refused.branch [
-    | then-not-is_refused w ↦ ap (λ k. k.duties) w.kit-is
-        ∙ f_of_one (λ k. k.duties) w.from_mut.result.now w.work.new.kits c.args.kit w.work.ensures.duties w.from_mut.ensures.value
-    | else-not-is_refused w ↦ ap (λ k. k.duties) w.kit-is
-  ]
+  | then-not-is_refused w ↦ ap (λ k. k.duties) w.kit-is
+      ∙ f_of_one (λ k. k.duties) w.from_mut.result.now w.work.new.kits c.args.kit w.work.ensures.duties w.from_mut.ensures.value
+  | else-not-is_refused w ↦ ap (λ k. k.duties) w.kit-is
+]
