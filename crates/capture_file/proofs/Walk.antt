@@ -121,7 +121,7 @@ field-append order n place xs ys h =
     ∙ number-append order n (drop place xs) ys (omega (arith, h, length-drop place xs))
 
 -- a whole record stays the first one
-captured-append : (form : Form) (xs ys : List ℕ) → 16 ≤ length xs → captured_length form (xs ++ ys) ≡ captured_length form xs
+pub captured-append : (form : Form) (xs ys : List ℕ) → 16 ≤ length xs → captured_length form (xs ++ ys) ≡ captured_length form xs
 captured-append form xs ys h = field-append form.order 4 8 xs ys (omega (arith, h))
 
 is_whole-append : (form : Form) (xs ys : List ℕ) → is_whole form xs ≡ true → is_whole form (xs ++ ys) ≡ true

@@ -1,5 +1,5 @@
 -- What a reader keeps of a capture that comes in pieces (profile).
-use Rattle.std.specs.Prelude.{◌≡◌, ℕ, ◌+◌, ◌-◌, ◌*◌, ◌<◌, ◌≤◌, nat_lt, if◌then◌else◌, List, [], ◌∷◌, ◌++◌, length, take, drop, Result, Ok, Err}
+use Rattle.std.specs.Prelude.{◌≡◌, ℕ, ◌+◌, ◌-◌, ◌*◌, ◌<◌, ◌≤◌, Bool, false, nat_lt, nat_le, ◌&&◌, if◌then◌else◌, min, List, [], ◌∷◌, ◌++◌, length, take, drop, Result, Ok, Err}
 use Rattle.capture_file.specs.declared.entries.Record.{Record}
 use Rattle.capture_file.specs.declared.fault.CaptureFault.{CaptureFault}
 use Rattle.capture_file.specs.declared.fault.CaptureFault.TheVariants.{Length, TooLarge, Short, CutRecord}
@@ -7,7 +7,7 @@ use Rattle.capture_file.specs.declared.form.Form.{Form}
 use Rattle.capture_file.specs.declared.reading.Stage.{Stage}
 use Rattle.capture_file.specs.declared.reading.Stage.TheVariants.{Header, Entries, Faulty}
 use Rattle.capture_file.specs.declared.reading.Reading.{Reading}
-use Rattle.capture_file.specs.Captures.{header, is_overlong, is_too_large, records_in, rest_in}
+use Rattle.capture_file.specs.Captures.{captured_length, header, is_overlong, is_too_large, is_whole, records_in, rest_in}
 
 -- nothing has come yet
 abbrev pub new_reading : Reading
@@ -39,6 +39,21 @@ read_on Header records octets =
     if nat_lt (length octets) 24 then record { stage = Header; records = records; rest = octets }
     else opened (header octets) records (drop 24 octets)
 read_on (Entries form) records octets = walked form records octets
+
+-- how many octets of a piece belong to the record whose octets before the piece are these; all of them before the
+-- header is whole
+abbrev pub octets_lacking : Stage → List ℕ → List ℕ → ℕ
+octets_lacking (Faulty fault) rest piece = length piece
+octets_lacking Header rest piece = length piece
+octets_lacking (Entries form) rest piece =
+    if nat_lt (length rest + length piece) 16 then length piece
+    else min (16 + captured_length form (rest ++ piece) - length rest) (length piece)
+
+-- these octets are one whole record
+abbrev pub is_one_record : Stage → List ℕ → Bool
+is_one_record (Faulty fault) octets = false
+is_one_record Header octets = false
+is_one_record (Entries form) octets = is_whole form octets && nat_le (length octets) (16 + captured_length form octets)
 
 -- After these octets, which came behind the records so far, a capture has come to a reading: to its stage, with its
 -- records, and so many octets left, which are the last ones. A record weighs 16 octets, and all weigh no more than

@@ -1,7 +1,7 @@
 //! What a reader keeps of a capture that comes in pieces.
 ghost use Rattle.std.specs.Prelude.{◌≡◌, ◌+◌, ◌-◌, ◌*◌, ◌<◌, ◌≤◌, ◌++◌, ℕ, false, List, IfOk, OnOk, OnErr, IsOk, IsTrue, length, take, drop};
 ghost use Rattle.capture_file.specs.Captures.{is_whole, records_in, rest_in};
-ghost use Rattle.capture_file.specs.Reading.{IsReadTo, failed, new_reading, read_on, walked};
+ghost use Rattle.capture_file.specs.Reading.{IsReadTo, failed, is_one_record, new_reading, octets_lacking, read_on, walked};
 
 use crate::entries::{Records, shorten};
 use crate::form::{
@@ -119,7 +119,9 @@ fn last_of(alloc: Global, octets: &[u8], count: usize) -> Result<FrameOctets, Ou
 /// How many octets of a piece belong to the record whose octets before the piece are these; all of them before the
 /// header is whole.
 fn lacking(stage: Stage, rest: &[u8], piece: &[u8]) -> usize
-    ensures { result ≤ length piece.now }
+    requires { length rest.now + length piece.now ≤ 67108864 }
+    ensures count { result ≡ octets_lacking stage rest.now piece.now }
+    ensures few { result ≤ length piece.now }
 {
     let Stage::Entries(form) = stage else {
         return piece.len();
@@ -217,6 +219,8 @@ impl Reading {
 
     /// Puts those octets of a piece that belong to the record in the rest behind the rest, and answers the others.
     fn join<'a>(&mut self, piece: &'a [u8]) -> Result<&'a [u8], OutOfMemory>
+        requires { length self.old.rest + length piece.now ≤ 67108864 }
+        ensures behind { IfOk result (λ behind. behind.now ≡ drop (octets_lacking self.old.stage self.old.rest piece.now) piece.now) }
         ensures joined { IfOk result (λ behind. self.new.rest ++ behind.now ≡ self.old.rest ++ piece.now) }
         ensures count { IfOk result (λ behind. length self.new.rest + length behind.now ≡ length self.old.rest + length piece.now) }
         ensures rest { take (length self.old.rest) self.new.rest ≡ self.old.rest }
@@ -235,6 +239,7 @@ impl Reading {
         ensures joined { IfOk result (λ b. IsTrue b → (piece : List ℕ) →
             read_on self.new.stage self.new.records piece ≡ read_on self.old.stage self.old.records (self.old.rest ++ piece)) }
         ensures room { IfOk result (λ b. IsTrue b → 16 * length self.new.records ≤ 16 * length self.old.records + length self.old.rest) }
+        ensures one { IfOk result (λ b. b ≡ is_one_record self.old.stage self.old.rest) }
         ensures none { IfOk result (λ b. b ≡ false → self.new.records ≡ self.old.records) }
         ensures records { take (length self.old.records) self.new.records ≡ self.old.records }
         ensures rest { self.new.rest ≡ self.old.rest }

@@ -7,5 +7,6 @@ pub mod PathsOverEdges
 pub mod WalksOverEdges
 pub mod OneDistance
 pub mod SoundTaps
+pub mod TapsExample
 pub mod WalksBack
 pub mod Numbers

@@ -13,10 +13,10 @@ tap_of s = record { segment = s.segment; at = s.at }
 abbrev pub taps_of : Layout → List PortLine
 taps_of l = map tap_of l.stations ++ flat_map (λ r. r.ports) l.repeaters
 
--- where the taps of these that are on segment s are on it; segments count from 0
+-- where those of these taps that are on segment s are on it, in half bits from the cable's end; segments count from 0
 abbrev pub positions_on : ℕ → List PortLine → List ℕ
 positions_on s taps = map (λ x. x.at) (filter (λ x. x.segment == s) taps)
 
--- the delay of each port of these repeaters
+-- the delay of each port of these repeaters, in half bits
 abbrev pub delays_of : List RepeaterLine → List ℕ
 delays_of repeaters = flat_map (λ r. replicate (length r.ports) r.delay) repeaters
