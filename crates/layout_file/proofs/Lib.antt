@@ -5,6 +5,7 @@ pub mod ColoursByTables
 pub mod RowsWithoutFault
 pub mod KeysWithoutFault
 pub mod NamesOfRows
+pub mod TapsOfTables
 pub mod TapsDiffer
 pub mod TreesWithoutLoop
 pub mod NoCrowds

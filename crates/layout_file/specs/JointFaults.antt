@@ -94,6 +94,23 @@ has_tap shape.Repeater = false
 has_tap shape.Port = true
 has_tap shape.Send = false
 
+-- a tap as its row says it: the name of its segment, and its place on it in half bits
+pub record NamedTap : Type 0 where
+  pub segment : List ℕ
+  pub at : ℕ
+
+-- the tap that a row says
+abbrev pub named_tap : Members → NamedTap
+named_tap ms = record { segment = text_at ms key.Segment; at = number_at ms key.At }
+
+-- the tap of a table that has one
+abbrev pub tap_of_spot : Spot → Option NamedTap
+tap_of_spot s = if has_tap s.shape then Some (named_tap s.members) else None
+
+-- another tap shares the place of a tap
+abbrev pub shares_place : NamedTap → NamedTap → Bool
+shares_place tap other = (other.at == tap.at) && bytes_eq other.segment tap.segment
+
 -- the table's tap stands where that segment and place say
 abbrev pub is_tap_at : List ℕ → ℕ → Spot → Bool
 is_tap_at segment at s =

@@ -1,8 +1,9 @@
 //! The tests that need more than one row.
 ghost use Rattle.std.specs.Prelude.{◌≡◌, [], IfOk, map, option_map};
+ghost use Rattle.std.specs.List.{list_any};
 ghost use Rattle.toml.specs.View.{table_view};
-ghost use Rattle.layout_file.specs.JointFaults.{crowd_at, crowd_of_ports, crowd_of_bits, first_crowd, first_same, same_segment_fault, same_device_fault, first_same_segment, first_same_device, first_same_name, has_tap, is_tap_at, is_taken, takes_tap, first_taken};
-ghost use Rattle.layout_file.specs.Sites.{seen};
+ghost use Rattle.layout_file.specs.JointFaults.{crowd_at, crowd_of_ports, crowd_of_bits, first_crowd, first_same, same_segment_fault, same_device_fault, first_same_segment, first_same_device, first_same_name, has_tap, tap_of_spot, shares_place, first_taken};
+ghost use Rattle.layout_file.specs.Sites.{seen, seen_tap};
 ghost use Rattle.layout_file.specs.Tree.{names_at};
 ghost use Rattle.layout_file.specs.declared.fault.Key.TheVariants as key;
 
@@ -187,44 +188,52 @@ fn has_tap(shape: Shape) -> bool
     matches!(shape, Shape::Station | Shape::Port)
 }
 
-fn is_tap_at(segment: &str, at: u64, site: &Site) -> bool
-    ensures { result ≡ is_tap_at segment.now at (seen site.now) }
-{
-    has_tap(site.shape)
-        && text(site.members, Key::Segment) == segment
-        && number(site.members, Key::At) == at
+/// The tap of a table that has one: its segment and its place.
+#[derive(Clone, Copy)]
+struct Tap<'a> {
+    segment: &'a str,
+    at: u64,
 }
 
-fn is_taken(segment: &str, at: u64, sites: &[Site]) -> bool
-    ensures { result ≡ is_taken segment.now at (map seen sites.now) }
+/// Where the tap of a table is that has one.
+fn tap_of<'a>(site: &Site<'a>) -> Option<Tap<'a>>
+    ensures { option_map seen_tap result ≡ tap_of_spot (seen site.now) }
 {
-    for site in sites {
-        if is_tap_at(segment, at, site) {
+    if !has_tap(site.shape) {
+        return None;
+    }
+    Some(Tap {
+        segment: text(site.members, Key::Segment),
+        at: number(site.members, Key::At),
+    })
+}
+
+/// Whether one of the taps stands where that one does.
+fn is_taken(tap: &Tap, taps: &[Tap]) -> bool
+    ensures { result ≡ list_any (shares_place (seen_tap tap.now)) (map seen_tap taps.now) }
+{
+    for other in taps {
+        if other.at == tap.at && other.segment == tap.segment {
             return true;
         }
     }
     false
 }
 
-fn takes_tap(earlier: &[Site], site: &Site) -> bool
-    ensures { result ≡ takes_tap (map seen earlier.now) (seen site.now) }
-{
-    has_tap(site.shape)
-        && is_taken(
-            text(site.members, Key::Segment),
-            number(site.members, Key::At),
-            earlier,
-        )
-}
-
 /// The first tap that stands where an earlier one does.
-pub fn first_taken(sites: &[Site]) -> Option<LayoutFault>
-    ensures { result ≡ first_taken [] (map seen sites.now) }
+#[tactic(auto, using(crate::proofs::TapsOfTables::first_taken_after_none))]
+pub fn first_taken(alloc: Global, sites: &[Site]) -> Result<Option<LayoutFault>, OutOfMemory>
+    ensures { IfOk result (λ fault. fault ≡ first_taken [] (map seen sites.now)) }
 {
-    for (i, site) in sites.iter().enumerate() {
-        if takes_tap(&sites[..i], site) {
-            return Some(site.fault(LayoutCode::TapTaken, Key::At));
+    let mut taps = Vec::new(alloc);
+    for site in sites {
+        let Some(tap) = tap_of(site) else {
+            continue;
+        };
+        if is_taken(&tap, &taps) {
+            return Ok(Some(site.fault(LayoutCode::TapTaken, Key::At)));
         }
+        taps.push(tap)?;
     }
-    None
+    Ok(None)
 }

@@ -156,7 +156,7 @@ fn first_network_fault(
     if let Some(fault) = first_of(surroundings, &NAME_TESTS, sites) {
         return Ok(Some(fault));
     }
-    if let Some(fault) = first_taken(sites) {
+    if let Some(fault) = first_taken(alloc, sites)? {
         return Ok(Some(fault));
     }
     if let Some(fault) = first_graph_fault(alloc, repeaters, surroundings.segments, sites)? {
