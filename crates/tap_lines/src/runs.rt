@@ -1,5 +1,5 @@
 //! Runs of symbols that are all signals, or all Idle.
-ghost use Rattle.std.specs.Prelude.{◌≡◌, ◌≢◌, ◌<◌, ◌≤◌, ◌+◌, ◌-◌, ℕ, true, length, slice_index_or};
+ghost use Rattle.std.specs.Prelude.{◌≡◌, ◌≢◌, ◌<◌, ◌≤◌, ◌+◌, ◌-◌, ℕ, true, false, length, slice_index_or};
 ghost use Rattle.manchester_line.specs.declared.Sym.TheVariants.{Idle};
 ghost use Rattle.manchester_line.specs.Line.{is_signal as is_signal_of};
 ghost use Rattle.tap_lines.specs.Signals.{EndsInSignals};
@@ -22,18 +22,37 @@ pub fn end_of_signals(piece: &[Sym]) -> usize
     0
 }
 
+/// How many symbols are looked at together.
+const TOGETHER: usize = 32;
+
+/// Whether all symbols of a piece are a signal, or all of them Idle, as `carrier` says. All are looked at, so that no
+/// branch goes by them.
+fn are_all(piece: &[Sym], carrier: bool) -> bool
+    ensures steady { result ≡ true → (j : ℕ) → j < length piece.now → is_signal_of (slice_index_or piece.now j Idle) ≡ carrier }
+    ensures other { result ≡ false → ¬ ((j : ℕ) → j < length piece.now → is_signal_of (slice_index_or piece.now j Idle) ≡ carrier) }
+{
+    let mut all = true;
+    for symbol in piece {
+        all &= is_signal(*symbol) == carrier;
+    }
+    all
+}
+
 /// How many of the first symbols of a piece are all a signal, or are all Idle, as `carrier` says.
 pub fn steady_first(piece: &[Sym], carrier: bool) -> usize
     ensures within { result ≤ length piece.now }
     ensures steady { (j : ℕ) → j < result → is_signal_of (slice_index_or piece.now j Idle) ≡ carrier }
     ensures longest { result < length piece.now → is_signal_of (slice_index_or piece.now result Idle) ≢ carrier }
 {
-    for j in 0..piece.len() {
-        if is_signal(piece[j]) != carrier {
-            return j;
-        }
+    let len = piece.len();
+    let mut steady = 0;
+    while len - steady >= TOGETHER && are_all(&piece[steady..steady + TOGETHER], carrier) {
+        steady += TOGETHER;
     }
-    piece.len()
+    while steady < len && is_signal(piece[steady]) == carrier {
+        steady += 1;
+    }
+    steady
 }
 
 /// How many symbols from place `place` on, from 0, at most `most`, are all a signal, or are all Idle, as `carrier`
