@@ -1,16 +1,21 @@
 -- A verdict that was told of a text holds for each receiver that keeps what it would of this text.
-use Rattle.std.proofs.Common.{◌≡◌, ℕ, suc, ◌+◌, ◌<◌, ◌≤◌, ◌++◌, Bool, true, false, Option, Some, None, List, [], ◌∷◌, length, refl, sym, ap, subst, ◌∙◌, arith}
-use Rattle.std.specs.Prelude.{if◌then◌else◌}
-use Rattle.std.proofs.lemmas.Bool.{true≢false}
+use Rattle.std.proofs.Common.{◌≡◌, ℕ, suc, ◌<◌, Bool, true, false, Option, Some, None, List, [], ◌∷◌, length, refl, sym, ap, subst, ◌∙◌, arith}
+use Rattle.std.specs.Prelude.{nat_lt, if◌then◌else◌}
+use Rattle.std.specs.List.{Contains}
+use Rattle.std.specs.Option.{is_none}
+use Rattle.std.proofs.lemmas.Bool.{true≢false, false≢true}
 use Rattle.std.proofs.lemmas.Option.{same_Some}
 use Rattle.manchester_line.specs.declared.Sym.{Sym}
-use Rattle.manchester_line.specs.declared.Sym.TheVariants.{Idle}
-use Rattle.collision_log.specs.declared.row.Row.{Row}
+use Rattle.manchester_line.specs.declared.Sym.TheVariants.{Idle, Clash}
+use Rattle.manchester_line.specs.Decoding.{Decoding, new_decoding, all_pushed}
+use Rattle.manchester_line.specs.Reading.{reading}
+use Rattle.manchester_line.proofs.DecoderAnswers.{spoiled_of}
 use Rattle.collision_log.specs.declared.row.Body.{Body}
 use Rattle.collision_log.specs.declared.row.Body.TheVariants.{Sent, Collided, GivenUp, Cut, Received, Dropped, Closed, Opened, Halted}
 use Rattle.collision_log.specs.declared.row.Body.TheVariants as body
 use Rattle.collision_log.specs.declared.row.Why.TheVariants as why
-use Rattle.mac_receive.specs.Receiver.{Receiving, Reception, new_receiving, quiet, reception_ended, receiver_step, receiver_after}
+use Rattle.mac_parameters.specs.Parameters.{shortest_line_text}
+use Rattle.mac_receive.specs.Receiver.{Receiving, Reception, new_receiving, left_halves, quiet, reading_row, reception_ended, receiver_step, receiver_after}
 use Rattle.mac_receive.specs.KeptReceiver.{KeptReception, Hears}
 use Rattle.mac_receive.proofs.StepsKeepMeaning.{idle_state}
 use Rattle.network.specs.Captures.{taken_by}
@@ -19,10 +24,11 @@ use Rattle.window_room.specs.Receptions.{least_reception}
 use Rattle.window_room.specs.Rooms.{Room, KeepsRoom}
 use Rattle.window_room.proofs.PaidRoom.{paid}
 use Rattle.reception_laws.specs.LateReceptions.{IsVerdictFor, text_kept}
-use Rattle.reception_laws.specs.WholeReceptions.{IsAllSignal, TextVerdict, row_alone, octets_with}
+use Rattle.reception_laws.specs.WholeReceptions.{IsAllSignal, TextVerdict, row_alone, octets_with, spoiled_row}
 use Rattle.reception_laws.proofs.LateReceptions.{hears_alike, text_hears}
 use Rattle.reception_laws.proofs.ReceptionsHeard.{with_halves, new_awaits, text_on}
 use Rattle.reception_laws.proofs.ShortReceptions.{short_row}
+use Rattle.reception_laws.proofs.SpoiledReceptions.{clash_unread}
 
 -- what a new receiver keeps that has heard the text stands for the same receivers
 pub heard_hears : (lose most : ℕ) (text : List Sym) (k : KeptReception) (r : Receiving) → IsAllSignal text → Hears (receiver_after (new_receiving lose most) text false) k → Hears r (text_kept lose most text 0) → Hears r k
@@ -45,6 +51,39 @@ short_verdict lose most text some short =
       octets = λ r n h is. let row : Dropped why.Fragment (length text) ≡ Received n = same_Some _ (Received n) is in cc;
       count = λ n is. let row : Dropped why.Fragment (length text) ≡ Received n = same_Some _ (Received n) is in cc;
     }
+
+unread_row : (o : Option (List Bool)) (most n : ℕ) → is_none o ≡ true → reading_row o most n ≡ spoiled_row n
+unread_row None most n h = refl
+unread_row (Some bits) most n h = absurd (false≢true h)
+
+no_frame : (t : Bool) (n m : ℕ) → (if t then Dropped why.Fragment n else Dropped why.Damaged n) ≡ Received m → ⊥
+no_frame true n m e = cc
+no_frame false n m e = cc
+
+ended_spoiled : (r : Receiving) (d : Bool) (hs : List Sym) (n : ℕ) → d ≡ false → n ≡ length hs → 0 < n → is_none (reading (left_halves r.lose hs)) ≡ true → (if d then quiet (record r { deaf = false; halves = [] }) else reception_ended r hs).event ≡ Some (spoiled_row n)
+ended_spoiled r true hs n e l some unread = absurd (true≢false e)
+ended_spoiled r false [] n e l some unread = absurd (omega (arith, l, some))
+ended_spoiled r false (s ∷ ss) n e l some unread =
+    ap Some (unread_row (reading (left_halves r.lose (s ∷ ss))) r.most (length (s ∷ ss)) unread) ∙ ap (λ m. Some (spoiled_row m)) (sym l)
+
+-- a text with a Clash among the half bits that aren't lost has one whatever else was heard in it
+spoiled_left : (lose most : ℕ) (text : List Sym) → 0 < length text → Contains (left_halves lose text) Clash → IsVerdictFor lose most text (row_alone (spoiled_row (length text)))
+spoiled_left lose most text some clash =
+    let d : Decoding = all_pushed new_decoding (left_halves lose text) in
+    let unread : is_none (reading (left_halves lose text)) ≡ true = ap is_none (clash_unread (left_halves lose text) clash) in
+    record {
+      event = λ r h.
+          let same = spoiled_of (left_halves r.lose r.halves) d (h.decodes (omega (arith, h.count, some))) in
+          sym (ended_spoiled r r.deaf r.halves (length text) (sym h.same_deaf) h.count some (sym same ∙ spoiled_of (left_halves lose text) d refl ∙ unread));
+      octets = λ r n h is. absurd (no_frame (nat_lt (length text) shortest_line_text) (length text) n (same_Some _ (Received n) is));
+      count = λ n is. absurd (no_frame (nat_lt (length text) shortest_line_text) (length text) n (same_Some _ (Received n) is));
+    }
+
+-- for receivers that lose no bits these are all half bits
+pub spoiled_verdict : (lose most : ℕ) (text : List Sym) → lose ≡ 0 → 0 < length text → Contains text Clash → IsVerdictFor lose most text (row_alone (spoiled_row (length text)))
+spoiled_verdict lose most text none some clash =
+    let P : ℕ → Type 0 = λ l. Contains (left_halves l text) Clash in
+    spoiled_left lose most text some (subst P (sym none) clash)
 
 pub octets_of : (e : Option Body) (os : List ℕ) (n : ℕ) → e ≡ Some (Received n) → octets_with e os ≡ os
 octets_of e os n is = ap (λ x. octets_with x os) is

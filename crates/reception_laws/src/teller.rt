@@ -1,6 +1,6 @@
 //! The text that was told last, for all who hear the same one.
-ghost use Rattle.std.specs.Prelude.{◌≡◌, ◌+◌, ◌<◌, ◌≤◌, ◌++◌, ℕ, suc, true, false, length, take, IfOk};
-ghost use Rattle.manchester_line.specs.declared.Sym.TheVariants.{Idle};
+ghost use Rattle.std.specs.Prelude.{◌≡◌, ◌+◌, ◌<◌, ◌≤◌, ◌++◌, ℕ, suc, true, false, length, take, Contains, IfOk};
+ghost use Rattle.manchester_line.specs.declared.Sym.TheVariants.{Clash, Idle};
 ghost use Rattle.mac_parameters.specs.Parameters.{IsMost};
 ghost use Rattle.mac_receive.specs.KeptReceiver.{Hears};
 ghost use Rattle.mac_receive.specs.Receiver.{Receiving, receiver_step};
@@ -12,7 +12,7 @@ ghost use Rattle.reception_laws.specs.WholeReceptions.{IsAllSignal};
 ghost use Rattle.window_room.specs.NeededRoom.{Covers, Demand, both_demands, reception_demand};
 ghost use Rattle.window_room.specs.Rooms.{captures_with};
 
-use crate::verdict::{ReceptionVerdict, tell};
+use crate::verdict::{ReceptionVerdict, spoiled, tell};
 use collision_log::{Body, Why};
 use lists::OutOfMemory;
 use mac_parameters::{
@@ -65,6 +65,18 @@ fn are_same(text: &[Sym], other: &[Sym]) -> bool
     same
 }
 
+/// Whether a Clash stands in a text. All symbols are looked at, so that no branch goes by them.
+fn is_spoiled(text: &[Sym]) -> bool
+    ensures spoiled { result ≡ true → Contains text.now Clash }
+    ensures clean { result ≡ false → ¬ Contains text.now Clash }
+{
+    let mut any = false;
+    for symbol in text {
+        any |= *symbol == Sym::Clash;
+    }
+    any
+}
+
 impl Teller {
     /// One that was told nothing yet.
     pub fn new(alloc: Global) -> Result<Teller, OutOfMemory>
@@ -110,7 +122,7 @@ impl Teller {
 
 /// Keeps what becomes of a reception with this text at the Idle after it, for receivers that lose so many bits of each
 /// reception and take frames of so many octets at most. Where the text is shorter than the shortest reception of a
-/// frame it isn't read at all.
+/// frame, or a Clash stands in it and no bits are lost, it isn't read at all.
 pub fn keep_told(
     lose: u32,
     most: u32,
@@ -147,6 +159,10 @@ pub fn keep_told(
             halves: halves as u32,
         };
         keep_reception(room, station, t, device, Some(body), &[]);
+        return;
+    }
+    if lose == 0 && is_spoiled(text) {
+        keep_reception(room, station, t, device, Some(spoiled(halves as u32)), &[]);
         return;
     }
     let verdict = teller.verdict_of(lose, most, text);
