@@ -33,3 +33,4 @@ pub mod FirstReceptions
 pub mod PieceRoom
 pub mod SilentLines
 pub mod SilentParts
+pub mod SendingTexts

@@ -9,28 +9,10 @@ ghost use Rattle.segment_engine.specs.SteadyPieces.{IsToldAhead, sent_ahead};
 ghost use Rattle.tap_lines.specs.TapLines.{TapLine, line_extended};
 
 use crate::quiet::is_sending;
-use mac_transmit::{Phase, Transmitter, symbol_at};
-use manchester_line::{Sym, is_signal};
+use crate::sendings::write_ahead;
+use mac_transmit::{Phase, Transmitter};
+use manchester_line::Sym;
 use tap_lines::Line;
-
-/// Writes the symbols of a sending from position `p` on into a piece, as long as they are a signal. It answers how
-/// many.
-fn write_ahead(octets: &[u8], hit: Option<u32>, p: u64, piece: &mut [Sym]) -> usize
-    requires length { length octets.now ≤ 1600 }
-    requires place { p + length piece.old < 2 ^ 32 }
-    ensures within { result ≤ length piece.old }
-    ensures text { take result piece.new ≡ span (λ j. symbol_of octets.now hit (p + j)) 0 result }
-    ensures signal { (j : ℕ) → j < result → is_signal_of (symbol_of octets.now hit (p + j)) ≡ true }
-{
-    for j in 0..piece.len() {
-        let s = symbol_at(octets, hit, p + j as u64);
-        if !is_signal(s) {
-            return j;
-        }
-        piece[j] = s;
-    }
-    piece.len()
-}
 
 /// Puts the symbols of a sending from position `p` on behind a line's, as long as they are a signal and at most so
 /// many. It answers how many, and writes them at the front of a piece first.
@@ -70,13 +52,14 @@ fn send_on(t: u64, count: u32, sender: &Transmitter, line: &mut Line, piece: &mu
     let Phase::Sending { start, hit } = sender.phase() else {
         return 0;
     };
-    if t < start {
+    if t < start || count == 0 {
         return 0;
     }
     let Some(frame) = sender.frame() else {
         return 0;
     };
-    send_ahead(frame.octets(), hit, t - start, count, line, piece)
+    let left = count.min(sender.calm(t, false) as u32);
+    send_ahead(frame.octets(), hit, t - start, left, line, piece)
 }
 
 /// Puts on a station's line what it emits in the half bits from `t` on, at most so many, if nothing happens to its

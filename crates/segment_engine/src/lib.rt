@@ -10,6 +10,7 @@ mod part;
 mod quiet;
 mod running;
 mod segment;
+mod sendings;
 mod start;
 mod stations;
 mod steady;

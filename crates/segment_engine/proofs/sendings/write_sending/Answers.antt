@@ -7,7 +7,7 @@ use Rattle.manchester_line.specs.Line.{is_signal}
 use Rattle.mac_transmit.specs.Sender.{symbol_of}
 use Rattle.net_parts.specs.Machines.{span}
 use Rattle.net_parts.proofs.RepeaterSteps.{length-span, get_or-span}
-use Rattle.segment_engine.proofs.ahead.write_ahead.Goals as goal
+use Rattle.segment_engine.proofs.sendings.write_sending.Goals as goal
 
 first_as : (f : ℕ → Sym) (xs : List Sym) (n : ℕ) → n ≤ length xs → ((i : ℕ) → i < n → get_or xs i Idle ≡ f i) → take n xs ≡ span f 0 n
 first_as f xs n h all =

@@ -2,7 +2,7 @@ use Rattle.std.proofs.Common.{◌≡◌, ℕ, ◌+◌, ◌<◌, true, length, sl
 use Rattle.manchester_line.specs.declared.Sym.TheVariants.{Idle}
 use Rattle.manchester_line.specs.Line.{is_signal}
 use Rattle.mac_transmit.specs.Sender.{symbol_of}
-use Rattle.segment_engine.proofs.ahead.write_ahead.Given as goal
+use Rattle.segment_engine.proofs.sendings.write_sending.Given as goal
 
 -- the symbols below j are written, and are a signal
 abbrev pub invariant-loop-j : goal.invariant-loop-j
