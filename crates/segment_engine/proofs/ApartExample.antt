@@ -9,13 +9,13 @@ use Rattle.backoff_draw.specs.Draws.{Drawing}
 use Rattle.load_plan.specs.declared.plan.Plan.{Plan}
 use Rattle.mac_receive.specs.KeptReceiver.{KeptReception}
 use Rattle.mac_transmit.specs.Sender.{Sender, new_sender}
-use Rattle.tap_lines.specs.TapLines.{TapLine}
+use Rattle.tap_lines.specs.TapLines.{TapLine, no_line}
 use Rattle.window_room.specs.Rooms.{Room}
 use Rattle.segment_engine.specs.declared.apart.Watch.{Watch}
-use Rattle.segment_engine.specs.StationsApart.{StandsBehind, IsStillBy, EndsAt, CoversApart, behind_demand, first_demands}
+use Rattle.segment_engine.specs.StationsApart.{StandsBehind, IsStillBy, EndsAt, TellsUpTo, CoversApart, behind_demand, first_demands, lowered_watch}
 
 abbrev watch : ℕ → ℕ → Bool → Watch
-watch since until carrier = record { since = since; until = until; carrier = carrier }
+watch since until carrier = record { since = since; until = until; carrier = carrier; told = until }
 
 abbrev resting : Drawing → ℕ → Sender
 resting d t = record (new_sender [] d) { t = t }
@@ -68,3 +68,17 @@ lines =
 -- the first hears the other's signal in half bit 4, so that it doesn't stand behind over it
 pub not_over_a_signal : (plan : Plan) (x t : ℕ) (s : Sender) (k : KeptReception) → ¬ StandsBehind plan x 0 20 t lines (watch 2 5 false) s k
 not_over_a_signal plan x t s k stands = false≢true (sym (stands.steady 4 (omega arith) (omega arith)))
+
+-- its own line has symbols for half bits 0 and 1 alone, and no room
+pub tells : TellsUpTo 2 2 (get_or lines 1 no_line)
+tells = record { begun = omega arith; reaches = omega arith; takes = omega arith }
+
+pub tells_no_more : ¬ TellsUpTo 2 3 (get_or lines 1 no_line)
+tells_no_more tell = let room : 3 ≤ 2 = tell.takes in absurd (omega (arith, room))
+
+-- a watch that goes no further than half bit 12, and one that goes nowhere
+pub lowered_to : lowered_watch 12 (watch 7 20 false) ≡ record (watch 7 20 false) { until = 12 }
+lowered_to = refl
+
+pub lowered_to_begin : lowered_watch 3 (watch 7 20 false) ≡ record (watch 7 20 false) { until = 7 }
+lowered_to_begin = refl

@@ -1,5 +1,5 @@
 -- A station that stands behind, brought up to a later half bit.
-use Rattle.std.proofs.Common.{◌≡◌, ◌≢◌, ℕ, suc, All, ◌+◌, ◌-◌, ◌<◌, ◌≤◌, Bool, true, false, List, [], ◌∷◌, ◌++◌, None, replicate, length, refl, sym, subst, ap, ap₂, ◌∙◌, arith}
+use Rattle.std.proofs.Common.{◌≡◌, ◌≢◌, ℕ, suc, All, ◌+◌, ◌-◌, ◌<◌, ◌≤◌, Bool, true, false, List, [], ◌∷◌, ◌++◌, None, get_or, replicate, length, refl, sym, subst, ap, ap₂, ◌∙◌, arith}
 use Rattle.manchester_line.specs.declared.Sym.{Sym}
 use Rattle.std.specs.Prelude.{if◌then◌else◌}
 use Rattle.manchester_line.specs.declared.Sym.TheVariants.{Idle, Hi, Lo, Clash}
@@ -15,7 +15,7 @@ use Rattle.network.specs.Times.{heard, emitted}
 use Rattle.net_parts.specs.Machines.{span}
 use Rattle.net_parts.specs.Standing.{receiver_at}
 use Rattle.net_parts.proofs.RepeaterSteps.{length-span, get_or-span}
-use Rattle.tap_lines.specs.TapLines.{TapLine, heard_by_lines, heard_for}
+use Rattle.tap_lines.specs.TapLines.{TapLine, no_line, symbol_on, heard_by_lines, heard_for}
 use Rattle.tap_lines.proofs.LinesAhead.{span_alike}
 use Rattle.segment_engine.specs.declared.apart.Watch.{Watch}
 use Rattle.segment_engine.specs.SteadyPieces.{IsCalmAs}
@@ -27,6 +27,7 @@ use Rattle.window_room.specs.NeededRoom.{IsDemandWithin, receiver_demand, sender
 use Rattle.segment_engine.specs.StationsApart.{behind_demand}
 use Rattle.tap_lines.proofs.Spans.{span_more}
 use Rattle.segment_engine.proofs.CalmLater.{calm_on}
+use Rattle.segment_engine.proofs.SendersStep.{sending_left}
 
 module _ (plan : Plan) (x : ℕ) (station : x < length plan.layout.stations) (p L t u : ℕ) (ls : List TapLine) (w : Watch) (s : Sender) (k : KeptReception)
     (behind : StandsBehind plan x p L t ls w s k) (since : w.since ≤ u) (until : u ≤ w.until) (right : HearsByLines plan x p L t u ls) where
@@ -51,11 +52,19 @@ module _ (plan : Plan) (x : ℕ) (station : x < length plan.layout.stations) (p 
   hears : span (heard plan x) w.since n ≡ hs
   hears = let from = behind.from_start in span_alike (heard plan x) (λ a. heard_by_lines L a ls p) w.since w.since n (λ i l. right.hears (w.since + i) (omega (arith, from)) (omega (arith, l)))
 
-  pub brought : (s' : Sender) (k' : KeptReception) (w' : Watch) → w'.since ≡ u → w'.until ≡ w.until → w'.carrier ≡ w.carrier →
+  -- what the station emitted since then is a signal where it sends, and else Idle
+  pub sends_so : (i : ℕ) → i < n → is_signal (emitted plan x (w.since + i)) ≡ is_sending s.phase
+  sends_so i l =
+      let from = behind.from_start in
+      let told = behind.within in
+      let in_it : w.since + i < w.told = omega (arith, l, until, told) in
+      ap is_signal (right.emits (w.since + i) (omega (arith, from)) (omega (arith, l)) ∙ behind.line i in_it) ∙ behind.signal i in_it
+
+  pub brought : (s' : Sender) (k' : KeptReception) (w' : Watch) → w'.since ≡ u → w'.until ≡ w.until → w'.carrier ≡ w.carrier → w'.told ≡ w.told →
       s' ≡ after_all s hs → s'.t ≡ w.since + n → k'.steps ≡ w.since + n →
       ((r : Receiving) → Hears r k → Hears (receiver_after r hs (is_sending s.phase)) k') →
       StandsBehind plan x p L t ls w' s' k'
-  brought s' k' w' is_since is_until is_carrier sent time steps receives =
+  brought s' k' w' is_since is_until is_carrier is_told sent time steps receives =
       let from = behind.from_start in
       let many = size in
       let left : w.until - w.since - length hs ≡ w.until - u = omega (arith, many, since) in
@@ -63,31 +72,35 @@ module _ (plan : Plan) (x : ℕ) (station : x < length plan.layout.stations) (p 
       let on = before.0 in
       let phase : s'.phase ≡ s.phase = ap (λ (y : Sender). y.phase) sent ∙ on.phase in
       let calm : IsCalmAs (w.until - u) w.carrier s' = subst (λ m. IsCalmAs m w.carrier s') left (subst (λ y. IsCalmAs (w.until - w.since - length hs) w.carrier y) (sym sent) before.1) in
-      let s0 = sender_at plan x t in
-      let same_emission : (j : ℕ) → emission_by s' j s'.phase ≡ emission_by s0 (u - t + j) s0.phase = λ j.
-      let e : w.since - t + (length hs + j) ≡ u - t + j = omega (arith, many, from, since) in
-      ap (λ (y : Sender). emission_by y j y.phase) sent ∙ on.emits j ∙ behind.emits (length hs + j) ∙ ap (λ i. emission_by s0 i s0.phase) e in
+      let later_on : (j : ℕ) → w.since + (length hs + j) ≡ u + j = λ j. omega (arith, many, since) in
+      let same_emission : (j : ℕ) → emission_by s' j s'.phase ≡ emission_by s (length hs + j) s.phase = λ j. ap (λ (y : Sender). emission_by y j y.phase) sent ∙ on.emits j in
       let sender : s' ≡ sender_at plan x u =
       sent ∙ ap (λ y. after_all y hs) behind.sender ∙ ap (after_all (sender_at plan x w.since)) (sym hears) ∙ sym (sender_runs plan x station n w.since) ∙ ap (sender_at plan x) there in
-      let sends : (i : ℕ) → i < n → is_signal (emitted plan x (w.since + i)) ≡ is_sending s.phase = λ i l. right.sends (w.since + i) (omega (arith, from)) (omega (arith, l)) ∙ sym behind.sends in
       let later : receiver_at plan x u ≡ receiver_after (receiver_at plan x w.since) hs (is_sending s.phase) =
-      ap (receiver_at plan x) (sym there) ∙ receiver_runs plan x station (is_sending s.phase) n w.since sends ∙ ap (λ xs. receiver_after (receiver_at plan x w.since) xs (is_sending s.phase)) hears in
-      let same : w' ≡ record w { since = u } = watch_is w' is_since is_until is_carrier in
+      ap (receiver_at plan x) (sym there) ∙ receiver_runs plan x station (is_sending s.phase) n w.since sends_so ∙ ap (λ xs. receiver_after (receiver_at plan x w.since) xs (is_sending s.phase)) hears in
+      let same : w' ≡ record w { since = u } = watch_is w' is_since is_until is_carrier is_told in
       subst (λ v. StandsBehind plan x p L t ls v s' k') (sym same) (record {
         from_start = omega (arith, from, since);
         ordered = until;
+        within = behind.within;
         sender = sender;
         receiver = subst (λ r. Hears r k') (sym later) (receives (receiver_at plan x w.since) behind.receiver);
         time = time ∙ there;
         steps = steps ∙ there;
         calm = calm;
         steady = λ a low high. behind.steady a (omega (arith, low, since)) high;
-        sends = ap is_sending phase ∙ behind.sends;
-        emits = same_emission;
+        line = λ j l.
+            let e = later_on j in
+            ap (symbol_on (get_or ls p no_line)) (sym e) ∙ behind.line (length hs + j) (omega (arith, e, l)) ∙ sym (same_emission j);
+        signal = λ j l.
+            let e = later_on j in
+            ap is_signal (same_emission j) ∙ behind.signal (length hs + j) (omega (arith, e, l)) ∙ ap is_sending (sym phase);
+        lasts = λ sending. sending_left s s' w.carrier hs (w.told - w.since) (w.told - u) (w.until - w.since) heard_so (omega (arith, many, until)) behind.calm sent (omega (arith, many, since)) (behind.lasts (ap is_sending (sym phase) ∙ sending));
+        ends = behind.ends;
       })
     where
-      watch_is : (w' : Watch) → w'.since ≡ u → w'.until ≡ w.until → w'.carrier ≡ w.carrier → w' ≡ record w { since = u }
-      watch_is w' a b c = rw (sym a, sym b, sym c) refl
+      watch_is : (w' : Watch) → w'.since ≡ u → w'.until ≡ w.until → w'.carrier ≡ w.carrier → w'.told ≡ w.told → w' ≡ record w { since = u }
+      watch_is w' a b c d = rw (sym a, sym b, sym c, sym d) refl
 
 -- no row while there is carrier, nor while the station sends
 signal_event : (r : Receiving) (x : Sym) (d : Bool) → (if d then quiet r else extended r x).event ≡ None
@@ -155,7 +168,10 @@ module _ (plan : Plan) (x : ℕ) (station : x < length plan.layout.stations) (p 
       let from = behind.from_start in
       let sending = is_sending s.phase in
       let r0 = receiver_at plan x w.since in
-      let sends : (i : ℕ) → i < m + 1 → is_signal (emitted plan x (w.since + i)) ≡ sending = λ i l. right.sends (w.since + i) (omega (arith, from)) (omega (arith, l, at)) ∙ sym behind.sends in
+      let told = behind.within in
+      let sends : (i : ℕ) → i < m + 1 → is_signal (emitted plan x (w.since + i)) ≡ sending = λ i l.
+      let in_it : w.since + i < w.told = omega (arith, l, at, until, told) in
+      ap is_signal (right.emits (w.since + i) (omega (arith, from)) (omega (arith, l, at)) ∙ behind.line i in_it) ∙ behind.signal i in_it in
       let now : is_signal (emitted plan x u) ≡ sending = subst (λ a. is_signal (emitted plan x a) ≡ sending) at (sends m (omega arith)) in
       let later : receiver_at plan x u ≡ receiver_after r0 before sending =
       ap (receiver_at plan x) (sym at) ∙ receiver_runs plan x station sending m w.since (λ i l. sends i (omega (arith, l))) ∙ ap (λ xs. receiver_after r0 xs sending) (heard_before m (omega arith)) in

@@ -20,9 +20,15 @@ pub mod SteadyStations
 pub mod SteadyReceivers
 pub mod SteadyCalm
 pub mod CalmLater
+pub mod SendersStep
+pub mod StepOne
 pub mod BehindStations
 pub mod LinesApart
+pub mod ChangedLines
+pub mod RowsOfBoth
 pub mod ChangedStations
+pub mod StepAll
+pub mod RunsApart
 pub mod RowsApart
 pub mod GoneApart
 pub mod NearExample

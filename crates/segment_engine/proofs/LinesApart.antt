@@ -1,11 +1,11 @@
--- While stations go on one by one, what the lines tell ahead comes true, and so does what the taps hear by them, for as long
--- as no station is due.
+-- While stations go on one by one, what their lines tell comes true, and so does what the taps hear by them, for as long as
+-- no station is due.
 use Rattle.std.proofs.Common.{◌≡◌, ℕ, zero, suc, ◌+◌, ◌-◌, ◌<◌, ◌≤◌, inl, inr, List, length, get_or, sym, subst, ap, ◌∙◌, arith}
 use Rattle.std.proofs.lemmas.Bool.{cases_lt}
 use Rattle.manchester_line.specs.Line.{is_signal}
 use Rattle.load_plan.specs.declared.plan.Plan.{Plan}
 use Rattle.mac_receive.specs.KeptReceiver.{KeptReception}
-use Rattle.mac_transmit.specs.Sender.{Sender, sender_step, is_sending}
+use Rattle.mac_transmit.specs.Sender.{Sender, sender_step}
 use Rattle.mac_transmit.specs.Calm.{AllHeardAs, after_all, calm_of}
 use Rattle.mac_transmit.specs.Emissions.{emission_by}
 use Rattle.mac_transmit.proofs.CalmEmissions.{calm_senders_emit}
@@ -20,21 +20,12 @@ use Rattle.net_parts.proofs.LookaheadLeads.{leads}
 use Rattle.net_parts.proofs.RepeaterSteps.{length-span, get_or-span}
 use Rattle.tap_lines.specs.TapLines.{TapLine, no_line, symbol_on, heard_by_lines}
 use Rattle.segment_engine.specs.declared.apart.Watch.{Watch}
+use Rattle.segment_engine.specs.KnownLines.{KnowLines}
 use Rattle.segment_engine.specs.StationsApart.{StandsBehind, HearsByLines}
-use Rattle.segment_engine.proofs.LinesHear.{KnowLines, station_by_lines, port_by_lines}
+use Rattle.segment_engine.proofs.LinesHear.{station_by_lines, port_by_lines}
 use Rattle.segment_engine.proofs.StationsLater.{sender_runs, station}
 
--- lines that are right below t, and from there on below `end` have what the stations emit as long as that goes on
-pub record TellAhead (plan : Plan) (s t front end : ℕ) (ls : List TapLine) : Type 0 where
-  pub know : KnowLines plan (wiring plan.layout s) (lookahead plan.layout) t front ls
-  pub ahead : end ≤ front
-  pub told : (r a : ℕ) → r < length (wiring plan.layout s).stations → t ≤ a → a < end →
-      symbol_on (get_or ls r no_line) a
-      ≡ emission_by (sender_at plan (get_or (wiring plan.layout s).stations r 0) t) (a - t) (sender_at plan (get_or (wiring plan.layout s).stations r 0) t).phase
-  pub signal : (r a : ℕ) → r < length (wiring plan.layout s).stations → t ≤ a → a < end →
-      is_signal (symbol_on (get_or ls r no_line) a) ≡ is_sending (sender_at plan (get_or (wiring plan.layout s).stations r 0) t).phase
-
-module _ (plan : Plan) (s t front end : ℕ) (ls : List TapLine) (tell : TellAhead plan s t front end ls) where
+module _ (plan : Plan) (s u front : ℕ) (ls : List TapLine) (know : KnowLines plan (wiring plan.layout s) (lookahead plan.layout) u front ls) where
   abbrev w : Wiring
   w = wiring plan.layout s
 
@@ -47,95 +38,120 @@ module _ (plan : Plan) (s t front end : ℕ) (ls : List TapLine) (tell : TellAhe
   abbrev number : ℕ → ℕ
   number r = get_or w.stations r 0
 
-  -- the lines are right below half bit b
+  -- the lines are right from half bit u on below half bit b
   abbrev AreRight : ℕ → Type 0
-  AreRight b = (r a : ℕ) → r < n → t ≤ a → a < b → symbol_on (get_or ls r no_line) a ≡ emitted plan (number r) a
+  AreRight b = (r a : ℕ) → r < n → u ≤ a → a < b → symbol_on (get_or ls r no_line) a ≡ emitted plan (number r) a
 
-  know_to : (b : ℕ) → t ≤ b → AreRight b → KnowLines plan w L b front ls
+  pub know_to : (b : ℕ) → u ≤ b → AreRight b → KnowLines plan w L b front ls
   know_to b h right = record {
-    many = tell.know.many;
-    places = tell.know.places;
-    no_delays = tell.know.no_delays;
-    delays = tell.know.delays;
-    begins = λ r l. let x = tell.know.begins r l in omega (arith, x, h);
-    near = tell.know.near;
-    emissions = λ r u l low high. elim (cases_lt u t) [
-      | inl before ↦ tell.know.emissions r u l low before
-      | inr after ↦ right r u l after high
+    many = know.many;
+    places = know.places;
+    no_delays = know.no_delays;
+    delays = know.delays;
+    begins = λ r l. let x = know.begins r l in omega (arith, x, h);
+    near = know.near;
+    emissions = λ r a l low high. elim (cases_lt a u) [
+      | inl before ↦ know.emissions r a l low before
+      | inr after ↦ right r a l after high
     ];
-    arrivals = tell.know.arrivals;
+    arrivals = know.arrivals;
   }
 
-  hears_to : (b : ℕ) → t ≤ b → b < end → AreRight b → (r : ℕ) → r < n → heard plan (number r) b ≡ heard_by_lines L b ls r
-  hears_to b h l right r i = let ahead = tell.ahead in station_by_lines plan (station_facts plan) L s b front (leads plan.layout) ls (know_to b h right) (omega (arith, l, ahead)) r i
+  -- what is heard in half bit b by lines that are right below it
+  hears_to : (b : ℕ) → u ≤ b → b < front → AreRight b → (r : ℕ) → r < n → heard plan (number r) b ≡ heard_by_lines L b ls r
+  hears_to b h l right r i = station_by_lines plan (station_facts plan) L s b front (leads plan.layout) ls (know_to b h right) l r i
 
-  pub ports_hear_to : (b : ℕ) → t ≤ b → b < end → AreRight b → (p : ℕ) → p < length w.edges → port_hears plan (get_or w.edges p 0) b ≡ heard_by_lines L b ls (n + p)
-  ports_hear_to b h l right p i = let ahead = tell.ahead in port_by_lines plan (station_facts plan) L s b front (leads plan.layout) ls (know_to b h right) (omega (arith, l, ahead)) p i
+  -- the same of the half bit that the lines are right below
+  pub hears_so_far : u < front → (r : ℕ) → r < n → heard plan (number r) u ≡ heard_by_lines L u ls r
+  hears_so_far l r i = hears_to u (omega arith) l (λ r' a h low high. absurd (omega (arith, low, high))) r i
 
   fewer : (a b : ℕ) → a ≤ b → AreRight b → AreRight a
   fewer a b h right r i l low high = right r i l low (omega (arith, high, h))
 
-  module _ (u v : ℕ) (from : t ≤ u) (upto : v ≤ end) (ws : ℕ → Watch) (ss : ℕ → Sender) (ks : ℕ → KeptReception)
-      (behind : (r : ℕ) → r < n → StandsBehind plan (number r) r L t ls (ws r) (ss r) (ks r))
-      (since : (r : ℕ) → r < n → (ws r).since ≤ u) (until : (r : ℕ) → r < n → v ≤ (ws r).until)
-      (right : (r : ℕ) → r < n → HearsByLines plan (number r) r L t u ls) where
-    right_before : AreRight u
-    right_before r a h low high = sym ((right r h).emits a low high)
+  -- one station, which stands behind, as far as it goes on
+  module _ (t r : ℕ) (h : r < n) (w0 : Watch) (x : Sender) (k0 : KeptReception) (is : StandsBehind plan (number r) r L t ls w0 x k0) (early : w0.since ≤ u)
+      (right : HearsByLines plan (number r) r L t u ls) where
+    pub hears_one : (b : ℕ) → t ≤ b → b < front → AreRight b → heard plan (number r) b ≡ heard_by_lines L b ls r
+    hears_one b low high so = elim (cases_lt b u) [
+      | inl before ↦ right.hears b low before
+      | inr after ↦ hears_to b after high so r h
+    ]
 
-    right_now : (a : ℕ) → u ≤ a → a < v → AreRight a → (r : ℕ) → r < n → symbol_on (get_or ls r no_line) a ≡ emitted plan (number r) a
-    right_now a after below so r h =
+    pub emits_one : (a : ℕ) → u ≤ a → a < w0.until → a < front → AreRight a → symbol_on (get_or ls r no_line) a ≡ emitted plan (number r) a
+    emits_one a after late upto so =
         let k = number r in
-        let is = behind r h in
-        let w0 = ws r in
-        let x = ss r in
         let m = a - w0.since in
-        let early = since r h in
-        let late = until r h in
         let begun = is.from_start in
+        let told = is.within in
         let there : w0.since + m ≡ a = omega (arith, early, after) in
         let hs = span (heard plan k) w0.since m in
         let size : length hs ≡ m = length-span (heard plan k) w0.since m in
         let heard_as : (i : ℕ) → i ≤ m → is_signal (heard plan k (w0.since + i)) ≡ w0.carrier = λ i c.
         let b : w0.since + i ≤ a = omega (arith, c, there) in
-        ap is_signal (hears_to (w0.since + i) (omega (arith, begun)) (omega (arith, b, below, upto)) (fewer (w0.since + i) a b so) r h)
-        ∙ is.steady (w0.since + i) (omega arith) (omega (arith, b, below, late)) in
+        ap is_signal (hears_one (w0.since + i) (omega (arith, begun)) (omega (arith, b, upto)) (fewer (w0.since + i) a b so))
+        ∙ is.steady (w0.since + i) (omega arith) (omega (arith, b, late)) in
         let all : AllHeardAs w0.carrier hs = λ i d c.
         let in_it : i < m = omega (arith, c, size) in
         ap is_signal (get_or-span (heard plan k) w0.since m i d in_it) ∙ heard_as i (omega (arith, in_it)) in
         let number_of = is.calm.number in
-        let enough : length hs < calm_of x w0.carrier = omega (arith, number_of, size, below, late, there) in
+        let enough : length hs < calm_of x w0.carrier = omega (arith, number_of, size, late, there) in
         let now : is_signal (heard plan k a) ≡ w0.carrier = subst (λ b. is_signal (heard plan k b) ≡ w0.carrier) there (heard_as m (omega arith)) in
-        let place : w0.since - t + m ≡ a - t = omega (arith, begun, there) in
-        let s0 = sender_at plan k t in
         let later : sender_at plan k a ≡ after_all x hs = ap (sender_at plan k) (sym there) ∙ sender_runs plan k (station plan s r h) m w0.since ∙ ap (λ y. after_all y hs) (sym is.sender) in
-        tell.told r a h (omega (arith, from, after)) (omega (arith, below, upto))
-        ∙ sym (ap (λ i. emission_by x i x.phase) size ∙ is.emits m ∙ ap (λ i. emission_by s0 i s0.phase) place)
+        let line : symbol_on (get_or ls r no_line) (w0.since + m) ≡ emission_by x m x.phase = is.line m (omega (arith, there, late, told)) in
+        ap (symbol_on (get_or ls r no_line)) (sym there)
+        ∙ line
+        ∙ ap (λ i. emission_by x i x.phase) (sym size)
         ∙ sym (calm_senders_emit x w0.carrier hs (heard plan k a) all now enough)
         ∙ ap (λ y. (sender_step y (heard plan k a)).emitted) (sym later)
         ∙ sym ((station_facts plan).emits k a (station plan s r h))
 
+  module _ (t v : ℕ) (from : t ≤ u) (upto : v ≤ front) (ws : ℕ → Watch) (ss : ℕ → Sender) (ks : ℕ → KeptReception)
+      (behind : (r : ℕ) → r < n → StandsBehind plan (number r) r L t ls (ws r) (ss r) (ks r))
+      (since : (r : ℕ) → r < n → (ws r).since ≤ u) (until : (r : ℕ) → r < n → v ≤ (ws r).until)
+      (right : (r : ℕ) → r < n → HearsByLines plan (number r) r L t u ls) where
+    right_now : (a : ℕ) → u ≤ a → a < v → AreRight a → (r : ℕ) → r < n → symbol_on (get_or ls r no_line) a ≡ emitted plan (number r) a
+    right_now a after below so r h =
+        let late = until r h in
+        emits_one t r h (ws r) (ss r) (ks r) (behind r h) (since r h) (right r h) a after (omega (arith, below, late)) (omega (arith, below, upto)) so
+
     right_to : (j : ℕ) → u + j ≤ v → AreRight (u + j)
-    right_to zero h r a l low high = right_before r a l low (omega (arith, high))
+    right_to zero h r a l low high = absurd (omega (arith, low, high))
     right_to (suc j) h r a l low high = elim (cases_lt a (u + j)) [
       | inl before ↦ right_to j (omega (arith, h)) r a l low before
       | inr now ↦ let e : u + j ≡ a = omega (arith, now, high) in subst (λ b. symbol_on (get_or ls r no_line) b ≡ emitted plan (number r) b) e (right_now (u + j) (omega arith) (omega (arith, h)) (right_to j (omega (arith, h))) r l)
     ]
 
-    pub right_below : u ≤ v → AreRight v
+    right_below : u ≤ v → AreRight v
     right_below h = let e : u + (v - u) ≡ v = omega (arith, h) in subst AreRight e (right_to (v - u) (omega (arith, e)))
+
+    -- the lines are right below v, where no station is due before
+    pub know_below : u ≤ v → KnowLines plan w L v front ls
+    know_below h = know_to v h (right_below h)
 
     pub hears_below : u ≤ v → (r : ℕ) → r < n → HearsByLines plan (number r) r L t v ls
     hears_below h r l =
         let so = right_below h in
         record {
-          hears = λ a low high. hears_to a low (omega (arith, high, upto)) (fewer a v (omega (arith, high)) so) r l;
-          emits = λ a low high. sym (so r a l low high);
-          sends = λ a low high. ap is_signal (sym (so r a l low high)) ∙ tell.signal r a l low (omega (arith, high, upto));
+          hears = λ a low high. hears_one t r l (ws r) (ss r) (ks r) (behind r l) (since r l) (right r l) a low (omega (arith, high, upto)) (fewer a v (omega (arith, high)) so);
+          emits = λ a low high. elim (cases_lt a u) [
+            | inl before ↦ (right r l).emits a low before
+            | inr after ↦ sym (so r a l after high)
+          ];
         }
 
-    pub ports_below : u ≤ v → (p a : ℕ) → p < length w.edges → t ≤ a → a < v → port_hears plan (get_or w.edges p 0) a ≡ heard_by_lines L a ls (n + p)
-    ports_below h p a l low high = ports_hear_to a low (omega (arith, high, upto)) (fewer a v (omega (arith, high)) (right_below h)) p l
-
-  -- the ports, by what the stations hear
-  pub ports_from : (v : ℕ) → v ≤ end → ((r : ℕ) → r < n → HearsByLines plan (number r) r L t v ls) → (p a : ℕ) → p < length w.edges → t ≤ a → a < v → port_hears plan (get_or w.edges p 0) a ≡ heard_by_lines L a ls (n + p)
-  ports_from v h right p a l low high = ports_hear_to a low (omega (arith, high, h)) (λ r b i from below. sym ((right r i).emits b from (omega (arith, below, high)))) p l
+  -- The ports hear by the lines in all half bits from t on, where these keep what was so before t.
+  pub ports_from : (t : ℕ) → t ≤ u → ((r : ℕ) → r < length ls → (get_or ls r no_line).base ≤ t - (get_or ls r no_line).backlog) →
+      (p a : ℕ) → p < length w.edges → t ≤ a → a < u → a < front → port_hears plan (get_or w.edges p 0) a ≡ heard_by_lines L a ls (n + p)
+  ports_from t h begins p a l low high ahead = port_by_lines plan (station_facts plan) L s a front (leads plan.layout) ls known_there ahead p l
+    where
+      known_there : KnowLines plan w L a front ls
+      known_there = record {
+        many = know.many;
+        places = know.places;
+        no_delays = know.no_delays;
+        delays = know.delays;
+        begins = λ r i. let x = begins r i in omega (arith, x, low);
+        near = know.near;
+        emissions = λ r b i from below. know.emissions r b i from (omega (arith, below, high));
+        arrivals = know.arrivals;
+      }

@@ -19,6 +19,7 @@ use Rattle.net_parts.proofs.NetworkFacts.{StationFacts}
 use Rattle.net_parts.proofs.LateRows.{if_true, if_false, span_of}
 use Rattle.net_parts.proofs.SegmentHearing.{station_hears, port_hears_so}
 use Rattle.tap_lines.specs.TapLines.{TapLine, no_line, symbol_on, half_bits_back, heard_of_lines, heard_by_lines, IsReachOf}
+use Rattle.segment_engine.specs.KnownLines.{KnowLines}
 use Rattle.segment_engine.specs.PartStates.{AreLinesAt}
 use Rattle.tap_lines.proofs.Spans.{take-span, drop-span}
 use Rattle.segment_engine.proofs.HeldLines.{line_at}
@@ -47,20 +48,6 @@ mixed_alike L t p at q told (l ∷ ls) same =
     ap₂ mix_of
     (ap (λ s. cond (eqb q p) Idle s) (same 0 q (omega arith) (omega arith)))
     (mixed_alike L t p at (q + 1) told ls (λ i r h e. same (suc i) r (omega arith) (omega (arith, e))))
-
--- the lines of a segment in half bit t say what each station emitted below it, and what comes in for each port below
--- `front`
-pub record KnowLines (plan : Plan) (w : Wiring) (L t front : ℕ) (ls : List TapLine) : Type 0 where
-  pub many : length ls ≡ length w.stations + length w.edges
-  pub places : map (λ l. l.at) ls ≡ w.positions
-  pub no_delays : (r : ℕ) → r < length w.stations → (get_or ls r no_line).delay ≡ L
-  pub delays : (p : ℕ) → p < length w.edges → (get_or ls (length w.stations + p) no_line).delay ≡ get_or w.delays p 0
-  pub begins : (r : ℕ) → r < length ls → (get_or ls r no_line).base ≤ t - (get_or ls r no_line).backlog
-  pub near : (p r : ℕ) → p < length w.positions → r < length ls →
-      distance (get_or w.positions p 0) (get_or w.positions r 0) + (get_or ls r no_line).delay - L ≤ (get_or ls r no_line).backlog
-  pub emissions : (r u : ℕ) → r < length w.stations → (get_or ls r no_line).base ≤ u → u < t → symbol_on (get_or ls r no_line) u ≡ emitted plan (get_or w.stations r 0) u
-  pub arrivals : (p u : ℕ) → p < length w.edges → (get_or ls (length w.stations + p) no_line).base ≤ u → u < front →
-      symbol_on (get_or ls (length w.stations + p) no_line) u ≡ arrives plan L (get_or w.edges p 0) u
 
 pub begins_all : (plan : Plan) (w : Wiring) (L t front : ℕ) (ls : List TapLine) → AreLinesAt plan w L t front ls → (r : ℕ) → r < length ls → (get_or ls r no_line).base ≤ t - (get_or ls r no_line).backlog
 begins_all plan w L t front ls are r h = elim (cases_lt r (length w.stations)) [

@@ -18,7 +18,8 @@ use Rattle.net_parts.proofs.NetworkFacts.{station_facts}
 use Rattle.net_parts.proofs.LookaheadLeads.{leads}
 use Rattle.net_parts.proofs.RepeaterSteps.{length-span, get_or-span}
 use Rattle.tap_lines.specs.TapLines.{TapLine, no_line, symbol_on, heard_by_lines}
-use Rattle.segment_engine.proofs.LinesHear.{KnowLines, station_by_lines, port_by_lines}
+use Rattle.segment_engine.specs.KnownLines.{KnowLines}
+use Rattle.segment_engine.proofs.LinesHear.{station_by_lines, port_by_lines}
 use Rattle.segment_engine.proofs.StationsLater.{sender_runs, station}
 
 module _ (plan : Plan) (s t front m : ℕ) (ls : List TapLine) (carrier : ℕ → Bool) (know : KnowLines plan (wiring plan.layout s) (lookahead plan.layout) t front ls) (ahead : t + m ≤ front)

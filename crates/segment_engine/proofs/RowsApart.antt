@@ -22,7 +22,7 @@ use Rattle.segment_engine.proofs.BehindStations.{no_sending, no_reception}
 use Rattle.segment_engine.proofs.StationsLater.{station, row_later, rows_stay, captures_to}
 
 abbrev a_watch : Watch
-a_watch = record { since = 0; until = 0; carrier = false }
+a_watch = record { since = 0; until = 0; carrier = false; told = 0 }
 
 module _ (of : Segment) (t end : ℕ) (ls : List TapLine) (ds : Sender) (dk : KeptReception) where
   abbrev plan : Plan
@@ -43,7 +43,6 @@ module _ (of : Segment) (t end : ℕ) (ls : List TapLine) (ds : Sender) (dk : Ke
   heard_less u v h right = λ i l. record {
     hears = λ a low high. (right i l).hears a low (omega (arith, high, h));
     emits = λ a low high. (right i l).emits a low (omega (arith, high, h));
-    sends = λ a low high. (right i l).sends a low (omega (arith, high, h));
   }
 
   -- the half bit in which receptions end
@@ -63,7 +62,7 @@ module _ (of : Segment) (t end : ℕ) (ls : List TapLine) (ds : Sender) (dk : Ke
 
   -- and half bits in which nothing happens
   module _ (u v : ℕ) (later : u ≤ v) (ws : List Watch) (ss : List Sender) (ks : List KeptReception) (all : StandAllApart of t u end ls ws ss ks)
-      (still : (i : ℕ) (w : Watch) (s : Sender) (k : KeptReception) → i < n → IsStillBy (get_or ws i w) (get_or ss i s) (get_or ks i k))
+      (still : (i : ℕ) (w : Watch) (s : Sender) (k : KeptReception) → i < n → (get_or ws i w).since < (get_or ws i w).until → IsStillBy (get_or ws i w) (get_or ss i s) (get_or ks i k))
       (until : (i : ℕ) (w : Watch) → i < n → v ≤ (get_or ws i w).until) (right : HearAllByLines of t v ls) where
     abbrev Nothing : List ℕ → Type 0
     Nothing xs = (r j : ℕ) → r < length xs → j < v - u → ((sender_step (sender_at plan (get_or xs r 0) (u + j)) (heard plan (get_or xs r 0) (u + j))).event ≡ None)
@@ -77,7 +76,7 @@ module _ (of : Segment) (t end : ℕ) (ls : List TapLine) (ds : Sender) (dk : Ke
         let a = u + j in
         let so = heard_less (a + 1) v (omega (arith, l)) right r h in (
           no_sending plan (number_on of r) (there r h) r of.lookahead t a ls (get_or ws r a_watch) (get_or ss r ds) (get_or ks r dk) one.behind (omega (arith, early)) (omega (arith, late, l)) so,
-          no_reception plan (number_on of r) (there r h) r of.lookahead t a ls (get_or ws r a_watch) (get_or ss r ds) (get_or ks r dk) one.behind (omega (arith, early)) (omega (arith, late, l)) so (still r a_watch ds dk h),
+          no_reception plan (number_on of r) (there r h) r of.lookahead t a ls (get_or ws r a_watch) (get_or ss r ds) (get_or ks r dk) one.behind (omega (arith, early)) (omega (arith, late, l)) so (still r a_watch ds dk h (omega (arith, early, late, l))),
         )
 
     at_last : u + (v - u) ≡ v

@@ -1,5 +1,5 @@
 -- Stations to which nothing happens for several half bits, and what their lines tell ahead.
-use Rattle.std.proofs.Common.{◌≡◌, ℕ, ◌+◌, ◌-◌, ◌<◌, ◌≤◌, Bool, false, List, length, replicate, sym, subst, ap, ap₂, ◌∙◌, arith}
+use Rattle.std.proofs.Common.{◌≡◌, ℕ, ◌+◌, ◌-◌, ◌<◌, ◌≤◌, Bool, false, List, [], ◌∷◌, length, replicate, sym, subst, ap, ap₂, ◌∙◌, arith}
 use Rattle.std.specs.Prelude.{◌↔◌, Option}
 use Rattle.manchester_line.specs.declared.Sym.{Sym}
 use Rattle.manchester_line.specs.declared.Sym.TheVariants.{Idle}
@@ -11,6 +11,14 @@ use Rattle.mac_transmit.specs.Emissions.{emission_by}
 use Rattle.tap_lines.specs.TapLines.{TapLine, line_extended}
 use Rattle.segment_engine.specs.SteadyPieces.{IsCalmAs, IsToldAhead, sent_ahead}
 use Rattle.segment_engine.proofs.QuietHalfBits.{emits_idle, span_same}
+
+none_calm : (s : Sender) (hs : List Sym) → length hs ≤ 0 → AreCalm s hs
+none_calm s [] h = tt
+none_calm s (x ∷ hs) h = absurd (omega (arith, h))
+
+-- nothing happens in no half bits
+pub no_calm : (c : Bool) (s : Sender) → IsCalmAs 0 c s
+no_calm c s = record { number = omega arith; calm = λ hs a l. none_calm s hs l }
 
 pub fewer_calm : (m n : ℕ) (c : Bool) (s : Sender) → n ≤ m → IsCalmAs m c s → IsCalmAs n c s
 fewer_calm m n c s h is = record {

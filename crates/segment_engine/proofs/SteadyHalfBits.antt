@@ -22,7 +22,8 @@ use Rattle.segment_engine.specs.PartStates.{AreLinesAt}
 use Rattle.segment_engine.specs.SteadyPieces.{sent_ahead, IsToldAhead, IsCalmAs}
 use Rattle.segment_engine.proofs.HeldLines.{line_size}
 use Rattle.tap_lines.proofs.LinesAhead.{span_alike, symbol_before, symbol_ahead, places_same}
-use Rattle.segment_engine.proofs.LinesHear.{KnowLines, known}
+use Rattle.segment_engine.specs.KnownLines.{KnowLines}
+use Rattle.segment_engine.proofs.LinesHear.{known}
 use Rattle.segment_engine.proofs.PiecesAhead.{ahead_emitted, ahead_heard, ahead_ports}
 use Rattle.tap_lines.proofs.Spans.{span_more}
 use Rattle.segment_engine.proofs.StationsLater.{sender_runs, station, last_calm}

@@ -1,6 +1,7 @@
 pub mod NewLines
 pub mod StationPasses
 pub mod PartStates
+pub mod KnownLines
 pub mod RunningStates
 pub mod Strides
 pub mod KeptParts

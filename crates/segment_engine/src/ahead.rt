@@ -2,7 +2,7 @@
 ghost use Rattle.std.specs.Prelude.{◌≡◌, ◌≤◌, ◌<◌, ◌+◌, ◌^◌, ℕ, true, All, length, take, slice_index_or};
 ghost use Rattle.mac_parameters.specs.Parameters.{most_half_bits};
 ghost use Rattle.manchester_line.specs.Line.{is_signal as is_signal_of};
-ghost use Rattle.mac_transmit.specs.Emissions.{emission_by};
+ghost use Rattle.mac_transmit.specs.Emissions.{IsSendingFor, emission_by};
 ghost use Rattle.mac_transmit.specs.Sender.{Sender, symbol_of, is_sending as is_sending_in};
 ghost use Rattle.net_parts.specs.Machines.{span};
 ghost use Rattle.segment_engine.specs.SteadyPieces.{IsToldAhead, sent_ahead};
@@ -78,6 +78,31 @@ fn go_ahead(t: u64, count: u32, sender: &Transmitter, line: &mut Line, piece: &m
     }
     line.rest(count as usize);
     count
+}
+
+/// The same, and no further than the end of its sending.
+pub fn go_on_ahead(
+    t: u64,
+    count: u32,
+    sender: &Transmitter,
+    line: &mut Line,
+    piece: &mut [Sym],
+) -> u32
+    requires time { t ≡ sender.now.t }
+    requires in_time { t + count ≤ most_half_bits }
+    requires room { count ≤ line.old.room }
+    requires piece { count ≤ length piece.old }
+    ensures within { result ≤ count }
+    ensures line { line.new ≡ line_extended line.old (sent_ahead sender.now result) }
+    ensures signal { (j : ℕ) → j < result → is_signal_of (emission_by sender.now j sender.now.phase) ≡ is_sending_in sender.now.phase }
+    ensures lasts { is_sending_in sender.now.phase ≡ true → IsSendingFor sender.now result sender.now.phase }
+{
+    if !is_sending(sender) || count == 0 {
+        line.rest(count as usize);
+        return count;
+    }
+    let most = sender.calm(t, false).min(u64::from(count)) as u32;
+    send_on(t, most, sender, line, piece)
 }
 
 /// Puts on the line of each station what it emits in the half bits from `t` on, at most so many, if nothing happens to

@@ -1,6 +1,6 @@
 //! Several half bits at once in which all stations go on with what they emit. Each of them goes from one change of what
 //! it hears to the next by itself: between them it stands behind.
-ghost use Rattle.std.specs.Prelude.{◌≡◌, ◌≢◌, ◌≤◌, ◌<◌, ◌+◌, ◌-◌, ◌++◌, ◌^◌, ℕ, [], true, false, All, length, map, slice_index_or};
+ghost use Rattle.std.specs.Prelude.{◌≡◌, ◌≢◌, ◌≤◌, ◌<◌, ◌+◌, ◌-◌, ◌++◌, ◌*◌, ◌^◌, ℕ, [], true, false, All, length, map, slice_index_or};
 ghost use Rattle.mac_parameters.specs.Parameters.{most_half_bits};
 ghost use Rattle.manchester_line.specs.Line.{is_signal as is_signal_of};
 ghost use Rattle.mac_receive.specs.KeptReceiver.{KeptReception, Hears, IsReceiver};
@@ -9,16 +9,19 @@ ghost use Rattle.mac_transmit.specs.Sender.{Sender, is_sending as is_sending_in}
 ghost use Rattle.network.specs.Captures.{taken_by};
 ghost use Rattle.network.specs.Rows.{row_of};
 ghost use Rattle.segment_engine.specs.FirstReceptions.{rows_of_first};
+ghost use Rattle.net_parts.specs.SegmentParts.{wiring};
 ghost use Rattle.net_parts.specs.Standing.{captures_at, rows_of_devices};
+ghost use Rattle.segment_engine.specs.KnownLines.{KnowLines};
 ghost use Rattle.segment_engine.specs.SteadyPieces.{IsCalmAs};
 ghost use Rattle.segment_engine.specs.Strides.{MayGoOnFor, HasGoneOn};
-ghost use Rattle.segment_engine.specs.StationsApart.{StandsBehind, StandsApart, StandAllApart, EndsAt, IsStillBy, HearsByLines, HearAllByLines, ComeTrueApart, CoversApart, behind_demand, number_on, heard_reception};
-ghost use Rattle.tap_lines.specs.TapLines.{heard_for, IsReachOf, heard_by_lines};
+ghost use Rattle.segment_engine.specs.StationsApart.{StandsBehind, StandsApart, StandAllApart, EndsAt, IsStillBy, HearsByLines, HearAllByLines, AreToldAnew, IsToldTo, TellsUpTo, CoversApart, behind_demand, number_on, heard_reception};
+ghost use Rattle.tap_lines.specs.TapLines.{IsReachOf, TapLine, heard_by_lines, heard_for, no_line};
 ghost use Rattle.tap_lines.specs.TapLists.{AreIdleButFor, HearsListed};
 ghost use Rattle.window_room.specs.NeededRoom.{Covers, Demand, IsDemandWithin, both_demands, receiver_demand, sender_demand, stations_demand};
 ghost use Rattle.window_room.specs.Rooms.{Room, captures_with};
 
-use crate::ahead::emit_ahead;
+use crate::ahead::go_on_ahead;
+use crate::due::step_all;
 use crate::quiet::is_sending;
 use crate::running::Running;
 use crate::segment::Segment;
@@ -31,12 +34,13 @@ use tap_lines::{Line, LoudTaps, class_ahead, cut_all, hear_listed, piece_of};
 use window_room::RowRoom;
 
 /// A station that stands before half bit `since`: up to half bit `until` it hears a signal in each, or Idle in each, as
-/// `carrier` says, and goes on with what it does.
+/// `carrier` says, and goes on with what it does. Below half bit `told` its line has what it emits if nothing happens.
 #[derive(Clone, Copy)]
 pub struct Watch {
     pub since: u64,
     pub until: u64,
     pub carrier: bool,
+    pub told: u64,
 }
 
 /// The half bits from `t` on of a receiver, tap `p`, as many as the piece has, in which no reception ends.
@@ -164,11 +168,12 @@ fn bring_all(
 }
 
 /// The watch of a station from half bit `u` on, which hears a signal in each of so many half bits, or Idle in each.
-fn calm_watch(u: u64, carrier: bool, steady: usize, sender: &Transmitter) -> Watch
+fn calm_watch(u: u64, carrier: bool, steady: usize, told: u64, sender: &Transmitter) -> Watch
     requires time { u ≡ sender.now.t }
     requires in_time { u < most_half_bits }
     ensures since { result.since ≡ u }
     ensures carrier { result.carrier ≡ carrier }
+    ensures told { result.told ≡ told }
     ensures from { u ≤ result.until }
     ensures within { result.until ≤ u + steady }
     ensures calm { IsCalmAs (result.until - u) carrier sender.now }
@@ -178,6 +183,7 @@ fn calm_watch(u: u64, carrier: bool, steady: usize, sender: &Transmitter) -> Wat
         since: u,
         until: u + calm,
         carrier,
+        told,
     }
 }
 
@@ -192,12 +198,14 @@ fn watch_from(
     far: u64,
     most: usize,
     was: bool,
+    told: u64,
     sender: &Transmitter,
 ) -> Watch
     requires listed { HearsListed p lookahead far u most lines.now loud.now.taps }
     requires time { u ≡ sender.now.t }
     requires in_time { u < most_half_bits }
     ensures since { result.since ≡ u }
+    ensures told { result.told ≡ told }
     ensures from { u ≤ result.until }
     ensures within { result.until ≤ u + most }
     ensures calm { IsCalmAs (result.until - u) result.carrier sender.now }
@@ -205,10 +213,10 @@ fn watch_from(
 {
     let same = class_ahead(lines, loud, p, lookahead, far, u, most, was);
     if same > 0 {
-        return calm_watch(u, was, same, sender);
+        return calm_watch(u, was, same, told, sender);
     }
     let other = class_ahead(lines, loud, p, lookahead, far, u, most, !was);
-    calm_watch(u, !was, other, sender)
+    calm_watch(u, !was, other, told, sender)
 }
 
 /// Station `p` of a segment, which is due in half bit `u`, goes on up to it and is looked at.
@@ -236,23 +244,17 @@ fn look_one(
     requires apart { StandsApart of.now t u end p lines.now watch.old sender.old receiver.old }
     requires right { HearsByLines of.now.plan.value (number_on of.now p) p of.now.lookahead t u lines.now }
     ensures apart { StandsApart of.now t u end p lines.now watch.new sender.new receiver.new }
+    ensures since { watch.new.since ≡ u }
     ensures left { (e : ℕ) → u ≤ e → IsDemandWithin (behind_demand e watch.new sender.new receiver.new) (behind_demand e watch.old sender.old receiver.old) }
 {
     bring_one(
         of, t, u, lines, loud, p, far, watch, sender, receiver, piece,
     );
-    let most = (end - u) as usize;
-    *watch = watch_from(
-        u,
-        lines,
-        loud,
-        p,
-        of.lookahead,
-        far,
-        most,
-        watch.carrier,
-        sender,
-    );
+    let told = watch.told;
+    let most = end.min(told).saturating_sub(u) as usize;
+    let was = watch.carrier;
+    let lookahead = of.lookahead;
+    *watch = watch_from(u, lines, loud, p, lookahead, far, most, was, told, sender);
 }
 
 /// The stations that are due in half bit `u` go on up to it, and are looked at. It answers whether all of them go on
@@ -279,10 +281,13 @@ fn look_all(
     requires right { HearAllByLines of.now t u lines.now }
     ensures apart { StandAllApart of.now t u end lines.now watches.new senders.new receivers.new }
     ensures on { result ≡ true → (i : ℕ) (w : Watch) → i < length of.now.stations.items → u < (slice_index_or watches.new i w).until }
+    ensures looked { (i : ℕ) (w : Watch) → i < length of.now.stations.items →
+        (slice_index_or watches.new i w).until ≡ u → (slice_index_or watches.new i w).since ≡ u }
     ensures left { (e : ℕ) (room : Room) → u ≤ e →
         CoversApart e (length of.now.stations.items) watches.old senders.old receivers.old room →
         CoversApart e (length of.now.stations.items) watches.new senders.new receivers.new room }
 {
+    let mut on = true;
     for k in 0..senders.len() {
         if watches[k].until > u {
             continue;
@@ -293,11 +298,9 @@ fn look_all(
         look_one(
             of, t, u, end, lines, loud, k, far, watch, sender, receiver, piece,
         );
-        if watches[k].until == u {
-            return false;
-        }
+        on &= watches[k].until > u;
     }
-    true
+    on
 }
 
 /// Whether a reception ends in half bit `u` at a station that stands before it.
@@ -310,7 +313,7 @@ fn ends_at(u: u64, watch: &Watch, sender: &Transmitter, receiver: &LateReceiver)
 
 /// Half bit `u` of the receiver of station `p` of a segment where a reception ends in it: the station goes on to the next
 /// half bit. The device is counted among all.
-fn end_one(
+pub fn end_one(
     of: &Segment,
     t: u64,
     u: u64,
@@ -405,25 +408,46 @@ fn first_due(watches: &[Watch], end: u64) -> u64
     due
 }
 
-/// All stations are due in half bit `t`.
-fn watch_all(t: u64, watches: &mut [Watch])
+/// Puts on the line of each station what it emits in the half bits from `t` on, so many at most, if nothing happens to its
+/// sender: those lines come first. All stations are due in half bit `t`.
+fn tell_all(
+    t: u64,
+    count: u32,
+    senders: &[Transmitter],
+    lines: &mut [Line],
+    watches: &mut [Watch],
+    piece: &mut [Sym],
+)
+    requires few { length senders.now ≤ length lines.old }
+    requires watched { length senders.now ≡ length watches.old }
+    requires times { All (λ s. s.t ≡ t) senders.now }
+    requires in_time { t + count ≤ most_half_bits }
+    requires piece { count ≤ length piece.old }
+    requires room { (r : ℕ) (d : TapLine) → r < length senders.now → count ≤ (slice_index_or lines.old r d).room }
     ensures since { (i : ℕ) (w : Watch) → i < length watches.new → (slice_index_or watches.new i w).since ≡ t }
     ensures until { (i : ℕ) (w : Watch) → i < length watches.new → (slice_index_or watches.new i w).until ≡ t }
+    ensures told { (r : ℕ) (d : TapLine) (e : Sender) (w : Watch) → r < length senders.now →
+        IsToldTo (slice_index_or senders.now r e) t (t + count) (slice_index_or watches.new r w).told (slice_index_or lines.old r d) (slice_index_or lines.new r d) }
+    ensures others { (r : ℕ) (d : TapLine) → length senders.now ≤ r → slice_index_or lines.new r d ≡ slice_index_or lines.old r d }
 {
-    for watch in watches.iter_mut() {
+    for k in 0..senders.len() {
+        let told = go_on_ahead(t, count, &senders[k], &mut lines[k], piece);
+        let watch = &mut watches[k];
         watch.since = t;
         watch.until = t;
+        watch.told = t + u64::from(told);
     }
 }
 
-/// Half bits from `t` on, below `end`, in which all stations of a segment go on with what they emit. It answers up to
-/// which half bit.
+/// The half bits of a segment from `t` on below `end`: each station goes from one half bit in which something happens at
+/// it to the next by itself.
 fn run_apart(
     of: &Segment,
+    window: u64,
     t: u64,
     end: u64,
-    lines: &[Line],
-    loud: &LoudTaps,
+    lines: &mut [Line],
+    loud: &mut LoudTaps,
     far: u64,
     watches: &mut [Watch],
     senders: &mut [Transmitter],
@@ -431,41 +455,51 @@ fn run_apart(
     piece: &mut [Sym],
     teller: &mut Teller,
     room: &mut RowRoom,
-) -> u64
-    requires reach { IsReachOf far of.now.lookahead lines.now }
-    requires loud { AreIdleButFor (t - far) lines.now loud.now.taps }
+)
+    requires reach { IsReachOf far of.now.lookahead lines.old }
+    requires loud { AreIdleButFor (t - far) lines.old loud.old.taps }
+    requires listing { length lines.old ≤ loud.old.room }
     requires from { t ≤ end }
+    requires ahead { end ≤ (window + 1) * of.now.lookahead }
     requires in_time { end ≤ most_half_bits }
     requires piece { end ≤ t + length piece.old }
-    requires apart { StandAllApart of.now t t end lines.now watches.old senders.old receivers.old }
-    requires tell { ComeTrueApart of.now t end lines.now }
+    requires apart { StandAllApart of.now t t end lines.old watches.old senders.old receivers.old }
+    requires know { KnowLines of.now.plan.value (wiring of.now.plan.value.layout of.now.number) of.now.lookahead t ((window + 1) * of.now.lookahead) lines.old }
+    requires tell { (r : ℕ) → r < length of.now.stations.items → TellsUpTo t end (slice_index_or lines.old r no_line) }
     requires room { CoversApart end (length of.now.stations.items) watches.old senders.old receivers.old room.old }
     requires logged { room.old.rows ≡ rows_of_devices of.now.plan.value of.now.stations.items t }
     requires kept { room.old.captures ≡ map (λ x. captures_at of.now.plan.value x t) of.now.stations.items }
-    ensures from { t ≤ result }
-    ensures within { result ≤ end }
-    ensures apart { StandAllApart of.now t result end lines.now watches.new senders.new receivers.new }
-    ensures right { HearAllByLines of.now t result lines.now }
-    ensures logged { room.new.rows ≡ rows_of_devices of.now.plan.value of.now.stations.items result }
-    ensures kept { room.new.captures ≡ map (λ x. captures_at of.now.plan.value x result) of.now.stations.items }
-    ensures left { (e : ℕ) → result ≤ e →
+    ensures apart { StandAllApart of.now t end end lines.new watches.new senders.new receivers.new }
+    ensures know { KnowLines of.now.plan.value (wiring of.now.plan.value.layout of.now.number) of.now.lookahead end ((window + 1) * of.now.lookahead) lines.new }
+    ensures right { HearAllByLines of.now t end lines.new }
+    ensures lines { AreToldAnew t (length of.now.stations.items) lines.old lines.new }
+    ensures loud { AreIdleButFor (t - far) lines.new loud.new.taps }
+    ensures listing { loud.new.room ≡ loud.old.room }
+    ensures logged { room.new.rows ≡ rows_of_devices of.now.plan.value of.now.stations.items end }
+    ensures kept { room.new.captures ≡ map (λ x. captures_at of.now.plan.value x end) of.now.stations.items }
+    ensures left { (e : ℕ) → end ≤ e →
         CoversApart e (length of.now.stations.items) watches.old senders.old receivers.old room.old →
         CoversApart e (length of.now.stations.items) watches.new senders.new receivers.new room.new }
 {
+    let _ = window;
     let mut u = t;
     while u < end {
         let on = look_all(
             of, t, u, end, lines, loud, far, watches, senders, receivers, piece,
         );
-        if !on {
-            return u;
+        if on {
+            end_all(
+                of, t, u, end, lines, watches, senders, receivers, teller, room,
+            );
+            u = first_due(watches, end);
+            continue;
         }
-        end_all(
-            of, t, u, end, lines, watches, senders, receivers, teller, room,
+        step_all(
+            of, window, t, u, end, lines, loud, far, watches, senders, receivers, teller, room,
+            piece,
         );
         u = first_due(watches, end);
     }
-    u
 }
 
 /// Whether each station heard a signal last is kept.
@@ -495,7 +529,6 @@ pub fn go_apart(
     ensures within { result ≤ count }
     ensures gone { HasGoneOn of.now window k result state.old state.new parcels.new }
 {
-    let _ = window;
     let t = state.t;
     let far = state.far;
     let lookahead = of.lookahead;
@@ -503,30 +536,29 @@ pub fn go_apart(
     if state.watches.len() != stations {
         return 0;
     }
-    let ahead = emit_ahead(t, count, &state.senders, &mut state.lines, &mut state.piece);
-    state.loud.find(&state.lines, t.saturating_sub(far));
-    let lines: &[Line] = &state.lines;
-    let loud = &state.loud;
     let watches: &mut [Watch] = &mut state.watches;
     let senders: &mut [Transmitter] = &mut state.senders;
     let receivers: &mut [LateReceiver] = &mut state.receivers;
     let piece: &mut [Sym] = &mut state.piece;
     let teller = &mut state.teller;
     let room = &mut state.room;
-    let end = t + u64::from(ahead);
-    watch_all(t, watches);
-    let u = run_apart(
-        of, t, end, lines, loud, far, watches, senders, receivers, piece, teller, room,
+    let lines: &mut [Line] = &mut state.lines;
+    let loud = &mut state.loud;
+    let end = t + u64::from(count);
+    tell_all(t, count, senders, lines, watches, piece);
+    loud.find(lines, t.saturating_sub(far));
+    run_apart(
+        of, window, t, end, lines, loud, far, watches, senders, receivers, piece, teller, room,
     );
     bring_all(
-        of, t, u, end, lines, loud, far, watches, senders, receivers, piece,
+        of, t, end, end, lines, loud, far, watches, senders, receivers, piece,
     );
     keep_classes(watches, &mut state.heard);
-    let part = &mut piece[..(u - t) as usize];
+    let part = &mut piece[..count as usize];
     put_all(
         t, k as usize, lines, loud, stations, lookahead, far, parcels, part,
     );
-    cut_all(&mut state.lines, stations, u);
-    state.t = u;
-    (u - t) as u32
+    cut_all(lines, stations, end);
+    state.t = end;
+    count
 }

@@ -5,6 +5,7 @@
 
 mod ahead;
 mod apart;
+mod due;
 mod parcels;
 mod part;
 mod quiet;

@@ -1,5 +1,5 @@
 //! The symbols of a sending, written many at once.
-ghost use Rattle.std.specs.Prelude.{◌≡◌, ◌≤◌, ◌<◌, ◌+◌, ◌-◌, ◌*◌, ◌%◌, ◌^◌, ℕ, true, length, take, min, None};
+ghost use Rattle.std.specs.Prelude.{◌≡◌, ◌≤◌, ◌<◌, ◌+◌, ◌-◌, ◌*◌, ◌%◌, ◌^◌, ℕ, true, false, length, take, min, None};
 ghost use Rattle.mac_parameters.specs.Parameters.{half_bits_an_octet, preamble_length};
 ghost use Rattle.manchester_line.specs.Line.{is_signal as is_signal_of, octet_halves, preamble_at};
 ghost use Rattle.mac_transmit.specs.Sender.{line_at, line_length, symbol_of};
@@ -119,6 +119,7 @@ fn write_sending(octets: &[u8], hit: Option<u32>, p: u64, piece: &mut [Sym]) -> 
     ensures within { result ≤ length piece.old }
     ensures text { take result piece.new ≡ span (λ j. symbol_of octets.now hit (p + j)) 0 result }
     ensures signal { (j : ℕ) → j < result → is_signal_of (symbol_of octets.now hit (p + j)) ≡ true }
+    ensures longest { result < length piece.old → is_signal_of (symbol_of octets.now hit (p + result)) ≡ false }
 {
     for j in 0..piece.len() {
         let s = symbol_at(octets, hit, p + j as u64);
@@ -138,6 +139,7 @@ pub fn write_ahead(octets: &[u8], hit: Option<u32>, p: u64, piece: &mut [Sym]) -
     ensures within { result ≤ length piece.old }
     ensures text { take result piece.new ≡ span (λ j. symbol_of octets.now hit (p + j)) 0 result }
     ensures signal { (j : ℕ) → j < result → is_signal_of (symbol_of octets.now hit (p + j)) ≡ true }
+    ensures longest { result < length piece.old → is_signal_of (symbol_of octets.now hit (p + result)) ≡ false }
 {
     if hit.is_none() {
         write_whole(octets, p, piece)

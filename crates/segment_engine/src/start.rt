@@ -161,6 +161,7 @@ fn watches_of(alloc: Global, stations: usize) -> Result<Vec<Watch>, OutOfMemory>
         since: 0,
         until: 0,
         carrier: false,
+        told: 0,
     };
     Ok(vec![in alloc; watch; stations]?)
 }

@@ -21,7 +21,7 @@ use window_room::{RowRoom, log_event};
 /// Half bit `t` of a station, in which it hears this symbol: of its sender, then of its receiver, which is told whether
 /// the station emits something. The station is counted among those of the room, the device among all. It answers what
 /// the station emits.
-fn step_station(
+pub fn step_station(
     t: u64,
     station: usize,
     device: u32,

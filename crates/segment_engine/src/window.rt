@@ -18,11 +18,8 @@ use crate::steady::{calm_ahead, leap_steady};
 use net_parts::Parcel;
 use tap_lines::{slide_all, take_in};
 
-/// The half bits that are told ahead at first, and after a half bit in which a station didn't go on with what it emits.
+/// The half bits that are told ahead at most at the front of a window where a station sends.
 const FEW_AHEAD: u32 = 192;
-
-/// How many times as many are told ahead after a piece that stood as a whole.
-const MORE_AHEAD: u32 = 6;
 
 /// What came in for the ports in a window is put on their lines, and there is room for what the stations emit in it.
 fn begin(of: &Segment, window: u64, state: &mut Running, parcels: &[Parcel])
@@ -42,29 +39,28 @@ fn begin(of: &Segment, window: u64, state: &mut Running, parcels: &[Parcel])
     take_in(&mut state.lines, of.stations.len(), parcels);
 }
 
-/// How many half bits, at most `most`, are told ahead: at most `ahead` of them where a station sends.
-fn told_ahead(ahead: u32, most: u32, state: &Running) -> u32
+/// How many half bits, at most `most`, are told ahead: few of them where a station sends.
+fn told_ahead(most: u32, state: &Running) -> u32
     ensures within { result ≤ most }
     ensures piece { result ≤ length state.now.piece.items }
 {
     let count = (most as usize).min(state.piece.len()) as u32;
     for sender in &state.senders {
         if is_sending(sender) {
-            return count.min(ahead);
+            return count.min(FEW_AHEAD);
         }
     }
     count
 }
 
 /// Half bits of a window of a segment from half bit `k` on, from 0, at most `most`, in which each station hears what it
-/// was last said to hear, a signal or Idle, and goes on with what it does: what they emit is told ahead for at most
-/// `ahead` of them, where one sends. It answers how many.
+/// was last said to hear, a signal or Idle, and goes on with what it does: where one sends, at most a few of them. It
+/// answers how many.
 fn go_as_heard(
     of: &Segment,
     window: u64,
     k: u32,
     most: u32,
-    ahead: u32,
     state: &mut Running,
     parcels: &mut [Parcel],
 ) -> u32
@@ -75,7 +71,7 @@ fn go_as_heard(
     ensures gone { HasGoneOn of.now window k result state.old state.new parcels.new }
 {
     let t = state.t;
-    let most = told_ahead(ahead, most, state);
+    let most = told_ahead(most, state);
     let calm = calm_ahead(t, &state.heard, &state.senders, most);
     if calm == 0 {
         return 0;
@@ -83,16 +79,13 @@ fn go_as_heard(
     leap_steady(of, window, k, calm, state, parcels)
 }
 
-/// Half bits of a window of a segment from half bit `k` on, from 0, at least one and at most `most`: all stations go on
-/// with what they emit, each of them from one change of what it hears to the next, up to a half bit in which one of
-/// them doesn't, which is made too. What they emit is told ahead for at most `ahead` half bits where one sends: for
-/// more next time if all that was told stood. It answers how many.
+/// Half bits of a window of a segment from half bit `k` on, from 0, at least one and at most `most`: each station goes
+/// from one half bit in which something happens at it to the next by itself. It answers how many.
 fn go_each(
     of: &Segment,
     window: u64,
     k: u32,
     most: u32,
-    ahead: &mut u32,
     state: &mut Running,
     parcels: &mut [Parcel],
 ) -> u32
@@ -103,27 +96,23 @@ fn go_each(
     ensures within { result ≤ most }
     ensures gone { HasGoneOn of.now window k result state.old state.new parcels.new }
 {
-    let count = told_ahead(*ahead, most, state);
+    let count = (most as usize).min(state.piece.len()) as u32;
     let apart = go_apart(of, window, k, count, state, parcels);
-    if apart >= count.max(1) {
-        *ahead = ahead.saturating_mul(MORE_AHEAD);
+    if apart > 0 {
         return apart;
     }
-    *ahead = FEW_AHEAD;
     let next = k + apart;
     half_bit(of, window, next, state, parcels);
     apart + 1
 }
 
-/// Half bits of a window of a segment from half bit `k` on, from 0, at least one and at most `most`, of which at most
-/// `ahead` are told ahead where a station sends. It answers how many. At the front of a window the stations mostly hear
-/// what they heard before, so that is tried first.
+/// Half bits of a window of a segment from half bit `k` on, from 0, at least one and at most `most`. It answers how many.
+/// At the front of a window the stations mostly hear what they heard before, so that is tried first.
 fn go_steadily(
     of: &Segment,
     window: u64,
     k: u32,
     most: u32,
-    ahead: &mut u32,
     state: &mut Running,
     parcels: &mut [Parcel],
 ) -> u32
@@ -135,23 +124,22 @@ fn go_steadily(
     ensures gone { HasGoneOn of.now window k result state.old state.new parcels.new }
 {
     if k > 0 {
-        return go_each(of, window, k, most, ahead, state, parcels);
+        return go_each(of, window, k, most, state, parcels);
     }
-    let steady = go_as_heard(of, window, k, most, *ahead, state, parcels);
+    let steady = go_as_heard(of, window, k, most, state, parcels);
     if steady > 0 {
         return steady;
     }
-    go_each(of, window, k, most, ahead, state, parcels)
+    go_each(of, window, k, most, state, parcels)
 }
 
 /// Half bits of a window of a segment from half bit `k` on, from 0, at least one and at most `most`: at first those in
-/// which nothing happens, if there are any. At most `ahead` are told ahead where a station sends. It answers how many.
+/// which nothing happens, if there are any. It answers how many.
 fn go_on(
     of: &Segment,
     window: u64,
     k: u32,
     most: u32,
-    ahead: &mut u32,
     state: &mut Running,
     parcels: &mut [Parcel],
 ) -> u32
@@ -167,7 +155,7 @@ fn go_on(
         leap_quiet(of, window, quiet, state);
         return quiet;
     }
-    go_steadily(of, window, k, most, ahead, state, parcels)
+    go_steadily(of, window, k, most, state, parcels)
 }
 
 /// A window of a segment, which refills the parcels and turns them.
@@ -183,10 +171,9 @@ pub fn run(of: &Segment, window: u64, state: &mut Running, parcels: &mut [Parcel
 {
     begin(of, window, state, parcels);
     let count = u64::from(of.lookahead).min(of.half_bits - state.t) as u32;
-    let mut ahead = FEW_AHEAD;
     let mut k = 0;
     while k < count {
-        k += go_on(of, window, k, count - k, &mut ahead, state, parcels);
+        k += go_on(of, window, k, count - k, state, parcels);
     }
     turn(parcels, count as usize);
 }

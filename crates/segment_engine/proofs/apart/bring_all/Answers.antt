@@ -4,7 +4,7 @@ use Rattle.segment_engine.proofs.ChangedStations.{stand_set, below_set, covers_l
 use Rattle.segment_engine.proofs.apart.bring_all.Goals as goal
 
 abbrev a_watch : Watch
-a_watch = record { since = 0; until = 0; carrier = false }
+a_watch = record { since = 0; until = 0; carrier = false; told = 0 }
 
 pub bring_one-requires-clause-in_time : goal.bring_one-requires-clause-in_time
 bring_one-requires-clause-in_time c =

@@ -43,7 +43,7 @@ returns-clause-behind c =
     (heard_so plan x there p g.lookahead c.args.t c.args.u ls w s k b early late c.requires.right)
     (size plan x there p g.lookahead c.args.t c.args.u ls w s k b early late c.requires.right) in
     brought plan x there p g.lookahead c.args.t c.args.u ls w s k b early late c.requires.right
-    c.leap.new.self c.hear_on.new.receiver (record { since = c.args.u; until = w.until; carrier = w.carrier }) refl refl refl
+    c.leap.new.self c.hear_on.new.receiver (record { since = c.args.u; until = w.until; carrier = w.carrier; told = w.told }) refl refl refl refl
     leapt
     (c.leap.ensures.time ∙ ap (λ a. a + n) b.time)
     (c.hear_on.ensures.steps ∙ ap (λ a. w.since + a) fits)
@@ -72,7 +72,7 @@ returns-clause-left c = λ e h.
     let many = size plan x there p g.lookahead c.args.t c.args.u ls w s k b early late c.requires.right in
     let leapt : c.leap.new.self ≡ after_all s hs = c.leap.ensures.state hs
     (heard_so plan x there p g.lookahead c.args.t c.args.u ls w s k b early late c.requires.right) many in
-    needs_less e (record { since = c.args.u; until = w.until; carrier = w.carrier }) w s c.leap.new.self k c.hear_on.new.receiver hs (is_sending s.phase)
+    needs_less e (record { since = c.args.u; until = w.until; carrier = w.carrier; told = w.told }) w s c.leap.new.self k c.hear_on.new.receiver hs (is_sending s.phase)
     (omega (arith, many, h, early)) leapt (record {
       receiver = receiver_at plan x w.since;
       before = b.receiver;

@@ -14,7 +14,7 @@ use Rattle.segment_engine.proofs.WindowParcels.{receiver_more}
 use Rattle.segment_engine.proofs.apart.end_all.Goals as goal
 
 abbrev a_watch : Watch
-a_watch = record { since = 0; until = 0; carrier = false }
+a_watch = record { since = 0; until = 0; carrier = false; told = 0 }
 
 pub end_one-requires-clause-in_time : goal.end_one-requires-clause-in_time
 end_one-requires-clause-in_time c =

@@ -1,14 +1,24 @@
-use Rattle.std.proofs.Common.{◌≡◌, ℕ, suc, ◌+◌, ◌-◌, ◌<◌, ◌∷◌, true, false, inl, inr, List, [], length, get_or, refl, sym, subst, ap, ◌∙◌, arith, rules}
+use Rattle.std.proofs.Common.{◌≡◌, ℕ, suc, ◌+◌, ◌-◌, ◌<◌, ◌∷◌, ◌++◌, true, false, inl, inr, List, [], length, get_or, refl, sym, subst, ap, ap₂, ◌∙◌, arith, rules}
 use Rattle.std.proofs.lemmas.Bool.{cases_lt}
+use Rattle.std.proofs.lemmas.List.{get_or_read}
 use Rattle.manchester_line.specs.declared.Sym.{Sym}
 use Rattle.manchester_line.specs.declared.Sym.TheVariants.{Idle}
-use Rattle.mac_receive.specs.KeptReceiver.{Hears}
-use Rattle.mac_receive.specs.Receiver.{receiver_after}
+use Rattle.manchester_line.specs.Line.{is_signal}
+use Rattle.load_plan.specs.declared.plan.Plan.{Plan}
+use Rattle.mac_receive.specs.KeptReceiver.{KeptReception, Hears}
+use Rattle.mac_receive.specs.Receiver.{Reception, receiver_after, receiver_step}
 use Rattle.mac_transmit.specs.Calm.{AllHeardAs, after_all}
+use Rattle.mac_transmit.specs.Sender.{Sender}
+use Rattle.network.specs.Captures.{taken_by}
+use Rattle.network.specs.Rows.{row_of}
+use Rattle.network.specs.Times.{heard, emitted}
 use Rattle.net_parts.specs.Standing.{receiver_at}
-use Rattle.tap_lines.specs.TapLines.{heard_for}
+use Rattle.tap_lines.specs.TapLines.{TapLine, heard_for}
+use Rattle.tap_lines.proofs.HeardClasses.{idle_symbol}
+use Rattle.window_room.specs.Rooms.{captures_with}
+use Rattle.segment_engine.specs.declared.apart.Watch.{Watch}
 use Rattle.window_room.specs.NeededRoom.{Covers, IsDemandWithin, both_demands, receiver_demand, sender_demand}
-use Rattle.segment_engine.specs.StationsApart.{IsStillBy, number_on, heard_reception}
+use Rattle.segment_engine.specs.StationsApart.{StandsBehind, EndsAt, HearsByLines, IsStillBy, number_on, heard_reception}
 use Rattle.segment_engine.proofs.BehindStations.{brought, heard_so, no_reception, idle_now, idle_halves}
 use Rattle.segment_engine.proofs.ChangedStations.{regroup, regroup_less}
 use Rattle.segment_engine.proofs.FirstReceptions.{same_rows, same_captures}
@@ -16,6 +26,22 @@ use Rattle.segment_engine.proofs.QuietRoom.{sender_needs}
 use Rattle.segment_engine.proofs.QuietHalfBits.{all_idle}
 use Rattle.segment_engine.proofs.StationsLater.{station}
 use Rattle.segment_engine.proofs.apart.end_one.Goals as goal
+
+-- what its receiver makes of the half bit in which a reception ends
+ended : (plan : Plan) (x p L t u : ℕ) (ls : List TapLine) (w : Watch) (s : Sender) (k : KeptReception) → StandsBehind plan x p L t ls w s k → u < w.until → EndsAt u w s →
+    HearsByLines plan x p L t (u + 1) ls → receiver_step (receiver_at plan x w.since) Idle false ≡ heard_reception plan x u
+ended plan x p L t u ls w s k behind until ends right =
+    let at = ends.now in
+    let from = behind.from_start in
+    let told = behind.within in
+    let now : w.since + 0 ≡ u = omega (arith, at) in
+    let in_it : w.since + 0 < w.told = omega (arith, at, until, told) in
+    let idle : heard plan x u ≡ Idle =
+    idle_symbol (heard plan x u) (ap is_signal (right.hears u (omega (arith, from, at)) (omega arith)) ∙ behind.steady u (omega (arith, at)) until ∙ ends.idle) in
+    let silent : is_signal (emitted plan x u) ≡ false =
+    subst (λ a. is_signal (emitted plan x a) ≡ false) now
+    (ap is_signal (right.emits (w.since + 0) (omega (arith, from)) (omega (arith, now)) ∙ behind.line 0 in_it) ∙ behind.signal 0 in_it ∙ ends.silent) in
+    ap (λ a. receiver_step (receiver_at plan x a) Idle false) at ∙ ap₂ (receiver_step (receiver_at plan x u)) (sym idle) (sym silent)
 
 pub returns-then-not-ends_at-clause-rows : goal.returns-then-not-ends_at-clause-rows
 returns-then-not-ends_at-clause-rows c =
@@ -83,7 +109,7 @@ returns-clause-apart c =
     record {
       behind =
           brought plan x there p g.lookahead t (u + 1) ls w s k b (omega (arith, at)) (omega (arith, on)) c.requires.right
-          c.leap.new.self c.receive.new.self (record { since = u + 1; until = w.until; carrier = w.carrier }) refl refl refl sent
+          c.leap.new.self c.receive.new.self (record { since = u + 1; until = w.until; carrier = w.carrier; told = w.told }) refl refl refl refl sent
           (c.leap.ensures.time ∙ ap (λ m. m + 1) b.time ∙ ap (λ m. w.since + m) (sym single))
           (c.receive.ensures.steps ∙ ap (λ m. m + 1) b.steps ∙ ap (λ m. w.since + m) (sym single))
           (λ r h. subst (λ q. Hears (receiver_after r hs q) c.receive.new.self) (sym ends.silent)
@@ -121,3 +147,26 @@ returns-clause-left c = λ e other h covers.
     let beside = both_demands other (sender_demand (e - w.since) s) in
     let after = c.receive.ensures.left n beside (subst (λ m. Covers (both_demands beside (receiver_demand m k)) c.args.room.now) size before) in
     regroup_less other (sender_demand (e - w.since) s) (receiver_demand n k') (sender_demand n s') c.receive.new.room less after
+
+pub returns-clause-rows : goal.returns-clause-rows
+returns-clause-rows c =
+    let g = c.args.of.now in
+    let x = number_on g c.args.p in
+    let w = c.args.watch.now in
+    let b = c.requires.apart.behind in
+    let yes : c.ends_at.result ≡ true = search rules in
+    let is = ended g.plan.value x c.args.p g.lookahead c.args.t c.args.u c.args.lines.now w c.args.sender.now c.args.receiver.now b c.requires.on (c.ends_at.ensures.ends yes) c.requires.right in
+    let device : c.index-device.result.now ≡ x = get_or_read g.stations.items c.args.p c.index-device.result.now c.requires.station c.index-device.ensures 0 in
+    c.receive.ensures.rows (receiver_at g.plan.value x w.since) b.receiver
+    ∙ ap₂ (λ (d : ℕ) (y : Reception). c.args.room.now.rows ++ row_of c.args.u d y.event) device is
+
+pub returns-clause-captures : goal.returns-clause-captures
+returns-clause-captures c =
+    let g = c.args.of.now in
+    let x = number_on g c.args.p in
+    let w = c.args.watch.now in
+    let b = c.requires.apart.behind in
+    let yes : c.ends_at.result ≡ true = search rules in
+    let is = ended g.plan.value x c.args.p g.lookahead c.args.t c.args.u c.args.lines.now w c.args.sender.now c.args.receiver.now b c.requires.on (c.ends_at.ensures.ends yes) c.requires.right in
+    c.receive.ensures.captures (receiver_at g.plan.value x w.since) b.receiver
+    ∙ ap (λ (y : Reception). captures_with c.args.p (taken_by c.args.u y.event y.octets) c.args.room.now.captures) is

@@ -11,7 +11,7 @@ loop-watch-preserved c =
     let inv = c.loop-watch.invariant in
     let test = c.loop-watch-test.true in
     let is = c.min-due.ensures in
-    let none : Watch = record { since = 0; until = 0; carrier = false } in
+    let none : Watch = record { since = 0; until = 0; carrier = false; told = 0 } in
     record {
       within = let a = inv.within in omega (arith, is, a);
       first = λ i w h. elim (cases_lt i k) [

@@ -1,0 +1,149 @@
+-- Stations that go on one by one, from a half bit to the next in which one of them is due.
+use Rattle.std.proofs.Common.{◌≡◌, ℕ, ◌+◌, ◌-◌, ◌<◌, ◌≤◌, false, List, length, get_or, refl, sym, subst, ap, ap₂, ◌∙◌, arith}
+use Rattle.mac_parameters.specs.Distances.{distance}
+use Rattle.load_plan.specs.declared.plan.Plan.{Plan}
+use Rattle.mac_receive.specs.KeptReceiver.{KeptReception}
+use Rattle.mac_transmit.specs.Sender.{Sender}
+use Rattle.net_parts.specs.Windows.{lookahead}
+use Rattle.net_parts.specs.SegmentParts.{Wiring, wiring}
+use Rattle.tap_lines.specs.TapLines.{TapLine, IsReachOf, half_bits_back, no_line}
+use Rattle.segment_engine.specs.declared.apart.Watch.{Watch}
+use Rattle.segment_engine.specs.declared.segment.Segment.{Segment}
+use Rattle.segment_engine.specs.KnownLines.{KnowLines}
+use Rattle.segment_engine.specs.StationsApart.{StandsBehind, StandAllApart, HearsByLines, HearAllByLines, IsStillBy, IsToldAnew, AreToldAnew, TellsUpTo}
+use Rattle.segment_engine.proofs.ChangedLines.{line_anew}
+use Rattle.segment_engine.proofs.LinesApart.{know_below, hears_below}
+
+abbrev a_watch : Watch
+a_watch = record { since = 0; until = 0; carrier = false; told = 0 }
+
+-- lines that are told anew not at all, and twice
+pub not_told : (u n : ℕ) (ls : List TapLine) → AreToldAnew u n ls ls
+not_told u n ls = record {
+  many = refl;
+  told = λ r h. record { place = refl; wait = refl; keeps = refl; begins = refl; size = refl; before = λ a l. refl };
+  others = λ r h. refl;
+}
+
+pub told_again : (u v n : ℕ) (ls ls' ls'' : List TapLine) → u ≤ v → AreToldAnew u n ls ls' → AreToldAnew v n ls' ls'' → AreToldAnew u n ls ls''
+told_again u v n ls ls' ls'' later first last = record {
+  many = last.many ∙ first.many;
+  told = λ r h.
+      let x = first.told r h in
+      let y = last.told r h in
+      record {
+        place = y.place ∙ x.place;
+        wait = y.wait ∙ x.wait;
+        keeps = y.keeps ∙ x.keeps;
+        begins = y.begins ∙ x.begins;
+        size = y.size ∙ x.size;
+        before = λ a l. y.before a (omega (arith, l, later)) ∙ x.before a l;
+      };
+  others = λ r h. last.others r h ∙ first.others r h;
+}
+
+-- they reach as far
+pub reach_anew : (far L u n : ℕ) (ls ls' : List TapLine) → AreToldAnew u n ls ls' → IsReachOf far L ls → IsReachOf far L ls'
+reach_anew far L u n ls ls' anew reach = λ p r hp hr.
+    let many = anew.many in
+    let one = line_anew u n p ls ls' anew in
+    let other = line_anew u n r ls ls' anew in
+    let back = reach p r (omega (arith, hp, many)) (omega (arith, hr, many)) in
+    let way : half_bits_back L (get_or ls' p no_line).at (get_or ls' r no_line) ≡ half_bits_back L (get_or ls p no_line).at (get_or ls r no_line) =
+    ap₂ (λ x y. x + y - L) (ap₂ distance one.place other.place) other.wait in
+    omega (arith, back, way)
+
+module _ (of : Segment) (t u end : ℕ) (ls : List TapLine) (ws : List Watch) (ss : List Sender) (ks : List KeptReception) (ds : Sender) (dk : KeptReception)
+    (all : StandAllApart of t u end ls ws ss ks) (v : ℕ) (later : u ≤ v)
+    (until : (i : ℕ) (w : Watch) → i < length of.stations.items → v ≤ (get_or ws i w).until) where
+  abbrev plan : Plan
+  plan = of.plan.value
+
+  abbrev w : Wiring
+  w = wiring plan.layout of.number
+
+  abbrev L : ℕ
+  L = lookahead plan.layout
+
+  abbrev items : List ℕ
+  items = of.stations.items
+
+  -- no station is due before v
+  pub all_stand : ((i : ℕ) (w : Watch) (s : Sender) (k : KeptReception) → i < length items → (get_or ws i w).since < (get_or ws i w).until →
+      IsStillBy (get_or ws i w) (get_or ss i s) (get_or ks i k)) → StandAllApart of t v end ls ws ss ks
+  all_stand still = record {
+    senders = all.senders;
+    receivers = all.receivers;
+    watches = all.watches;
+    taps = all.taps;
+    each = λ i x s k h.
+        let one = all.each i x s k h in
+        let early = one.since in
+        let late = until i x h in
+        record {
+          behind = one.behind;
+          since = omega (arith, early, later);
+          until = late;
+          within = one.within;
+          still = λ before. still i x s k h (omega (arith, before, late));
+        };
+  }
+
+  -- their lines reach up to v
+  pub all_tell : (a : ℕ) (old : List TapLine) → AreToldAnew a (length items) old ls → ((r : ℕ) → r < length items → TellsUpTo a end (get_or old r no_line)) → a ≤ v →
+      (r : ℕ) → r < length items → TellsUpTo v end (get_or ls r no_line)
+  all_tell a old anew tell after r h =
+      let one = (all.each r a_watch ds dk h).behind in
+      let is = anew.told r h in
+      let was = tell r h in
+      let begins = is.begins in
+      let size = is.size in
+      let begun = was.begun in
+      let takes = was.takes in
+      let ends = one.ends in
+      let told = one.within in
+      let late = until r a_watch h in
+      record {
+        begun = omega (arith, begins, begun, after);
+        reaches = omega (arith, ends, told, late);
+        takes = omega (arith, begins, size, takes);
+      }
+
+  -- they are right below v, where they are right below u
+  module _ (front : ℕ) (know : KnowLines plan w of.lookahead u front ls) (from : t ≤ u) (upto : v ≤ front) (right : HearAllByLines of t u ls) where
+    abbrev Behind : List ℕ → ℕ → Type 0
+    Behind xs l = (i : ℕ) → i < length xs → StandsBehind plan (get_or xs i 0) i l t ls (get_or ws i a_watch) (get_or ss i ds) (get_or ks i dk)
+
+    abbrev RightTo : ℕ → List ℕ → ℕ → Type 0
+    RightTo b xs l = (i : ℕ) → i < length xs → HearsByLines plan (get_or xs i 0) i l t b ls
+
+    many : length items ≡ length w.stations
+    many = ap length of.station_numbers
+
+    know_there : KnowLines plan w L u front ls
+    know_there = subst (λ l. KnowLines plan w l u front ls) of.window_length know
+
+    behind_there : Behind w.stations L
+    behind_there = subst (λ xs. Behind xs L) of.station_numbers (subst (λ l. Behind items l) of.window_length (λ i h. (all.each i a_watch ds dk h).behind))
+
+    right_there : RightTo u w.stations L
+    right_there = subst (λ xs. RightTo u xs L) of.station_numbers (subst (λ l. RightTo u items l) of.window_length right)
+
+    since_there : (i : ℕ) → i < length w.stations → (get_or ws i a_watch).since ≤ u
+    since_there i h = (all.each i a_watch ds dk (let e = many in omega (arith, h, e))).since
+
+    until_there : (i : ℕ) → i < length w.stations → v ≤ (get_or ws i a_watch).until
+    until_there i h = until i a_watch (let e = many in omega (arith, h, e))
+
+    pub all_known : KnowLines plan w of.lookahead v front ls
+    all_known =
+        subst (λ l. KnowLines plan w l v front ls) (sym of.window_length)
+        (know_below plan of.number u front ls know_there t v from upto (λ i. get_or ws i a_watch) (λ i. get_or ss i ds) (λ i. get_or ks i dk)
+        behind_there since_there until_there right_there later)
+
+    pub all_hear : HearAllByLines of t v ls
+    all_hear =
+        let there : RightTo v w.stations L =
+        hears_below plan of.number u front ls know_there t v from upto (λ i. get_or ws i a_watch) (λ i. get_or ss i ds) (λ i. get_or ks i dk)
+        behind_there since_there until_there right_there later in
+        subst (λ l. RightTo v items l) (sym of.window_length) (subst (λ xs. RightTo v xs L) (sym of.station_numbers) there)

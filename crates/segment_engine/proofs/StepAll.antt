@@ -1,0 +1,278 @@
+-- A half bit of stations of which some are due: what stands once one of them has had its turn.
+use Rattle.std.proofs.Common.{◌≡◌, ◌≢◌, ℕ, suc, ◌+◌, ◌-◌, ◌<◌, ◌≤◌, ◌++◌, inl, inr, None, List, length, set, get_or, refl, sym, subst, ap, ap₂, ◌∙◌, arith, append_assoc}
+use Rattle.std.proofs.lemmas.Bool.{cases_lt, cases_eq}
+use Rattle.std.proofs.lemmas.List.{append-nil}
+use Rattle.std.specs.Prelude.{Option, min, max}
+use Rattle.collision_log.specs.declared.row.Body.{Body}
+use Rattle.collision_log.specs.declared.row.Row.{Row}
+use Rattle.manchester_line.specs.Line.{is_signal}
+use Rattle.mac_parameters.specs.Distances.{distance}
+use Rattle.load_plan.specs.declared.plan.Plan.{Plan}
+use Rattle.mac_receive.specs.KeptReceiver.{KeptReception}
+use Rattle.mac_transmit.specs.Sender.{Sender}
+use Rattle.network.specs.Rows.{row_of}
+use Rattle.network.specs.Times.{heard, emitted}
+use Rattle.net_parts.specs.Windows.{lookahead}
+use Rattle.net_parts.specs.SegmentParts.{wiring}
+use Rattle.tap_lines.specs.TapLines.{IsReachOf, TapLine, no_line, half_bits_back, heard_by_lines, symbol_on}
+use Rattle.window_room.specs.NeededRoom.{Covers, IsDemandWithin, both_demands, receiver_demand, sender_demand}
+use Rattle.window_room.specs.Rooms.{Room}
+use Rattle.segment_engine.specs.declared.apart.Watch.{Watch}
+use Rattle.segment_engine.specs.declared.segment.Segment.{Segment}
+use Rattle.segment_engine.specs.KnownLines.{KnowLines}
+use Rattle.segment_engine.specs.StationsApart.{StandsBehind, StandsApart, HearsByLines, IsToldAnew, AreToldAnew, TellsUpTo, CoversApart, behind_demand, lowered_watch, number_on, rows_of_both, sent_event}
+use Rattle.segment_engine.proofs.BehindStations.{no_sending}
+use Rattle.segment_engine.proofs.ChangedLines.{IsAlikeBelow, known_anew, line_anew, reaches_later, lowered, unlowered}
+use Rattle.segment_engine.proofs.ChangedStations.{demands_alike, each_set}
+use Rattle.segment_engine.proofs.LinesApart.{hears_so_far, emits_one}
+use Rattle.segment_engine.proofs.QuietRoom.{both_within}
+use Rattle.segment_engine.proofs.StationsLater.{station}
+use Rattle.segment_engine.proofs.WindowParcels.{receiver_more}
+
+-- lines of which one is told anew
+still_told : (u : ℕ) (l : TapLine) → IsToldAnew u l l
+still_told u l = record { place = refl; wait = refl; keeps = refl; begins = refl; size = refl; before = λ a h. refl }
+
+pub anew_none : (u n : ℕ) (ls : List TapLine) → AreToldAnew u n ls ls
+anew_none u n ls = record { many = refl; told = λ r h. still_told u (get_or ls r no_line); others = λ r h. refl }
+
+pub anew_one : (u n p : ℕ) (ls ls' : List TapLine) → p < n → length ls' ≡ length ls → IsToldAnew u (get_or ls p no_line) (get_or ls' p no_line) →
+    ((r : ℕ) (d : TapLine) → r ≢ p → get_or ls' r d ≡ get_or ls r d) → AreToldAnew u n ls ls'
+anew_one u n p ls ls' few many told others = record {
+  many = many;
+  told = λ r h. elim (cases_eq r p) [
+    | inl own ↦ subst (λ j. IsToldAnew u (get_or ls j no_line) (get_or ls' j no_line)) (sym own) told
+    | inr differs ↦ subst (λ l. IsToldAnew u (get_or ls r no_line) l) (sym (others r no_line differs)) (still_told u (get_or ls r no_line))
+  ];
+  others = λ r h. others r no_line (λ e. omega (arith, e, h, few));
+}
+
+pub anew_twice : (u n : ℕ) (ls ls' ls'' : List TapLine) → AreToldAnew u n ls ls' → AreToldAnew u n ls' ls'' → AreToldAnew u n ls ls''
+anew_twice u n ls ls' ls'' a b = record {
+  many = b.many ∙ a.many;
+  told = λ r h.
+      let x = a.told r h in
+      let y = b.told r h in
+      record { place = y.place ∙ x.place; wait = y.wait ∙ x.wait; keeps = y.keeps ∙ x.keeps; begins = y.begins ∙ x.begins; size = y.size ∙ x.size; before = λ i l. y.before i l ∙ x.before i l };
+  others = λ r h. b.others r h ∙ a.others r h;
+}
+
+pub reach_anew : (far L u n : ℕ) (ls ls' : List TapLine) → AreToldAnew u n ls ls' → IsReachOf far L ls → IsReachOf far L ls'
+reach_anew far L u n ls ls' anew within = λ p r hp hr.
+    let many = anew.many in
+    let a = line_anew u n p ls ls' anew in
+    let b = line_anew u n r ls ls' anew in
+    subst (λ x. x ≤ far) (sym (ap₂ (λ x y. x + y - L) (ap₂ distance a.place b.place) b.wait)) (within p r (omega (arith, hp, many)) (omega (arith, hr, many)))
+
+pub alike_to : (u n p from : ℕ) (ls ls' : List TapLine) → p < n → AreToldAnew u n ls ls' → ((r : ℕ) (d : TapLine) → r ≢ p → get_or ls' r d ≡ get_or ls r d) →
+    ((a : ℕ) → a < from → is_signal (symbol_on (get_or ls' p no_line) a) ≡ is_signal (symbol_on (get_or ls p no_line) a)) → IsAlikeBelow p from ls ls'
+alike_to u n p from ls ls' few anew others alike =
+    let is = anew.told p few in
+    record { many = anew.many; place = is.place; wait = is.wait; others = others; alike = alike }
+
+-- what is heard of the changed line stands as far back as before
+back_alike : (L p from q : ℕ) (ls ls' : List TapLine) → IsAlikeBelow p from ls ls' → q ≢ p →
+    half_bits_back L (get_or ls' q no_line).at (get_or ls' p no_line) ≡ half_bits_back L (get_or ls q no_line).at (get_or ls p no_line)
+back_alike L p from q ls ls' is other =
+    let here : (get_or ls' q no_line).at ≡ (get_or ls q no_line).at = ap (λ (l : TapLine). l.at) (is.others q no_line other) in
+    ap₂ (λ x y. x + y - L) (ap₂ distance here is.place) is.wait
+
+-- one more half bit of what is heard
+pub right_next : (plan : Plan) (x p L t u : ℕ) (ls : List TapLine) → HearsByLines plan x p L t u ls → heard plan x u ≡ heard_by_lines L u ls p →
+    emitted plan x u ≡ symbol_on (get_or ls p no_line) u → HearsByLines plan x p L t (u + 1) ls
+right_next plan x p L t u ls right hears emits = record {
+  hears = λ a low high. elim (cases_lt a u) [
+    | inl before ↦ right.hears a low before
+    | inr now ↦ let e : u ≡ a = omega (arith, now, high) in subst (λ b. heard plan x b ≡ heard_by_lines L b ls p) e hears
+  ];
+  emits = λ a low high. elim (cases_lt a u) [
+    | inl before ↦ right.emits a low before
+    | inr now ↦ let e : u ≡ a = omega (arith, now, high) in subst (λ b. emitted plan x b ≡ symbol_on (get_or ls p no_line) b) e emits
+  ];
+}
+
+module _ (of : Segment) where
+  abbrev plan : Plan
+  plan = of.plan.value
+
+  abbrev n : ℕ
+  n = length of.stations.items
+
+  abbrev Know : ℕ → ℕ → List TapLine → Type 0
+  Know u front ls = KnowLines plan (wiring plan.layout of.number) of.lookahead u front ls
+
+  plainly : (u front : ℕ) (ls : List TapLine) → Know u front ls → KnowLines plan (wiring plan.layout of.number) (lookahead plan.layout) u front ls
+  plainly u front ls know = subst (λ (L : ℕ). KnowLines plan (wiring plan.layout of.number) L u front ls) of.window_length know
+
+  pub know_anew : (u front : ℕ) (ls ls' : List TapLine) → AreToldAnew u n ls ls' → Know u front ls → Know u front ls'
+  know_anew u front ls ls' anew know =
+      subst (λ (L : ℕ). KnowLines plan (wiring plan.layout of.number) L u front ls') (sym of.window_length)
+      (known_anew plan of.number u front ls ls' (subst (λ (xs : List ℕ). AreToldAnew u (length xs) ls ls') of.station_numbers anew) (plainly u front ls know))
+
+  pub heard_so : (u front r : ℕ) (ls : List TapLine) → Know u front ls → u < front → r < n → heard plan (number_on of r) u ≡ heard_by_lines of.lookahead u ls r
+  heard_so u front r ls know below h =
+      let len = ap length of.station_numbers in
+      subst (λ (xs : List ℕ). heard plan (get_or xs r 0) u ≡ heard_by_lines of.lookahead u ls r) (sym of.station_numbers)
+      (subst (λ (L : ℕ). heard plan (get_or (wiring plan.layout of.number).stations r 0) u ≡ heard_by_lines L u ls r) (sym of.window_length)
+      (hears_so_far plan of.number u front ls (plainly u front ls know) below r (omega (arith, h, len))))
+
+  pub emits_so : (t u front end r : ℕ) (ls : List TapLine) (w : Watch) (s : Sender) (k : KeptReception) → Know u front ls → u < front → r < n → StandsApart of t u end r ls w s k → u < w.until →
+      HearsByLines plan (number_on of r) r of.lookahead t u ls → emitted plan (number_on of r) u ≡ symbol_on (get_or ls r no_line) u
+  emits_so t u front end r ls w s k know below h is on right =
+      let len = ap length of.station_numbers in
+      let L = lookahead plan.layout in
+      let behind = subst (λ (xs : List ℕ). StandsBehind plan (get_or xs r 0) r L t ls w s k) of.station_numbers (subst (λ (y : ℕ). StandsBehind plan (number_on of r) r y t ls w s k) of.window_length is.behind) in
+      let so = subst (λ (xs : List ℕ). HearsByLines plan (get_or xs r 0) r L t u ls) of.station_numbers (subst (λ (y : ℕ). HearsByLines plan (number_on of r) r y t u ls) of.window_length right) in
+      subst (λ (xs : List ℕ). emitted plan (get_or xs r 0) u ≡ symbol_on (get_or ls r no_line) u) (sym of.station_numbers)
+      (sym (emits_one plan of.number u front ls (plainly u front ls know) t r (omega (arith, h, len)) w s k behind is.since so u (omega arith) on below (λ r' a i low high. absurd (omega (arith, low, high)))))
+
+  pub know_next : (u front : ℕ) (ls : List TapLine) → Know u front ls → ((i : ℕ) → i < n → emitted plan (number_on of i) u ≡ symbol_on (get_or ls i no_line) u) → Know (u + 1) front ls
+  know_next u front ls know now =
+      let len = ap length of.station_numbers in
+      record {
+        many = know.many;
+        places = know.places;
+        no_delays = know.no_delays;
+        delays = know.delays;
+        begins = λ r l. let x = know.begins r l in omega (arith, x);
+        near = know.near;
+        emissions = λ r a l low high. elim (cases_lt a u) [
+          | inl before ↦ know.emissions r a l low before
+          | inr after ↦
+              let e : u ≡ a = omega (arith, after, high) in
+              subst (λ b. symbol_on (get_or ls r no_line) b ≡ emitted plan (get_or (wiring plan.layout of.number).stations r 0) b) e
+              (sym (subst (λ (xs : List ℕ). emitted plan (get_or xs r 0) u ≡ symbol_on (get_or ls r no_line) u) of.station_numbers (now r (omega (arith, l, len)))))
+        ];
+        arrivals = know.arrivals;
+      }
+
+  -- a station that goes on over half bit u
+  pub right_on : (t u front end r : ℕ) (ls : List TapLine) (w : Watch) (s : Sender) (k : KeptReception) → Know u front ls → u < front → r < n → StandsApart of t u end r ls w s k → u < w.until →
+      HearsByLines plan (number_on of r) r of.lookahead t u ls → HearsByLines plan (number_on of r) r of.lookahead t (u + 1) ls
+  right_on t u front end r ls w s k know below h is on right =
+      right_next plan (number_on of r) r of.lookahead t u ls right (heard_so u front r ls know below h) (emits_so t u front end r ls w s k know below h is on right)
+
+  there : (i : ℕ) → i < n → number_on of i < length plan.layout.stations
+  there i h =
+      let len = ap length of.station_numbers in
+      subst (λ (xs : List ℕ). get_or xs i 0 < length plan.layout.stations) (sym of.station_numbers) (station plan of.number i (omega (arith, h, len)))
+
+  pub silent_on : (t u front end r : ℕ) (ls : List TapLine) (w : Watch) (s : Sender) (k : KeptReception) → Know u front ls → u < front → r < n → StandsApart of t u end r ls w s k → u < w.until →
+      HearsByLines plan (number_on of r) r of.lookahead t u ls → sent_event plan (number_on of r) u ≡ None
+  silent_on t u front end r ls w s k know below h is on right =
+      no_sending plan (number_on of r) (there r h) r of.lookahead t u ls w s k is.behind is.since on (right_on t u front end r ls w s k know below h is on right)
+
+  -- another station hears the change in a later half bit
+  later_on : (u front q p : ℕ) (ls : List TapLine) → Know u front ls → q < n → p < n → q ≢ p → 1 ≤ half_bits_back of.lookahead (get_or ls q no_line).at (get_or ls p no_line)
+  later_on u front q p ls know hq hp other =
+      let len = ap length of.station_numbers in
+      subst (λ (L : ℕ). 1 ≤ half_bits_back L (get_or ls q no_line).at (get_or ls p no_line)) (sym of.window_length)
+      (reaches_later plan of.number u front ls (plainly u front ls know) q p (omega (arith, hq, len)) (omega (arith, hp, len)) other)
+
+  pub tap_there : (u front q : ℕ) (ls : List TapLine) → Know u front ls → q < n → q < length ls
+  tap_there u front q ls know h =
+      let len = ap length of.station_numbers in
+      let many = know.many in
+      omega (arith, h, len, many)
+
+  pub back_later : (u front q p from : ℕ) (ls ls' : List TapLine) → Know u front ls → IsAlikeBelow p from ls ls' → q < n → p < n → q ≢ p →
+      1 ≤ half_bits_back of.lookahead (get_or ls' q no_line).at (get_or ls' p no_line)
+  back_later u front q p from ls ls' know alike hq hp other =
+      subst (λ b. 1 ≤ b) (sym (back_alike of.lookahead p from q ls ls' alike other)) (later_on u front q p ls know hq hp other)
+
+  -- another station stands as it stood, where its watch goes no further than it hears the change
+  pub apart_lowered : (t u v end front q p from : ℕ) (ls ls' : List TapLine) (w : Watch) (s : Sender) (k : KeptReception) → Know u front ls → IsAlikeBelow p from ls ls' → u ≤ from → v ≤ u + 1 →
+      q < n → p < n → q ≢ p → StandsApart of t v end q ls w s k →
+      StandsApart of t v end q ls' (lowered_watch (from + half_bits_back of.lookahead (get_or ls' q no_line).at (get_or ls' p no_line)) w) s k
+  apart_lowered t u v end front q p from ls ls' w s k know alike late few hq hp other is =
+      let some = later_on u front q p ls know hq hp other in
+      let a = is.until in
+      let b = is.since in
+      let c = is.within in
+      subst (λ x. StandsApart of t v end q ls' (lowered_watch (from + x) w) s k) (sym (back_alike of.lookahead p from q ls ls' alike other)) (record {
+        behind = lowered plan (number_on of q) q of.lookahead t p from ls ls' w s k alike (tap_there u front p ls know hp) (tap_there u front q ls know hq) other is.behind;
+        since = b;
+        until = omega (arith, a, late, few, some);
+        within = omega (arith, c);
+        still = is.still;
+      })
+
+  pub apart_alike : (t u v end front q p : ℕ) (ls ls' : List TapLine) (w : Watch) (s : Sender) (k : KeptReception) → Know u front ls → ((from : ℕ) → IsAlikeBelow p from ls ls') →
+      q < n → p < n → q ≢ p → StandsApart of t v end q ls w s k → StandsApart of t v end q ls' w s k
+  apart_alike t u v end front q p ls ls' w s k know alike hq hp other is = record {
+    behind = unlowered plan (number_on of q) q of.lookahead t p ls ls' w s k alike (tap_there u front p ls know hp) (tap_there u front q ls know hq) other is.behind;
+    since = is.since;
+    until = is.until;
+    within = is.within;
+    still = is.still;
+  }
+
+-- the line of a station that has made half bit u reaches beyond it
+pub tells_anew : (of : Segment) (t u end p : ℕ) (ls ls' : List TapLine) (w : Watch) (s : Sender) (k : KeptReception) → TellsUpTo u end (get_or ls p no_line) →
+    IsToldAnew u (get_or ls p no_line) (get_or ls' p no_line) → StandsApart of t (u + 1) end p ls' w s k → TellsUpTo u end (get_or ls' p no_line)
+tells_anew of t u end p ls ls' w s k before anew is =
+    let base = anew.begins in
+    let size = anew.size in
+    let begun = before.begun in
+    let takes = before.takes in
+    let ends = is.behind.ends in
+    let within = is.behind.within in
+    let until = is.until in
+    record {
+      begun = omega (arith, base, begun);
+      reaches = omega (arith, ends, within, until);
+      takes = omega (arith, base, size, takes);
+    }
+
+-- the station itself stands where it stood
+pub lowered_own : (a : ℕ) (w : Watch) → w.until ≡ w.since → lowered_watch a w ≡ w
+lowered_own a w e = let same : min w.until (max a w.since) ≡ w.until = omega (arith, e) in ap (λ (b : ℕ). record w { until = b }) same
+
+-- what holds of each station, where one has changed and all are lowered
+pub each_lowered : (P : ℕ → Watch → Sender → KeptReception → Type 0) (n k : ℕ) (a : ℕ → ℕ) (ws ws' : List Watch) (ss : List Sender) (ks : List KeptReception) (w' : Watch) (s' : Sender) (k' : KeptReception) →
+    k < length ws → k < length ss → k < length ks → ((i : ℕ) (d : Watch) → i < n → get_or ws' i d ≡ lowered_watch (a i) (get_or (set ws k w') i d)) →
+    ((i : ℕ) (w : Watch) (s : Sender) (r : KeptReception) → i < n → i ≢ k → P i (lowered_watch (a i) (get_or ws i w)) (get_or ss i s) (get_or ks i r)) → P k (lowered_watch (a k) w') s' k' →
+    (i : ℕ) (w : Watch) (s : Sender) (r : KeptReception) → i < n → P i (get_or ws' i w) (get_or (set ss k s') i s) (get_or (set ks k k') i r)
+each_lowered P n k a ws ws' ss ks w' s' k' lw ls lk low each one i w s r h =
+    subst (λ x. P i x (get_or (set ss k s') i s) (get_or (set ks k k') i r)) (sym (low i w h))
+    (each_set (λ i w s r. P i (lowered_watch (a i) w) s r) n k ws ss ks w' s' k' lw ls lk each one i w s r h)
+
+-- lowered watches need what they needed
+pub covers_lowered : (e n : ℕ) (a : ℕ → ℕ) (ws ws' : List Watch) (ss : List Sender) (ks : List KeptReception) (room : Room) →
+    ((i : ℕ) (d : Watch) → i < n → get_or ws' i d ≡ lowered_watch (a i) (get_or ws i d)) → CoversApart e n ws ss ks room → CoversApart e n ws' ss ks room
+covers_lowered e n a ws ws' ss ks room low c = λ w s k.
+    subst (λ x. Covers x room)
+    (demands_alike n (λ i. behind_demand e (get_or ws i w) (get_or ss i s) (get_or ks i k)) (λ i. behind_demand e (get_or ws' i w) (get_or ss i s) (get_or ks i k))
+    (λ i h. ap (λ x. behind_demand e x (get_or ss i s) (get_or ks i k)) (sym (low i w h))))
+    (c w s k)
+
+-- a half bit needs no more than several
+sender_more : (s : Sender) (m n : ℕ) → m ≤ n → IsDemandWithin (sender_demand m s) (sender_demand n s)
+sender_more s m n h = record { fewer_rows = omega (arith, h); fewer_frames = omega arith; fewer_octets = omega arith }
+
+pub both_more : (s : Sender) (k : KeptReception) (m n : ℕ) → m ≤ n → IsDemandWithin (both_demands (sender_demand m s) (receiver_demand m k)) (both_demands (sender_demand n s) (receiver_demand n k))
+both_more s k m n h = both_within (sender_demand m s) (receiver_demand m k) (sender_demand n s) (receiver_demand n k) (sender_more s m n h) (receiver_more k m n h)
+
+-- the rows of one more station
+module _ (u : ℕ) (items : List ℕ) (sent received : ℕ → Option Body) (k : ℕ) where
+  abbrev before : List Row
+  before = rows_of_both u items sent received k
+
+  abbrev own : List Row
+  own = row_of u (get_or items k 0) (sent k)
+
+  abbrev taken : List Row
+  taken = row_of u (get_or items k 0) (received k)
+
+  next : (rows : List Row) → ((rows ++ before) ++ own) ++ taken ≡ rows ++ rows_of_both u items sent received (k + 1)
+  next rows =
+      let more : suc k ≡ k + 1 = omega arith in
+      ap (λ xs. xs ++ taken) (append_assoc rows before own) ∙ append_assoc rows (before ++ own) taken ∙ ap (λ j. rows ++ rows_of_both u items sent received j) more
+
+  pub rows_stepped : (old rows rows' : List Row) → rows ≡ old ++ before → rows' ≡ (rows ++ own) ++ taken → rows' ≡ old ++ rows_of_both u items sent received (k + 1)
+  rows_stepped old rows rows' logged now = now ∙ ap (λ xs. (xs ++ own) ++ taken) logged ∙ next old
+
+  pub rows_silent : (old rows rows' : List Row) → sent k ≡ None → rows ≡ old ++ before → rows' ≡ rows ++ taken → rows' ≡ old ++ rows_of_both u items sent received (k + 1)
+  rows_silent old rows rows' none logged now =
+      let nothing : rows ++ own ≡ rows = ap (λ e. rows ++ row_of u (get_or items k 0) e) none ∙ append-nil rows in
+      rows_stepped old rows rows' logged (now ∙ ap (λ xs. xs ++ taken) (sym nothing))
