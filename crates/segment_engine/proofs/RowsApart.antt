@@ -16,10 +16,9 @@ use Rattle.net_parts.proofs.NetworkFacts.{station_facts}
 use Rattle.tap_lines.specs.TapLines.{TapLine}
 use Rattle.segment_engine.specs.declared.apart.Watch.{Watch}
 use Rattle.segment_engine.specs.declared.segment.Segment.{Segment}
-use Rattle.segment_engine.specs.FirstReceptions.{rows_of_first}
 use Rattle.segment_engine.specs.StationsApart.{StandAllApart, IsStillBy, HearAllByLines, number_on, heard_reception}
 use Rattle.segment_engine.proofs.BehindStations.{no_sending, no_reception}
-use Rattle.segment_engine.proofs.StationsLater.{station, row_later, rows_stay, captures_to}
+use Rattle.segment_engine.proofs.StationsLater.{station, rows_stay, captures_to}
 
 abbrev a_watch : Watch
 a_watch = record { since = 0; until = 0; carrier = false; told = 0 }
@@ -45,22 +44,7 @@ module _ (of : Segment) (t end : ℕ) (ls : List TapLine) (ds : Sender) (dk : Ke
     emits = λ a low high. (right i l).emits a low (omega (arith, high, h));
   }
 
-  -- the half bit in which receptions end
-  module _ (u : ℕ) (ws : List Watch) (ss : List Sender) (ks : List KeptReception) (all : StandAllApart of t u end ls ws ss ks)
-      (on : (i : ℕ) (w : Watch) → i < n → u < (get_or ws i w).until) (right : HearAllByLines of t (u + 1) ls) where
-    silent : (r : ℕ) → r < n → (sender_step (sender_at plan (number_on of r) u) (heard plan (number_on of r) u)).event ≡ None
-    silent r h =
-        let one = all.each r a_watch ds dk h in
-        no_sending plan (number_on of r) (there r h) r of.lookahead t u ls (get_or ws r a_watch) (get_or ss r ds) (get_or ks r dk) one.behind one.since (on r a_watch h) (right r h)
-
-    pub one_row : rows_of_devices plan items (suc u) ≡ rows_of_devices plan items u ++ rows_of_first u items (λ i. (heard_reception plan (number_on of i) u).event) n
-    one_row =
-        let numbers = of.station_numbers in
-        let P : List ℕ → Type 0 = λ xs. rows_of_devices plan xs (suc u) ≡ rows_of_devices plan xs u ++ rows_of_first u xs (λ i. (receiver_step (receiver_at plan (get_or xs i 0) u) (heard plan (get_or xs i 0) u) (is_signal (emitted plan (get_or xs i 0) u))).event) (length xs) in
-        let Q : List ℕ → Type 0 = λ xs. (r : ℕ) → r < length xs → (sender_step (sender_at plan (get_or xs r 0) u) (heard plan (get_or xs r 0) u)).event ≡ None in
-        subst P (sym numbers) (row_later plan of.number u (subst Q numbers silent))
-
-  -- and half bits in which nothing happens
+  -- half bits in which nothing happens
   module _ (u v : ℕ) (later : u ≤ v) (ws : List Watch) (ss : List Sender) (ks : List KeptReception) (all : StandAllApart of t u end ls ws ss ks)
       (still : (i : ℕ) (w : Watch) (s : Sender) (k : KeptReception) → i < n → (get_or ws i w).since < (get_or ws i w).until → IsStillBy (get_or ws i w) (get_or ss i s) (get_or ks i k))
       (until : (i : ℕ) (w : Watch) → i < n → v ≤ (get_or ws i w).until) (right : HearAllByLines of t v ls) where

@@ -20,8 +20,8 @@ use Rattle.window_room.specs.Rooms.{Room}
 use Rattle.segment_engine.specs.declared.apart.Watch.{Watch}
 use Rattle.segment_engine.specs.declared.segment.Segment.{Segment}
 use Rattle.segment_engine.specs.KnownLines.{KnowLines}
-use Rattle.segment_engine.specs.StationsApart.{StandsBehind, StandsApart, HearsByLines, IsToldAnew, AreToldAnew, TellsUpTo, CoversApart, behind_demand, lowered_watch, number_on, rows_of_both, sent_event}
-use Rattle.segment_engine.proofs.BehindStations.{no_sending}
+use Rattle.segment_engine.specs.StationsApart.{StandsBehind, StandsApart, HearsByLines, IsStillBy, IsToldAnew, AreToldAnew, TellsUpTo, CoversApart, behind_demand, heard_reception, lowered_watch, number_on, rows_of_both, sent_event}
+use Rattle.segment_engine.proofs.BehindStations.{no_reception, no_sending}
 use Rattle.segment_engine.proofs.ChangedLines.{IsAlikeBelow, known_anew, line_anew, reaches_later, lowered, unlowered}
 use Rattle.segment_engine.proofs.ChangedStations.{demands_alike, each_set}
 use Rattle.segment_engine.proofs.LinesApart.{hears_so_far, emits_one}
@@ -161,6 +161,23 @@ module _ (of : Segment) where
       HearsByLines plan (number_on of r) r of.lookahead t u ls → sent_event plan (number_on of r) u ≡ None
   silent_on t u front end r ls w s k know below h is on right =
       no_sending plan (number_on of r) (there r h) r of.lookahead t u ls w s k is.behind is.since on (right_on t u front end r ls w s k know below h is on right)
+
+  pub nothing_on : (t u front end r : ℕ) (ls : List TapLine) (w : Watch) (s : Sender) (k : KeptReception) → Know u front ls → u < front → r < n → StandsApart of t u end r ls w s k → u < w.until →
+      HearsByLines plan (number_on of r) r of.lookahead t u ls → IsStillBy w s k → (heard_reception plan (number_on of r) u).event ≡ None
+  nothing_on t u front end r ls w s k know below h is on right still =
+      no_reception plan (number_on of r) (there r h) r of.lookahead t u ls w s k is.behind is.since on (right_on t u front end r ls w s k know below h is on right) still
+
+  pub gone_on : (t u end r : ℕ) (ls : List TapLine) (w : Watch) (s : Sender) (k : KeptReception) → StandsApart of t u end r ls w s k → u < w.until → (w.since < w.until → IsStillBy w s k) →
+      StandsApart of t (u + 1) end r ls w s k
+  gone_on t u end r ls w s k is on still =
+      let early = is.since in
+      record {
+        behind = is.behind;
+        since = omega (arith, early);
+        until = omega (arith, on);
+        within = is.within;
+        still = λ h. still (omega (arith, h, on));
+      }
 
   -- another station hears the change in a later half bit
   later_on : (u front q p : ℕ) (ls : List TapLine) → Know u front ls → q < n → p < n → q ≢ p → 1 ≤ half_bits_back of.lookahead (get_or ls q no_line).at (get_or ls p no_line)

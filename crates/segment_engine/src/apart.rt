@@ -220,7 +220,7 @@ fn watch_from(
 }
 
 /// Station `p` of a segment, which is due in half bit `u`, goes on up to it and is looked at.
-fn look_one(
+pub fn look_one(
     of: &Segment,
     t: u64,
     u: u64,
@@ -255,52 +255,6 @@ fn look_one(
     let was = watch.carrier;
     let lookahead = of.lookahead;
     *watch = watch_from(u, lines, loud, p, lookahead, far, most, was, told, sender);
-}
-
-/// The stations that are due in half bit `u` go on up to it, and are looked at. It answers whether all of them go on
-/// with what they do.
-fn look_all(
-    of: &Segment,
-    t: u64,
-    u: u64,
-    end: u64,
-    lines: &[Line],
-    loud: &LoudTaps,
-    far: u64,
-    watches: &mut [Watch],
-    senders: &mut [Transmitter],
-    receivers: &mut [LateReceiver],
-    piece: &mut [Sym],
-) -> bool
-    requires reach { IsReachOf far of.now.lookahead lines.now }
-    requires loud { AreIdleButFor (t - far) lines.now loud.now.taps }
-    requires below { u < end }
-    requires in_time { end ≤ most_half_bits }
-    requires piece { end ≤ t + length piece.old }
-    requires apart { StandAllApart of.now t u end lines.now watches.old senders.old receivers.old }
-    requires right { HearAllByLines of.now t u lines.now }
-    ensures apart { StandAllApart of.now t u end lines.now watches.new senders.new receivers.new }
-    ensures on { result ≡ true → (i : ℕ) (w : Watch) → i < length of.now.stations.items → u < (slice_index_or watches.new i w).until }
-    ensures looked { (i : ℕ) (w : Watch) → i < length of.now.stations.items →
-        (slice_index_or watches.new i w).until ≡ u → (slice_index_or watches.new i w).since ≡ u }
-    ensures left { (e : ℕ) (room : Room) → u ≤ e →
-        CoversApart e (length of.now.stations.items) watches.old senders.old receivers.old room →
-        CoversApart e (length of.now.stations.items) watches.new senders.new receivers.new room }
-{
-    let mut on = true;
-    for k in 0..senders.len() {
-        if watches[k].until > u {
-            continue;
-        }
-        let watch = &mut watches[k];
-        let sender = &mut senders[k];
-        let receiver = &mut receivers[k];
-        look_one(
-            of, t, u, end, lines, loud, k, far, watch, sender, receiver, piece,
-        );
-        on &= watches[k].until > u;
-    }
-    on
 }
 
 /// Whether a reception ends in half bit `u` at a station that stands before it.
@@ -352,47 +306,6 @@ pub fn end_one(
     receiver.receive(teller, room, p, u, device, Sym::Idle, false);
     sender.leap(u, 1, false);
     watch.since = u + 1;
-}
-
-/// The receptions that end in half bit `u` at the stations of a segment.
-fn end_all(
-    of: &Segment,
-    t: u64,
-    u: u64,
-    end: u64,
-    lines: &[Line],
-    watches: &mut [Watch],
-    senders: &mut [Transmitter],
-    receivers: &mut [LateReceiver],
-    teller: &mut Teller,
-    room: &mut RowRoom,
-)
-    requires in_time { end ≤ most_half_bits }
-    requires apart { StandAllApart of.now t u end lines.now watches.old senders.old receivers.old }
-    requires on { (i : ℕ) (w : Watch) → i < length of.now.stations.items → u < (slice_index_or watches.old i w).until }
-    requires right { HearAllByLines of.now t (u + 1) lines.now }
-    requires captures { length room.old.captures ≡ length of.now.stations.items }
-    requires room { CoversApart end (length of.now.stations.items) watches.old senders.old receivers.old room.old }
-    ensures apart { StandAllApart of.now t (u + 1) end lines.now watches.new senders.new receivers.new }
-    ensures still { (i : ℕ) (w : Watch) (s : Sender) (k : KeptReception) → i < length of.now.stations.items →
-        IsStillBy (slice_index_or watches.new i w) (slice_index_or senders.new i s) (slice_index_or receivers.new i k) }
-    ensures rows { room.new.rows ≡ room.old.rows ++ rows_of_first u of.now.stations.items
-        (λ i. (heard_reception of.now.plan.value (number_on of.now i) u).event) (length of.now.stations.items) }
-    ensures captures { (i : ℕ) → i < length of.now.stations.items → slice_index_or room.new.captures i [] ≡ slice_index_or room.old.captures i [] ++
-        taken_by u (heard_reception of.now.plan.value (number_on of.now i) u).event (heard_reception of.now.plan.value (number_on of.now i) u).octets }
-    ensures stations { length room.new.captures ≡ length room.old.captures }
-    ensures left { (e : ℕ) → u < e →
-        CoversApart e (length of.now.stations.items) watches.old senders.old receivers.old room.old →
-        CoversApart e (length of.now.stations.items) watches.new senders.new receivers.new room.new }
-{
-    for k in 0..senders.len() {
-        let watch = &mut watches[k];
-        let sender = &mut senders[k];
-        let receiver = &mut receivers[k];
-        end_one(
-            of, t, u, end, lines, k, watch, sender, receiver, teller, room,
-        );
-    }
 }
 
 /// The first half bit in which a station is due, at most `end`.
@@ -464,6 +377,7 @@ fn run_apart(
     requires in_time { end ≤ most_half_bits }
     requires piece { end ≤ t + length piece.old }
     requires apart { StandAllApart of.now t t end lines.old watches.old senders.old receivers.old }
+    requires due { (i : ℕ) (w : Watch) → i < length of.now.stations.items → (slice_index_or watches.old i w).until ≡ (slice_index_or watches.old i w).since }
     requires know { KnowLines of.now.plan.value (wiring of.now.plan.value.layout of.now.number) of.now.lookahead t ((window + 1) * of.now.lookahead) lines.old }
     requires tell { (r : ℕ) → r < length of.now.stations.items → TellsUpTo t end (slice_index_or lines.old r no_line) }
     requires room { CoversApart end (length of.now.stations.items) watches.old senders.old receivers.old room.old }
@@ -484,16 +398,6 @@ fn run_apart(
     let _ = window;
     let mut u = t;
     while u < end {
-        let on = look_all(
-            of, t, u, end, lines, loud, far, watches, senders, receivers, piece,
-        );
-        if on {
-            end_all(
-                of, t, u, end, lines, watches, senders, receivers, teller, room,
-            );
-            u = first_due(watches, end);
-            continue;
-        }
         step_all(
             of, window, t, u, end, lines, loud, far, watches, senders, receivers, teller, room,
             piece,

@@ -14,7 +14,7 @@ ghost use Rattle.network.specs.Rows.{row_of};
 ghost use Rattle.network.specs.Times.{heard, emitted};
 ghost use Rattle.segment_engine.specs.KnownLines.{KnowLines};
 ghost use Rattle.segment_engine.specs.SteadyPieces.{sent_ahead};
-ghost use Rattle.segment_engine.specs.StationsApart.{StandsApart, StandAllApart, IsStillBy, HearAllByLines, IsToldAnew, AreToldAnew, TellsUpTo, CoversApart, behind_demand, heard_reception, lowered_watch, number_on, rows_of_both, sent_event};
+ghost use Rattle.segment_engine.specs.StationsApart.{StandsApart, StandAllApart, IsStillBy, HearsByLines, HearAllByLines, IsToldAnew, AreToldAnew, TellsUpTo, CoversApart, behind_demand, heard_reception, lowered_watch, number_on, rows_of_both, sent_event};
 ghost use Rattle.segment_engine.specs.declared.apart.Watch.{Watch};
 ghost use Rattle.tap_lines.specs.TapLines.{IsReachOf, TapLine, half_bits_back, heard_by_lines, line_cut, line_extended, no_line, symbol_on};
 ghost use Rattle.tap_lines.specs.TapLists.{AreIdleButFor, HearsListed};
@@ -22,7 +22,7 @@ ghost use Rattle.window_room.specs.NeededRoom.{Covers, Demand, both_demands, rec
 ghost use Rattle.window_room.specs.Rooms.{captures_with};
 
 use crate::ahead::go_on_ahead;
-use crate::apart::{Watch, end_one};
+use crate::apart::{Watch, end_one, look_one};
 use crate::quiet::is_sending;
 use crate::segment::Segment;
 use crate::stations::step_station;
@@ -173,6 +173,72 @@ fn step_one(
     changes_from(u, was, sender, before, watch.told)
 }
 
+/// Half bit `u` of station `p` of a segment, which is due in it: it goes on up to it and is looked at, and where it doesn't
+/// go on with what it does it makes the half bit by itself. It answers from which half bit on its line has a signal in the
+/// place of Idle, or Idle in the place of a signal, if it has. The device is counted among all.
+fn take_turn(
+    of: &Segment,
+    window: u64,
+    t: u64,
+    u: u64,
+    end: u64,
+    lines: &mut [Line],
+    loud: &LoudTaps,
+    p: usize,
+    far: u64,
+    watch: &mut Watch,
+    sender: &mut Transmitter,
+    receiver: &mut LateReceiver,
+    teller: &mut Teller,
+    room: &mut RowRoom,
+    piece: &mut [Sym],
+) -> Option<u64>
+    requires reach { IsReachOf far of.now.lookahead lines.old }
+    requires loud { AreIdleButFor (t - far) lines.old loud.now.taps }
+    requires station { p < length of.now.stations.items }
+    requires captures { p < length room.old.captures }
+    requires below { u < end }
+    requires ahead { end ≤ (window + 1) * of.now.lookahead }
+    requires in_time { end ≤ most_half_bits }
+    requires piece { end ≤ t + length piece.old }
+    requires apart { StandsApart of.now t u end p lines.old watch.old sender.old receiver.old }
+    requires know { KnowLines of.now.plan.value (wiring of.now.plan.value.layout of.now.number) of.now.lookahead u ((window + 1) * of.now.lookahead) lines.old }
+    requires right { HearsByLines of.now.plan.value (number_on of.now p) p of.now.lookahead t u lines.old }
+    requires line { TellsUpTo u end (slice_index_or lines.old p no_line) }
+    requires room { Covers (behind_demand end watch.old sender.old receiver.old) room.old }
+    ensures apart { StandsApart of.now t (u + 1) end p lines.new watch.new sender.new receiver.new }
+    ensures still { watch.new.since < watch.new.until → IsStillBy watch.new sender.new receiver.new }
+    ensures emits { emitted of.now.plan.value (number_on of.now p) u ≡ symbol_on (slice_index_or lines.new p no_line) u }
+    ensures line { IsToldAnew u (slice_index_or lines.old p no_line) (slice_index_or lines.new p no_line) }
+    ensures others { (r : ℕ) (d : TapLine) → r ≢ p → slice_index_or lines.new r d ≡ slice_index_or lines.old r d }
+    ensures due { IfSome result (λ f. watch.new.until ≡ watch.new.since) }
+    ensures early { IfSome result (λ f. f ≤ end) }
+    ensures alike { IfNone result ((a : ℕ) → is_signal_of (symbol_on (slice_index_or lines.new p no_line) a) ≡ is_signal_of (symbol_on (slice_index_or lines.old p no_line) a)) }
+    ensures alike_below { IfSome result (λ f. (u ≤ f) × ((a : ℕ) → a < f → is_signal_of (symbol_on (slice_index_or lines.new p no_line) a) ≡ is_signal_of (symbol_on (slice_index_or lines.old p no_line) a))) }
+    ensures rows { room.new.rows ≡ (room.old.rows
+        ++ row_of u (number_on of.now p) (sent_event of.now.plan.value (number_on of.now p) u))
+        ++ row_of u (number_on of.now p) (heard_reception of.now.plan.value (number_on of.now p) u).event }
+    ensures captures { room.new.captures ≡ captures_with p
+        (taken_by u (heard_reception of.now.plan.value (number_on of.now p) u).event (heard_reception of.now.plan.value (number_on of.now p) u).octets) room.old.captures }
+    ensures left { (e : ℕ) (other : Demand) → u < e →
+        Covers (both_demands other (behind_demand e watch.old sender.old receiver.old)) room.old →
+        Covers (both_demands other (behind_demand e watch.new sender.new receiver.new)) room.new }
+{
+    let _ = window;
+    look_one(
+        of, t, u, end, lines, loud, p, far, watch, sender, receiver, piece,
+    );
+    if watch.until > u {
+        end_one(
+            of, t, u, end, lines, p, watch, sender, receiver, teller, room,
+        );
+        return None;
+    }
+    step_one(
+        of, t, u, end, lines, loud, p, far, watch, sender, receiver, teller, room, piece,
+    )
+}
+
 /// The line of tap `p` has from half bit `u` on a signal in the place of Idle, or Idle in the place of a signal: no
 /// station goes on beyond the half bit in which it hears that.
 fn lower_all(u: u64, lookahead: u32, lines: &[Line], p: usize, watches: &mut [Watch])
@@ -189,7 +255,7 @@ fn lower_all(u: u64, lookahead: u32, lines: &[Line], p: usize, watches: &mut [Wa
     }
 }
 
-/// Half bit `u` of the stations of a segment that are due in it, one after another; at the others a reception may end.
+/// Half bit `u` of the stations of a segment: those that are due in it have their turn, one after another.
 pub fn step_all(
     of: &Segment,
     window: u64,
@@ -214,7 +280,9 @@ pub fn step_all(
     requires in_time { end ≤ most_half_bits }
     requires piece { end ≤ t + length piece.old }
     requires apart { StandAllApart of.now t u end lines.old watches.old senders.old receivers.old }
-    requires looked { (i : ℕ) (w : Watch) → i < length of.now.stations.items → (slice_index_or watches.old i w).until ≡ u → (slice_index_or watches.old i w).since ≡ u }
+    requires still { (i : ℕ) (w : Watch) (s : Sender) (k : KeptReception) → i < length of.now.stations.items →
+        (slice_index_or watches.old i w).since < (slice_index_or watches.old i w).until →
+        IsStillBy (slice_index_or watches.old i w) (slice_index_or senders.old i s) (slice_index_or receivers.old i k) }
     requires know { KnowLines of.now.plan.value (wiring of.now.plan.value.layout of.now.number) of.now.lookahead u ((window + 1) * of.now.lookahead) lines.old }
     requires right { HearAllByLines of.now t u lines.old }
     requires tell { (r : ℕ) → r < length of.now.stations.items → TellsUpTo u end (slice_index_or lines.old r no_line) }
@@ -238,19 +306,16 @@ pub fn step_all(
         CoversApart e (length of.now.stations.items) watches.old senders.old receivers.old room.old →
         CoversApart e (length of.now.stations.items) watches.new senders.new receivers.new room.new }
 {
-    let _ = window;
     for k in 0..senders.len() {
+        if watches[k].until > u {
+            continue;
+        }
         let watch = &mut watches[k];
         let sender = &mut senders[k];
         let receiver = &mut receivers[k];
-        if watch.until > u {
-            end_one(
-                of, t, u, end, lines, k, watch, sender, receiver, teller, room,
-            );
-            continue;
-        }
-        let Some(from) = step_one(
-            of, t, u, end, lines, loud, k, far, watch, sender, receiver, teller, room, piece,
+        let Some(from) = take_turn(
+            of, window, t, u, end, lines, loud, k, far, watch, sender, receiver, teller, room,
+            piece,
         ) else {
             continue;
         };

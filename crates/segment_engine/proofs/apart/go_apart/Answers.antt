@@ -117,6 +117,13 @@ module _ (c : After-tell_all) where
   known_now : KnowLines c.args.of.now.plan.value (wiring c.args.of.now.plan.value.layout c.args.of.now.number) c.args.of.now.lookahead t front ls'
   known_now = known_begin c.args.of.now t front most ls ls' ws ss ks c.args.state.now.room.rows c.args.state.now.room.captures a_sender begins
 
+  due_now : (i : ℕ) (w : Watch) → i < length c.args.of.now.stations.items → (get_or ws i w).until ≡ (get_or ws i w).since
+  due_now i w h =
+      let many = watches_many in
+      let numbers = ap length c.args.of.now.station_numbers in
+      let there : i < length ws = omega (arith, h, many, numbers) in
+      c.tell_all.ensures.until i w there ∙ sym (c.tell_all.ensures.since i w there)
+
   tell_now : (r : ℕ) → r < length c.args.of.now.stations.items → TellsUpTo t (t + c.from.result) (get_or ls' r no_line)
   tell_now r h =
       subst (λ e. TellsUpTo t e (get_or ls' r no_line)) (sym end_is)
@@ -165,6 +172,9 @@ run_apart-requires-clause-ahead c =
 
 pub run_apart-requires-clause-apart : goal.run_apart-requires-clause-apart
 run_apart-requires-clause-apart c = all_due (goal.at.run_apart-requires-clause-apart c).After-tell_all
+
+pub run_apart-requires-clause-due : goal.run_apart-requires-clause-due
+run_apart-requires-clause-due c = due_now (goal.at.run_apart-requires-clause-due c).After-tell_all
 
 pub run_apart-requires-clause-know : goal.run_apart-requires-clause-know
 run_apart-requires-clause-know c = known_now (goal.at.run_apart-requires-clause-know c).After-tell_all

@@ -5,50 +5,21 @@ use Rattle.network.specs.Attempts.{sender_at}
 use Rattle.net_parts.specs.SegmentParts.{wiring}
 use Rattle.net_parts.specs.Standing.{captures_at, rows_of_devices}
 use Rattle.segment_engine.specs.declared.apart.Watch.{Watch}
-use Rattle.segment_engine.specs.FirstReceptions.{rows_of_first}
 use Rattle.segment_engine.specs.KnownLines.{KnowLines}
 use Rattle.segment_engine.specs.StationsApart.{StandAllApart, HearAllByLines, number_on, heard_reception, rows_of_both, sent_event}
 use Rattle.segment_engine.proofs.RowsOfBoth.{rows_next}
-use Rattle.segment_engine.proofs.RowsApart.{one_row, rows_same, captures_same, kept_later}
+use Rattle.segment_engine.proofs.RowsApart.{rows_same, captures_same, kept_later}
 use Rattle.segment_engine.proofs.RunsApart.{not_told, told_again, reach_anew, all_stand, all_tell, all_known, all_hear}
 use Rattle.segment_engine.proofs.apart.run_apart.Goals as goal
 
 abbrev a_kept : KeptReception
 a_kept = record { lose = 0; most = 0; deaf = false; halves = 0; decoder = new_decoding; steps = 0 }
 
-pub end_all-requires-clause-right : goal.end_all-requires-clause-right
-end_all-requires-clause-right c =
-    let g = c.args.of.now in
-    let u = c.loop-u.u in
-    let inv = c.loop-u.invariant in
-    let from = inv.from in
-    let below = c.loop-u-test.true in
-    let ahead = c.requires.ahead in
-    let on : c.look_all-on.result ≡ true = search rules in
-    all_hear g c.args.t u c.args.end c.loop-u.lines c.look_all-on.new.watches c.look_all-on.new.senders c.look_all-on.new.receivers (sender_at g.plan.value 0 u) a_kept c.look_all-on.ensures.apart (u + 1) (omega arith)
-    (λ i w h. let x = c.look_all-on.ensures.on on i w h in omega (arith, x)) ((c.args.window + 1) * g.lookahead) inv.know from (omega (arith, below, ahead)) inv.right
-
-pub end_all-requires-clause-room : goal.end_all-requires-clause-room
-end_all-requires-clause-room c =
-    let inv = c.loop-u.invariant in
-    let few = inv.within in
-    c.look_all-on.ensures.left c.args.end c.loop-u.room few (inv.left c.args.end few c.requires.room)
-
 pub step_all-requires-clause-room : goal.step_all-requires-clause-room
 step_all-requires-clause-room c =
     let inv = c.loop-u.invariant in
     let few = inv.within in
-    c.look_all-on.ensures.left c.args.end c.loop-u.room few (inv.left c.args.end few c.requires.room)
-
-pub loop-u-smaller-then-on : goal.loop-u-smaller-then-on
-loop-u-smaller-then-on c =
-    let below = c.loop-u-test.true in
-    let all = c.end_all.ensures.apart in
-    let watched = all.watches in
-    let dk = a_kept in
-    let ds = sender_at c.args.of.now.plan.value 0 c.args.t in
-    let later = c.first_due-u.ensures.due (c.loop-u.u + 1) (omega (arith, below)) (λ i w h. (all.each i w ds dk (omega (arith, h, watched))).until) in
-    omega (arith, later, below)
+    inv.left c.args.end few c.requires.room
 
 pub loop-u-smaller : goal.loop-u-smaller
 loop-u-smaller c =
@@ -57,75 +28,8 @@ loop-u-smaller c =
     let watched = all.watches in
     let dk = a_kept in
     let ds = sender_at c.args.of.now.plan.value 0 c.args.t in
-    let later = c.first_due-u-in-loop-u.ensures.due (c.loop-u.u + 1) (omega (arith, below)) (λ i w h. (all.each i w ds dk (omega (arith, h, watched))).until) in
+    let later = c.first_due-u.ensures.due (c.loop-u.u + 1) (omega (arith, below)) (λ i w h. (all.each i w ds dk (omega (arith, h, watched))).until) in
     omega (arith, later, below)
-
-pub loop-u-preserved-then-on : goal.loop-u-preserved-then-on
-loop-u-preserved-then-on c =
-    let g = c.args.of.now in
-    let plan = g.plan.value in
-    let t = c.args.t in
-    let end = c.args.end in
-    let front = (c.args.window + 1) * g.lookahead in
-    let ls = c.loop-u.lines in
-    let u = c.loop-u.u in
-    let v = c.first_due-u.result in
-    let n = length g.stations.items in
-    let ds = sender_at plan 0 t in
-    let dk = a_kept in
-    let inv = c.loop-u.invariant in
-    let from = inv.from in
-    let below = c.loop-u-test.true in
-    let ahead = c.requires.ahead in
-    let upto = c.first_due-u.ensures.within in
-    let on : c.look_all-on.result ≡ true = search rules in
-    let looked = c.look_all-on.ensures.apart in
-    let ws0 = c.look_all-on.new.watches in
-    let ss0 = c.look_all-on.new.senders in
-    let ks0 = c.look_all-on.new.receivers in
-    let beyond : (i : ℕ) (w : Watch) → i < n → u + 1 ≤ (get_or ws0 i w).until = λ i w h. let x = c.look_all-on.ensures.on on i w h in omega (arith, x) in
-    let next_ahead : u + 1 ≤ front = omega (arith, below, ahead) in
-    let one : u ≤ u + 1 = omega arith in
-    let known : KnowLines plan (wiring plan.layout g.number) g.lookahead (u + 1) front ls = all_known g t u end ls ws0 ss0 ks0 ds dk looked (u + 1) one beyond front inv.know from next_ahead inv.right in
-    let now : HearAllByLines g t (u + 1) ls = all_hear g t u end ls ws0 ss0 ks0 ds dk looked (u + 1) one beyond front inv.know from next_ahead inv.right in
-    let all = c.end_all.ensures.apart in
-    let still = c.end_all.ensures.still in
-    let watched = all.watches in
-    let ws = c.end_all.new.watches in
-    let ss = c.end_all.new.senders in
-    let ks = c.end_all.new.receivers in
-    let later : u + 1 ≤ v = c.first_due-u.ensures.due (u + 1) (omega (arith, below)) (λ i w h. (all.each i w ds dk (omega (arith, h, watched))).until) in
-    let first : (i : ℕ) (w : Watch) → i < n → v ≤ (get_or ws i w).until = λ i w h. c.first_due-u.ensures.first i w (omega (arith, h, watched)) in
-    let begun : t ≤ u + 1 = omega (arith, from) in
-    let ends : v ≤ front = omega (arith, upto, ahead) in
-    let right : HearAllByLines g t v ls = all_hear g t (u + 1) end ls ws ss ks ds dk all v later first front known begun ends now in
-    let next : suc u ≡ u + 1 = omega arith in
-    let event = λ (i : ℕ). (heard_reception plan (number_on g i) u).event in
-    record {
-      from = omega (arith, from, later);
-      within = upto;
-      reach = inv.reach;
-      loud = inv.loud;
-      listing = inv.listing;
-      lines = inv.lines;
-      apart = all_stand g t (u + 1) end ls ws ss ks ds dk all v later first (λ i w s k h e. still i w s k h);
-      know = all_known g t (u + 1) end ls ws ss ks ds dk all v later first front known begun ends now;
-      right = right;
-      tell = all_tell g t (u + 1) end ls ws ss ks ds dk all v later first u ls (not_told u n ls) inv.tell (omega (arith, later));
-      piece_len = c.look_all-on.auto.piece ∙ inv.piece_len;
-      logged =
-          c.end_all.ensures.rows
-          ∙ ap (λ xs. xs ++ rows_of_first u g.stations.items event n) inv.logged
-          ∙ sym (one_row g t end ls ds dk u ws0 ss0 ks0 looked (λ i w h. c.look_all-on.ensures.on on i w h) now)
-          ∙ ap (rows_of_devices plan g.stations.items) next
-          ∙ sym (rows_same g t end ls ds dk (u + 1) v later ws ss ks all (λ i w s k h e. still i w s k h) first right);
-      kept =
-          kept_later g t end ls ds dk u v c.loop-u.room.captures c.end_all.new.room.captures inv.kept c.end_all.ensures.stations c.end_all.ensures.captures
-          (λ i h. captures_same g t end ls ds dk (u + 1) v later ws ss ks all (λ i w s k h e. still i w s k h) first right i h ∙ ap (captures_at plan (number_on g i)) (sym next));
-      left = λ e h covers.
-          let now : u ≤ e = omega (arith, later, h) in
-          c.end_all.ensures.left e (omega (arith, later, h)) (c.look_all-on.ensures.left e c.loop-u.room now (inv.left e now covers));
-    }
 
 pub loop-u-preserved : goal.loop-u-preserved
 loop-u-preserved c =
@@ -137,7 +41,7 @@ loop-u-preserved c =
     let old = c.loop-u.lines in
     let ls = c.step_all.new.lines in
     let u = c.loop-u.u in
-    let v = c.first_due-u-in-loop-u.result in
+    let v = c.first_due-u.result in
     let n = length g.stations.items in
     let ds = sender_at plan 0 t in
     let dk = a_kept in
@@ -145,7 +49,7 @@ loop-u-preserved c =
     let from = inv.from in
     let below = c.loop-u-test.true in
     let ahead = c.requires.ahead in
-    let upto = c.first_due-u-in-loop-u.ensures.within in
+    let upto = c.first_due-u.ensures.within in
     let all = c.step_all.ensures.apart in
     let still = c.step_all.ensures.still in
     let now = c.step_all.ensures.right in
@@ -155,8 +59,8 @@ loop-u-preserved c =
     let ws = c.step_all.new.watches in
     let ss = c.step_all.new.senders in
     let ks = c.step_all.new.receivers in
-    let later : u + 1 ≤ v = c.first_due-u-in-loop-u.ensures.due (u + 1) (omega (arith, below)) (λ i w h. (all.each i w ds dk (omega (arith, h, watched))).until) in
-    let first : (i : ℕ) (w : Watch) → i < n → v ≤ (get_or ws i w).until = λ i w h. c.first_due-u-in-loop-u.ensures.first i w (omega (arith, h, watched)) in
+    let later : u + 1 ≤ v = c.first_due-u.ensures.due (u + 1) (omega (arith, below)) (λ i w h. (all.each i w ds dk (omega (arith, h, watched))).until) in
+    let first : (i : ℕ) (w : Watch) → i < n → v ≤ (get_or ws i w).until = λ i w h. c.first_due-u.ensures.first i w (omega (arith, h, watched)) in
     let begun : t ≤ u + 1 = omega (arith, from) in
     let ends : v ≤ front = omega (arith, upto, ahead) in
     let right : HearAllByLines g t v ls = all_hear g t (u + 1) end ls ws ss ks ds dk all v later first front known begun ends now in
@@ -171,10 +75,11 @@ loop-u-preserved c =
       listing = c.step_all.ensures.listing ∙ inv.listing;
       lines = told_again t u n c.args.lines.now old ls from inv.lines anew;
       apart = all_stand g t (u + 1) end ls ws ss ks ds dk all v later first still;
+      still = still;
       know = all_known g t (u + 1) end ls ws ss ks ds dk all v later first front known begun ends now;
       right = right;
       tell = all_tell g t (u + 1) end ls ws ss ks ds dk all v later first u old anew inv.tell (omega (arith, later));
-      piece_len = c.step_all.auto.piece ∙ c.look_all-on.auto.piece ∙ inv.piece_len;
+      piece_len = c.step_all.auto.piece ∙ inv.piece_len;
       logged =
           c.step_all.ensures.rows
           ∙ ap (λ xs. xs ++ rows_of_both u g.stations.items sent received n) inv.logged
@@ -185,7 +90,7 @@ loop-u-preserved c =
           (λ i h. captures_same g t end ls ds dk (u + 1) v later ws ss ks all still first right i h ∙ ap (captures_at plan (number_on g i)) (sym next));
       left = λ e h covers.
           let now : u ≤ e = omega (arith, later, h) in
-          c.step_all.ensures.left e (omega (arith, later, h)) (c.look_all-on.ensures.left e c.loop-u.room now (inv.left e now covers));
+          c.step_all.ensures.left e (omega (arith, later, h)) (inv.left e now covers);
     }
 
 pub loop-u-init : goal.loop-u-init
@@ -200,6 +105,7 @@ loop-u-init c =
       listing = refl;
       lines = not_told c.args.t (length g.stations.items) c.args.lines.now;
       apart = c.requires.apart;
+      still = λ i w s k h later. absurd (omega (arith, c.requires.due i w h, later));
       know = c.requires.know;
       right = λ i h. record {
         hears = λ a low high. absurd (omega (arith, low, high));

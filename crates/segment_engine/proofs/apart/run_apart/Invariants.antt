@@ -1,10 +1,13 @@
 use Rattle.std.proofs.Common.{◌≡◌, ℕ, ◌+◌, ◌-◌, ◌*◌, ◌<◌, ◌≤◌, map, length, slice_index_or}
+use Rattle.mac_receive.specs.KeptReceiver.{KeptReception}
+use Rattle.mac_transmit.specs.Sender.{Sender}
 use Rattle.net_parts.specs.SegmentParts.{wiring}
 use Rattle.net_parts.specs.Standing.{captures_at, rows_of_devices}
 use Rattle.tap_lines.specs.TapLines.{IsReachOf, no_line}
 use Rattle.tap_lines.specs.TapLists.{AreIdleButFor}
+use Rattle.segment_engine.specs.declared.apart.Watch.{Watch}
 use Rattle.segment_engine.specs.KnownLines.{KnowLines}
-use Rattle.segment_engine.specs.StationsApart.{StandAllApart, HearAllByLines, AreToldAnew, TellsUpTo, CoversApart}
+use Rattle.segment_engine.specs.StationsApart.{StandAllApart, IsStillBy, HearAllByLines, AreToldAnew, TellsUpTo, CoversApart}
 use Rattle.segment_engine.proofs.apart.run_apart.Given as goal
 
 -- the stations stand apart, at half bit u, and their lines are right below it
@@ -17,6 +20,9 @@ invariant-loop-u l = record {
   listing : l.loud.room ≡ l.fn.loud.room;
   lines : AreToldAnew l.t (length l.of.stations.items) l.fn.lines l.lines;
   apart : StandAllApart l.of l.t l.u l.end l.lines l.watches l.senders l.receivers;
+  still : (i : ℕ) (w : Watch) (s : Sender) (k : KeptReception) → i < length l.of.stations.items →
+      (slice_index_or l.watches i w).since < (slice_index_or l.watches i w).until →
+      IsStillBy (slice_index_or l.watches i w) (slice_index_or l.senders i s) (slice_index_or l.receivers i k);
   know : KnowLines l.of.plan.value (wiring l.of.plan.value.layout l.of.number) l.of.lookahead l.u ((l.window + 1) * l.of.lookahead) l.lines;
   right : HearAllByLines l.of l.t l.u l.lines;
   tell : (r : ℕ) → r < length l.of.stations.items → TellsUpTo l.u l.end (slice_index_or l.lines r no_line);

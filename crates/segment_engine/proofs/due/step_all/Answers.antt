@@ -1,29 +1,33 @@
-use Rattle.std.proofs.Common.{◌≡◌, ◌≢◌, ℕ, ◌+◌, ◌-◌, ◌*◌, ◌<◌, ◌≤◌, ◌++◌, false, inl, inr, refl, Option, List, [], length, set, get_or, get_or-set_same, length-set, sym, subst, ap, ◌∙◌, arith}
+use Rattle.std.proofs.Common.{◌≡◌, ◌≢◌, ℕ, ◌+◌, ◌-◌, ◌*◌, ◌<◌, ◌≤◌, ◌++◌, false, inl, inr, refl, None, Option, List, [], length, set, get_or, get_or-set_same, length-set, sym, subst, ap, ◌∙◌, arith}
 use Rattle.std.proofs.lemmas.Bool.{cases_eq, cases_lt}
-use Rattle.std.proofs.lemmas.List.{append-nil, get_or-set_other}
+use Rattle.std.proofs.lemmas.List.{append-nil, get_or-set_other, get_or_default}
 use Rattle.std.specs.Prelude.{IfNone, IfSome}
 use Rattle.collision_log.specs.declared.row.Body.{Body}
+use Rattle.manchester_line.specs.Decoding.{new_decoding}
 use Rattle.manchester_line.specs.Line.{is_signal}
 use Rattle.network.specs.declared.outputs.Taken.{Taken}
+use Rattle.mac_receive.specs.KeptReceiver.{KeptReception}
+use Rattle.network.specs.Attempts.{sender_at}
 use Rattle.network.specs.Captures.{taken_by}
 use Rattle.network.specs.Times.{emitted}
 use Rattle.tap_lines.specs.TapLists.{AreIdleButFor}
 use Rattle.tap_lines.specs.TapLines.{no_line, half_bits_back, symbol_on}
-use Rattle.window_room.specs.NeededRoom.{both_demands, receiver_demand, sender_demand}
 use Rattle.mac_parameters.specs.Parameters.{most_half_bits}
 use Rattle.segment_engine.specs.declared.apart.Watch.{Watch}
 use Rattle.segment_engine.specs.declared.segment.Segment.{Segment}
 use Rattle.segment_engine.specs.StationsApart.{StandsApart, IsStillBy, AreToldAnew, TellsUpTo, behind_demand, heard_reception, lowered_watch, number_on, rows_of_both, sent_event}
 use Rattle.segment_engine.proofs.ChangedLines.{IsAlikeBelow, hears_anew, listed_alike}
-use Rattle.segment_engine.proofs.ChangedStations.{each_set, covers_one, covers_second, covers_with}
-use Rattle.segment_engine.proofs.KeptParts.{covers_within}
+use Rattle.segment_engine.proofs.ChangedStations.{each_set, covers_one, covers_with}
+use Rattle.segment_engine.proofs.FirstReceptions.{same_rows}
 use Rattle.segment_engine.proofs.PieceRoom.{below_next}
-use Rattle.segment_engine.proofs.StepAll.{anew_none, anew_one, anew_twice, alike_to, apart_alike, apart_lowered, back_later, both_more, covers_lowered, each_lowered, emits_so, heard_so, know_anew, know_next, lowered_own, reach_anew, right_next, right_on, rows_silent, rows_stepped, silent_on, tap_there, tells_anew}
-use Rattle.segment_engine.proofs.WindowParcels.{receiver_more}
+use Rattle.segment_engine.proofs.StepAll.{anew_none, anew_one, anew_twice, alike_to, apart_alike, apart_lowered, covers_lowered, each_lowered, emits_so, gone_on, heard_so, know_anew, know_next, lowered_own, nothing_on, reach_anew, right_next, rows_silent, rows_stepped, silent_on, tap_there, tells_anew}
 use Rattle.segment_engine.proofs.due.step_all.Goals as goal
 
 abbrev a_watch : Watch
 a_watch = record { since = 0; until = 0; carrier = false; told = 0 }
+
+abbrev a_kept : KeptReception
+a_kept = record { lose = 0; most = 0; deaf = false; halves = 0; decoder = new_decoding; steps = 0 }
 
 -- what half bit u brings to each station
 abbrev sent : Segment → ℕ → ℕ → Option Body
@@ -52,131 +56,40 @@ loop-k-init c =
       done = λ i w s r l h. absurd (omega (arith, h));
       still = λ i w s r l h. absurd (omega (arith, h));
       others = λ i w s r l h. all.each i w s r l;
-      looked = λ i w l h. c.requires.looked i w l;
+      waits = λ i w s r l h. c.requires.still i w s r l;
       logged = sym (append-nil c.args.room.now.rows);
       kept = λ i h. absurd (omega (arith, h));
       unkept = λ i h. refl;
       left = λ e h covers. covers;
     }
 
--- a station that goes on
-pub end_one-requires-clause-in_time : goal.end_one-requires-clause-in_time
-end_one-requires-clause-in_time c =
-    let below = c.requires.below in
-    let last = c.requires.in_time in
-    omega (arith, below, last)
-
-pub end_one-requires-clause-apart : goal.end_one-requires-clause-apart
-end_one-requires-clause-apart c =
-    let k = c.loop-k.k in
-    let inv = c.loop-k.invariant in
-    let test = c.loop-k-test.true in
-    let many = inv.senders in
-    let len = c.loop-k.auto.senders in
-    inv.others k a_watch c.index-senders-k.result c.index-receivers-k.result (omega (arith, test, many, len)) (omega arith)
-
-pub end_one-requires-clause-right : goal.end_one-requires-clause-right
-end_one-requires-clause-right c =
-    let k = c.loop-k.k in
-    let g = c.args.of.now in
-    let ds = c.index-senders-k.result in
-    let dk = c.index-receivers-k.result in
-    let inv = c.loop-k.invariant in
-    let test = c.loop-k-test.true in
-    let many = inv.senders in
-    let len = c.loop-k.auto.senders in
-    let in_it : k < length g.stations.items = omega (arith, test, many, len) in
-    let below = c.requires.below in
-    let ahead = c.requires.ahead in
-    right_on g c.args.t c.args.u ((c.args.window + 1) * g.lookahead) c.args.end k c.loop-k.lines (get_or c.loop-k.watches k a_watch) (get_or c.loop-k.senders k ds) (get_or c.loop-k.receivers k dk)
-    inv.know (omega (arith, below, ahead)) in_it (inv.others k a_watch ds dk in_it (omega arith)) c.if-watch-u.true (inv.right k in_it)
-
-pub end_one-requires-clause-room : goal.end_one-requires-clause-room
-end_one-requires-clause-room c =
-    let k = c.loop-k.k in
-    let e = c.args.end in
-    let ws = c.loop-k.watches in
-    let ss = c.loop-k.senders in
-    let ks = c.loop-k.receivers in
-    let ds = c.index-senders-k.result in
-    let dk = c.index-receivers-k.result in
-    let inv = c.loop-k.invariant in
-    let test = c.loop-k-test.true in
-    let many = inv.senders in
-    let len = c.loop-k.auto.senders in
-    let below = c.requires.below in
-    let n = length c.args.of.now.stations.items in
-    let in_it : k < n = omega (arith, test, many, len) in
-    let one = inv.others k a_watch ds dk in_it (omega arith) in
-    let early = one.since in
-    let w = get_or ws k a_watch in
-    let left : 1 ≤ e - w.since = omega (arith, below, early) in
-    let all = inv.left e below c.requires.room a_watch ds dk in
-    let mine = covers_one n k (λ i. behind_demand e (get_or ws i a_watch) (get_or ss i ds) (get_or ks i dk)) c.loop-k.room in_it all in
-    let received = covers_second (sender_demand (e - w.since) (get_or ss k ds)) (receiver_demand (e - w.since) (get_or ks k dk)) c.loop-k.room mine in
-    covers_within (receiver_demand 1 (get_or ks k dk)) (receiver_demand (e - w.since) (get_or ks k dk)) c.loop-k.room (receiver_more (get_or ks k dk) 1 (e - w.since) left) received
-
 -- a station that is due
-pub step_one-requires-clause-tap : goal.step_one-requires-clause-tap
-step_one-requires-clause-tap c =
-    let inv = c.loop-k.invariant in
-    let test = c.loop-k-test.true in
-    let many = inv.senders in
-    let len = c.loop-k.auto.senders in
-    tap_there c.args.of.now c.args.u ((c.args.window + 1) * c.args.of.now.lookahead) c.loop-k.k c.loop-k.lines inv.know (omega (arith, test, many, len))
-
-pub step_one-requires-clause-apart : goal.step_one-requires-clause-apart
-step_one-requires-clause-apart c =
+pub take_turn-requires-clause-apart : goal.take_turn-requires-clause-apart
+take_turn-requires-clause-apart c =
     let inv = c.loop-k.invariant in
     let test = c.loop-k-test.true in
     let many = inv.senders in
     let len = c.loop-k.auto.senders in
     inv.others c.loop-k.k a_watch c.index-senders-k.result c.index-receivers-k.result (omega (arith, test, many, len)) (omega arith)
 
-pub step_one-requires-clause-due : goal.step_one-requires-clause-due
-step_one-requires-clause-due c =
+pub take_turn-requires-clause-right : goal.take_turn-requires-clause-right
+take_turn-requires-clause-right c =
     let inv = c.loop-k.invariant in
     let test = c.loop-k-test.true in
     let many = inv.senders in
     let len = c.loop-k.auto.senders in
-    let one = inv.others c.loop-k.k a_watch c.index-senders-k.result c.index-receivers-k.result (omega (arith, test, many, len)) (omega arith) in
-    let from = one.until in
-    let not = c.if-watch-u.false in
-    omega (arith, from, not)
+    inv.right c.loop-k.k (omega (arith, test, many, len))
 
-pub step_one-requires-clause-since : goal.step_one-requires-clause-since
-step_one-requires-clause-since c =
-    let inv = c.loop-k.invariant in
-    let test = c.loop-k-test.true in
-    let many = inv.senders in
-    let len = c.loop-k.auto.senders in
-    let in_it : c.loop-k.k < length c.args.of.now.stations.items = omega (arith, test, many, len) in
-    let one = inv.others c.loop-k.k a_watch c.index-senders-k.result c.index-receivers-k.result in_it (omega arith) in
-    let from = one.until in
-    let not = c.if-watch-u.false in
-    inv.looked c.loop-k.k a_watch in_it (omega arith) (omega (arith, from, not))
-
-pub step_one-requires-clause-hears : goal.step_one-requires-clause-hears
-step_one-requires-clause-hears c =
-    let g = c.args.of.now in
-    let inv = c.loop-k.invariant in
-    let test = c.loop-k-test.true in
-    let many = inv.senders in
-    let len = c.loop-k.auto.senders in
-    let below = c.requires.below in
-    let ahead = c.requires.ahead in
-    heard_so g c.args.u ((c.args.window + 1) * g.lookahead) c.loop-k.k c.loop-k.lines inv.know (omega (arith, below, ahead)) (omega (arith, test, many, len))
-
-pub step_one-requires-clause-line : goal.step_one-requires-clause-line
-step_one-requires-clause-line c =
+pub take_turn-requires-clause-line : goal.take_turn-requires-clause-line
+take_turn-requires-clause-line c =
     let inv = c.loop-k.invariant in
     let test = c.loop-k-test.true in
     let many = inv.senders in
     let len = c.loop-k.auto.senders in
     inv.tell c.loop-k.k (omega (arith, test, many, len))
 
-pub step_one-requires-clause-room : goal.step_one-requires-clause-room
-step_one-requires-clause-room c =
+pub take_turn-requires-clause-room : goal.take_turn-requires-clause-room
+take_turn-requires-clause-room c =
     let k = c.loop-k.k in
     let e = c.args.end in
     let ws = c.loop-k.watches in
@@ -188,23 +101,14 @@ step_one-requires-clause-room c =
     let test = c.loop-k-test.true in
     let many = inv.senders in
     let len = c.loop-k.auto.senders in
-    let below = c.requires.below in
     let n = length c.args.of.now.stations.items in
     let in_it : k < n = omega (arith, test, many, len) in
-    let one = inv.others k a_watch ds dk in_it (omega arith) in
-    let early = one.since in
-    let w = get_or ws k a_watch in
-    let s = get_or ss k ds in
-    let r = get_or ks k dk in
-    let left : 1 ≤ e - w.since = omega (arith, below, early) in
-    let all = inv.left e below c.requires.room a_watch ds dk in
-    let mine = covers_one n k (λ i. behind_demand e (get_or ws i a_watch) (get_or ss i ds) (get_or ks i dk)) c.loop-k.room in_it all in
-    covers_within (both_demands (sender_demand 1 s) (receiver_demand 1 r)) (behind_demand e w s r) c.loop-k.room (both_more s r 1 (e - w.since) left) mine
+    covers_one n k (λ i. behind_demand e (get_or ws i a_watch) (get_or ss i ds) (get_or ks i dk)) c.loop-k.room in_it (inv.left e c.requires.below c.requires.room a_watch ds dk)
 
 pub find-requires : goal.find-requires
 find-requires c =
     let inv = c.loop-k.invariant in
-    let size = c.step_one.auto.lines in
+    let size = c.take_turn.auto.lines in
     let many = inv.lines.many in
     let listing = inv.listing in
     let enough = c.requires.listing in
@@ -217,7 +121,7 @@ lower_all-requires-clause-tap c =
     let many = inv.senders in
     let len = c.loop-k.auto.senders in
     let there = tap_there c.args.of.now c.args.u ((c.args.window + 1) * c.args.of.now.lookahead) c.loop-k.k c.loop-k.lines inv.know (omega (arith, test, many, len)) in
-    let size = c.step_one.auto.lines in
+    let size = c.take_turn.auto.lines in
     omega (arith, there, size)
 
 pub lower_all-requires-clause-taps : goal.lower_all-requires-clause-taps
@@ -225,22 +129,21 @@ lower_all-requires-clause-taps c =
     let inv = c.loop-k.invariant in
     let watched = inv.watches in
     let taps = c.requires.apart.taps in
-    let size = c.step_one.auto.lines in
+    let size = c.take_turn.auto.lines in
     let many = inv.lines.many in
-    let set = length-set c.loop-k.watches c.loop-k.k c.step_one.new.watch in
+    let set = length-set c.loop-k.watches c.loop-k.k c.take_turn.new.watch in
     omega (arith, watched, taps, size, many, set)
 
 pub lower_all-requires-clause-in_time : goal.lower_all-requires-clause-in_time
 lower_all-requires-clause-in_time c = λ i d l.
     let k = c.loop-k.k in
     let ws = c.loop-k.watches in
-    let w = c.step_one.new.watch in
-    let s = c.step_one.new.sender in
-    let r = c.step_one.new.receiver in
+    let w = c.take_turn.new.watch in
+    let s = c.take_turn.new.sender in
+    let r = c.take_turn.new.receiver in
     let inv = c.loop-k.invariant in
     let last = c.requires.in_time in
-    let below = c.requires.below in
-    let until = c.step_one.ensures.until in
+    let until = c.take_turn.ensures.apart.within in
     let size = length-set ws k w in
     let many = inv.watches in
     let here : i < length c.args.of.now.stations.items = omega (arith, l, size, many) in
@@ -257,12 +160,13 @@ lower_all-requires-clause-in_time c = λ i d l.
             | inr same ↦
                 let eq : k ≡ i = omega (arith, same, high) in
                 let there : k < length ws = omega (arith, here, many, eq) in
-                subst (λ z. P (get_or (set ws k w) z d)) eq (subst P (sym (get_or-set_same ws k w d there)) (omega (arith, until, below, last)))
+                subst (λ z. P (get_or (set ws k w) z d)) eq (subst P (sym (get_or-set_same ws k w d there)) (omega (arith, until, last)))
           ]
     ]
 
-pub loop-k-preserved-then-watch-u : goal.loop-k-preserved-then-watch-u
-loop-k-preserved-then-watch-u c =
+-- a station that goes on beyond the half bit
+pub loop-k-preserved-then-watches-k : goal.loop-k-preserved-then-watches-k
+loop-k-preserved-then-watches-k c =
     let g = c.args.of.now in
     let plan = g.plan.value in
     let k = c.loop-k.k in
@@ -275,42 +179,32 @@ loop-k-preserved-then-watch-u c =
     let ws = c.loop-k.watches in
     let ss = c.loop-k.senders in
     let ks = c.loop-k.receivers in
-    let ds = c.index-senders-k.result in
-    let dk = c.index-receivers-k.result in
-    let w' = c.end_one.new.watch in
-    let s' = c.end_one.new.sender in
-    let k' = c.end_one.new.receiver in
+    let ds = sender_at plan 0 u in
+    let dk = a_kept in
     let room = c.loop-k.room in
-    let room' = c.end_one.new.room in
     let inv = c.loop-k.invariant in
-    let now = c.end_one.ensures in
     let test = c.loop-k-test.true in
     let many = inv.senders in
-    let heard = inv.receivers in
-    let watched = inv.watches in
     let took = inv.captures in
     let len = c.loop-k.auto.senders in
     let below = c.requires.below in
     let ahead = c.requires.ahead in
     let in_it : k < n = omega (arith, test, many, len) in
     let before_front : u < front = omega (arith, below, ahead) in
-    let lw : k < length ws = omega (arith, in_it, watched) in
-    let ls : k < length ss = omega (arith, in_it, many) in
-    let lk : k < length ks = omega (arith, in_it, heard) in
     let lc : k < length room.captures = omega (arith, in_it, took) in
     let one = inv.others k a_watch ds dk in_it (omega arith) in
     let w = get_or ws k a_watch in
     let s = get_or ss k ds in
     let r = get_or ks k dk in
-    let on : u < w.until = c.if-watch-u.true in
-    let octets = λ (i : ℕ). (heard_reception plan (number_on g i) u).octets in
-    let other_captures : (q : ℕ) → q ≢ k → get_or room'.captures q [] ≡ get_or room.captures q [] = λ q e.
-    ap (λ (cs : List (List Taken)). get_or cs q []) now.captures ∙ get_or-set_other room.captures k q _ [] e in
+    let on : u < w.until = c.if-watches-k.true in
+    let early = one.since in
+    let quiet : (event g u k) ≡ None =
+    nothing_on g t u front end k lines w s r inv.know before_front in_it one on (inv.right k in_it) (inv.waits k a_watch ds dk in_it (omega arith) (omega (arith, early, on))) in
     record {
-      watches = watched ∙ sym (length-set ws k w');
-      senders = length-set ss k s' ∙ many;
-      receivers = length-set ks k k' ∙ heard;
-      captures = ap length now.captures ∙ length-set room.captures k _ ∙ took;
+      watches = inv.watches;
+      senders = inv.senders;
+      receivers = inv.receivers;
+      captures = inv.captures;
       piece_len = inv.piece_len;
       reach = inv.reach;
       loud = inv.loud;
@@ -321,23 +215,29 @@ loop-k-preserved-then-watch-u c =
       now = λ i l h. below_next k (λ i. i < n → emitted plan (number_on g i) u ≡ symbol_on (get_or lines i no_line) u) (λ i b l. inv.now i l b)
           (λ l. emits_so g t u front end k lines w s r inv.know before_front in_it one on (inv.right k in_it)) i h l;
       tell = inv.tell;
-      done = λ i w s r l h. each_set (λ i w s r. i < k + 1 → StandsApart g t (u + 1) end i lines w s r) n k ws ss ks w' s' k' lw ls lk
-          (λ i w s r l e h. inv.done i w s r l (omega (arith, h, e))) (λ h. now.apart) i w s r l h;
-      still = λ i w s r l h. each_set (λ i w s r. i < k + 1 → w.since < w.until → IsStillBy w s r) n k ws ss ks w' s' k' lw ls lk
-          (λ i w s r l e h. inv.still i w s r l (omega (arith, h, e))) (λ h later. now.still) i w s r l h;
-      others = λ i w s r l h. each_set (λ i w s r. k + 1 ≤ i → StandsApart g t u end i lines w s r) n k ws ss ks w' s' k' lw ls lk
-          (λ i w s r l e h. inv.others i w s r l (omega (arith, h))) (λ h. absurd (omega (arith, h))) i w s r l h;
-      looked = λ i w l h. each_set (λ i w s r. k + 1 ≤ i → w.until ≡ u → w.since ≡ u) n k ws ss ks w' s' k' lw ls lk
-          (λ i w s r l e h. inv.looked i w l (omega (arith, h))) (λ h. absurd (omega (arith, h))) i w ds dk l h;
-      logged = rows_silent u g.stations.items (sent g u) (event g u) k c.args.room.now.rows room.rows room'.rows
-          (silent_on g t u front end k lines w s r inv.know before_front in_it one on (inv.right k in_it)) inv.logged now.rows;
-      kept = λ q l. below_next k (λ q. get_or room'.captures q [] ≡ get_or c.args.room.now.captures q [] ++ taken_by u (event g u q) (octets q))
-          (λ q b. other_captures q (λ x. omega (arith, x, b)) ∙ inv.kept q b)
-          (ap (λ (cs : List (List Taken)). get_or cs k []) now.captures ∙ get_or-set_same room.captures k _ [] lc ∙ ap (λ xs. xs ++ taken_by u (event g u k) (octets k)) (inv.unkept k (omega arith)))
+      done = λ i w s r l h. elim (cases_lt i k) [
+        | inl low ↦ inv.done i w s r l low
+        | inr high ↦
+            let e : k ≡ i = omega (arith, h, high) in
+            subst (λ j. StandsApart g t (u + 1) end j lines (get_or ws j w) (get_or ss j s) (get_or ks j r)) e
+            (gone_on g t u end k lines (get_or ws k w) (get_or ss k s) (get_or ks k r) (inv.others k w s r in_it (omega arith))
+            (subst (λ (x : Watch). u < x.until) (get_or_default ws k a_watch w (let many = inv.watches in omega (arith, in_it, many))) on)
+            (inv.waits k w s r in_it (omega arith)))
+      ];
+      still = λ i w s r l h. elim (cases_lt i k) [
+        | inl low ↦ inv.still i w s r l low
+        | inr high ↦ inv.waits i w s r l (omega (arith, high))
+      ];
+      others = λ i w s r l h. inv.others i w s r l (omega (arith, h));
+      waits = λ i w s r l h. inv.waits i w s r l (omega (arith, h));
+      logged = rows_silent u g.stations.items (sent g u) (event g u) k c.args.room.now.rows room.rows room.rows
+          (silent_on g t u front end k lines w s r inv.know before_front in_it one on (inv.right k in_it)) inv.logged (same_rows u (number_on g k) (event g u k) room.rows quiet);
+      kept = λ q l. below_next k (λ q. get_or room.captures q [] ≡ get_or c.args.room.now.captures q [] ++ taken_by u (event g u q) (heard_reception plan (number_on g q) u).octets)
+          (λ q b. inv.kept q b)
+          (inv.unkept k (omega arith) ∙ sym (ap (λ x. get_or c.args.room.now.captures k [] ++ taken_by u x (heard_reception plan (number_on g k) u).octets) quiet ∙ append-nil (get_or c.args.room.now.captures k [])))
           q l;
-      unkept = λ q l. other_captures q (λ x. omega (arith, x, l)) ∙ inv.unkept q (omega (arith, l));
-      left = λ e h covers.
-          covers_with e n k ws ss ks w' s' k' in_it lw ls lk a_watch ds dk room room' (λ other b. now.left e other h b) (inv.left e h covers);
+      unkept = λ q l. inv.unkept q (omega (arith, l));
+      left = inv.left;
     }
 
 pub loop-k-preserved-in_default : goal.loop-k-preserved-in_default
@@ -351,19 +251,19 @@ loop-k-preserved-in_default c =
     let front = (c.args.window + 1) * g.lookahead in
     let n = length g.stations.items in
     let lines = c.loop-k.lines in
-    let lines' = c.step_one.new.lines in
+    let lines' = c.take_turn.new.lines in
     let ws = c.loop-k.watches in
     let ss = c.loop-k.senders in
     let ks = c.loop-k.receivers in
     let ds = c.index-senders-k.result in
     let dk = c.index-receivers-k.result in
-    let w' = c.step_one.new.watch in
-    let s' = c.step_one.new.sender in
-    let k' = c.step_one.new.receiver in
+    let w' = c.take_turn.new.watch in
+    let s' = c.take_turn.new.sender in
+    let k' = c.take_turn.new.receiver in
     let room = c.loop-k.room in
-    let room' = c.step_one.new.room in
+    let room' = c.take_turn.new.room in
     let inv = c.loop-k.invariant in
-    let now = c.step_one.ensures in
+    let now = c.take_turn.ensures in
     let test = c.loop-k-test.true in
     let many = inv.senders in
     let heard = inv.receivers in
@@ -375,7 +275,7 @@ loop-k-preserved-in_default c =
     let ls : k < length ss = omega (arith, in_it, many) in
     let lk : k < length ks = omega (arith, in_it, heard) in
     let lc : k < length room.captures = omega (arith, in_it, took) in
-    let anew : AreToldAnew u n lines lines' = anew_one u n k lines lines' in_it c.step_one.auto.lines now.line now.others in
+    let anew : AreToldAnew u n lines lines' = anew_one u n k lines lines' in_it c.take_turn.auto.lines now.line now.others in
     let same : (a : ℕ) → is_signal (symbol_on (get_or lines' k no_line) a) ≡ is_signal (symbol_on (get_or lines k no_line) a) =
     subst (λ (o : Option ℕ). IfNone o ((a : ℕ) → is_signal (symbol_on (get_or lines' k no_line) a) ≡ is_signal (symbol_on (get_or lines k no_line) a))) c.in_default.is now.alike in
     let alike : (from : ℕ) → IsAlikeBelow k from lines lines' = λ from. alike_to u n k from lines lines' in_it anew now.others (λ a h. same a) in
@@ -387,7 +287,7 @@ loop-k-preserved-in_default c =
       senders = length-set ss k s' ∙ many;
       receivers = length-set ks k k' ∙ heard;
       captures = ap length now.captures ∙ length-set room.captures k _ ∙ took;
-      piece_len = c.step_one.auto.piece ∙ inv.piece_len;
+      piece_len = c.take_turn.auto.piece ∙ inv.piece_len;
       reach = reach_anew c.args.far g.lookahead u n lines lines' anew inv.reach;
       loud = listed_alike (t - c.args.far) k lines lines' c.loop-k.loud.taps alike inv.loud;
       listing = inv.listing;
@@ -405,12 +305,12 @@ loop-k-preserved-in_default c =
           (λ i w s r l e h. apart_alike g t u (u + 1) end front i k lines lines' (get_or ws i w) (get_or ss i s) (get_or ks i r) inv.know alike l in_it e (inv.done i w s r l (omega (arith, h, e))))
           (λ h. now.apart) i w s r l h;
       still = λ i w s r l h. each_set (λ i w s r. i < k + 1 → w.since < w.until → IsStillBy w s r) n k ws ss ks w' s' k' lw ls lk
-          (λ i w s r l e h. inv.still i w s r l (omega (arith, h, e))) (λ h later. absurd (let x = now.since in let y = now.until in omega (arith, later, x, y))) i w s r l h;
+          (λ i w s r l e h. inv.still i w s r l (omega (arith, h, e))) (λ h. now.still) i w s r l h;
       others = λ i w s r l h. each_set (λ i w s r. k + 1 ≤ i → StandsApart g t u end i lines' w s r) n k ws ss ks w' s' k' lw ls lk
           (λ i w s r l e h. apart_alike g t u u end front i k lines lines' (get_or ws i w) (get_or ss i s) (get_or ks i r) inv.know alike l in_it e (inv.others i w s r l (omega (arith, h))))
           (λ h. absurd (omega (arith, h))) i w s r l h;
-      looked = λ i w l h. each_set (λ i w s r. k + 1 ≤ i → w.until ≡ u → w.since ≡ u) n k ws ss ks w' s' k' lw ls lk
-          (λ i w s r l e h. inv.looked i w l (omega (arith, h))) (λ h. absurd (omega (arith, h))) i w ds dk l h;
+      waits = λ i w s r l h. each_set (λ i w s r. k + 1 ≤ i → w.since < w.until → IsStillBy w s r) n k ws ss ks w' s' k' lw ls lk
+          (λ i w s r l e h. inv.waits i w s r l (omega (arith, h))) (λ h. absurd (omega (arith, h))) i w s r l h;
       logged = rows_stepped u g.stations.items (sent g u) (event g u) k c.args.room.now.rows room.rows room'.rows inv.logged now.rows;
       kept = λ q l. below_next k (λ q. get_or room'.captures q [] ≡ get_or c.args.room.now.captures q [] ++ taken_by u (event g u q) (octets q))
           (λ q b. other_captures q (λ x. omega (arith, x, b)) ∙ inv.kept q b)
@@ -432,21 +332,21 @@ loop-k-preserved c =
     let front = (c.args.window + 1) * g.lookahead in
     let n = length g.stations.items in
     let lines = c.loop-k.lines in
-    let lines' = c.step_one.new.lines in
+    let lines' = c.take_turn.new.lines in
     let ws = c.loop-k.watches in
     let ss = c.loop-k.senders in
     let ks = c.loop-k.receivers in
     let ds = c.index-senders-k.result in
     let dk = c.index-receivers-k.result in
-    let w' = c.step_one.new.watch in
-    let s' = c.step_one.new.sender in
-    let k' = c.step_one.new.receiver in
+    let w' = c.take_turn.new.watch in
+    let s' = c.take_turn.new.sender in
+    let k' = c.take_turn.new.receiver in
     let ws' = c.lower_all.new.watches in
     let from = c.in-Some.from in
     let room = c.loop-k.room in
-    let room' = c.step_one.new.room in
+    let room' = c.take_turn.new.room in
     let inv = c.loop-k.invariant in
-    let now = c.step_one.ensures in
+    let now = c.take_turn.ensures in
     let test = c.loop-k-test.true in
     let many = inv.senders in
     let heard = inv.receivers in
@@ -458,7 +358,7 @@ loop-k-preserved c =
     let ls : k < length ss = omega (arith, in_it, many) in
     let lk : k < length ks = omega (arith, in_it, heard) in
     let lc : k < length room.captures = omega (arith, in_it, took) in
-    let anew : AreToldAnew u n lines lines' = anew_one u n k lines lines' in_it c.step_one.auto.lines now.line now.others in
+    let anew : AreToldAnew u n lines lines' = anew_one u n k lines lines' in_it c.take_turn.auto.lines now.line now.others in
     let known : (u ≤ from) × ((a : ℕ) → a < from → is_signal (symbol_on (get_or lines' k no_line) a) ≡ is_signal (symbol_on (get_or lines k no_line) a)) =
     subst (λ (o : Option ℕ). IfSome o (λ f. (u ≤ f) × ((a : ℕ) → a < f → is_signal (symbol_on (get_or lines' k no_line) a) ≡ is_signal (symbol_on (get_or lines k no_line) a)))) c.in-Some.is now.alike_below in
     let late : u ≤ from = known.0 in
@@ -467,9 +367,8 @@ loop-k-preserved c =
     let size : length ws' ≡ length (set ws k w') = c.lower_all.auto.watches in
     let all : n ≡ length ws' = watched ∙ sym (length-set ws k w') ∙ sym size in
     let low : (i : ℕ) (d : Watch) → i < n → get_or ws' i d ≡ lowered_watch (at i) (get_or (set ws k w') i d) = λ i d h. c.lower_all.ensures i d (omega (arith, h, all)) in
-    let began = now.since in
-    let due = now.until in
-    let own : lowered_watch (at k) w' ≡ w' = lowered_own (at k) w' (omega (arith, began, due)) in
+    let due : w'.until ≡ w'.since = subst (λ (o : Option ℕ). IfSome o (λ f. w'.until ≡ w'.since)) c.in-Some.is now.due in
+    let own : lowered_watch (at k) w' ≡ w' = lowered_own (at k) w' due in
     let octets = λ (i : ℕ). (heard_reception plan (number_on g i) u).octets in
     let other_captures : (q : ℕ) → q ≢ k → get_or room'.captures q [] ≡ get_or room.captures q [] = λ q e.
     ap (λ (cs : List (List Taken)). get_or cs q []) now.captures ∙ get_or-set_other room.captures k q _ [] e in
@@ -478,7 +377,7 @@ loop-k-preserved c =
       senders = length-set ss k s' ∙ many;
       receivers = length-set ks k k' ∙ heard;
       captures = ap length now.captures ∙ length-set room.captures k _ ∙ took;
-      piece_len = c.step_one.auto.piece ∙ inv.piece_len;
+      piece_len = c.take_turn.auto.piece ∙ inv.piece_len;
       reach = reach_anew c.args.far g.lookahead u n lines lines' anew inv.reach;
       loud = subst (λ v. AreIdleButFor v lines' c.find.new.self.taps) c.saturating_sub.ensures c.find.ensures.loud.idle;
       listing = c.find.ensures.room ∙ inv.listing;
@@ -497,15 +396,13 @@ loop-k-preserved c =
           (λ h. subst (λ w. StandsApart g t (u + 1) end k lines' w s' k') (sym own) now.apart) i w s r l h;
       still = λ i w s r l h. each_lowered (λ i w s r. i < k + 1 → w.since < w.until → IsStillBy w s r) n k at ws ws' ss ks w' s' k' lw ls lk low
           (λ i w s r l e h later. inv.still i w s r l (omega (arith, h, e)) (omega (arith, later)))
-          (λ h later. absurd (omega (arith, later, began, due))) i w s r l h;
+          (λ h later. absurd (omega (arith, later, due))) i w s r l h;
       others = λ i w s r l h. each_lowered (λ i w s r. k + 1 ≤ i → StandsApart g t u end i lines' w s r) n k at ws ws' ss ks w' s' k' lw ls lk low
           (λ i w s r l e h. apart_lowered g t u u end front i k from lines lines' (get_or ws i w) (get_or ss i s) (get_or ks i r) inv.know alike late (omega arith) l in_it e (inv.others i w s r l (omega (arith, h))))
           (λ h. absurd (omega (arith, h))) i w s r l h;
-      looked = λ i w l h. each_lowered (λ i w s r. k + 1 ≤ i → w.until ≡ u → w.since ≡ u) n k at ws ws' ss ks w' s' k' lw ls lk low
-          (λ i w s r l e h is.
-          let some = back_later g u front i k from lines lines' inv.know alike l in_it e in
-          inv.looked i w l (omega (arith, h)) (omega (arith, is, some, late)))
-          (λ h. absurd (omega (arith, h))) i w ds dk l h;
+      waits = λ i w s r l h. each_lowered (λ i w s r. k + 1 ≤ i → w.since < w.until → IsStillBy w s r) n k at ws ws' ss ks w' s' k' lw ls lk low
+          (λ i w s r l e h later. inv.waits i w s r l (omega (arith, h)) (omega (arith, later)))
+          (λ h. absurd (omega (arith, h))) i w s r l h;
       logged = rows_stepped u g.stations.items (sent g u) (event g u) k c.args.room.now.rows room.rows room'.rows inv.logged now.rows;
       kept = λ q l. below_next k (λ q. get_or room'.captures q [] ≡ get_or c.args.room.now.captures q [] ++ taken_by u (event g u q) (octets q))
           (λ q b. other_captures q (λ x. omega (arith, x, b)) ∙ inv.kept q b)

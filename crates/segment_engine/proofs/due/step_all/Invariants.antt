@@ -36,8 +36,9 @@ invariant-loop-k l = record {
       IsStillBy (slice_index_or l.watches i w) (slice_index_or l.senders i s) (slice_index_or l.receivers i k);
   others : (i : ℕ) (w : Watch) (s : Sender) (k : KeptReception) → i < length l.of.stations.items → l.k ≤ i →
       StandsApart l.of l.t l.u l.end i l.lines (slice_index_or l.watches i w) (slice_index_or l.senders i s) (slice_index_or l.receivers i k);
-  looked : (i : ℕ) (w : Watch) → i < length l.of.stations.items → l.k ≤ i →
-      (slice_index_or l.watches i w).until ≡ l.u → (slice_index_or l.watches i w).since ≡ l.u;
+  waits : (i : ℕ) (w : Watch) (s : Sender) (k : KeptReception) → i < length l.of.stations.items → l.k ≤ i →
+      (slice_index_or l.watches i w).since < (slice_index_or l.watches i w).until →
+      IsStillBy (slice_index_or l.watches i w) (slice_index_or l.senders i s) (slice_index_or l.receivers i k);
   logged : l.room.rows ≡ l.fn.room.rows ++ rows_of_both l.u l.of.stations.items (λ i. sent_event l.of.plan.value (number_on l.of i) l.u)
       (λ i. (heard_reception l.of.plan.value (number_on l.of i) l.u).event) l.k;
   kept : (i : ℕ) → i < l.k → slice_index_or l.room.captures i [] ≡ slice_index_or l.fn.room.captures i [] ++
