@@ -12,7 +12,7 @@ ghost use Rattle.reception_laws.specs.WholeReceptions.{IsAllSignal};
 ghost use Rattle.window_room.specs.NeededRoom.{Covers, Demand, both_demands, reception_demand};
 ghost use Rattle.window_room.specs.Rooms.{captures_with};
 
-use crate::verdict::{ReceptionVerdict, spoiled, tell};
+use crate::verdict::{ReceptionVerdict, tell, tell_spoiled};
 use collision_log::{Body, Why};
 use lists::OutOfMemory;
 use mac_parameters::{
@@ -77,6 +77,21 @@ fn is_spoiled(text: &[Sym]) -> bool
     any
 }
 
+/// The verdict of a text that fits. Where a Clash stands in it and no bits are lost, it isn't read.
+fn read(lose: u32, most: u32, text: &[Sym]) -> ReceptionVerdict
+    requires lose { lose ≤ 48 }
+    requires most { IsMost most }
+    requires signal { IsAllSignal text.now }
+    requires some { 0 < length text.now }
+    requires few { length text.now ≤ LONGEST_TEXT }
+    ensures { IsVerdictFor lose most text.now result }
+{
+    if lose == 0 && is_spoiled(text) {
+        return tell_spoiled(most, text.len() as u32);
+    }
+    tell(lose, most, text)
+}
+
 impl Teller {
     /// One that was told nothing yet.
     pub fn new(alloc: Global) -> Result<Teller, OutOfMemory>
@@ -106,6 +121,7 @@ impl Teller {
         requires lose { lose ≤ 48 }
         requires most { IsMost most }
         requires signal { IsAllSignal text.now }
+        requires some { 0 < length text.now }
         requires few { length text.now ≤ LONGEST_TEXT }
         ensures { IsVerdictFor lose most text.now result.now }
     {
@@ -114,7 +130,7 @@ impl Teller {
             self.most = most;
             put_aside(&mut self.text, 0, text);
             self.count = text.len();
-            self.verdict = tell(lose, most, text);
+            self.verdict = read(lose, most, text);
         }
         &self.verdict
     }
@@ -122,7 +138,7 @@ impl Teller {
 
 /// Keeps what becomes of a reception with this text at the Idle after it, for receivers that lose so many bits of each
 /// reception and take frames of so many octets at most. Where the text is shorter than the shortest reception of a
-/// frame, or a Clash stands in it and no bits are lost, it isn't read at all.
+/// frame, or was told last, or a Clash stands in it and no bits are lost, it isn't read.
 pub fn keep_told(
     lose: u32,
     most: u32,
@@ -159,10 +175,6 @@ pub fn keep_told(
             halves: halves as u32,
         };
         keep_reception(room, station, t, device, Some(body), &[]);
-        return;
-    }
-    if lose == 0 && is_spoiled(text) {
-        keep_reception(room, station, t, device, Some(spoiled(halves as u32)), &[]);
         return;
     }
     let verdict = teller.verdict_of(lose, most, text);

@@ -6,7 +6,7 @@ ghost use Rattle.collision_log.specs.declared.row.Body.TheVariants.{Received};
 ghost use Rattle.mac_receive.specs.KeptReceiver.{Hears};
 ghost use Rattle.mac_receive.specs.Receiver.{Receiving, receiver_after};
 ghost use Rattle.reception_laws.specs.LateReceptions.{IsVerdictFor};
-ghost use Rattle.reception_laws.specs.WholeReceptions.{AwaitsReception, IsAllSignal, spoiled_row, verdict_of_text};
+ghost use Rattle.reception_laws.specs.WholeReceptions.{AwaitsReception, IsAllSignal, row_alone, spoiled_row, verdict_of_text};
 
 use collision_log::{Body, Why};
 use mac_parameters::SHORTEST_LINE_TEXT;
@@ -98,4 +98,16 @@ pub fn spoiled(halves: u32) -> Body
         Why::Damaged
     };
     Body::Dropped { why, halves }
+}
+
+/// The verdict of a reception of so many half bits that a Clash spoiled, for receivers that lose no bits of it. It
+/// takes no memory.
+pub fn tell_spoiled(most: u32, halves: u32) -> ReceptionVerdict
+    requires most { IsMost most }
+    ensures { result ≡ row_alone (spoiled_row halves) }
+{
+    ReceptionVerdict {
+        event: Some(spoiled(halves)),
+        receiver: Receiver::new_for(0, most),
+    }
 }

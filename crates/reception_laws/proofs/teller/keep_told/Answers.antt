@@ -7,8 +7,8 @@ use Rattle.network.specs.Rows.{row_of}
 use Rattle.window_room.specs.NeededRoom.{Covers, event_demand}
 use Rattle.window_room.specs.Receptions.{least_reception}
 use Rattle.window_room.specs.Rooms.{KeepsRoom, captures_with}
-use Rattle.reception_laws.specs.WholeReceptions.{row_alone, spoiled_row}
-use Rattle.reception_laws.proofs.ToldOnce.{short_verdict, spoiled_verdict, verdict_fits, verdict_left, verdict_taken}
+use Rattle.reception_laws.specs.WholeReceptions.{row_alone}
+use Rattle.reception_laws.proofs.ToldOnce.{short_verdict, verdict_fits, verdict_left, verdict_taken}
 use Rattle.reception_laws.proofs.teller.keep_told.Goals as goal
 
 pub returns-then-halves-lt-LEAST_RECEPTION-clause-rows : goal.returns-then-halves-lt-LEAST_RECEPTION-clause-rows
@@ -26,21 +26,6 @@ returns-then-halves-lt-LEAST_RECEPTION-clause-captures c = λ r h.
     c.keep_reception.ensures.captures
     ∙ ap (λ x. captures_with c.args.station x c.args.room.now.captures)
     (verdict_taken c.args.lose c.args.most c.args.t text (row_alone (Dropped why.Fragment (length text))) r v h)
-
-pub returns-then-is_spoiled-clause-rows : goal.returns-then-is_spoiled-clause-rows
-returns-then-is_spoiled-clause-rows c = λ r h.
-    let text = c.args.text.now in
-    let v = spoiled_verdict c.args.lose c.args.most text c.if-lose-eq0.true c.requires.some (c.is_spoiled.ensures.spoiled c.if-is_spoiled.true) in
-    c.keep_reception-then-is_spoiled.ensures.rows ∙ ap (λ e. c.args.room.now.rows ++ row_of c.args.t c.args.device e) (ap Some c.spoiled.ensures ∙ v.event r h)
-
-pub returns-then-is_spoiled-clause-captures : goal.returns-then-is_spoiled-clause-captures
-returns-then-is_spoiled-clause-captures c = λ r h.
-    let text = c.args.text.now in
-    let v = spoiled_verdict c.args.lose c.args.most text c.if-lose-eq0.true c.requires.some (c.is_spoiled.ensures.spoiled c.if-is_spoiled.true) in
-    c.keep_reception-then-is_spoiled.ensures.captures
-    ∙ ap (λ x. captures_with c.args.station x c.args.room.now.captures)
-    (ap (λ b. taken_by c.args.t (Some b) []) c.spoiled.ensures
-    ∙ verdict_taken c.args.lose c.args.most c.args.t text (row_alone (spoiled_row (length text))) r v h)
 
 pub keep_reception-requires-2-clause-room : goal.keep_reception-requires-2-clause-room
 keep_reception-requires-2-clause-room c =

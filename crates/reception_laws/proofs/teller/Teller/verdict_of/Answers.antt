@@ -12,8 +12,8 @@ invariant_of-self-clause-room c =
 pub invariant_of-self-clause-told : goal.invariant_of-self-clause-told
 invariant_of-self-clause-told c =
     let text = c.args.text.now in
-    let P : List Sym → Type 0 = λ xs. IsVerdictFor c.args.lose c.args.most xs c.tell-self.result in
+    let P : List Sym → Type 0 = λ xs. IsVerdictFor c.args.lose c.args.most xs c.read-self.result in
     let from_first : length text ≡ 0 + length text = omega arith in
     let kept : take (length text) (with_items c.args.self.now.text c.put_aside.new.text).items ≡ text =
     ap (take (length text)) (with_items_is c.args.self.now.text c.put_aside.new.text (search rules)) ∙ ap (λ n. take n c.put_aside.new.text) from_first ∙ c.put_aside.ensures.text in
-    subst P (sym kept) c.tell-self.ensures.each
+    subst P (sym kept) c.read-self.ensures
