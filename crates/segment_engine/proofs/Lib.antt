@@ -22,6 +22,7 @@ pub mod SteadyCalm
 pub mod CalmLater
 pub mod SendersStep
 pub mod StepOne
+pub mod StepPasses
 pub mod BehindStations
 pub mod LinesApart
 pub mod ChangedLines

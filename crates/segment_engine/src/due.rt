@@ -255,6 +255,22 @@ fn lower_all(u: u64, lookahead: u32, lines: &[Line], p: usize, watches: &mut [Wa
     }
 }
 
+/// The first station from `from` on that is due in half bit `u`, or else how many there are.
+fn next_due(watches: &[Watch], from: usize, u: u64) -> usize
+    requires { from ≤ length watches.now }
+    ensures from { from ≤ result }
+    ensures within { result ≤ length watches.now }
+    ensures later { (i : ℕ) (w : Watch) → from ≤ i → i < result → u < (slice_index_or watches.now i w).until }
+    ensures due { (w : Watch) → result < length watches.now → (slice_index_or watches.now result w).until ≤ u }
+{
+    for k in from..watches.len() {
+        if watches[k].until <= u {
+            return k;
+        }
+    }
+    watches.len()
+}
+
 /// Half bit `u` of the stations of a segment: those that are due in it have their turn, one after another.
 pub fn step_all(
     of: &Segment,
@@ -306,10 +322,8 @@ pub fn step_all(
         CoversApart e (length of.now.stations.items) watches.old senders.old receivers.old room.old →
         CoversApart e (length of.now.stations.items) watches.new senders.new receivers.new room.new }
 {
-    for k in 0..senders.len() {
-        if watches[k].until > u {
-            continue;
-        }
+    let mut k = next_due(watches, 0, u);
+    while k < senders.len() {
         let watch = &mut watches[k];
         let sender = &mut senders[k];
         let receiver = &mut receivers[k];
@@ -317,9 +331,11 @@ pub fn step_all(
             of, window, t, u, end, lines, loud, k, far, watch, sender, receiver, teller, room,
             piece,
         ) else {
+            k = next_due(watches, k + 1, u);
             continue;
         };
         loud.find(lines, t.saturating_sub(far));
         lower_all(from, of.lookahead, lines, k, watches);
+        k = next_due(watches, k + 1, u);
     }
 }

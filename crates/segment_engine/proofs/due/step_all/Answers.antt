@@ -21,38 +21,26 @@ use Rattle.segment_engine.proofs.ChangedStations.{each_set, covers_one, covers_w
 use Rattle.segment_engine.proofs.FirstReceptions.{same_rows}
 use Rattle.segment_engine.proofs.PieceRoom.{below_next}
 use Rattle.segment_engine.proofs.StepAll.{anew_none, anew_one, anew_twice, alike_to, apart_alike, apart_lowered, covers_lowered, each_lowered, emits_so, gone_on, heard_so, know_anew, know_next, lowered_own, nothing_on, reach_anew, right_next, rows_silent, rows_stepped, silent_on, tap_there, tells_anew}
+use Rattle.segment_engine.proofs.StepPasses.{HaveMade, event, octets, passed, sent}
 use Rattle.segment_engine.proofs.due.step_all.Goals as goal
 
 abbrev a_watch : Watch
 a_watch = record { since = 0; until = 0; carrier = false; told = 0 }
 
-abbrev a_kept : KeptReception
-a_kept = record { lose = 0; most = 0; deaf = false; halves = 0; decoder = new_decoding; steps = 0 }
-
--- what half bit u brings to each station
-abbrev sent : Segment → ℕ → ℕ → Option Body
-sent g u i = sent_event g.plan.value (number_on g i) u
-
-abbrev event : Segment → ℕ → ℕ → Option Body
-event g u i = (heard_reception g.plan.value (number_on g i) u).event
-
 pub loop-k-init : goal.loop-k-init
 loop-k-init c =
+    let g = c.args.of.now in
+    let u = c.args.u in
+    let front = (c.args.window + 1) * g.lookahead in
     let all = c.requires.apart in
-    record {
-      watches = all.watches;
-      senders = all.senders;
-      receivers = all.receivers;
-      captures = c.requires.captures;
-      piece_len = refl;
-      reach = c.requires.reach;
-      loud = c.requires.loud;
-      listing = refl;
-      lines = anew_none c.args.u (length c.args.of.now.stations.items) c.args.lines.now;
+    let watched = all.watches in
+    let within = c.next_due-k.ensures.within in
+    let below = c.requires.below in
+    let ahead = c.requires.ahead in
+    let first : HaveMade g c.args.t u c.args.end front 0 c.args.lines.now c.args.watches.now c.args.senders.now c.args.receivers.now c.args.room.now.rows c.args.room.now.rows c.args.room.now.captures c.args.room.now.captures = record {
       know = c.requires.know;
       right = c.requires.right;
       now = λ i l h. absurd (omega (arith, h));
-      tell = c.requires.tell;
       done = λ i w s r l h. absurd (omega (arith, h));
       still = λ i w s r l h. absurd (omega (arith, h));
       others = λ i w s r l h. all.each i w s r l;
@@ -60,6 +48,21 @@ loop-k-init c =
       logged = sym (append-nil c.args.room.now.rows);
       kept = λ i h. absurd (omega (arith, h));
       unkept = λ i h. refl;
+    } in
+    record {
+      watches = all.watches;
+      senders = all.senders;
+      receivers = all.receivers;
+      captures = c.requires.captures;
+      piece_len = refl;
+      within = within;
+      reach = c.requires.reach;
+      loud = c.requires.loud;
+      listing = refl;
+      lines = anew_none u (length g.stations.items) c.args.lines.now;
+      tell = c.requires.tell;
+      made = passed g c.args.t u c.args.end front c.args.lines.now c.args.watches.now c.args.senders.now c.args.receivers.now c.args.room.now.rows c.args.room.now.rows c.args.room.now.captures c.args.room.now.captures
+          (omega (arith, below, ahead)) 0 c.next_due-k.result (omega arith) (omega (arith, within, watched)) first (λ i w low high. c.next_due-k.ensures.later i w low high);
       left = λ e h covers. covers;
     }
 
@@ -70,7 +73,7 @@ take_turn-requires-clause-apart c =
     let test = c.loop-k-test.true in
     let many = inv.senders in
     let len = c.loop-k.auto.senders in
-    inv.others c.loop-k.k a_watch c.index-senders-k.result c.index-receivers-k.result (omega (arith, test, many, len)) (omega arith)
+    inv.made.others c.loop-k.k a_watch c.index-senders-k.result c.index-receivers-k.result (omega (arith, test, many, len)) (omega arith)
 
 pub take_turn-requires-clause-right : goal.take_turn-requires-clause-right
 take_turn-requires-clause-right c =
@@ -78,7 +81,7 @@ take_turn-requires-clause-right c =
     let test = c.loop-k-test.true in
     let many = inv.senders in
     let len = c.loop-k.auto.senders in
-    inv.right c.loop-k.k (omega (arith, test, many, len))
+    inv.made.right c.loop-k.k (omega (arith, test, many, len))
 
 pub take_turn-requires-clause-line : goal.take_turn-requires-clause-line
 take_turn-requires-clause-line c =
@@ -120,7 +123,7 @@ lower_all-requires-clause-tap c =
     let test = c.loop-k-test.true in
     let many = inv.senders in
     let len = c.loop-k.auto.senders in
-    let there = tap_there c.args.of.now c.args.u ((c.args.window + 1) * c.args.of.now.lookahead) c.loop-k.k c.loop-k.lines inv.know (omega (arith, test, many, len)) in
+    let there = tap_there c.args.of.now c.args.u ((c.args.window + 1) * c.args.of.now.lookahead) c.loop-k.k c.loop-k.lines inv.made.know (omega (arith, test, many, len)) in
     let size = c.take_turn.auto.lines in
     omega (arith, there, size)
 
@@ -150,12 +153,12 @@ lower_all-requires-clause-in_time c = λ i d l.
     let P : Watch → Type 0 = λ x. x.until ≤ most_half_bits in
     elim (cases_lt i k) [
       | inl low ↦
-          let within = (inv.done i d s r here low).within in
+          let within = (inv.made.done i d s r here low).within in
           subst P (sym (get_or-set_other ws k i w d (λ e. omega (arith, e, low)))) (omega (arith, within, last))
       | inr high ↦
           elim (cases_lt k i) [
             | inl up ↦
-                let within = (inv.others i d s r here (omega (arith, up))).within in
+                let within = (inv.made.others i d s r here (omega (arith, up))).within in
                 subst P (sym (get_or-set_other ws k i w d (λ e. omega (arith, e, up)))) (omega (arith, within, last))
             | inr same ↦
                 let eq : k ≡ i = omega (arith, same, high) in
@@ -163,82 +166,6 @@ lower_all-requires-clause-in_time c = λ i d l.
                 subst (λ z. P (get_or (set ws k w) z d)) eq (subst P (sym (get_or-set_same ws k w d there)) (omega (arith, until, last)))
           ]
     ]
-
--- a station that goes on beyond the half bit
-pub loop-k-preserved-then-watches-k : goal.loop-k-preserved-then-watches-k
-loop-k-preserved-then-watches-k c =
-    let g = c.args.of.now in
-    let plan = g.plan.value in
-    let k = c.loop-k.k in
-    let t = c.args.t in
-    let u = c.args.u in
-    let end = c.args.end in
-    let front = (c.args.window + 1) * g.lookahead in
-    let n = length g.stations.items in
-    let lines = c.loop-k.lines in
-    let ws = c.loop-k.watches in
-    let ss = c.loop-k.senders in
-    let ks = c.loop-k.receivers in
-    let ds = sender_at plan 0 u in
-    let dk = a_kept in
-    let room = c.loop-k.room in
-    let inv = c.loop-k.invariant in
-    let test = c.loop-k-test.true in
-    let many = inv.senders in
-    let took = inv.captures in
-    let len = c.loop-k.auto.senders in
-    let below = c.requires.below in
-    let ahead = c.requires.ahead in
-    let in_it : k < n = omega (arith, test, many, len) in
-    let before_front : u < front = omega (arith, below, ahead) in
-    let lc : k < length room.captures = omega (arith, in_it, took) in
-    let one = inv.others k a_watch ds dk in_it (omega arith) in
-    let w = get_or ws k a_watch in
-    let s = get_or ss k ds in
-    let r = get_or ks k dk in
-    let on : u < w.until = c.if-watches-k.true in
-    let early = one.since in
-    let quiet : (event g u k) ≡ None =
-    nothing_on g t u front end k lines w s r inv.know before_front in_it one on (inv.right k in_it) (inv.waits k a_watch ds dk in_it (omega arith) (omega (arith, early, on))) in
-    record {
-      watches = inv.watches;
-      senders = inv.senders;
-      receivers = inv.receivers;
-      captures = inv.captures;
-      piece_len = inv.piece_len;
-      reach = inv.reach;
-      loud = inv.loud;
-      listing = inv.listing;
-      lines = inv.lines;
-      know = inv.know;
-      right = inv.right;
-      now = λ i l h. below_next k (λ i. i < n → emitted plan (number_on g i) u ≡ symbol_on (get_or lines i no_line) u) (λ i b l. inv.now i l b)
-          (λ l. emits_so g t u front end k lines w s r inv.know before_front in_it one on (inv.right k in_it)) i h l;
-      tell = inv.tell;
-      done = λ i w s r l h. elim (cases_lt i k) [
-        | inl low ↦ inv.done i w s r l low
-        | inr high ↦
-            let e : k ≡ i = omega (arith, h, high) in
-            subst (λ j. StandsApart g t (u + 1) end j lines (get_or ws j w) (get_or ss j s) (get_or ks j r)) e
-            (gone_on g t u end k lines (get_or ws k w) (get_or ss k s) (get_or ks k r) (inv.others k w s r in_it (omega arith))
-            (subst (λ (x : Watch). u < x.until) (get_or_default ws k a_watch w (let many = inv.watches in omega (arith, in_it, many))) on)
-            (inv.waits k w s r in_it (omega arith)))
-      ];
-      still = λ i w s r l h. elim (cases_lt i k) [
-        | inl low ↦ inv.still i w s r l low
-        | inr high ↦ inv.waits i w s r l (omega (arith, high))
-      ];
-      others = λ i w s r l h. inv.others i w s r l (omega (arith, h));
-      waits = λ i w s r l h. inv.waits i w s r l (omega (arith, h));
-      logged = rows_silent u g.stations.items (sent g u) (event g u) k c.args.room.now.rows room.rows room.rows
-          (silent_on g t u front end k lines w s r inv.know before_front in_it one on (inv.right k in_it)) inv.logged (same_rows u (number_on g k) (event g u k) room.rows quiet);
-      kept = λ q l. below_next k (λ q. get_or room.captures q [] ≡ get_or c.args.room.now.captures q [] ++ taken_by u (event g u q) (heard_reception plan (number_on g q) u).octets)
-          (λ q b. inv.kept q b)
-          (inv.unkept k (omega arith) ∙ sym (ap (λ x. get_or c.args.room.now.captures k [] ++ taken_by u x (heard_reception plan (number_on g k) u).octets) quiet ∙ append-nil (get_or c.args.room.now.captures k [])))
-          q l;
-      unkept = λ q l. inv.unkept q (omega (arith, l));
-      left = inv.left;
-    }
 
 pub loop-k-preserved-in_default : goal.loop-k-preserved-in_default
 loop-k-preserved-in_default c =
@@ -270,6 +197,8 @@ loop-k-preserved-in_default c =
     let watched = inv.watches in
     let took = inv.captures in
     let len = c.loop-k.auto.senders in
+    let below = c.requires.below in
+    let ahead = c.requires.ahead in
     let in_it : k < n = omega (arith, test, many, len) in
     let lw : k < length ws = omega (arith, in_it, watched) in
     let ls : k < length ss = omega (arith, in_it, many) in
@@ -279,44 +208,52 @@ loop-k-preserved-in_default c =
     let same : (a : ℕ) → is_signal (symbol_on (get_or lines' k no_line) a) ≡ is_signal (symbol_on (get_or lines k no_line) a) =
     subst (λ (o : Option ℕ). IfNone o ((a : ℕ) → is_signal (symbol_on (get_or lines' k no_line) a) ≡ is_signal (symbol_on (get_or lines k no_line) a))) c.in_default.is now.alike in
     let alike : (from : ℕ) → IsAlikeBelow k from lines lines' = λ from. alike_to u n k from lines lines' in_it anew now.others (λ a h. same a) in
-    let octets = λ (i : ℕ). (heard_reception plan (number_on g i) u).octets in
     let other_captures : (q : ℕ) → q ≢ k → get_or room'.captures q [] ≡ get_or room.captures q [] = λ q e.
     ap (λ (cs : List (List Taken)). get_or cs q []) now.captures ∙ get_or-set_other room.captures k q _ [] e in
+    let next : HaveMade g t u end front (k + 1) lines' (set ws k w') (set ss k s') (set ks k k') c.args.room.now.rows room'.rows c.args.room.now.captures room'.captures = record {
+      know = know_anew g u front lines lines' anew inv.made.know;
+      right = λ i l. hears_anew plan (number_on g i) i g.lookahead t u n lines lines' anew (inv.made.right i l);
+      now = λ i l h. below_next k (λ i. i < n → emitted plan (number_on g i) u ≡ symbol_on (get_or lines' i no_line) u)
+          (λ i b l. inv.made.now i l b ∙ ap (λ x. symbol_on x u) (sym (now.others i no_line (λ e. omega (arith, e, b)))))
+          (λ l. now.emits) i h l;
+      done = λ i w s r l h. each_set (λ i w s r. i < k + 1 → StandsApart g t (u + 1) end i lines' w s r) n k ws ss ks w' s' k' lw ls lk
+          (λ i w s r l e h. apart_alike g t u (u + 1) end front i k lines lines' (get_or ws i w) (get_or ss i s) (get_or ks i r) inv.made.know alike l in_it e (inv.made.done i w s r l (omega (arith, h, e))))
+          (λ h. now.apart) i w s r l h;
+      still = λ i w s r l h. each_set (λ i w s r. i < k + 1 → w.since < w.until → IsStillBy w s r) n k ws ss ks w' s' k' lw ls lk
+          (λ i w s r l e h. inv.made.still i w s r l (omega (arith, h, e))) (λ h. now.still) i w s r l h;
+      others = λ i w s r l h. each_set (λ i w s r. k + 1 ≤ i → StandsApart g t u end i lines' w s r) n k ws ss ks w' s' k' lw ls lk
+          (λ i w s r l e h. apart_alike g t u u end front i k lines lines' (get_or ws i w) (get_or ss i s) (get_or ks i r) inv.made.know alike l in_it e (inv.made.others i w s r l (omega (arith, h))))
+          (λ h. absurd (omega (arith, h))) i w s r l h;
+      waits = λ i w s r l h. each_set (λ i w s r. k + 1 ≤ i → w.since < w.until → IsStillBy w s r) n k ws ss ks w' s' k' lw ls lk
+          (λ i w s r l e h. inv.made.waits i w s r l (omega (arith, h))) (λ h. absurd (omega (arith, h))) i w s r l h;
+      logged = rows_stepped u g.stations.items (sent g u) (event g u) k c.args.room.now.rows room.rows room'.rows inv.made.logged now.rows;
+      kept = λ q l. below_next k (λ q. get_or room'.captures q [] ≡ get_or c.args.room.now.captures q [] ++ taken_by u (event g u q) (octets g u q))
+          (λ q b. other_captures q (λ x. omega (arith, x, b)) ∙ inv.made.kept q b)
+          (ap (λ (cs : List (List Taken)). get_or cs k []) now.captures ∙ get_or-set_same room.captures k _ [] lc ∙ ap (λ xs. xs ++ taken_by u (event g u k) (octets g u k)) (inv.made.unkept k (omega arith)))
+          q l;
+      unkept = λ q l. other_captures q (λ x. omega (arith, x, l)) ∙ inv.made.unkept q (omega (arith, l));
+    } in
+    let k2 = c.next_due-k-in_default.result in
+    let from = c.next_due-k-in_default.ensures.from in
+    let few = c.next_due-k-in_default.ensures.within in
+    let all_there : n ≡ length (set ws k w') = watched ∙ sym (length-set ws k w') in
     record {
       watches = watched ∙ sym (length-set ws k w');
       senders = length-set ss k s' ∙ many;
       receivers = length-set ks k k' ∙ heard;
       captures = ap length now.captures ∙ length-set room.captures k _ ∙ took;
       piece_len = c.take_turn.auto.piece ∙ inv.piece_len;
+      within = few;
       reach = reach_anew c.args.far g.lookahead u n lines lines' anew inv.reach;
       loud = listed_alike (t - c.args.far) k lines lines' c.loop-k.loud.taps alike inv.loud;
       listing = inv.listing;
       lines = anew_twice u n c.args.lines.now lines lines' inv.lines anew;
-      know = know_anew g u front lines lines' anew inv.know;
-      right = λ i l. hears_anew plan (number_on g i) i g.lookahead t u n lines lines' anew (inv.right i l);
-      now = λ i l h. below_next k (λ i. i < n → emitted plan (number_on g i) u ≡ symbol_on (get_or lines' i no_line) u)
-          (λ i b l. inv.now i l b ∙ ap (λ x. symbol_on x u) (sym (now.others i no_line (λ e. omega (arith, e, b)))))
-          (λ l. now.emits) i h l;
       tell = λ i l. elim (cases_eq i k) [
         | inl own ↦ subst (λ j. TellsUpTo u end (get_or lines' j no_line)) (sym own) (tells_anew g t u end k lines lines' w' s' k' (inv.tell k in_it) now.line now.apart)
         | inr differs ↦ subst (λ x. TellsUpTo u end x) (sym (now.others i no_line differs)) (inv.tell i l)
       ];
-      done = λ i w s r l h. each_set (λ i w s r. i < k + 1 → StandsApart g t (u + 1) end i lines' w s r) n k ws ss ks w' s' k' lw ls lk
-          (λ i w s r l e h. apart_alike g t u (u + 1) end front i k lines lines' (get_or ws i w) (get_or ss i s) (get_or ks i r) inv.know alike l in_it e (inv.done i w s r l (omega (arith, h, e))))
-          (λ h. now.apart) i w s r l h;
-      still = λ i w s r l h. each_set (λ i w s r. i < k + 1 → w.since < w.until → IsStillBy w s r) n k ws ss ks w' s' k' lw ls lk
-          (λ i w s r l e h. inv.still i w s r l (omega (arith, h, e))) (λ h. now.still) i w s r l h;
-      others = λ i w s r l h. each_set (λ i w s r. k + 1 ≤ i → StandsApart g t u end i lines' w s r) n k ws ss ks w' s' k' lw ls lk
-          (λ i w s r l e h. apart_alike g t u u end front i k lines lines' (get_or ws i w) (get_or ss i s) (get_or ks i r) inv.know alike l in_it e (inv.others i w s r l (omega (arith, h))))
-          (λ h. absurd (omega (arith, h))) i w s r l h;
-      waits = λ i w s r l h. each_set (λ i w s r. k + 1 ≤ i → w.since < w.until → IsStillBy w s r) n k ws ss ks w' s' k' lw ls lk
-          (λ i w s r l e h. inv.waits i w s r l (omega (arith, h))) (λ h. absurd (omega (arith, h))) i w s r l h;
-      logged = rows_stepped u g.stations.items (sent g u) (event g u) k c.args.room.now.rows room.rows room'.rows inv.logged now.rows;
-      kept = λ q l. below_next k (λ q. get_or room'.captures q [] ≡ get_or c.args.room.now.captures q [] ++ taken_by u (event g u q) (octets q))
-          (λ q b. other_captures q (λ x. omega (arith, x, b)) ∙ inv.kept q b)
-          (ap (λ (cs : List (List Taken)). get_or cs k []) now.captures ∙ get_or-set_same room.captures k _ [] lc ∙ ap (λ xs. xs ++ taken_by u (event g u k) (octets k)) (inv.unkept k (omega arith)))
-          q l;
-      unkept = λ q l. other_captures q (λ x. omega (arith, x, l)) ∙ inv.unkept q (omega (arith, l));
+      made = passed g t u end front lines' (set ws k w') (set ss k s') (set ks k k') c.args.room.now.rows room'.rows c.args.room.now.captures room'.captures (omega (arith, below, ahead))
+          (k + 1) k2 from (omega (arith, few, all_there)) next (λ i w low high. c.next_due-k-in_default.ensures.later i w low high);
       left = λ e h covers.
           covers_with e n k ws ss ks w' s' k' in_it lw ls lk a_watch ds dk room room' (λ other b. now.left e other h b) (inv.left e h covers);
     }
@@ -353,6 +290,8 @@ loop-k-preserved c =
     let watched = inv.watches in
     let took = inv.captures in
     let len = c.loop-k.auto.senders in
+    let below = c.requires.below in
+    let ahead = c.requires.ahead in
     let in_it : k < n = omega (arith, test, many, len) in
     let lw : k < length ws = omega (arith, in_it, watched) in
     let ls : k < length ss = omega (arith, in_it, many) in
@@ -369,46 +308,54 @@ loop-k-preserved c =
     let low : (i : ℕ) (d : Watch) → i < n → get_or ws' i d ≡ lowered_watch (at i) (get_or (set ws k w') i d) = λ i d h. c.lower_all.ensures i d (omega (arith, h, all)) in
     let due : w'.until ≡ w'.since = subst (λ (o : Option ℕ). IfSome o (λ f. w'.until ≡ w'.since)) c.in-Some.is now.due in
     let own : lowered_watch (at k) w' ≡ w' = lowered_own (at k) w' due in
-    let octets = λ (i : ℕ). (heard_reception plan (number_on g i) u).octets in
     let other_captures : (q : ℕ) → q ≢ k → get_or room'.captures q [] ≡ get_or room.captures q [] = λ q e.
     ap (λ (cs : List (List Taken)). get_or cs q []) now.captures ∙ get_or-set_other room.captures k q _ [] e in
+    let next : HaveMade g t u end front (k + 1) lines' ws' (set ss k s') (set ks k k') c.args.room.now.rows room'.rows c.args.room.now.captures room'.captures = record {
+      know = know_anew g u front lines lines' anew inv.made.know;
+      right = λ i l. hears_anew plan (number_on g i) i g.lookahead t u n lines lines' anew (inv.made.right i l);
+      now = λ i l h. below_next k (λ i. i < n → emitted plan (number_on g i) u ≡ symbol_on (get_or lines' i no_line) u)
+          (λ i b l. inv.made.now i l b ∙ ap (λ x. symbol_on x u) (sym (now.others i no_line (λ e. omega (arith, e, b)))))
+          (λ l. now.emits) i h l;
+      done = λ i w s r l h. each_lowered (λ i w s r. i < k + 1 → StandsApart g t (u + 1) end i lines' w s r) n k at ws ws' ss ks w' s' k' lw ls lk low
+          (λ i w s r l e h. apart_lowered g t u (u + 1) end front i k from lines lines' (get_or ws i w) (get_or ss i s) (get_or ks i r) inv.made.know alike late (omega arith) l in_it e (inv.made.done i w s r l (omega (arith, h, e))))
+          (λ h. subst (λ w. StandsApart g t (u + 1) end k lines' w s' k') (sym own) now.apart) i w s r l h;
+      still = λ i w s r l h. each_lowered (λ i w s r. i < k + 1 → w.since < w.until → IsStillBy w s r) n k at ws ws' ss ks w' s' k' lw ls lk low
+          (λ i w s r l e h later. inv.made.still i w s r l (omega (arith, h, e)) (omega (arith, later)))
+          (λ h later. absurd (omega (arith, later, due))) i w s r l h;
+      others = λ i w s r l h. each_lowered (λ i w s r. k + 1 ≤ i → StandsApart g t u end i lines' w s r) n k at ws ws' ss ks w' s' k' lw ls lk low
+          (λ i w s r l e h. apart_lowered g t u u end front i k from lines lines' (get_or ws i w) (get_or ss i s) (get_or ks i r) inv.made.know alike late (omega arith) l in_it e (inv.made.others i w s r l (omega (arith, h))))
+          (λ h. absurd (omega (arith, h))) i w s r l h;
+      waits = λ i w s r l h. each_lowered (λ i w s r. k + 1 ≤ i → w.since < w.until → IsStillBy w s r) n k at ws ws' ss ks w' s' k' lw ls lk low
+          (λ i w s r l e h later. inv.made.waits i w s r l (omega (arith, h)) (omega (arith, later)))
+          (λ h. absurd (omega (arith, h))) i w s r l h;
+      logged = rows_stepped u g.stations.items (sent g u) (event g u) k c.args.room.now.rows room.rows room'.rows inv.made.logged now.rows;
+      kept = λ q l. below_next k (λ q. get_or room'.captures q [] ≡ get_or c.args.room.now.captures q [] ++ taken_by u (event g u q) (octets g u q))
+          (λ q b. other_captures q (λ x. omega (arith, x, b)) ∙ inv.made.kept q b)
+          (ap (λ (cs : List (List Taken)). get_or cs k []) now.captures ∙ get_or-set_same room.captures k _ [] lc ∙ ap (λ xs. xs ++ taken_by u (event g u k) (octets g u k)) (inv.made.unkept k (omega arith)))
+          q l;
+      unkept = λ q l. other_captures q (λ x. omega (arith, x, l)) ∙ inv.made.unkept q (omega (arith, l));
+    } in
+    let k2 = c.next_due-k-in-loop-k.result in
+    let from = c.next_due-k-in-loop-k.ensures.from in
+    let few = c.next_due-k-in-loop-k.ensures.within in
+    let all_there : n ≡ length ws' = all in
     record {
       watches = all;
       senders = length-set ss k s' ∙ many;
       receivers = length-set ks k k' ∙ heard;
       captures = ap length now.captures ∙ length-set room.captures k _ ∙ took;
       piece_len = c.take_turn.auto.piece ∙ inv.piece_len;
+      within = few;
       reach = reach_anew c.args.far g.lookahead u n lines lines' anew inv.reach;
       loud = subst (λ v. AreIdleButFor v lines' c.find.new.self.taps) c.saturating_sub.ensures c.find.ensures.loud.idle;
       listing = c.find.ensures.room ∙ inv.listing;
       lines = anew_twice u n c.args.lines.now lines lines' inv.lines anew;
-      know = know_anew g u front lines lines' anew inv.know;
-      right = λ i l. hears_anew plan (number_on g i) i g.lookahead t u n lines lines' anew (inv.right i l);
-      now = λ i l h. below_next k (λ i. i < n → emitted plan (number_on g i) u ≡ symbol_on (get_or lines' i no_line) u)
-          (λ i b l. inv.now i l b ∙ ap (λ x. symbol_on x u) (sym (now.others i no_line (λ e. omega (arith, e, b)))))
-          (λ l. now.emits) i h l;
       tell = λ i l. elim (cases_eq i k) [
         | inl own ↦ subst (λ j. TellsUpTo u end (get_or lines' j no_line)) (sym own) (tells_anew g t u end k lines lines' w' s' k' (inv.tell k in_it) now.line now.apart)
         | inr differs ↦ subst (λ x. TellsUpTo u end x) (sym (now.others i no_line differs)) (inv.tell i l)
       ];
-      done = λ i w s r l h. each_lowered (λ i w s r. i < k + 1 → StandsApart g t (u + 1) end i lines' w s r) n k at ws ws' ss ks w' s' k' lw ls lk low
-          (λ i w s r l e h. apart_lowered g t u (u + 1) end front i k from lines lines' (get_or ws i w) (get_or ss i s) (get_or ks i r) inv.know alike late (omega arith) l in_it e (inv.done i w s r l (omega (arith, h, e))))
-          (λ h. subst (λ w. StandsApart g t (u + 1) end k lines' w s' k') (sym own) now.apart) i w s r l h;
-      still = λ i w s r l h. each_lowered (λ i w s r. i < k + 1 → w.since < w.until → IsStillBy w s r) n k at ws ws' ss ks w' s' k' lw ls lk low
-          (λ i w s r l e h later. inv.still i w s r l (omega (arith, h, e)) (omega (arith, later)))
-          (λ h later. absurd (omega (arith, later, due))) i w s r l h;
-      others = λ i w s r l h. each_lowered (λ i w s r. k + 1 ≤ i → StandsApart g t u end i lines' w s r) n k at ws ws' ss ks w' s' k' lw ls lk low
-          (λ i w s r l e h. apart_lowered g t u u end front i k from lines lines' (get_or ws i w) (get_or ss i s) (get_or ks i r) inv.know alike late (omega arith) l in_it e (inv.others i w s r l (omega (arith, h))))
-          (λ h. absurd (omega (arith, h))) i w s r l h;
-      waits = λ i w s r l h. each_lowered (λ i w s r. k + 1 ≤ i → w.since < w.until → IsStillBy w s r) n k at ws ws' ss ks w' s' k' lw ls lk low
-          (λ i w s r l e h later. inv.waits i w s r l (omega (arith, h)) (omega (arith, later)))
-          (λ h. absurd (omega (arith, h))) i w s r l h;
-      logged = rows_stepped u g.stations.items (sent g u) (event g u) k c.args.room.now.rows room.rows room'.rows inv.logged now.rows;
-      kept = λ q l. below_next k (λ q. get_or room'.captures q [] ≡ get_or c.args.room.now.captures q [] ++ taken_by u (event g u q) (octets q))
-          (λ q b. other_captures q (λ x. omega (arith, x, b)) ∙ inv.kept q b)
-          (ap (λ (cs : List (List Taken)). get_or cs k []) now.captures ∙ get_or-set_same room.captures k _ [] lc ∙ ap (λ xs. xs ++ taken_by u (event g u k) (octets k)) (inv.unkept k (omega arith)))
-          q l;
-      unkept = λ q l. other_captures q (λ x. omega (arith, x, l)) ∙ inv.unkept q (omega (arith, l));
+      made = passed g t u end front lines' ws' (set ss k s') (set ks k k') c.args.room.now.rows room'.rows c.args.room.now.captures room'.captures (omega (arith, below, ahead))
+          (k + 1) k2 from (omega (arith, few, all_there)) next (λ i w low high. c.next_due-k-in-loop-k.ensures.later i w low high);
       left = λ e h covers.
           covers_lowered e n at (set ws k w') ws' (set ss k s') (set ks k k') room' low
           (covers_with e n k ws ss ks w' s' k' in_it lw ls lk a_watch ds dk room room' (λ other b. now.left e other h b) (inv.left e h covers));
@@ -428,7 +375,7 @@ returns-clause-apart c =
       receivers = inv.receivers;
       watches = inv.watches;
       taps = omega (arith, taps, lines);
-      each = λ i w s r h. inv.done i w s r h (omega (arith, h, test, many, len));
+      each = λ i w s r h. inv.made.done i w s r h (omega (arith, h, test, many, len));
     }
 
 pub returns-clause-still : goal.returns-clause-still
@@ -437,7 +384,7 @@ returns-clause-still c = λ i w s r h.
     let test = c.loop-k-test.false in
     let many = inv.senders in
     let len = c.loop-k.auto.senders in
-    inv.still i w s r h (omega (arith, h, test, many, len))
+    inv.made.still i w s r h (omega (arith, h, test, many, len))
 
 pub returns-clause-know : goal.returns-clause-know
 returns-clause-know c =
@@ -446,7 +393,7 @@ returns-clause-know c =
     let test = c.loop-k-test.false in
     let many = inv.senders in
     let len = c.loop-k.auto.senders in
-    know_next g c.args.u ((c.args.window + 1) * g.lookahead) c.loop-k.lines inv.know (λ i h. inv.now i h (omega (arith, h, test, many, len)))
+    know_next g c.args.u ((c.args.window + 1) * g.lookahead) c.loop-k.lines inv.made.know (λ i h. inv.made.now i h (omega (arith, h, test, many, len)))
 
 pub returns-clause-right : goal.returns-clause-right
 returns-clause-right c = λ i h.
@@ -457,8 +404,8 @@ returns-clause-right c = λ i h.
     let len = c.loop-k.auto.senders in
     let below = c.requires.below in
     let ahead = c.requires.ahead in
-    right_next g.plan.value (number_on g i) i g.lookahead c.args.t c.args.u c.loop-k.lines (inv.right i h)
-    (heard_so g c.args.u ((c.args.window + 1) * g.lookahead) i c.loop-k.lines inv.know (omega (arith, below, ahead)) h) (inv.now i h (omega (arith, h, test, many, len)))
+    right_next g.plan.value (number_on g i) i g.lookahead c.args.t c.args.u c.loop-k.lines (inv.made.right i h)
+    (heard_so g c.args.u ((c.args.window + 1) * g.lookahead) i c.loop-k.lines inv.made.know (omega (arith, below, ahead)) h) (inv.made.now i h (omega (arith, h, test, many, len)))
 
 pub returns-clause-rows : goal.returns-clause-rows
 returns-clause-rows c =
@@ -467,9 +414,10 @@ returns-clause-rows c =
     let test = c.loop-k-test.false in
     let many = inv.senders in
     let len = c.loop-k.auto.senders in
-    let upto = c.loop-k.auto.k-end in
-    let all : c.loop-k.k ≡ length g.stations.items = omega (arith, test, many, len, upto) in
-    subst (λ (m : ℕ). c.loop-k.room.rows ≡ c.args.room.now.rows ++ rows_of_both c.args.u g.stations.items (sent g c.args.u) (event g c.args.u) m) all inv.logged
+    let upto = inv.within in
+    let watched = inv.watches in
+    let all : c.loop-k.k ≡ length g.stations.items = omega (arith, test, many, len, upto, watched) in
+    subst (λ (m : ℕ). c.loop-k.room.rows ≡ c.args.room.now.rows ++ rows_of_both c.args.u g.stations.items (sent g c.args.u) (event g c.args.u) m) all inv.made.logged
 
 pub returns-clause-captures : goal.returns-clause-captures
 returns-clause-captures c = λ i h.
@@ -477,4 +425,4 @@ returns-clause-captures c = λ i h.
     let test = c.loop-k-test.false in
     let many = inv.senders in
     let len = c.loop-k.auto.senders in
-    inv.kept i (omega (arith, h, test, many, len))
+    inv.made.kept i (omega (arith, h, test, many, len))
