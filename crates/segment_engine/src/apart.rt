@@ -187,8 +187,8 @@ fn calm_watch(u: u64, carrier: bool, steady: usize, told: u64, sender: &Transmit
     }
 }
 
-/// The watch of a station, tap `p`, from half bit `u` on, for at most so many half bits. Whether it heard a signal last
-/// is tried first.
+/// The watch of a station, tap `p`, from half bit `u` on, for at most so many half bits. Whether it hears a signal then, as
+/// `likely` says, is tried first.
 fn watch_from(
     u: u64,
     lines: &[Line],
@@ -197,7 +197,7 @@ fn watch_from(
     lookahead: u32,
     far: u64,
     most: usize,
-    was: bool,
+    likely: bool,
     told: u64,
     sender: &Transmitter,
 ) -> Watch
@@ -211,15 +211,16 @@ fn watch_from(
     ensures calm { IsCalmAs (result.until - u) result.carrier sender.now }
     ensures steady { (j : ℕ) → u + j < result.until → is_signal_of (heard_by_lines lookahead (u + j) lines.now p) ≡ result.carrier }
 {
-    let same = class_ahead(lines, loud, p, lookahead, far, u, most, was);
-    if same > 0 {
-        return calm_watch(u, was, same, told, sender);
+    let ahead = class_ahead(lines, loud, p, lookahead, far, u, most, likely);
+    if ahead > 0 {
+        return calm_watch(u, likely, ahead, told, sender);
     }
-    let other = class_ahead(lines, loud, p, lookahead, far, u, most, !was);
-    calm_watch(u, !was, other, told, sender)
+    let other = class_ahead(lines, loud, p, lookahead, far, u, most, !likely);
+    calm_watch(u, !likely, other, told, sender)
 }
 
-/// Station `p` of a segment, which is due in half bit `u`, goes on up to it and is looked at.
+/// Station `p` of a segment, which is due in half bit `u`, goes on up to it and is looked at. At the front of a run it
+/// mostly hears what it heard before, and later what it didn't.
 pub fn look_one(
     of: &Segment,
     t: u64,
@@ -252,9 +253,11 @@ pub fn look_one(
     );
     let told = watch.told;
     let most = end.min(told).saturating_sub(u) as usize;
-    let was = watch.carrier;
+    let likely = watch.carrier == (u == t);
     let lookahead = of.lookahead;
-    *watch = watch_from(u, lines, loud, p, lookahead, far, most, was, told, sender);
+    *watch = watch_from(
+        u, lines, loud, p, lookahead, far, most, likely, told, sender,
+    );
 }
 
 /// Whether a reception ends in half bit `u` at a station that stands before it.

@@ -88,13 +88,14 @@ fn begin<G: Gate>(plan: &Plan, pace: &Pace, gate: &G) {
 /// The most windows that are made between two looks for windows in which nothing happens.
 const BETWEEN_LOOKS: u64 = 16;
 
-/// How many of the windows that are left are made before the next look, after so many in which nothing happened.
+/// How many of the windows that are left are made before the next look: none after some in which nothing happened, since
+/// it may be so in the next as well.
 fn before_look(quiet: u64, left: u64) -> u64
     ensures within { result ≤ left }
-    ensures some { 0 < left → 0 < result }
+    ensures some { 0 < left → 0 < quiet + result }
 {
     if quiet > 0 {
-        left.min(1)
+        0
     } else {
         left.min(BETWEEN_LOOKS)
     }
