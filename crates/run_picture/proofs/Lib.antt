@@ -10,6 +10,7 @@ pub mod PieceReadings
 pub mod MarkReadings
 pub mod WholePictures
 pub mod WholeTexts
+pub mod PiecesJoined
 pub mod Numbers
 pub mod Drawn
 pub mod Legends

@@ -2,6 +2,7 @@ pub mod Sizes
 pub mod Times
 pub mod Strangers
 pub mod Lanes
+pub mod Pieces
 pub mod Signs
 pub mod Waves
 pub mod Sendings

@@ -4,6 +4,8 @@ ghost use Rattle.std.specs.List.{list_all};
 ghost use Rattle.run_picture.specs.Axis.{axis, first_step, microseconds, tick, tick_at, tick_step, words_of_axis};
 ghost use Rattle.run_picture.specs.Times.{IsWindow};
 
+use crate::pieces::Piece::{Number, Word};
+use crate::pieces::add_pieces;
 use crate::sizes::{
     HALF_BITS_A_MICROSECOND, HALF_BITS_A_TENTH, HUNDRED_MICROSECONDS, LONGEST_STEP, MOST_STEPS,
 };
@@ -70,19 +72,29 @@ fn add_tick(text: &mut List<u8>, window: Window, height: u64, t: u64) -> Result<
     ensures { OnOk result (text.new ≡ text.old ++ tick window height t) }
 {
     let x = x_of(window, t);
-    text.extend(b"<path class='line' d='M")?;
-    add_number(text, x)?;
-    text.extend(b" 7700V")?;
-    add_number(text, height)?;
-    text.extend(b"'/><text class='tick' x='")?;
-    add_number(text, x)?;
-    text.extend(b"' y='5700'>")?;
+    add_pieces(
+        text,
+        &[
+            Word(b"<path class='line' d='M"),
+            Number(x),
+            Word(b" 7700V"),
+            Number(height),
+            Word(b"'/><text class='tick' x='"),
+            Number(x),
+            Word(b"' y='5700'>"),
+        ],
+    )?;
     add_microseconds(text, t)?;
-    text.extend(b"</text><text class='tick' x='")?;
-    add_number(text, x)?;
-    text.extend(b"' y='7200'>")?;
-    add_number(text, t)?;
-    text.extend(b"</text>\n")
+    add_pieces(
+        text,
+        &[
+            Word(b"</text><text class='tick' x='"),
+            Number(x),
+            Word(b"' y='7200'>"),
+            Number(t),
+            Word(b"</text>\n"),
+        ],
+    )
 }
 
 /// Puts the tick of a half bit at the end of a text, if it has one.
@@ -109,9 +121,14 @@ fn add_tick_at(
 fn add_words_of_axis(text: &mut List<u8>) -> Result<(), OutOfMemory>
     ensures { OnOk result (text.new ≡ text.old ++ words_of_axis) }
 {
-    text.extend(b"<text class='axis' x='-5200' y='5700'>microseconds</text>")?;
-    text.extend(b"<text class='axis' x='-5200' y='7200'>half bits</text>")?;
-    text.extend(b"<text class='axis' x='-600' y='8600'>place</text>\n")
+    add_pieces(
+        text,
+        &[
+            Word(b"<text class='axis' x='-5200' y='5700'>microseconds</text>"),
+            Word(b"<text class='axis' x='-5200' y='7200'>half bits</text>"),
+            Word(b"<text class='axis' x='-600' y='8600'>place</text>\n"),
+        ],
+    )
 }
 
 /// Puts the axis at the end of a text.

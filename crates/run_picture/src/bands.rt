@@ -3,8 +3,9 @@ ghost use Rattle.std.specs.Prelude.{◌≡◌, ◌<◌, ◌++◌, OnOk, length};
 ghost use Rattle.run_picture.specs.Bands.{bands_text, lane_text, lanes_text, letters_word, name_of_device, name_of_tap, segment_text, port_name};
 
 use crate::lanes::{Band, Lane};
+use crate::pieces::Piece::{Number, Word};
+use crate::pieces::add_pieces;
 use crate::sizes::LONGEST_LARGE_NAME;
-use crate::window::add_number;
 use layout::{Attachment, Layout, SegmentLine};
 use lists::{List, OutOfMemory};
 
@@ -12,9 +13,7 @@ use lists::{List, OutOfMemory};
 fn add_port_name(text: &mut List<u8>, name: &str, number: u64) -> Result<(), OutOfMemory>
     ensures { OnOk result (text.new ≡ text.old ++ port_name name.now number) }
 {
-    text.extend(name.as_bytes())?;
-    text.extend(b":")?;
-    add_number(text, number)
+    add_pieces(text, &[Word(name.as_bytes()), Word(b":"), Number(number)])
 }
 
 /// Puts the name of a tap at the end of a text: the station's, or the repeater's and the port, from 1.
@@ -70,19 +69,30 @@ fn letters_word(name: &str) -> &'static [u8]
 fn add_lane(text: &mut List<u8>, layout: &Layout, lane: &Lane) -> Result<(), OutOfMemory>
     ensures { OnOk result (text.new ≡ text.old ++ lane_text layout.now lane.now) }
 {
-    text.extend(b"<path class='lane' d='M0 ")?;
-    add_number(text, lane.y)?;
-    text.extend(b"h100000'/><text class='name")?;
-    text.extend(letters_word(name_of_device(layout, lane.tap)))?;
-    text.extend(b"' x='-4400' y='")?;
-    add_number(text, lane.y)?;
-    text.extend(b"' dy='500'>")?;
+    let letters = letters_word(name_of_device(layout, lane.tap));
+    add_pieces(
+        text,
+        &[
+            Word(b"<path class='lane' d='M0 "),
+            Number(lane.y),
+            Word(b"h100000'/><text class='name"),
+            Word(letters),
+            Word(b"' x='-4400' y='"),
+            Number(lane.y),
+            Word(b"' dy='500'>"),
+        ],
+    )?;
     add_name(text, layout, lane.tap)?;
-    text.extend(b"</text><text class='place' x='-600' y='")?;
-    add_number(text, lane.y)?;
-    text.extend(b"' dy='400'>")?;
-    add_number(text, u64::from(lane.at))?;
-    text.extend(b"</text>\n")
+    add_pieces(
+        text,
+        &[
+            Word(b"</text><text class='place' x='-600' y='"),
+            Number(lane.y),
+            Word(b"' dy='400'>"),
+            Number(u64::from(lane.at)),
+            Word(b"</text>\n"),
+        ],
+    )
 }
 
 /// Puts lanes with their names and places at the end of a text.
@@ -100,13 +110,19 @@ fn add_lanes(text: &mut List<u8>, layout: &Layout, lanes: &[Lane]) -> Result<(),
 fn add_segment(text: &mut List<u8>, y: u64, segment: &SegmentLine) -> Result<(), OutOfMemory>
     ensures { OnOk result (text.new ≡ text.old ++ segment_text y segment.now) }
 {
-    text.extend(b"<text class='segment")?;
-    text.extend(letters_word(segment.name.as_str()))?;
-    text.extend(b"' x='-25500' y='")?;
-    add_number(text, y)?;
-    text.extend(b"' dy='500'>segment ")?;
-    text.extend(segment.name.as_str().as_bytes())?;
-    text.extend(b"</text>\n")
+    let name = segment.name.as_str();
+    add_pieces(
+        text,
+        &[
+            Word(b"<text class='segment"),
+            Word(letters_word(name)),
+            Word(b"' x='-25500' y='"),
+            Number(y),
+            Word(b"' dy='500'>segment "),
+            Word(name.as_bytes()),
+            Word(b"</text>\n"),
+        ],
+    )
 }
 
 /// Puts the bands of segments at the end of a text.

@@ -13,7 +13,7 @@ use collision_log::Body;
 use log_meter::LogLine;
 
 /// A kind of shapes: the bars of sendings that ended so, the fronts of waves, or a sign.
-#[derive(Clone, Copy, Debug, PartialEq, Eq)]
+#[derive(Clone, Copy)]
 pub enum ShapeKind {
     Bar(Outcome),
     Front,

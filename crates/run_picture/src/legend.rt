@@ -6,9 +6,11 @@ ghost use Rattle.run_picture.specs.Kinds.{drawn_kinds};
 ghost use Rattle.run_picture.specs.Legend.{ending_name, entries, entry, entry_name, entry_shape, entry_x, entry_y, kind_name, kind_path, kind_word, legend, sign_entry, sign_name};
 
 use crate::kinds::{ShapeKind, is_drawn};
+use crate::pieces::Piece::{Number, Word};
+use crate::pieces::add_pieces;
 use crate::signs::{Outcome, Sign, sending_word, sign_path, sign_word};
 use crate::sizes::{ENTRIES_A_ROW, ENTRY_HEIGHT, ENTRY_WIDTH};
-use crate::window::{Window, add_number};
+use crate::window::Window;
 use lists::{List, OutOfMemory};
 use log_meter::LogLine;
 
@@ -104,14 +106,19 @@ fn add_entry_shape(text: &mut List<u8>, n: u64, kind: ShapeKind) -> Result<(), O
     requires { n < 2 ^ 32 }
     ensures { OnOk result (text.new ≡ text.old ++ entry_shape n kind) }
 {
-    text.extend(b"<path class='")?;
-    text.extend(kind_word(kind))?;
-    text.extend(b"' d='M-26000 0m")?;
-    add_number(text, entry_x(n))?;
-    text.extend(b" ")?;
-    add_number(text, entry_y(n))?;
-    text.extend(kind_path(kind))?;
-    text.extend(b"'/>")
+    add_pieces(
+        text,
+        &[
+            Word(b"<path class='"),
+            Word(kind_word(kind)),
+            Word(b"' d='M-26000 0m"),
+            Number(entry_x(n)),
+            Word(b" "),
+            Number(entry_y(n)),
+            Word(kind_path(kind)),
+            Word(b"'/>"),
+        ],
+    )
 }
 
 /// Puts what stands beside the shape of the n-th entry at the end of a text.
@@ -120,13 +127,18 @@ fn add_entry_name(text: &mut List<u8>, n: u64, kind: ShapeKind) -> Result<(), Ou
     requires { n < 2 ^ 32 }
     ensures { OnOk result (text.new ≡ text.old ++ entry_name n kind) }
 {
-    text.extend(b"<text x='-26000' dx='")?;
-    add_number(text, entry_x(n) + 1_700)?;
-    text.extend(b"' y='")?;
-    add_number(text, entry_y(n))?;
-    text.extend(b"' dy='500'>")?;
-    text.extend(kind_name(kind))?;
-    text.extend(b"</text>\n")
+    add_pieces(
+        text,
+        &[
+            Word(b"<text x='-26000' dx='"),
+            Number(entry_x(n) + 1_700),
+            Word(b"' y='"),
+            Number(entry_y(n)),
+            Word(b"' dy='500'>"),
+            Word(kind_name(kind)),
+            Word(b"</text>\n"),
+        ],
+    )
 }
 
 /// Puts the n-th entry at the end of a text.

@@ -10,6 +10,7 @@ mod lanes;
 pub mod laws;
 mod legend;
 mod marks;
+mod pieces;
 mod sending;
 mod signs;
 mod sizes;

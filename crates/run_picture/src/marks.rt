@@ -1,17 +1,19 @@
 //! The marks of a picture: one for each line of the log that meets the window.
-ghost use Rattle.std.specs.Prelude.{◌≡◌, ◌<◌, ◌^◌, ◌++◌, OnOk, List, length};
+ghost use Rattle.std.specs.Prelude.{◌≡◌, ◌<◌, ◌^◌, ◌++◌, OnOk, List, codes, length};
 ghost use Rattle.std.specs.List.{AllByRecursion};
 ghost use Rattle.collision_log.specs.Rows.{why_text};
 ghost use Rattle.layout.specs.Sound.{IsSound};
 ghost use Rattle.log_meter.specs.Lines.{IsLogLine};
-ghost use Rattle.run_picture.specs.Marks.{is_one_tap, lane_of, lane_shapes, lanes_of_segment, mark, mark_of_line, marks, port_shapes, reception, repeater_shapes, shapes_of_line, sign_of_port, signs_of_ports, station_shapes, title_of, word_if, word_of_drop};
+ghost use Rattle.run_picture.specs.Marks.{is_one_tap, lane_of, lane_shapes, lanes_of_segment, mark, mark_of_line, marks, port_shapes, reception, repeater_shapes, shapes_of_line, sign_of_port, signs_of_ports, station_shapes, title_of, word_of_drop};
 ghost use Rattle.run_picture.specs.Times.{IsWindow};
 
 use crate::lanes::{Band, Lane};
+use crate::pieces::Piece::{Number, Word};
+use crate::pieces::add_pieces;
 use crate::sending::{add_sending, does_meet, sending_of};
 use crate::signs::{Sign, add_sign};
 use crate::strangers::{number_of_repeater, number_of_station};
-use crate::window::{Window, add_number, x_of};
+use crate::window::{Window, x_of};
 use crate::word_rooms::{station_of_word, take_room};
 use collision_log::{Body, Row, Why, row_text};
 use layout::{Attachment, Layout, PortLine};
@@ -19,10 +21,10 @@ use lists::{List, OutOfMemory};
 use log_meter::LogLine;
 use std::alloc::Global;
 
-/// Puts a line of the log, without its line feed, at the end of a text.
+/// Puts the head of a mark at the end of a text: its title, which is a line of the log without its line feed.
 fn add_title(text: &mut List<u8>, line: &LogLine) -> Result<(), OutOfMemory>
     requires { IsLogLine line.now }
-    ensures { OnOk result (text.new ≡ text.old ++ title_of line.now) }
+    ensures { OnOk result (text.new ≡ text.old ++ (codes "<g><title>" ++ title_of line.now ++ codes "</title>")) }
 {
     let row = Row {
         t: line.t,
@@ -31,7 +33,14 @@ fn add_title(text: &mut List<u8>, line: &LogLine) -> Result<(), OutOfMemory>
     };
     let mut room = [0u8; 200];
     let len = row_text(&row, line.repeater, line.name.as_str(), &mut room);
-    text.extend(&room[..len - 1])
+    add_pieces(
+        text,
+        &[
+            Word(b"<g><title>"),
+            Word(&room[..len - 1]),
+            Word(b"</title>"),
+        ],
+    )
 }
 
 /// Whether two taps are one.
@@ -101,32 +110,18 @@ fn add_word(
     requires time { t < 2 ^ 32 }
     ensures { OnOk result (text.new ≡ text.old ++ word_of_drop window t y why) }
 {
-    text.extend(b"<text class='word' x='")?;
-    add_number(text, x_of(window, t))?;
-    text.extend(b"' y='")?;
-    add_number(text, y)?;
-    text.extend(b"' dx='600' dy='-450'>")?;
-    text.extend(word_of(why))?;
-    text.extend(b"</text>")
-}
-
-/// Puts the word of a drop at the end of a text, where there is one.
-fn add_word_if(
-    text: &mut List<u8>,
-    worded: bool,
-    window: Window,
-    t: u64,
-    y: u64,
-    why: Why,
-) -> Result<(), OutOfMemory>
-    requires window { IsWindow window }
-    requires time { t < 2 ^ 32 }
-    ensures { OnOk result (text.new ≡ text.old ++ word_if worded window t y why) }
-{
-    if worded {
-        return add_word(text, window, t, y, why);
-    }
-    Ok(())
+    add_pieces(
+        text,
+        &[
+            Word(b"<text class='word' x='"),
+            Number(x_of(window, t)),
+            Word(b"' y='"),
+            Number(y),
+            Word(b"' dx='600' dy='-450'>"),
+            Word(word_of(why)),
+            Word(b"</text>"),
+        ],
+    )
 }
 
 /// Puts the sign of a reception that ended in half bit t at the end of a text, with a word or without one.
@@ -147,7 +142,10 @@ fn add_reception(
         Body::Received { .. } => add_sign(text, window, Sign::Received, t, y),
         Body::Dropped { why, .. } => {
             add_sign(text, window, Sign::Dropped, t, y)?;
-            add_word_if(text, worded, window, t, y, why)
+            if worded {
+                return add_word(text, window, t, y, why);
+            }
+            Ok(())
         }
         _ => Ok(()),
     }
@@ -309,9 +307,7 @@ fn add_mark(
     requires line { IsLogLine line.now }
     ensures { OnOk result (text.new ≡ text.old ++ mark worded window layout.now bands.now line.now) }
 {
-    text.extend(b"<g><title>")?;
     add_title(text, line)?;
-    text.extend(b"</title>")?;
     add_shapes(text, worded, window, layout, bands, line)?;
     text.extend(b"</g>\n")
 }

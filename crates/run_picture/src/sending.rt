@@ -13,7 +13,7 @@ use log_meter::LogLine;
 
 /// A sending: the half bits from `start` to below `end`, how it ended, and how many half bits after its start a
 /// collision was heard.
-#[derive(Clone, Copy, Debug, PartialEq, Eq)]
+#[derive(Clone, Copy)]
 pub struct Sending {
     pub outcome: Outcome,
     pub start: u64,

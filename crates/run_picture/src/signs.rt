@@ -3,11 +3,13 @@ ghost use Rattle.std.specs.Prelude.{◌≡◌, ◌<◌, ◌^◌, ◌++◌, OnOk}
 ghost use Rattle.run_picture.specs.Signs.{bar, left_of_bar, right_of_bar, sign, sign_path, sign_word, sending_word};
 ghost use Rattle.run_picture.specs.Times.{IsWindow};
 
-use crate::window::{Window, add_number, x_of};
+use crate::pieces::Piece::{Number, Word};
+use crate::pieces::add_pieces;
+use crate::window::{Window, x_of};
 use lists::{List, OutOfMemory};
 
 /// What a sign stands for.
-#[derive(Clone, Copy, Debug, PartialEq, Eq)]
+#[derive(Clone, Copy)]
 pub enum Sign {
     Hit,
     Received,
@@ -19,7 +21,7 @@ pub enum Sign {
 }
 
 /// How a sending ended.
-#[derive(Clone, Copy, Debug, PartialEq, Eq)]
+#[derive(Clone, Copy)]
 pub enum Outcome {
     Sent,
     Collided,
@@ -71,14 +73,19 @@ pub fn add_sign(
     requires time { t < 2 ^ 40 }
     ensures { OnOk result (text.new ≡ text.old ++ sign window mark t y) }
 {
-    text.extend(b"<path class='")?;
-    text.extend(sign_word(mark))?;
-    text.extend(b"' d='M")?;
-    add_number(text, x_of(window, t))?;
-    text.extend(b" ")?;
-    add_number(text, y)?;
-    text.extend(sign_path(mark))?;
-    text.extend(b"'/>")
+    add_pieces(
+        text,
+        &[
+            Word(b"<path class='"),
+            Word(sign_word(mark)),
+            Word(b"' d='M"),
+            Number(x_of(window, t)),
+            Word(b" "),
+            Number(y),
+            Word(sign_path(mark)),
+            Word(b"'/>"),
+        ],
+    )
 }
 
 /// The word by which the style names how a sending ended.
@@ -128,15 +135,20 @@ pub fn add_bar(
 {
     let left = left_of_bar(window, start);
     let right = right_of_bar(window, end);
-    text.extend(b"<path class='")?;
-    text.extend(sending_word(outcome))?;
-    text.extend(b"' d='M")?;
-    add_number(text, left)?;
-    text.extend(b" ")?;
-    add_number(text, y)?;
-    text.extend(b"m0 -450H")?;
-    add_number(text, right)?;
-    text.extend(b"v900H")?;
-    add_number(text, left)?;
-    text.extend(b"z'/>")
+    add_pieces(
+        text,
+        &[
+            Word(b"<path class='"),
+            Word(sending_word(outcome)),
+            Word(b"' d='M"),
+            Number(left),
+            Word(b" "),
+            Number(y),
+            Word(b"m0 -450H"),
+            Number(right),
+            Word(b"v900H"),
+            Number(left),
+            Word(b"z'/>"),
+        ],
+    )
 }

@@ -5,7 +5,9 @@ ghost use Rattle.run_picture.specs.Times.{IsWindow};
 ghost use Rattle.run_picture.specs.Waves.{is_seen, point_of_wave, points_of_wave, seen_wave, wave};
 
 use crate::lanes::Lane;
-use crate::window::{Window, add_number, add_place};
+use crate::pieces::Piece::{Number, Word};
+use crate::pieces::add_pieces;
+use crate::window::{Window, add_place};
 use lists::{List, OutOfMemory};
 use mac_parameters::GREATEST_PLACE;
 
@@ -38,9 +40,7 @@ fn add_point(
     ensures { OnOk result (text.new ≡ text.old ++ point_of_wave window t at lane.now) }
 {
     add_place(text, window, t + distance(lane.at, at))?;
-    text.extend(b",")?;
-    add_number(text, lane.y)?;
-    text.extend(b" ")
+    add_pieces(text, &[Word(b","), Number(lane.y), Word(b" ")])
 }
 
 /// Puts where a wave from a place in half bit t comes to each of these lanes at the end of a text.

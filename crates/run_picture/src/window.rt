@@ -6,7 +6,7 @@ use crate::sizes::PLOT_WIDTH;
 use lists::{List, OutOfMemory};
 
 /// The half bits from `from` to below `to`, from 0.
-#[derive(Clone, Copy, Debug, PartialEq, Eq)]
+#[derive(Clone, Copy)]
 pub struct Window {
     pub from: u64,
     pub to: u64,
