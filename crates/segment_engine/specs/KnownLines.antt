@@ -1,4 +1,5 @@
--- What the lines of a segment say of the half bits below one (profile). Half bits, stations, edges and taps count from 0.
+-- What the lines of a segment say of the half bits below one (profile). Half bits, stations, edges and taps count
+-- from 0.
 use Rattle.std.specs.Prelude.{ℕ, ◌≡◌, ◌+◌, ◌-◌, ◌<◌, ◌≤◌, List, map, length, slice_index_or}
 use Rattle.mac_parameters.specs.Distances.{distance}
 use Rattle.load_plan.specs.declared.plan.Plan.{Plan}

@@ -154,4 +154,5 @@ lowered_watch a w = record w { until = min w.until (max a w.since) }
 abbrev pub rows_of_both : ℕ → List ℕ → (ℕ → Option Body) → (ℕ → Option Body) → ℕ → List Row
 rows_of_both u ks sent received zero = []
 rows_of_both u ks sent received (suc n) =
-    (rows_of_both u ks sent received n ++ row_of u (slice_index_or ks n 0) (sent n)) ++ row_of u (slice_index_or ks n 0) (received n)
+    (rows_of_both u ks sent received n ++ row_of u (slice_index_or ks n 0) (sent n))
+    ++ row_of u (slice_index_or ks n 0) (received n)
