@@ -1,5 +1,5 @@
 //! The text that was told last, for all who hear the same one.
-ghost use Rattle.std.specs.Prelude.{◌≡◌, ◌+◌, ◌<◌, ◌≤◌, ◌++◌, ℕ, suc, true, false, length, take, Contains, IfOk};
+ghost use Rattle.std.specs.Prelude.{◌≡◌, ◌≢◌, ◌+◌, ◌<◌, ◌≤◌, ◌++◌, ℕ, suc, true, false, length, take, Contains, IfOk};
 ghost use Rattle.manchester_line.specs.declared.Sym.TheVariants.{Clash, Idle};
 ghost use Rattle.mac_parameters.specs.Parameters.{IsMost};
 ghost use Rattle.mac_receive.specs.KeptReceiver.{Hears};
@@ -56,7 +56,8 @@ pub fn put_aside(text: &mut [Sym], count: usize, piece: &[Sym])
 /// Whether two texts of one length are the same. All symbols are looked at, so that no branch goes by them.
 fn are_same(text: &[Sym], other: &[Sym]) -> bool
     requires { length text.now ≡ length other.now }
-    ensures { result ≡ true → text.now ≡ other.now }
+    ensures same { result ≡ true → text.now ≡ other.now }
+    ensures differ { result ≡ false → text.now ≢ other.now }
 {
     let mut same = true;
     for j in 0..text.len() {
@@ -108,7 +109,9 @@ impl Teller {
 
     /// Whether the text is the one that was told last, for such receivers.
     fn knows(&self, lose: u32, most: u32, text: &[Sym]) -> bool
-        ensures { result ≡ true → IsVerdictFor lose most text.now self.now.verdict }
+        ensures verdict { result ≡ true → IsVerdictFor lose most text.now self.now.verdict }
+        ensures again { self.now.lose ≡ lose → self.now.most ≡ most →
+            take self.now.count self.now.text.items ≡ text.now → result ≡ true }
     {
         self.lose == lose
             && self.most == most
