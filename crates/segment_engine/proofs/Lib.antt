@@ -35,6 +35,9 @@ pub mod GoneApart
 pub mod NearExample
 pub mod TakenExample
 pub mod ApartExample
+pub mod ToldExample
+pub mod RowsExample
+pub mod KnownExample
 pub mod FirstRows
 pub mod FirstReceptions
 pub mod PieceRoom
