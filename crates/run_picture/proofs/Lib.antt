@@ -11,6 +11,7 @@ pub mod MarkReadings
 pub mod WholePictures
 pub mod WholeTexts
 pub mod PiecesJoined
+pub mod PiecesExample
 pub mod Numbers
 pub mod Drawn
 pub mod Legends

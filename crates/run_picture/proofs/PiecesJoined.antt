@@ -1,22 +1,29 @@
 -- Texts that are made of pieces.
-use Rattle.std.proofs.Common.{◌≡◌, refl, ℕ, List, [], ◌∷◌, ◌++◌, ◌∙◌, ap, append_assoc}
-use Rattle.run_picture.specs.Pieces.{text_of_piece, with_pieces}
+use Rattle.std.proofs.Common.{◌≡◌, refl, ℕ, List, [], ◌∷◌, ◌++◌, ◌∙◌, ap, sym, Result, append_assoc, append-nil}
+use Rattle.std.specs.Prelude.{OnOk}
+use Rattle.std.proofs.lemmas.Result.{on_ok_weaker}
+use Rattle.run_picture.specs.Pieces.{text_of_piece, text_of_pieces}
 use Rattle.run_picture.specs.declared.pieces.Piece.{Piece}
 
--- a text with nothing at its end
-with_nothing : (t : List ℕ) → t ≡ t ++ []
-with_nothing [] = refl
-with_nothing (x ∷ t) = ap (λ (xs : List ℕ). x ∷ xs) (with_nothing t)
+-- a text with pieces at its end, put there one by one
+abbrev pub piece_by_piece : List ℕ → List Piece → List ℕ
+piece_by_piece text [] = text
+piece_by_piece text (piece ∷ pieces) = piece_by_piece (text ++ text_of_piece piece) pieces
 
--- what stands in front of a text stands in front of it with pieces
-pub behind : (t u : List ℕ) → (pieces : List Piece) → with_pieces (t ++ u) pieces ≡ t ++ with_pieces u pieces
-behind t u [] = refl
-behind t u (piece ∷ pieces) =
-    ap (λ (xs : List ℕ). with_pieces xs pieces) (append_assoc t u (text_of_piece piece)) ∙ behind t (u ++ text_of_piece piece) pieces
+-- which are the texts of the pieces at its end
+pub at_end : (t : List ℕ) (pieces : List Piece) → piece_by_piece t pieces ≡ t ++ text_of_pieces pieces
+unfolding text_of_pieces
+at_end t [] = sym (append-nil t)
+at_end t (piece ∷ pieces) = at_end (t ++ text_of_piece piece) pieces ∙ append_assoc t (text_of_piece piece) (text_of_pieces pieces)
 
--- pieces at the end of a text
-pub at_end : (t : List ℕ) → (pieces : List Piece) → with_pieces t pieces ≡ t ++ with_pieces [] pieces
-at_end t pieces = ap (λ (xs : List ℕ). with_pieces xs pieces) (with_nothing t) ∙ behind t [] pieces
+-- what puts the texts of pieces at the end of a text puts them there one by one
+pub one_by_one : (old new : List ℕ) (pieces : List Piece) → new ≡ old ++ text_of_pieces pieces → new ≡ old ++ piece_by_piece [] pieces
+one_by_one old new pieces e = e ∙ ap (λ (xs : List ℕ). old ++ xs) (sym (at_end [] pieces))
+
+-- and so what they come to
+pub puts_text : {A E : Type 0} (r : Result A E) (old new text : List ℕ) (pieces : List Piece) → piece_by_piece [] pieces ≡ text
+    → OnOk r (new ≡ old ++ text_of_pieces pieces) → OnOk r (new ≡ old ++ text)
+puts_text r old new text pieces same = on_ok_weaker r (λ e. one_by_one old new pieces e ∙ ap (λ (xs : List ℕ). old ++ xs) same)
 
 -- the pieces of the style, in one row and in its three parts
 pub style_joined : (a b c d e f g h i j k l m n o : List ℕ)
@@ -50,3 +57,7 @@ pub entry_joined : (t a b d f g h p1 p2 p3 p4 t1 : List ℕ) → a ≡ b → d �
     → t1 ≡ t ++ (p1 ++ a ++ p2 ++ d ++ p3 ++ g ++ p4) → t1 ≡ t ++ (p1 ++ b ++ p2 ++ f ++ p3 ++ h ++ p4)
 entry_joined t a b d f g h p1 p2 p3 p4 t1 ea ed eg e =
     rw (e, ea, ed, eg) refl
+
+-- the pieces of a point behind its place
+pub point_joined : (t x p d q t1 t2 : List ℕ) → t1 ≡ t ++ x → t2 ≡ t1 ++ (p ++ d ++ q) → t2 ≡ t ++ (x ++ p ++ d ++ q)
+point_joined t x p d q t1 t2 e1 e2 = rw (e2, e1) (simp append_assoc)

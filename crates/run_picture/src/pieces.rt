@@ -1,6 +1,6 @@
 //! Texts that are made of pieces: of words, and of numbers in decimal.
-ghost use Rattle.std.specs.Prelude.{◌≡◌, ◌++◌, [], OnOk};
-ghost use Rattle.run_picture.specs.Pieces.{text_of_piece, with_pieces};
+ghost use Rattle.std.specs.Prelude.{◌≡◌, ◌++◌, OnOk};
+ghost use Rattle.run_picture.specs.Pieces.{text_of_piece, text_of_pieces};
 
 use crate::window::add_number;
 use lists::{List, OutOfMemory};
@@ -24,7 +24,7 @@ fn add_piece(text: &mut List<u8>, piece: Piece) -> Result<(), OutOfMemory>
 
 /// Puts pieces at the end of a text, one after the other.
 pub fn add_pieces(text: &mut List<u8>, pieces: &[Piece]) -> Result<(), OutOfMemory>
-    ensures { OnOk result (text.new ≡ text.old ++ with_pieces [] pieces.now) }
+    ensures { OnOk result (text.new ≡ text.old ++ text_of_pieces pieces.now) }
 {
     for piece in pieces {
         add_piece(text, *piece)?;

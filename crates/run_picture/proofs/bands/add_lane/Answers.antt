@@ -2,7 +2,7 @@ use Rattle.std.proofs.Common.{ap, codes, ◌∙◌}
 use Rattle.std.specs.Prelude.{decimal}
 use Rattle.std.proofs.lemmas.Result.{on_ok_weaker}
 use Rattle.run_picture.specs.Bands.{lane_text, letters_word, name_of_device, name_of_tap}
-use Rattle.run_picture.proofs.PiecesJoined.{lane_joined}
+use Rattle.run_picture.proofs.PiecesJoined.{lane_joined, one_by_one}
 use Rattle.run_picture.proofs.bands.add_lane.Goals as goal
 
 pub returns : goal.returns
@@ -17,5 +17,5 @@ returns c =
     (codes "</text><text class='place' x='-600' y='") (codes "' dy='400'>") (codes "</text>\n")
     c.add_pieces.new.text c.add_name.new.text c.add_pieces-2.new.text
     (c.letters_word-letters.ensures ∙ ap letters_word c.name_of_device.ensures) (ap decimal c.from.ensures)
-    c.in_ok-add_pieces.ensures c.in_ok-add_name.ensures e)
+    (one_by_one _ _ _ c.in_ok-add_pieces.ensures) c.in_ok-add_name.ensures (one_by_one _ _ _ e))
     c.add_pieces-2.ensures
