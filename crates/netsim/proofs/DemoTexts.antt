@@ -7,7 +7,7 @@ use Rattle.layout.specs.declared.lines.Layout.{Layout}
 use Rattle.load_plan.specs.Loads.{planned_queues, planned_skips}
 use Rattle.load_plan.specs.declared.plan.Plan.{Plan}
 use Rattle.program_endings.specs.Demos.{IsDemoText, line_of_demo, empty_loads}
-use Rattle.program_endings.specs.Runs.{IsMadeOf, IsSummary}
+use Rattle.run_endings.specs.Runs.{IsMadeOf, IsSummary}
 
 -- the plan of a layout without loads
 pub demo-plan : (number count : ℕ) (network : Layout) (loads : List (List Record)) (plan : Plan) → network ≡ demo_of number → count ≡ length network.stations → loads ≡ replicate count []

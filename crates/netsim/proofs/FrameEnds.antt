@@ -4,13 +4,14 @@ use Rattle.layout.specs.declared.lines.Layout.{Layout}
 use Rattle.load_plan.specs.declared.plan.Plan.{Plan}
 use Rattle.log_meter.specs.declared.line.LogLine.{LogLine}
 use Rattle.program_endings.specs.FrameTables.{IsUnplannedEnd}
-use Rattle.program_endings.specs.declared.endings.Ending.{Ending}
-use Rattle.program_endings.specs.declared.endings.Ending.TheVariants as ending
-use Rattle.program_endings.specs.Endings.{HasOnlyRead, IsEarly, IsFramesEnd, IsJudged, IsPlanned, IsTableEnd, IsUnloadedSaid, IsUnmetered}
+use Rattle.run_endings.specs.declared.endings.Ending.{Ending}
+use Rattle.run_endings.specs.declared.endings.Ending.TheVariants as ending
+use Rattle.run_endings.specs.Endings.{HasOnlyRead, IsEarly, IsJudged, IsPlanned, IsUnloadedSaid}
+use Rattle.program_endings.specs.Endings.{IsFramesEnd, IsTableEnd, IsUnmetered}
 use Rattle.program_endings.specs.Meters.{HasLog}
-use Rattle.program_endings.specs.Moments.{Moment}
+use Rattle.run_endings.specs.Moments.{Moment}
 use Rattle.netsim.proofs.PictureEnds.{log_before, unmetered_before}
-use Rattle.netsim.proofs.RunEnds.{said_before, text_before, unloaded_before}
+use Rattle.run_forms.proofs.RunEnds.{said_before, text_before, unloaded_before}
 
 -- the layout could not be read
 pub frames-early : (layout log : List ℕ) (before after : Moment) (e : Ending) → after.held ≡ before.held → IsEarly layout before after e → IsFramesEnd layout log before after e

@@ -1,7 +1,3 @@
-pub mod FrontsOfFiles
-pub mod TextsByPieces
-pub mod FilesInTurn
-pub mod RunEnds
 pub mod ProbeEnds
 pub mod PageTexts
 pub mod PictureEnds

@@ -7,14 +7,15 @@ use Rattle.log_meter.specs.Lines.{entry_text}
 use Rattle.log_meter.specs.Logs.{log_text}
 use Rattle.log_meter.specs.declared.line.LogLine.{LogLine}
 use Rattle.outside.specs.Files.{Files}
-use Rattle.program_endings.specs.declared.endings.Ending.{Ending}
-use Rattle.program_endings.specs.declared.endings.Ending.TheVariants as ending
-use Rattle.program_endings.specs.Endings.{HasOnlyRead, IsDrawnEnd, IsEarly, IsJudged, IsPictureEnd, IsStrangeEnd, IsText, IsUnmetered}
+use Rattle.run_endings.specs.declared.endings.Ending.{Ending}
+use Rattle.run_endings.specs.declared.endings.Ending.TheVariants as ending
+use Rattle.run_endings.specs.Endings.{HasOnlyRead, IsEarly, IsJudged, IsText}
+use Rattle.program_endings.specs.Endings.{IsDrawnEnd, IsPictureEnd, IsStrangeEnd, IsUnmetered}
 use Rattle.program_endings.specs.Meters.{HasLog}
 use Rattle.run_picture.specs.Pictures.{picture_of}
 use Rattle.run_picture.specs.Strangers.{first_stranger}
-use Rattle.program_endings.specs.Moments.{Moment}
-use Rattle.netsim.proofs.RunEnds.{rose-before, said_before, text_before}
+use Rattle.run_endings.specs.Moments.{Moment}
+use Rattle.run_forms.proofs.RunEnds.{rose-before, said_before, text_before}
 
 -- the layout could not be read
 pub picture-early : (layout log : List ℕ) (from to : ℕ) (before after : Moment) (e : Ending) → after.held ≡ before.held → IsEarly layout before after e → IsPictureEnd layout log from to before after e

@@ -3,16 +3,16 @@ use Rattle.std.proofs.Common.{◌≡◌, ℕ, ◌≤◌, Ok, List, sym, subst, �
 use Rattle.layout.specs.declared.lines.Layout.{Layout}
 use Rattle.line_probe.specs.declared.tap.Tap.{Tap}
 use Rattle.load_plan.specs.declared.plan.Plan.{Plan}
-use Rattle.program_endings.specs.declared.endings.Ending.{Ending}
-use Rattle.program_endings.specs.declared.endings.Ending.TheVariants as ending
-use Rattle.program_endings.specs.Endings.{HasOnlyRead, IsEarly, IsJudged, IsText, IsUnloadedSaid, IsWriteFailure}
+use Rattle.run_endings.specs.declared.endings.Ending.{Ending}
+use Rattle.run_endings.specs.declared.endings.Ending.TheVariants as ending
+use Rattle.run_endings.specs.Endings.{HasOnlyRead, IsEarly, IsJudged, IsText, IsUnloadedSaid, IsWriteFailure}
 use Rattle.program_endings.specs.ProbeEnds.{AreTapsTold, IsAimEnd, IsProbeEnd}
-use Rattle.program_endings.specs.Moments.{Moment}
+use Rattle.run_endings.specs.Moments.{Moment}
 use Rattle.program_words.specs.declared.words.Report.{Report}
 use Rattle.program_endings.specs.Probes.{AreTapsOf, half_bits_of}
-use Rattle.program_endings.specs.Runs.{IsPlanOf}
-use Rattle.program_endings.specs.Writing.{IsCutShort}
-use Rattle.netsim.proofs.RunEnds.{rose-before, said_before, text_before, unloaded_before}
+use Rattle.run_endings.specs.Runs.{IsPlanOf}
+use Rattle.run_endings.specs.Writing.{IsCutShort}
+use Rattle.run_forms.proofs.RunEnds.{rose-before, said_before, text_before, unloaded_before}
 
 -- the layout could not be read
 pub probe-early : (told : Report) (layout : List ℕ) (from to : ℕ) (taps : List (List ℕ)) (before after : Moment) (e : Ending) → after.held ≡ before.held → IsEarly layout before after e → IsProbeEnd told layout from to taps before after e

@@ -12,15 +12,17 @@ use Rattle.run_checkpoint.proofs.ResumableTexts.{quiet_states}
 use Rattle.run_checkpoint.specs.States.{IsStateOfPlan, text_of_state}
 use Rattle.quiet_state.specs.declared.state.NetState.{NetState}
 use Rattle.net_step.specs.Stops.{HasNoQuiet, IsFirstQuiet}
-use Rattle.program_endings.specs.declared.endings.Ending.{Ending}
-use Rattle.program_endings.specs.declared.endings.Ending.TheVariants as ending
+use Rattle.run_endings.specs.declared.endings.Ending.{Ending}
+use Rattle.run_endings.specs.declared.endings.Ending.TheVariants as ending
 use Rattle.program_endings.specs.CheckpointFiles.{HasState}
-use Rattle.program_endings.specs.Endings.{HasOnlyFiled, HasOnlyRead, IsBeforeRun, IsFileEnd, IsPlanned, IsResumeEnd, IsRunEnd, IsStopEnd, IsTextEnd, IsUnstated, Says}
-use Rattle.program_endings.specs.Moments.{Moment}
-use Rattle.program_endings.specs.Runs.{IsResumedSummary, IsStopLine, IsSummaryOver, output_files, resumed_files, state_files}
-use Rattle.program_endings.specs.Writing.{IsBroken, put_file}
-use Rattle.program_endings.specs.WrittenNames.{AreNamesFree, RunOf, StateOf, ToWrite}
-use Rattle.netsim.proofs.RunEnds.{filed_before, rose-before, run-filed, run-unfiled, said_before}
+use Rattle.run_endings.specs.Endings.{HasOnlyFiled, HasOnlyRead, IsBeforeRun, IsFileEnd, IsPlanned, IsRunEnd, IsTextEnd, Says}
+use Rattle.program_endings.specs.Endings.{IsResumeEnd, IsStopEnd, IsUnstated}
+use Rattle.run_endings.specs.Moments.{Moment}
+use Rattle.program_endings.specs.StoppedRuns.{IsResumedSummary, IsStopLine, resumed_files, state_files}
+use Rattle.run_endings.specs.Runs.{IsSummaryOver, output_files}
+use Rattle.run_endings.specs.Writing.{IsBroken, put_file}
+use Rattle.run_endings.specs.WrittenNames.{AreNamesFree, RunOf, StateOf, ToWrite}
+use Rattle.run_forms.proofs.RunEnds.{filed_before, rose-before, run-filed, run-unfiled, said_before}
 
 -- there was no memory after all was read
 pub unrun-before : (layout : List ℕ) (outputs : ToWrite) (before mid : Moment) → HasOnlyRead before mid → IsBeforeRun layout outputs before mid ending.Memory
@@ -103,8 +105,3 @@ first-from plan asked from t is first = rw is at first
 
 pub never-from : (plan : Plan) (asked from : ℕ) → asked ≡ from → HasNoQuiet plan asked → HasNoQuiet plan from
 never-from plan asked from is never = subst (λ n. HasNoQuiet plan n) is never
-
--- what went on from a state left these files
-pub resume-filed : (prefix : List ℕ) (plan : Plan) (rows rest : List Row) (captures more : List (List Taken)) (before after : Moment) (e : Ending) → rows ≡ rest → captures ≡ more
-    → IsRunEnd (output_files prefix plan rows captures) (IsSummaryOver plan rows) before after e → IsRunEnd (output_files prefix plan rest more) (IsSummaryOver plan rest) before after e
-resume-filed prefix plan rows rest captures more before after e one two end = rw (one, two) at end

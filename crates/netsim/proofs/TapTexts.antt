@@ -15,9 +15,8 @@ use Rattle.line_probe.specs.declared.run.Run.{Run}
 use Rattle.line_probe.specs.declared.tap.Tap.{Tap}
 use Rattle.line_probe.proofs.RunsSoFar.{first_run, longer, run_begins, run_goes_on}
 use Rattle.line_probe.proofs.SameSymbols.{other_symbols, same_symbols}
-use Rattle.program_texts.specs.HeardTexts.{IsTextOfTap, IsTextOfTaps, text_of_bursts}
-use Rattle.program_texts.specs.Texts.{line_of_tap}
-use Rattle.program_endings.specs.Writing.{IsCutShort, added}
+use Rattle.report_texts.specs.HeardTexts.{IsTextOfTap, IsTextOfTaps, text_of_bursts, line_of_tap}
+use Rattle.run_endings.specs.Writing.{IsCutShort, added}
 
 -- ---- there are runs of all symbols
 

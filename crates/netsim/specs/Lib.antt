@@ -1,4 +1,1 @@
-pub mod LoadLines
-pub mod Tellings
 pub mod TapStops
-pub mod WrittenBy

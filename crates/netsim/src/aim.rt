@@ -2,19 +2,19 @@
 ghost use Rattle.std.specs.Prelude.{◌≡◌, ◌≤◌, All, IfOk, IfErr, OnOk};
 ghost use Rattle.layout.specs.Sound.{IsSound};
 ghost use Rattle.line_probe.specs.Taps.{HasTap};
-ghost use Rattle.program_endings.specs.Endings.{HasOnlyRead};
+ghost use Rattle.run_endings.specs.Endings.{HasOnlyRead};
 ghost use Rattle.program_endings.specs.ProbeEnds.{IsAimEnd};
 ghost use Rattle.netsim.specs.TapStops.{IsTapStop};
 ghost use Rattle.program_endings.specs.Probes.{AreTapsOf, half_bits_of};
 
-use crate::world::World;
 use layout::Layout;
 use line_probe::{Tap, find_tap};
 use lists::{List, Text};
 use outside::{Sink, Store};
-use program_endings::Ending;
 use program_texts::{line_of_range_fault, line_of_tap_fault};
 use program_words::Report;
+use run_endings::Ending;
+use run_forms::World;
 use std::alloc::Global;
 
 /// Why there are no taps of these words.

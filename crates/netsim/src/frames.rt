@@ -1,19 +1,17 @@
 //! The form that says what became of each frame.
 ghost use Rattle.std.specs.Prelude.{◌≡◌};
 ghost use Rattle.log_meter.specs.Logs.{IsLog};
-ghost use Rattle.program_endings.specs.Answers.{ending_of};
+ghost use Rattle.run_endings.specs.Answers.{ending_of};
 ghost use Rattle.program_endings.specs.Endings.{IsFramesEnd, IsTableEnd};
 
-use crate::judge::read_network;
 use crate::picture::read_lines;
-use crate::plans::plan_network;
-use crate::world::World;
 use frame_table::{find_unplanned, frames as table_of_frames};
 use load_plan::Plan;
 use log_meter::LogLines;
 use outside::{Sink, Store};
-use program_endings::Ending;
 use program_texts::line_of_unplanned;
+use run_endings::Ending;
+use run_forms::{World, plan_network, read_network};
 use std::alloc::Global;
 
 /// Says by these lines of a log what became of each frame of a plan, or which line is the first that names what the

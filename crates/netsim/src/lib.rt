@@ -2,28 +2,20 @@
 #![tactic(auto)]
 
 mod aim;
-mod demo;
-mod files;
+mod demos;
 mod frames;
-mod judge;
-mod loads;
 mod meter;
-mod outputs;
 mod page;
 mod picture;
-mod plans;
 mod probe;
 mod resumes;
 mod runs;
-mod sink_texts;
+mod slack;
 mod stops;
-mod tell;
 mod top_call;
-mod world;
-mod written;
 
 pub use program_endings::{Ending, laws};
 pub use program_texts::HELP;
 pub use program_words::Words;
+pub use run_forms::World;
 pub use top_call::{netsim, run_words};
-pub use world::World;

@@ -1,11 +1,11 @@
 //! The form that says figures of a log.
-ghost use Rattle.program_endings.specs.Answers.{ending_of};
+ghost use Rattle.run_endings.specs.Answers.{ending_of};
 ghost use Rattle.program_endings.specs.Endings.{IsMeterEnd};
 
-use crate::world::World;
 use log_meter::{LogFault, MOST_LOG_OCTETS, figures_text, log_fault_text};
 use outside::{Sink, Store};
-use program_endings::Ending;
+use run_endings::Ending;
+use run_forms::World;
 use std::alloc::Global;
 
 /// Says the figures of a log, or its first fault.

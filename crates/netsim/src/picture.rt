@@ -5,17 +5,17 @@ ghost use Rattle.mac_parameters.specs.Parameters.{most_half_bits};
 ghost use Rattle.layout.specs.Sound.{IsSound};
 ghost use Rattle.log_meter.specs.Lines.{IsLogLine};
 ghost use Rattle.program_words.specs.WordLimits.{most_probed};
-ghost use Rattle.program_endings.specs.Answers.{ending_of};
-ghost use Rattle.program_endings.specs.Endings.{HasOnlyRead, IsDrawnEnd, IsPictureEnd, IsUnmetered};
+ghost use Rattle.run_endings.specs.Answers.{ending_of};
+ghost use Rattle.run_endings.specs.Endings.{HasOnlyRead};
+ghost use Rattle.program_endings.specs.Endings.{IsDrawnEnd, IsPictureEnd, IsUnmetered};
 ghost use Rattle.program_endings.specs.Meters.{HasLog};
 
-use crate::judge::read_network;
-use crate::world::World;
 use layout::Layout;
 use log_meter::{LogFault, LogLines, MOST_LOG_OCTETS, log_fault_text, read_log};
 use outside::{Sink, Store};
-use program_endings::Ending;
 use program_texts::line_of_stranger;
+use run_endings::Ending;
+use run_forms::{World, read_network};
 use run_picture::{find_stranger, picture as picture_of_lines};
 use std::alloc::Global;
 

@@ -6,24 +6,22 @@ ghost use Rattle.line_probe.specs.Taps.{HasTap};
 ghost use Rattle.line_probe.specs.declared.tap.Tap.{Tap};
 ghost use Rattle.load_plan.specs.declared.plan.Plan.{Plan};
 ghost use Rattle.network.specs.Outputs.{half_bits};
-ghost use Rattle.program_endings.specs.Answers.{ending_of};
+ghost use Rattle.run_endings.specs.Answers.{ending_of};
 ghost use Rattle.program_endings.specs.ProbeEnds.{AreTapsTold, AreTextsTold, IsProbeEnd};
 ghost use Rattle.program_words.specs.WordLimits.{most_probed, most_taps};
-ghost use Rattle.program_texts.specs.HeardTexts.{AreHeard};
+ghost use Rattle.report_texts.specs.HeardTexts.{AreHeard};
 
 use crate::aim::aim;
-use crate::judge::read_network;
 use crate::page::text_of_page;
-use crate::plans::plan_network;
-use crate::world::World;
 use line_probe::{Tap, heard_at_taps};
 use lists::{List, Text};
 use load_plan::Plan;
 use manchester_line::Sym;
 use outside::{Sink, Store};
-use program_endings::Ending;
-use program_texts::{text_of_tap, text_of_waves};
 use program_words::Report;
+use report_texts::{text_of_tap, text_of_waves};
+use run_endings::Ending;
+use run_forms::{World, plan_network, read_network};
 use std::alloc::Global;
 
 /// Writes what the taps of these words hear, of what they all hear from half bit `from` on, tap by tap.

@@ -3,23 +3,21 @@ ghost use Rattle.std.specs.Prelude.{◌≡◌, IfOk, IfErr, OnOk};
 ghost use Rattle.layout.specs.Sound.{IsSound};
 ghost use Rattle.quiet_state.specs.PlanStates.{IsResumable};
 ghost use Rattle.run_checkpoint.specs.States.{IsStateOfPlan};
-ghost use Rattle.program_endings.specs.Answers.{ending_of};
+ghost use Rattle.run_endings.specs.Answers.{ending_of};
 ghost use Rattle.program_endings.specs.CheckpointFiles.{HasState};
-ghost use Rattle.program_endings.specs.Endings.{HasOnlyRead, IsResumeEnd, IsRunEnd, IsUnstated};
-ghost use Rattle.program_endings.specs.Runs.{IsResumedSummary, resumed_files};
+ghost use Rattle.run_endings.specs.Endings.{HasOnlyRead, IsRunEnd};
+ghost use Rattle.program_endings.specs.Endings.{IsResumeEnd, IsUnstated};
+ghost use Rattle.program_endings.specs.StoppedRuns.{IsResumedSummary, resumed_files};
 
-use crate::plans::read_plan;
-use crate::runs::file_run;
-use crate::world::World;
-use crate::written::Written;
 use load_plan::Plan;
 use net_step::resume_run;
 use outside::{Sink, Store};
-use program_endings::Ending;
 use program_texts::name_of_state;
 use quiet_state::NetState;
 use resumed_runs::laws::{resumed_captures_are_short, resumed_frames_are_left};
 use run_checkpoint::{MOST_STATE_OCTETS, StateFault, read_state, state_fault_text};
+use run_endings::Ending;
+use run_forms::{World, Written, file_run, read_plan};
 use std::alloc::Global;
 
 /// Reads the state of a plan's run from a file, or says why there is none.

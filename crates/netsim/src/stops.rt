@@ -4,21 +4,20 @@ ghost use Rattle.quiet_state.specs.Quiet.{IsQuiet};
 ghost use Rattle.quiet_state.specs.Resumed.{state_at};
 ghost use Rattle.run_checkpoint.specs.States.{text_of_state};
 ghost use Rattle.program_texts.specs.Texts.{name_of_state};
-ghost use Rattle.program_endings.specs.Answers.{ending_of};
-ghost use Rattle.program_endings.specs.Endings.{HasOnlyFiled, IsFileEnd, IsRunEnd, IsStopEnd};
-ghost use Rattle.program_endings.specs.Runs.{IsStopLine, state_files};
-ghost use Rattle.program_endings.specs.Writing.{IsBroken, put_file};
+ghost use Rattle.run_endings.specs.Answers.{ending_of};
+ghost use Rattle.run_endings.specs.Endings.{HasOnlyFiled, IsFileEnd, IsRunEnd};
+ghost use Rattle.program_endings.specs.Endings.{IsStopEnd};
+ghost use Rattle.program_endings.specs.StoppedRuns.{IsStopLine, state_files};
+ghost use Rattle.run_endings.specs.Writing.{IsBroken, put_file};
 
-use crate::plans::read_plan;
-use crate::world::World;
-use crate::written::Written;
 use load_plan::Plan;
 use net_step::stop_run;
 use outside::{Sink, Store};
-use program_endings::Ending;
 use program_texts::{NO_QUIET, line_of_stopped, name_of_state};
 use quiet_state::NetState;
 use run_checkpoint::state_text;
+use run_endings::Ending;
+use run_forms::{World, Written, read_plan};
 use std::alloc::Global;
 
 /// Writes the text of a state.

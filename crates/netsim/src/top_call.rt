@@ -1,25 +1,27 @@
 //! The top call.
 ghost use Rattle.std.specs.Prelude.{◌≡◌, ◌⊎◌, ◌↔◌, None, Some};
 ghost use Rattle.outside.specs.Files.{Rose};
-ghost use Rattle.program_endings.specs.LoggedCollisions.{AreCollisionsLogged};
-ghost use Rattle.program_endings.specs.Answers.{IsAnswer, IsEnd, IsEndOf, ending_of};
+ghost use Rattle.run_endings.specs.LoggedCollisions.{AreCollisionsLogged};
+ghost use Rattle.program_endings.specs.Answers.{IsAnswer, IsEnd, IsEndOf};
+ghost use Rattle.run_endings.specs.Answers.{ending_of};
 ghost use Rattle.program_words.specs.Requests.{HasNumbersInRange, asked, asked_of};
-ghost use Rattle.program_endings.specs.Statuses.{IfFiles, IsDone, IsDoneOrMemory, IsRefusal, IsRunBroken, IsRunRefused, IsUnhindered};
+ghost use Rattle.run_endings.specs.Done.{IfFiles};
+ghost use Rattle.program_endings.specs.Statuses.{IsDone, IsDoneOrMemory, IsRefusal, IsRunBroken, IsRunRefused, IsUnhindered};
 
-use crate::demo::demo;
+use crate::demos::demo;
 use crate::frames::frames;
 use crate::meter::meter;
 use crate::picture::picture;
 use crate::probe::probe;
 use crate::resumes::resume;
-use crate::runs::{plain, run};
+use crate::runs::run;
+use crate::slack::slack;
 use crate::stops::stop;
-use crate::tell::{Telling, tell};
-use crate::world::World;
 use outside::{Gate, Sink, Store};
-use program_endings::Ending;
 use program_texts::{HELP, VERSION, WORDS_FAULT};
 use program_words::{Request, Words, read_words};
+use run_endings::Ending;
+use run_forms::{World, check, plain};
 use std::alloc::Global;
 use std::sync::Wait;
 use std::thread::Threads;
@@ -36,8 +38,8 @@ fn serve<X: Threads + Wait + Sync, S: Store, K: Sink, G: Gate>(
     ensures { IsEndOf (Some (asked_of request.entry)) world.old world.new (ending_of result) }
 {
     match request {
-        Request::Check { layout } => tell(alloc, Telling::Verdict, layout, world),
-        Request::Slack { layout } => tell(alloc, Telling::Slacks, layout, world),
+        Request::Check { layout } => check(alloc, layout, world),
+        Request::Slack { layout } => slack(alloc, layout, world),
         Request::Plain { layout, prefix } => plain(alloc, layout, prefix, gate, world),
         Request::Run {
             layout,

@@ -8,24 +8,28 @@ use Rattle.log_meter.specs.declared.line.LogLine.{LogLine}
 use Rattle.outside.specs.Files.{Files, Rose}
 use Rattle.program_words.specs.Requests.{Asked, asked, Check, Slack, Plain, Run, Stop, Resume, Demo, Probe, Meter, Picture, Frames, Help, Version}
 use Rattle.program_words.specs.declared.words.Report.{Report}
-use Rattle.program_texts.specs.SlackTexts.{IsSlackText}
+use Rattle.report_texts.specs.SlackTexts.{IsSlackText}
 use Rattle.program_texts.specs.Verdicts.{IsVerdictLine}
 use Rattle.program_texts.specs.declared.texts.TheConstants.{HELP, VERSION}
 use Rattle.run_picture.specs.Pictures.{picture_of}
 use Rattle.run_picture.specs.Strangers.{first_stranger}
-use Rattle.program_endings.specs.declared.endings.Ending.{Ending}
-use Rattle.program_endings.specs.declared.endings.Ending.TheVariants as ending
-use Rattle.program_endings.specs.Answers.{IsEndOf, status_of}
-use Rattle.program_endings.specs.Endings.{IsEarly, IsJudged, IsPictureEnd, IsPlainEnd, IsStopEnd, IsStrangeEnd, IsTaken, IsTellingEnd, IsUnloadedSaid, IsFramesEnd}
+use Rattle.run_endings.specs.declared.endings.Ending.{Ending}
+use Rattle.run_endings.specs.declared.endings.Ending.TheVariants as ending
+use Rattle.program_endings.specs.Answers.{IsEndOf}
+use Rattle.run_endings.specs.Answers.{status_of}
+use Rattle.run_endings.specs.Endings.{IsEarly, IsJudged, IsPlainEnd, IsTaken, IsTellingEnd, IsUnloadedSaid}
+use Rattle.program_endings.specs.Endings.{IsPictureEnd, IsStopEnd, IsStrangeEnd, IsFramesEnd}
 use Rattle.program_endings.specs.ProbeEnds.{IsAimEnd, IsProbeEnd}
 use Rattle.program_endings.specs.FrameTables.{IsUnplannedEnd}
-use Rattle.program_endings.specs.Moments.{Moment}
+use Rattle.run_endings.specs.Moments.{Moment}
 use Rattle.program_endings.specs.Probes.{HasNoAim}
-use Rattle.program_endings.specs.Runs.{IsStopLine, IsSummary, run_files, state_files}
+use Rattle.program_endings.specs.StoppedRuns.{IsStopLine, state_files}
+use Rattle.run_endings.specs.Runs.{IsSummary, run_files}
 use Rattle.program_endings.specs.SoundInputs.{AreAnswersReliable, AreInputsSound, IsNotThere}
 use Rattle.program_endings.specs.Statuses.{IsDoneOrMemory, IsNetworkWith}
-use Rattle.program_endings.specs.WrittenNames.{AreNamesFree, RunOf, StateOf, ToWrite}
-use Rattle.program_endings.proofs.EndingsByStatus.{by_demo, by_meter, by_picture, by_probe, by_stop, by_way, by_frames}
+use Rattle.run_endings.specs.WrittenNames.{AreNamesFree, RunOf, StateOf, ToWrite}
+use Rattle.program_endings.proofs.EndingsByStatus.{by_demo, by_meter, by_picture, by_probe, by_stop, by_frames}
+use Rattle.run_endings.proofs.WaysOfEnding.{by_way}
 use Rattle.program_endings.proofs.LoadsDecideStatus.{AnyNetwork, early_known, early_told, filed_whole, known_telling, taken_known, telling_known, text_whole, unloaded_known}
 use Rattle.program_endings.proofs.LayoutDecidesStatus.{some_of}
 use Rattle.program_endings.proofs.MetersAreTold.{LogSays, unmetered_whole}

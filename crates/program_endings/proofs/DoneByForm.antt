@@ -1,14 +1,15 @@
 -- What status 0 says: what the words ask for is done.
 use Rattle.std.proofs.Common.{◌≡◌, ℕ, Option, None, Some, List, refl, subst}
-use Rattle.program_endings.specs.declared.endings.Ending.TheVariants as ending
+use Rattle.run_endings.specs.declared.endings.Ending.TheVariants as ending
 use Rattle.program_endings.specs.Answers.{IsAnswer, IsEndOf}
-use Rattle.program_endings.specs.Moments.{Moment}
+use Rattle.run_endings.specs.Moments.{Moment}
 use Rattle.program_endings.specs.Statuses.{IsDone}
-use Rattle.program_texts.specs.SlackTexts.{IsSlackText}
+use Rattle.report_texts.specs.SlackTexts.{IsSlackText}
 use Rattle.program_texts.specs.Verdicts.{IsVerdictLine}
 use Rattle.program_words.specs.Requests.{Asked, asked, Check, Slack, Plain, Run, Stop, Resume, Demo, Probe, Meter, Picture, Frames, Help, Version}
 use Rattle.program_endings.proofs.EndingsByStatus.{end_at}
-use Rattle.program_endings.proofs.FilesAfterRuns.{demo_done, run_done, telling_done}
+use Rattle.program_endings.proofs.FilesAfterRuns.{demo_done}
+use Rattle.run_endings.proofs.DoneRuns.{run_done, telling_done}
 use Rattle.program_endings.proofs.FramesAreTold.{table_done}
 use Rattle.program_endings.proofs.MetersAreTold.{meter_done}
 use Rattle.program_endings.proofs.PicturesAreTold.{picture_done}

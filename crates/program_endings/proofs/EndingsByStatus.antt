@@ -1,52 +1,24 @@
 -- The ending of an answer, by its status and by its words.
-use Rattle.std.proofs.Common.{◌≡◌, ℕ, zero, suc, List, Option, Some, refl, sym, ap, subst, ◌∙◌, inl, inr}
+use Rattle.std.proofs.Common.{◌≡◌, ℕ, zero, suc, List, Option, Some, sym, ap, subst, ◌∙◌, inl, inr}
 use Rattle.layout.specs.declared.lines.Layout.{Layout}
-use Rattle.program_endings.specs.declared.endings.Ending.{Ending}
-use Rattle.program_endings.specs.declared.endings.Ending.TheVariants as ending
+use Rattle.run_endings.specs.declared.endings.Ending.{Ending}
 use Rattle.program_texts.specs.declared.texts.TheConstants.{HELP, VERSION}
-use Rattle.program_endings.specs.Answers.{IsAnswer, IsEndOf, status_of}
-use Rattle.program_endings.specs.Endings.{ArePictured, IsCheckEnd, IsDemoEnd, IsDrawn, IsEarly, IsLoadEnd, IsMeterEnd, IsMetered, IsPictureEnd, IsPlainEnd, HasResumed, IsResumeEnd, IsRun, IsSlackEnd, IsStopEnd, HasStopped, IsStrangeEnd, IsTaken, IsText, IsTellingEnd, IsTextEnd, IsUnlogged, IsUnmetered, IsUnresumed, IsUnrun, IsUnstopped, AreTabled, IsFramesEnd, IsTabled, IsUnqueued, IsUntabled}
+use Rattle.program_endings.specs.Answers.{IsAnswer, IsEndOf}
+use Rattle.program_endings.specs.Endings.{ArePictured, IsDrawn, IsMeterEnd, IsMetered, IsPictureEnd, HasResumed, IsResumeEnd, IsSlackEnd, IsStopEnd, HasStopped, IsStrangeEnd, IsUnlogged, IsUnmetered, IsUnresumed, IsUnstopped, AreTabled, IsFramesEnd, IsTabled, IsUnqueued, IsUntabled, IsDemoEnd}
+use Rattle.run_endings.specs.Endings.{IsCheckEnd, IsEarly, IsLoadEnd, IsPlainEnd, IsTaken, IsTellingEnd, IsTextEnd, IsUnrun, IsText}
 use Rattle.program_endings.specs.ProbeEnds.{IsMissed, IsProbed, IsProbeEnd, IsUnprobed}
-use Rattle.program_endings.specs.Demos.{IsDemoText}
 use Rattle.program_endings.specs.FrameTables.{IsUnplannedEnd}
-use Rattle.program_endings.specs.Moments.{Moment}
+use Rattle.run_endings.specs.Moments.{Moment}
 use Rattle.program_words.specs.Requests.{Asked, asked, Check, Demo, Meter, Picture, Frames, Probe, Resume, Slack, Stop}
 use Rattle.program_words.specs.declared.words.Report.{Report}
-use Rattle.program_texts.specs.SlackTexts.{IsSlackText}
-use Rattle.program_endings.specs.WrittenNames.{RunOf, StateOf}
-use Rattle.program_endings.specs.Statuses.{AskForFiles, IfTelling, IfText}
+use Rattle.report_texts.specs.SlackTexts.{IsSlackText}
+use Rattle.run_endings.specs.WrittenNames.{RunOf, StateOf}
+use Rattle.run_endings.specs.Done.{AskForFiles}
+use Rattle.program_endings.specs.Statuses.{IfTelling, IfText}
 use Rattle.program_texts.specs.Verdicts.{IsVerdictLine}
-
--- the ending of a status
-abbrev pub ending_at : ℕ → Ending
-ending_at zero = ending.Done
-ending_at (suc zero) = ending.Words
-ending_at (suc (suc zero)) = ending.Layout
-ending_at (suc (suc (suc zero))) = ending.Load
-ending_at (suc (suc (suc (suc zero)))) = ending.Read
-ending_at (suc (suc (suc (suc (suc zero))))) = ending.Write
-ending_at (suc (suc (suc (suc (suc (suc zero)))))) = ending.Memory
-ending_at (suc (suc (suc (suc (suc (suc (suc zero))))))) = ending.Probe
-ending_at (suc (suc (suc (suc (suc (suc (suc (suc zero)))))))) = ending.Log
-ending_at (suc (suc (suc (suc (suc (suc (suc (suc (suc zero))))))))) = ending.Unquiet
-ending_at (suc (suc (suc (suc (suc (suc (suc (suc (suc (suc zero)))))))))) = ending.State
-ending_at (suc (suc (suc (suc (suc (suc (suc (suc (suc (suc (suc zero))))))))))) = ending.Stranger
-ending_at (suc (suc (suc (suc (suc (suc (suc (suc (suc (suc (suc (suc n)))))))))))) = ending.Output
-
-at_status : (e : Ending) → ending_at (status_of e) ≡ e
-at_status ending.Done = refl
-at_status ending.Words = refl
-at_status ending.Layout = refl
-at_status ending.Load = refl
-at_status ending.Read = refl
-at_status ending.Write = refl
-at_status ending.Memory = refl
-at_status ending.Probe = refl
-at_status ending.Log = refl
-at_status ending.Stranger = refl
-at_status ending.Unquiet = refl
-at_status ending.State = refl
-at_status ending.Output = refl
+use Rattle.run_endings.proofs.WaysOfEnding.{ending_at, at_status}
+use Rattle.program_endings.specs.Demos.{IsDemoText}
+use Rattle.run_endings.specs.declared.endings.Ending.TheVariants as ending
 
 -- the end of an answer with this status
 pub end_at : (words : List (List ℕ)) (entry exit : Moment) (status k : ℕ) → IsAnswer words entry exit status → status ≡ k → IsEndOf (asked words) entry exit (ending_at k)
@@ -121,15 +93,6 @@ by_probe X told layout from to taps before after e early missed unprobed probed 
 pub by_meter : (X : Type 0) (log : List ℕ) (before after : Moment) (e : Ending) → (IsUnmetered log before after e → X) → (IsMetered log before after e → X) → IsMeterEnd log before after e → X
 by_meter X log before after e unmetered metered h = elim h.1 [ inl one ↦ unmetered one | inr two ↦ metered two ]
 
--- what comes of each of the five ways in which a form that writes the files of a run ends comes of its end
-pub by_way : (X : Type 0) (layout prefix : List ℕ) (before after : Moment) (e : Ending) → (IsEarly layout before after e → X) → (IsTaken layout (RunOf prefix) before after e → X) → (IsLoadEnd layout (RunOf prefix) before after e → X) → (IsUnrun before after e → X) → (IsRun layout prefix before after e → X)
-    → IsPlainEnd layout prefix before after e → X
-by_way X layout prefix before after e early taken unloaded unrun run h =
-    elim h [
-      | inl none ↦ elim none [ inl one ↦ early one.0 | inr later ↦ elim later [ inl two ↦ taken two.0 | inr last ↦ elim last [ inl three ↦ unloaded three.0 | inr four ↦ unrun four ] ] ]
-      | inr ran ↦ run ran
-    ]
-
 -- what comes of each of the six ways in which stop ends comes of its end
 pub by_stop : (X : Type 0) (layout prefix : List ℕ) (from : ℕ) (before after : Moment) (e : Ending) → (IsEarly layout before after e → X) → (IsTaken layout (StateOf prefix) before after e → X) → (IsLoadEnd layout (StateOf prefix) before after e → X) → (IsUnrun before after e → X)
     → (IsUnstopped layout prefix from before after e → X) → (HasStopped layout prefix from before after e → X) → IsStopEnd layout prefix from before after e → X
@@ -148,11 +111,6 @@ by_resume X layout prefix before after e early taken unloaded unrun unresumed re
       | inr rest ↦ elim rest [ inl five ↦ unresumed five | inr six ↦ resumed six ]
     ]
 
--- what comes of each of the two ways in which demo ends comes of its end
-pub by_demo : (X : Type 0) (number : ℕ) (before after : Moment) (e : Ending) → (e ≡ ending.Memory → after.written ≡ before.written → X)
-    → ((text : List ℕ) → IsDemoText number text → IsText text before after e → X) → IsDemoEnd number before after e → X
-by_demo X number before after e none told h = elim h.0 [ inl unmade ↦ none unmade.0 unmade.1 | inr made ↦ told made.0 made.1 made.2 ]
-
 -- what holds of the end of every form that only tells of a layout
 pub of_tellings : (o : Option Asked) (entry exit : Moment) (e : Ending) (P : (Layout → List ℕ → Type 0) → List ℕ → Type 0)
     → ((Tells : Layout → List ℕ → Type 0) (layout : List ℕ) → IsTellingEnd Tells layout entry exit e → P Tells layout) → IsEndOf o entry exit e → IfTelling o P
@@ -162,3 +120,8 @@ of_tellings o entry exit e P on end =
 -- what holds of the end of every fixed text
 pub of_texts : (o : Option Asked) (entry exit : Moment) (e : Ending) (P : List ℕ → Type 0) → ((text : List ℕ) → IsTextEnd text entry exit e → P text) → IsEndOf o entry exit e → IfText o P
 of_texts o entry exit e P on end = (λ is. on HELP.now (subst (λ a. IsEndOf a entry exit e) is end), λ is. on VERSION.now (subst (λ a. IsEndOf a entry exit e) is end))
+
+-- what comes of each of the two ways in which demo ends comes of its end
+pub by_demo : (X : Type 0) (number : ℕ) (before after : Moment) (e : Ending) → (e ≡ ending.Memory → after.written ≡ before.written → X)
+    → ((text : List ℕ) → IsDemoText number text → IsText text before after e → X) → IsDemoEnd number before after e → X
+by_demo X number before after e none told h = elim h.0 [ inl unmade ↦ none unmade.0 unmade.1 | inr made ↦ told made.0 made.1 made.2 ]

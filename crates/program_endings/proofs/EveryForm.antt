@@ -2,17 +2,21 @@
 use Rattle.std.proofs.Common.{◌≡◌, ◌<◌, ◌⊎◌, ◌↔◌, ℕ, Option, None, Some, List, refl, ap, subst, ◌∙◌, inl, inr, arith}
 use Rattle.outside.specs.Files.{Rose}
 use Rattle.outside.specs.declared.memory.File.{File}
-use Rattle.program_endings.specs.declared.endings.Ending.{Ending}
-use Rattle.program_endings.specs.declared.endings.Ending.TheVariants as ending
-use Rattle.program_endings.specs.Answers.{IsAnswer, IsEndOf, status_of}
-use Rattle.program_endings.specs.Endings.{IsDemoEnd, IsFiledEnd, IsMeterEnd, IsPictureEnd, IsPlainEnd, IsResumeEnd, IsStopEnd, IsFramesEnd}
+use Rattle.run_endings.specs.declared.endings.Ending.{Ending}
+use Rattle.run_endings.specs.declared.endings.Ending.TheVariants as ending
+use Rattle.program_endings.specs.Answers.{IsAnswer, IsEndOf}
+use Rattle.run_endings.specs.Answers.{status_of}
+use Rattle.program_endings.specs.Endings.{IsDemoEnd, IsMeterEnd, IsPictureEnd, IsResumeEnd, IsStopEnd, IsFramesEnd}
+use Rattle.run_endings.specs.Endings.{IsFiledEnd, IsPlainEnd}
 use Rattle.program_endings.specs.ProbeEnds.{IsProbeEnd}
-use Rattle.program_endings.specs.Moments.{Moment}
-use Rattle.program_endings.specs.Runs.{IsResumedSummary, IsStopLine, IsSummary, resumed_files, run_files, state_files}
+use Rattle.run_endings.specs.Moments.{Moment}
+use Rattle.program_endings.specs.StoppedRuns.{IsResumedSummary, IsStopLine, resumed_files, state_files}
+use Rattle.run_endings.specs.Runs.{IsSummary, run_files}
 use Rattle.program_words.specs.Requests.{Asked, asked, Check, Slack, Plain, Run, Stop, Resume, Demo, Probe, Meter, Picture, Frames, Help, Version}
 use Rattle.program_words.specs.declared.words.Report.{Report}
 use Rattle.program_endings.specs.Statuses.{IsRefusal}
-use Rattle.program_endings.proofs.EndingsByStatus.{by_demo, by_meter, by_picture, by_probe, by_resume, by_stop, by_way, end_at, by_frames}
+use Rattle.program_endings.proofs.EndingsByStatus.{by_demo, by_meter, by_picture, by_probe, by_resume, by_stop, end_at, by_frames}
+use Rattle.run_endings.proofs.WaysOfEnding.{by_way}
 
 words_done : ending.Write ≡ ending.Words → ⊥
 words_done e = cc

@@ -2,40 +2,26 @@
 use Rattle.std.proofs.Common.{◌≡◌, ◌⊎◌, ℕ, Option, None, Some, List, refl, ap, inl, inr}
 use Rattle.outside.specs.Files.{Rose}
 use Rattle.layout.specs.declared.lines.Layout.{Layout}
-use Rattle.program_endings.specs.declared.endings.Ending.{Ending}
-use Rattle.program_endings.specs.declared.endings.Ending.TheVariants as ending
-use Rattle.program_endings.specs.Answers.{IsAnswer, IsEndOf, status_of}
-use Rattle.program_endings.specs.Endings.{IsDemoEnd, IsEarly, IsPlainEnd, IsRun, IsTakenEnd, IsTellingEnd, IsText, IsTold, IsUnloadedSaid, Says}
-use Rattle.program_endings.specs.Moments.{Moment}
+use Rattle.run_endings.specs.declared.endings.Ending.{Ending}
+use Rattle.run_endings.specs.declared.endings.Ending.TheVariants as ending
+use Rattle.program_endings.specs.Answers.{IsAnswer, IsEndOf}
+use Rattle.run_endings.specs.Answers.{status_of}
+use Rattle.run_endings.specs.Endings.{IsPlainEnd, IsRun, IsTellingEnd, IsText, IsTold, Says}
+use Rattle.run_endings.specs.Moments.{Moment}
 use Rattle.program_words.specs.Requests.{Asked, asked, Check, Slack, Plain, Run, Stop, Resume, Demo, Probe, Meter, Picture, Frames, Help, Version}
-use Rattle.program_endings.specs.Statuses.{AskForFiles, IfFiles, IsDemoCut, IsDemoDone, IsDemoStatus, IsRunBroken, IsRunDone, IsRunRefused, IsSummaryCut, IsTellingCut, IsTellingDone}
+use Rattle.run_endings.specs.Done.{AskForFiles, IfFiles}
+use Rattle.program_endings.specs.Statuses.{IsDemoCut, IsDemoStatus, IsRunBroken, IsRunRefused, IsSummaryCut, IsTellingCut, IsDemoDone}
 use Rattle.program_endings.specs.StatusLaws.{AreDemosCutShort, AreDemosRefused, AreFailuresSilent, AreFilesWhole, AreTellingsCutShort, AreTellingsRefused, AreTextsCutShort, AreTextsFailed, AreWordsSaid, DoDemosKeepFiles, DoTellingsKeepFiles, DoTextsKeepFiles, HaveDemosStatuses}
 use Rattle.program_texts.specs.Texts.{line_of_words_fault}
-use Rattle.program_endings.specs.Runs.{run_files}
-use Rattle.program_endings.specs.WrittenNames.{RunOf}
-use Rattle.program_endings.specs.Writing.{IsBrokenAmong, IsCutShort}
-use Rattle.program_endings.proofs.EndingsByStatus.{by_demo, by_way, demo_end, end_at, files_end, of_tellings, of_texts}
+use Rattle.run_endings.specs.Runs.{run_files}
+use Rattle.run_endings.specs.Writing.{IsBrokenAmong, IsCutShort}
+use Rattle.program_endings.proofs.EndingsByStatus.{by_demo, demo_end, end_at, files_end, of_tellings, of_texts}
 use Rattle.program_endings.proofs.EveryForm.{never_demo, never_meter, never_picture, never_probe, never_resume, never_stop, never_words, never_frames}
-
--- an ending that comes neither early nor of want of memory is that of a run
-run_of : (layout prefix : List ℕ) (before after : Moment) (e : Ending) → (IsEarly layout before after e → ⊥) → ((network : Layout) → IsTakenEnd layout (RunOf prefix) network before after e → ⊥) → ((network : Layout) → IsUnloadedSaid network before after e → ⊥) → (e ≡ ending.Memory → ⊥)
-    → IsPlainEnd layout prefix before after e → IsRun layout prefix before after e
-run_of layout prefix before after e early taken unloaded memory h =
-    by_way (IsRun layout prefix before after e) layout prefix before after e (λ one. absurd (early one)) (λ two. absurd (taken two.network two.said)) (λ three. absurd (unloaded three.network three.said)) (λ unrun. absurd (memory unrun.0)) (λ run. run) h
+use Rattle.program_endings.specs.Endings.{IsDemoEnd}
+use Rattle.run_endings.proofs.DoneRuns.{run_of}
 
 run_written : (layout prefix : List ℕ) (before after : Moment) → IsPlainEnd layout prefix before after ending.Write → IsRun layout prefix before after ending.Write
 run_written layout prefix before after h = run_of layout prefix before after ending.Write (λ early. early) (λ network said. said) (λ network said. said) (λ e. cc) h
-
-held_of : (layout prefix : List ℕ) (before after : Moment) → IsRun layout prefix before after ending.Done → IsRunDone layout prefix before after
-held_of layout prefix before after run =
-    elim run.filed [
-      | inl all ↦ record { plan = run.plan; planned = run.planned; files = all.0; summary = all.1.0; summed = all.1.1; written = all.1.2 }
-      | inr some ↦ absurd some
-    ]
-
--- a run was done
-pub run_done : (layout prefix : List ℕ) (before after : Moment) → IsPlainEnd layout prefix before after ending.Done → IsRunDone layout prefix before after
-run_done layout prefix before after h = held_of layout prefix before after (run_of layout prefix before after ending.Done (λ early. early) (λ network said. said) (λ network said. said) (λ e. cc) h)
 
 -- a run that left some of its files, or a front of its summary
 run_left : (layout prefix : List ℕ) (before after : Moment) (e : Ending) (run : IsRun layout prefix before after e)
@@ -86,14 +72,6 @@ pub memory : (words : List (List ℕ)) (entry exit : Moment) (status : ℕ) → 
 memory words entry exit status answer six layout prefix is =
     memory_of layout prefix entry exit (files_end (asked words) layout prefix entry exit ending.Memory is (end_at words entry exit status 6 answer six))
 
--- a form that only tells of a layout was done
-pub telling_done : (Tells : Layout → List ℕ → Type 0) (layout : List ℕ) (before after : Moment) → IsTellingEnd Tells layout before after ending.Done → IsTellingDone Tells layout before after
-telling_done Tells layout before after h =
-    elim h.1 [
-      | inl early ↦ absurd early
-      | inr told ↦ record { network = told.network; judged = told.judged; text = told.text; right = told.right; written = told.written; held = h.0 }
-    ]
-
 cut_of : (Tells : Layout → List ℕ → Type 0) (layout : List ℕ) (before after : Moment) (e : Ending) (told : IsTold Tells layout before after e) → IsCutShort told.text before.written after.written → IsTellingCut Tells layout before after
 cut_of Tells layout before after e told cut = record { network = told.network; judged = told.judged; text = told.text; right = told.right; cut = cut }
 
@@ -114,17 +92,8 @@ tellings_are_refused words entry exit status answer six =
 pub tellings_keep_files : DoTellingsKeepFiles
 tellings_keep_files words entry exit status answer = of_tellings (asked words) entry exit answer.by (λ Tells layout. exit.held ≡ entry.held) (λ Tells layout end. end.0) answer.allowed
 
--- an ending of demo, at each status
-done_unmade : ending.Done ≡ ending.Memory → ⊥
-done_unmade e = cc
-
 write_unmade : ending.Write ≡ ending.Memory → ⊥
 write_unmade e = cc
-
--- demo was done
-pub demo_done : (number : ℕ) (before after : Moment) → IsDemoEnd number before after ending.Done → IsDemoDone number before after
-demo_done number before after h =
-    by_demo (IsDemoDone number before after) number before after ending.Done (λ memory written. absurd (done_unmade memory)) (λ text right written. record { text = text; right = right; written = written; held = h.1 }) h
 
 pub demos_are_cut_short : AreDemosCutShort
 demos_are_cut_short words entry exit status answer five number workers is =
@@ -203,3 +172,12 @@ words_said_of (Some (Frames layout log)) entry exit h = absurd (never_frames lay
 
 pub words_are_said : AreWordsSaid
 words_are_said words entry exit status answer one = words_said_of (asked words) entry exit (end_at words entry exit status 1 answer one)
+
+-- an ending of demo, at each status
+done_unmade : ending.Done ≡ ending.Memory → ⊥
+done_unmade e = cc
+
+-- demo was done
+pub demo_done : (number : ℕ) (before after : Moment) → IsDemoEnd number before after ending.Done → IsDemoDone number before after
+demo_done number before after h =
+    by_demo (IsDemoDone number before after) number before after ending.Done (λ memory written. absurd (done_unmade memory)) (λ text right written. record { text = text; right = right; written = written; held = h.1 }) h

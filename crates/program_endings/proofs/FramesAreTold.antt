@@ -9,14 +9,15 @@ use Rattle.log_meter.specs.declared.fault.LogFault.{LogFault}
 use Rattle.log_meter.specs.declared.line.LogLine.{LogLine}
 use Rattle.outside.specs.Files.{Files, IsAbsent, Rose}
 use Rattle.program_words.specs.Requests.{asked}
-use Rattle.program_endings.specs.declared.endings.Ending.{Ending}
-use Rattle.program_endings.specs.declared.endings.Ending.TheVariants as ending
-use Rattle.program_endings.specs.Answers.{status_of}
-use Rattle.program_endings.specs.Endings.{AreTabled, IsFramesEnd, IsPlanned, IsTabled, IsUnmetered}
+use Rattle.run_endings.specs.declared.endings.Ending.{Ending}
+use Rattle.run_endings.specs.declared.endings.Ending.TheVariants as ending
+use Rattle.run_endings.specs.Answers.{status_of}
+use Rattle.program_endings.specs.Endings.{AreTabled, IsFramesEnd, IsTabled, IsUnmetered}
+use Rattle.run_endings.specs.Endings.{IsPlanned}
 use Rattle.program_endings.specs.FrameLaws.{AreTablesComplete, AreTablesCutShort, AreTablesRefused, DoTabledAbsentLogsDecide, DoTabledLogFaultsDecide, DoTablesKeepFiles, DoUnplannedDecide}
 use Rattle.program_endings.specs.FrameTables.{HasUnplanned, IsPlannedLog, IsUnplannedEnd}
 use Rattle.program_endings.specs.Meters.{HasLog, HasLogFault, IsFaultyLog}
-use Rattle.program_endings.specs.Moments.{Moment}
+use Rattle.run_endings.specs.Moments.{Moment}
 use Rattle.program_endings.specs.Statuses.{IsDoneOrMemory, IsFaultStatus, IsTableCut, IsTableDone, IsTableText, IsUnreadOrMemory}
 use Rattle.program_endings.proofs.EndingsByStatus.{by_frames, end_at, frames_end}
 use Rattle.program_endings.proofs.LoadsDecideStatus.{AnyNetwork, IfKnown, Says, early_known, text_whole, unloaded_known}

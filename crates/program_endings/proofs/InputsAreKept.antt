@@ -13,17 +13,19 @@ use Rattle.outside.specs.Files.{Files, file_of, with_file}
 use Rattle.outside.specs.declared.memory.File.{File}
 use Rattle.program_words.specs.Requests.{asked}
 use Rattle.quiet_state.specs.Resumed.{captures_from, rows_from}
-use Rattle.program_endings.specs.declared.endings.Ending.{Ending}
-use Rattle.program_endings.specs.declared.endings.Ending.TheVariants as ending
-use Rattle.program_endings.specs.Endings.{IsFiledEnd, IsJudged, IsPlainEnd, IsPlanned, IsResumeEnd, IsStopEnd, IsUnfiled}
-use Rattle.program_endings.specs.Moments.{Moment}
+use Rattle.run_endings.specs.declared.endings.Ending.{Ending}
+use Rattle.run_endings.specs.declared.endings.Ending.TheVariants as ending
+use Rattle.run_endings.specs.Endings.{IsFiledEnd, IsJudged, IsPlainEnd, IsPlanned, IsUnfiled}
+use Rattle.program_endings.specs.Endings.{IsResumeEnd, IsStopEnd}
+use Rattle.run_endings.specs.Moments.{Moment}
 use Rattle.program_endings.specs.OutputLaws.{AreInputsKept}
-use Rattle.program_endings.specs.Runs.{IsResumedSummary, IsStopLine, IsSummary, capture_files, output_files, resumed_files, run_files, state_files}
-use Rattle.program_endings.specs.Writing.{IsBrokenAmong, put_all}
-use Rattle.program_endings.specs.WrittenNames.{AreNamesFree, RunOf, StateOf, ToWrite, capture_names, first_name_of_input, first_taken_name, is_name_of_input, names_to_write}
+use Rattle.program_endings.specs.StoppedRuns.{IsResumedSummary, IsStopLine, resumed_files, state_files}
+use Rattle.run_endings.specs.Runs.{IsSummary, capture_files, output_files, run_files}
+use Rattle.run_endings.specs.Writing.{IsBrokenAmong, put_all}
+use Rattle.run_endings.specs.WrittenNames.{AreNamesFree, RunOf, StateOf, ToWrite, capture_names, first_name_of_input, first_taken_name, is_name_of_input, names_to_write}
 use Rattle.program_endings.proofs.EndingsByStatus.{files_end, resume_end, stop_end, frames_end}
-use Rattle.program_endings.proofs.LayoutDecidesStatus.{same_network}
-use Rattle.program_endings.proofs.LogAmongFiles.{AreOthers, file_of_other, files_same, put_others}
+use Rattle.run_endings.proofs.OneNetwork.{same_network}
+use Rattle.run_endings.proofs.LogAmongFiles.{AreOthers, file_of_other, files_same, put_others}
 
 -- none of these names is this one
 abbrev DifferFrom : List ℕ → List (List ℕ) → Type 0

@@ -4,18 +4,21 @@ use Rattle.std.specs.Prelude.{IfSome}
 use Rattle.outside.specs.Files.{Files, IsAbsent, Rose}
 use Rattle.layout.specs.declared.lines.Layout.{Layout}
 use Rattle.layout_file.specs.declared.fault.LayoutFault.{LayoutFault}
-use Rattle.program_endings.specs.declared.endings.Ending.{Ending}
-use Rattle.program_endings.specs.declared.endings.Ending.TheVariants as ending
-use Rattle.program_endings.specs.Moments.{Moment}
-use Rattle.program_endings.specs.Answers.{IsEndOf, status_of}
-use Rattle.program_endings.specs.Endings.{IsDemoEnd, IsMeterEnd, IsPictureEnd, IsPlainEnd, IsResumeEnd, IsStopEnd, IsTellingEnd, IsJudged, HasFault, IsEarly, IsFaultSaid, IsUnrun, IsFramesEnd}
+use Rattle.run_endings.specs.declared.endings.Ending.{Ending}
+use Rattle.run_endings.specs.declared.endings.Ending.TheVariants as ending
+use Rattle.run_endings.specs.Moments.{Moment}
+use Rattle.program_endings.specs.Answers.{IsEndOf}
+use Rattle.run_endings.specs.Answers.{status_of}
+use Rattle.program_endings.specs.Endings.{IsDemoEnd, IsMeterEnd, IsPictureEnd, IsResumeEnd, IsStopEnd, IsFramesEnd}
+use Rattle.run_endings.specs.Endings.{IsPlainEnd, IsTellingEnd, IsJudged, HasFault, IsEarly, IsFaultSaid, IsUnrun}
 use Rattle.program_endings.specs.ProbeEnds.{IsProbeEnd}
-use Rattle.program_endings.specs.Reading.{front_of}
+use Rattle.run_endings.specs.Reading.{front_of}
 use Rattle.program_words.specs.Requests.{Asked, asked, Check, Slack, Plain, Run, Stop, Resume, Demo, Probe, Meter, Picture, Frames, Help, Version}
 use Rattle.program_words.specs.declared.words.Report.{Report}
 use Rattle.program_endings.specs.Statuses.{IsFaultStatus, IsLayoutWith, IsUnreadOrMemory}
 use Rattle.program_endings.specs.StatusLaws.{AreLayoutFaultsSaid, DoAbsentLayoutsDecide, DoLayoutFaultsDecide}
-use Rattle.program_endings.proofs.EndingsByStatus.{by_demo, by_meter, by_picture, by_probe, by_resume, by_stop, by_way, end_at, files_end, of_tellings, picture_end, probe_end, resume_end, stop_end, by_frames, frames_end}
+use Rattle.program_endings.proofs.EndingsByStatus.{by_demo, by_meter, by_picture, by_probe, by_resume, by_stop, end_at, files_end, of_tellings, picture_end, probe_end, resume_end, stop_end, by_frames, frames_end}
+use Rattle.run_endings.proofs.WaysOfEnding.{by_way}
 
 pub absent_unjudged : (name : List ℕ) (held : Option Files) (verdict : Result Layout LayoutFault) → IsAbsent name held → IsJudged name held verdict → ⊥
 unfolding front_of
@@ -25,9 +28,6 @@ absent_unjudged name (Some files) verdict absent judged = let e = rw absent at j
 pub some_of : (held : Option Files) (P : Files → Type 0) → ((files : Files) → P files) → IfSome held P
 some_of None P all = tt
 some_of (Some files) P all = all files
-
-pub same_network : (name : List ℕ) (files : Files) (a b : Layout) → IsJudged name (Some files) (Ok a) → IsJudged name (Some files) (Ok b) → a ≡ b
-same_network name files a b one two = cc
 
 pub good_or_faulty : (name : List ℕ) (files : Files) (a : Layout) (f : LayoutFault) → IsJudged name (Some files) (Ok a) → IsJudged name (Some files) (Err f) → ⊥
 good_or_faulty name files a f one two = cc

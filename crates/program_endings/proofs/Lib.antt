@@ -1,4 +1,3 @@
-pub mod WrittenByPieces
 pub mod EndingsByStatus
 pub mod EveryForm
 pub mod LayoutDecidesStatus
@@ -13,12 +12,7 @@ pub mod StopsAreLeft
 pub mod OutputsAreTold
 pub mod AnswersAreReliable
 pub mod DoneByForm
-pub mod DetectionFoundations
-pub mod OctetsOfNames
-pub mod LinesOfRows
-pub mod LogAmongFiles
-pub mod OnePlan
 pub mod StoppedRunsAreWhole
 pub mod InputsAreKept
-pub mod DetectedInTheLog
 pub mod CollisionsAreTold
+pub mod AnswersOfRunForms

@@ -5,24 +5,28 @@ use Rattle.capture_file.specs.declared.entries.Record.{Record}
 use Rattle.capture_file.specs.declared.fault.CaptureFault.{CaptureFault}
 use Rattle.outside.specs.Files.{Files, IsAbsent, Rose}
 use Rattle.outside.specs.declared.memory.File.{File}
-use Rattle.program_endings.specs.Runs.{IsSummary, run_files}
+use Rattle.run_endings.specs.Runs.{IsSummary, run_files}
 use Rattle.layout.specs.declared.lines.Layout.{Layout}
 use Rattle.layout_file.specs.declared.fault.LayoutFault.{LayoutFault}
 use Rattle.load_files.specs.Loaded.{Loaded, IsLoaded, IsFirstAbsent, Whole, Faulty, Absent, loaded}
 use Rattle.load_plan.specs.declared.plan.Plan.{Plan}
-use Rattle.program_endings.specs.declared.endings.Ending.{Ending}
-use Rattle.program_endings.specs.declared.endings.Ending.TheVariants as ending
-use Rattle.program_endings.specs.Moments.{Moment}
-use Rattle.program_endings.specs.Answers.{IsAnswer, IsEndOf, status_of}
-use Rattle.program_endings.specs.Endings.{IsDemoEnd, IsMeterEnd, IsPictureEnd, IsPlainEnd, IsResumeEnd, IsStopEnd, IsTellingEnd, IsJudged, IsEarly, IsLoadFaultSaid, IsPlanned, IsTakenEnd, IsUnloadedSaid, IsUnreadSaid, IsUnrun, IsFiledEnd, IsText, IsFramesEnd}
+use Rattle.run_endings.specs.declared.endings.Ending.{Ending}
+use Rattle.run_endings.specs.declared.endings.Ending.TheVariants as ending
+use Rattle.run_endings.specs.Moments.{Moment}
+use Rattle.program_endings.specs.Answers.{IsAnswer, IsEndOf}
+use Rattle.run_endings.specs.Answers.{status_of}
+use Rattle.program_endings.specs.Endings.{IsDemoEnd, IsMeterEnd, IsPictureEnd, IsResumeEnd, IsStopEnd, IsFramesEnd}
+use Rattle.run_endings.specs.Endings.{IsPlainEnd, IsTellingEnd, IsJudged, IsEarly, IsLoadFaultSaid, IsPlanned, IsTakenEnd, IsUnloadedSaid, IsUnreadSaid, IsUnrun, IsFiledEnd, IsText}
 use Rattle.program_endings.specs.ProbeEnds.{IsProbeEnd}
-use Rattle.program_endings.specs.WrittenNames.{AreNamesFree, RunOf, StateOf, ToWrite, first_taken_name, NoFile}
+use Rattle.run_endings.specs.WrittenNames.{AreNamesFree, RunOf, StateOf, ToWrite, first_taken_name, NoFile}
 use Rattle.program_words.specs.Requests.{Asked, asked, Check, Slack, Plain, Run, Stop, Resume, Demo, Probe, Meter, Picture, Frames, Help, Version}
 use Rattle.program_words.specs.declared.words.Report.{Report}
 use Rattle.program_endings.specs.Statuses.{HasAbsentLoad, HasLoadFault, IsDoneOrMemory, IsFaultStatus, IsInputFaultSaid, IsLoadedWith, IsNetworkWith, IsPictureUnreadSaid, IsReadFaultSaid, IsResumeFaultSaid, IsUnhindered, IsUnreadOrMemory, IsTableFaultSaid}
 use Rattle.program_endings.specs.StatusLaws.{AreDemosComplete, AreLoadFaultsSaid, AreReadFaultsSaid, AreTellingsComplete, AreTextsComplete, DoAbsentLoadsDecide, DoLoadFaultsDecide}
-use Rattle.program_endings.proofs.EndingsByStatus.{by_demo, by_meter, by_picture, by_probe, by_resume, by_stop, by_way, demo_end, end_at, files_end, of_tellings, of_texts, resume_end, stop_end, by_frames, frames_end}
-use Rattle.program_endings.proofs.LayoutDecidesStatus.{absent_unjudged, good_or_faulty, same_network}
+use Rattle.program_endings.proofs.EndingsByStatus.{by_demo, by_meter, by_picture, by_probe, by_resume, by_stop, demo_end, end_at, files_end, of_tellings, of_texts, resume_end, stop_end, by_frames, frames_end}
+use Rattle.run_endings.proofs.WaysOfEnding.{by_way}
+use Rattle.program_endings.proofs.LayoutDecidesStatus.{absent_unjudged, good_or_faulty}
+use Rattle.run_endings.proofs.OneNetwork.{same_network}
 
 -- of every network
 abbrev pub AnyNetwork : Layout → Type 0

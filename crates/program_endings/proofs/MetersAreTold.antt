@@ -7,17 +7,19 @@ use Rattle.log_meter.specs.declared.fault.LogFault.{LogFault}
 use Rattle.log_meter.specs.declared.fault.LogFault.TheVariants as fault
 use Rattle.log_meter.specs.declared.line.LogLine.{LogLine}
 use Rattle.outside.specs.Files.{Files, IsAbsent, Rose}
-use Rattle.program_endings.specs.declared.endings.Ending.{Ending}
-use Rattle.program_endings.specs.declared.endings.Ending.TheVariants as ending
-use Rattle.program_endings.specs.Answers.{IsEndOf, status_of}
+use Rattle.run_endings.specs.declared.endings.Ending.{Ending}
+use Rattle.run_endings.specs.declared.endings.Ending.TheVariants as ending
+use Rattle.program_endings.specs.Answers.{IsEndOf}
+use Rattle.run_endings.specs.Answers.{status_of}
 use Rattle.program_endings.specs.Endings.{IsLogFaultSaid, IsMeterEnd, IsUnmetered}
 use Rattle.program_endings.specs.MeterLaws.{AreLogFaultsSaid, AreMetersComplete, AreMetersCutShort, AreMetersRefused, DoAbsentLogsDecide, DoLogFaultsDecide, DoMetersKeepFiles}
 use Rattle.program_endings.specs.Meters.{HasLog, HasLogFault, IsFaultOfLog, IsFaultyLog, IsMeterText, IsReadLog}
-use Rattle.program_endings.specs.Moments.{Moment}
-use Rattle.program_endings.specs.Reading.{front_of}
+use Rattle.run_endings.specs.Moments.{Moment}
+use Rattle.run_endings.specs.Reading.{front_of}
 use Rattle.program_words.specs.Requests.{Asked, asked, Check, Slack, Plain, Run, Stop, Resume, Demo, Probe, Meter, Picture, Frames, Help, Version}
 use Rattle.program_endings.specs.Statuses.{IsDoneOrMemory, IsFaultStatus, IsMeterCut, IsMeterDone, IsLogWith, IsUnreadOrMemory}
-use Rattle.program_endings.proofs.EndingsByStatus.{by_demo, by_meter, by_picture, by_probe, by_resume, by_stop, by_way, end_at, meter_end, by_frames}
+use Rattle.program_endings.proofs.EndingsByStatus.{by_demo, by_meter, by_picture, by_probe, by_resume, by_stop, end_at, meter_end, by_frames}
+use Rattle.run_endings.proofs.WaysOfEnding.{by_way}
 use Rattle.program_endings.proofs.LayoutDecidesStatus.{some_of, unread_status}
 use Rattle.program_endings.proofs.LoadsDecideStatus.{text_whole}
 

@@ -6,15 +6,18 @@ use Rattle.layout_file.specs.declared.fault.LayoutFault.{LayoutFault}
 use Rattle.load_plan.specs.declared.plan.Plan.{Plan}
 use Rattle.outside.specs.Files.{Files}
 use Rattle.program_words.specs.Requests.{Asked, asked, Check, Slack, Plain, Run, Stop, Resume, Demo, Probe, Meter, Picture, Frames, Help, Version}
-use Rattle.program_endings.specs.declared.endings.Ending.{Ending}
-use Rattle.program_endings.specs.declared.endings.Ending.TheVariants as ending
-use Rattle.program_endings.specs.Moments.{Moment}
-use Rattle.program_endings.specs.Answers.{IsEndOf, status_of}
-use Rattle.program_endings.specs.Endings.{IsEarly, IsJudged, IsPlainEnd, IsPlanned, IsResumeEnd, IsStopEnd, IsTakenEnd}
+use Rattle.run_endings.specs.declared.endings.Ending.{Ending}
+use Rattle.run_endings.specs.declared.endings.Ending.TheVariants as ending
+use Rattle.run_endings.specs.Moments.{Moment}
+use Rattle.program_endings.specs.Answers.{IsEndOf}
+use Rattle.run_endings.specs.Answers.{status_of}
+use Rattle.run_endings.specs.Endings.{IsEarly, IsJudged, IsPlainEnd, IsPlanned, IsTakenEnd}
+use Rattle.program_endings.specs.Endings.{IsResumeEnd, IsStopEnd}
 use Rattle.program_endings.specs.Statuses.{HasTakenName, IsFaultStatus, IsNetworkWith, IsTakenNameSaid, IsWritingWith}
 use Rattle.program_endings.specs.OutputLaws.{AreOutputFaultsSaid, DoOutputFaultsDecide}
-use Rattle.program_endings.specs.WrittenNames.{AreNamesFree, RunOf, StateOf, ToWrite, NoFile}
-use Rattle.program_endings.proofs.EndingsByStatus.{by_demo, by_meter, by_picture, by_probe, by_resume, by_stop, by_way, end_at, files_end, resume_end, stop_end, by_frames}
+use Rattle.run_endings.specs.WrittenNames.{AreNamesFree, RunOf, StateOf, ToWrite, NoFile}
+use Rattle.program_endings.proofs.EndingsByStatus.{by_demo, by_meter, by_picture, by_probe, by_resume, by_stop, end_at, files_end, resume_end, stop_end, by_frames}
+use Rattle.run_endings.proofs.WaysOfEnding.{by_way}
 use Rattle.program_endings.proofs.LayoutDecidesStatus.{absent_unjudged, good_or_faulty, some_of, unread_status}
 use Rattle.program_endings.proofs.LoadsDecideStatus.{of_planned, taken_or_free, no_names}
 use Rattle.program_endings.proofs.StopsAreTold.{unrun_status}

@@ -11,16 +11,20 @@ use Rattle.outside.specs.Files.{Files, IsAbsent, Rose}
 use Rattle.program_words.specs.Requests.{Asked, asked, Check, Slack, Plain, Run, Stop, Resume, Demo, Probe, Meter, Picture, Frames, Help, Version}
 use Rattle.run_picture.specs.Pictures.{picture_of}
 use Rattle.run_picture.specs.Strangers.{first_stranger}
-use Rattle.program_endings.specs.declared.endings.Ending.{Ending}
-use Rattle.program_endings.specs.declared.endings.Ending.TheVariants as ending
-use Rattle.program_endings.specs.Answers.{IsEndOf, status_of}
-use Rattle.program_endings.specs.Endings.{ArePictured, IsDrawn, IsEarly, IsJudged, IsPictureEnd, IsStrangeEnd, IsUnmetered}
+use Rattle.run_endings.specs.declared.endings.Ending.{Ending}
+use Rattle.run_endings.specs.declared.endings.Ending.TheVariants as ending
+use Rattle.program_endings.specs.Answers.{IsEndOf}
+use Rattle.run_endings.specs.Answers.{status_of}
+use Rattle.program_endings.specs.Endings.{ArePictured, IsDrawn, IsPictureEnd, IsStrangeEnd, IsUnmetered}
+use Rattle.run_endings.specs.Endings.{IsEarly, IsJudged}
 use Rattle.program_endings.specs.Meters.{HasLog, HasLogFault, IsFaultyLog}
-use Rattle.program_endings.specs.Moments.{Moment}
+use Rattle.run_endings.specs.Moments.{Moment}
 use Rattle.program_endings.specs.PictureLaws.{ArePicturesComplete, ArePicturesCutShort, ArePicturesRefused, AreStrangersSaid, DoPicturedAbsentLogsDecide, DoPicturedLogFaultsDecide, DoPicturesKeepFiles, DoStrangersDecide}
 use Rattle.program_endings.specs.Statuses.{HasStranger, IsDoneOrMemory, IsFaultStatus, IsNetworkWith, IsPictureCut, IsPictureDone, IsPictureText, IsStrangerSaid, IsUnreadOrMemory, IsComparedWith, IsPlannedWith, IsUnplannedSaid}
-use Rattle.program_endings.proofs.EndingsByStatus.{by_demo, by_meter, by_picture, by_probe, by_resume, by_stop, by_way, end_at, picture_end, by_frames}
-use Rattle.program_endings.proofs.LayoutDecidesStatus.{absent_unjudged, good_or_faulty, same_network}
+use Rattle.program_endings.proofs.EndingsByStatus.{by_demo, by_meter, by_picture, by_probe, by_resume, by_stop, end_at, picture_end, by_frames}
+use Rattle.run_endings.proofs.WaysOfEnding.{by_way}
+use Rattle.program_endings.proofs.LayoutDecidesStatus.{absent_unjudged, good_or_faulty}
+use Rattle.run_endings.proofs.OneNetwork.{same_network}
 use Rattle.program_endings.proofs.LoadsDecideStatus.{text_whole}
 use Rattle.program_endings.proofs.MetersAreTold.{absent_faulty, absent_unread, log_or_fault, same_octets}
 

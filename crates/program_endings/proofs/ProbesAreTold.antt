@@ -9,19 +9,22 @@ use Rattle.line_probe.specs.Taps.{IsWordOf}
 use Rattle.line_probe.specs.declared.tap.Tap.{Tap}
 use Rattle.load_files.specs.Loaded.{Loaded, IsLoaded, IsFirstAbsent, Whole, Faulty, Absent}
 use Rattle.outside.specs.Files.{Files, IsAbsent, Rose}
-use Rattle.program_endings.specs.declared.endings.Ending.{Ending}
-use Rattle.program_endings.specs.declared.endings.Ending.TheVariants as ending
-use Rattle.program_endings.specs.Answers.{IsEndOf, status_of}
-use Rattle.program_endings.specs.Endings.{IsEarly, IsJudged}
+use Rattle.run_endings.specs.declared.endings.Ending.{Ending}
+use Rattle.run_endings.specs.declared.endings.Ending.TheVariants as ending
+use Rattle.program_endings.specs.Answers.{IsEndOf}
+use Rattle.run_endings.specs.Answers.{status_of}
+use Rattle.run_endings.specs.Endings.{IsEarly, IsJudged}
 use Rattle.program_endings.specs.ProbeEnds.{IsAimEnd, IsMissed, IsProbed, IsProbeEnd}
-use Rattle.program_endings.specs.Moments.{Moment}
+use Rattle.run_endings.specs.Moments.{Moment}
 use Rattle.program_endings.specs.ProbeLaws.{AreMissesSaid, AreProbesComplete, AreProbesCutShort, AreProbesRefused, DoMissesDecide, DoProbedAbsentLoadsDecide, DoProbedLoadFaultsDecide, DoProbesKeepFiles}
 use Rattle.program_endings.specs.Probes.{AreTapsOf, HasAim, HasNoAim}
 use Rattle.program_words.specs.Requests.{Asked, asked, Check, Slack, Plain, Run, Stop, Resume, Demo, Probe, Meter, Picture, Frames, Help, Version}
 use Rattle.program_words.specs.declared.words.Report.{Report}
 use Rattle.program_endings.specs.Statuses.{IsDoneOrMemory, IsFaultStatus, IsMissSaid, IsNetworkWith, IsProbeCut, IsProbeDone, IsProbeWith, IsUnreadOrMemory}
-use Rattle.program_endings.proofs.EndingsByStatus.{by_demo, by_meter, by_picture, by_probe, by_resume, by_stop, by_way, end_at, probe_end, by_frames}
-use Rattle.program_endings.proofs.LayoutDecidesStatus.{absent_unjudged, good_or_faulty, same_network, some_of, unread_status}
+use Rattle.program_endings.proofs.EndingsByStatus.{by_demo, by_meter, by_picture, by_probe, by_resume, by_stop, end_at, probe_end, by_frames}
+use Rattle.run_endings.proofs.WaysOfEnding.{by_way}
+use Rattle.program_endings.proofs.LayoutDecidesStatus.{absent_unjudged, good_or_faulty, some_of, unread_status}
+use Rattle.run_endings.proofs.OneNetwork.{same_network}
 use Rattle.program_endings.proofs.LoadsDecideStatus.{AnyNetwork, IfKnown, IsKnown, Says, absent_says, early_known, fault_says, known_loads, text_whole, unloaded_known}
 
 -- of words that name taps each names one

@@ -19,16 +19,18 @@ use Rattle.run_checkpoint.specs.States.{text_of_state}
 use Rattle.run_checkpoint.specs.declared.fault.StateFault.{StateFault}
 use Rattle.run_checkpoint.specs.declared.fault.StateFault.TheVariants as fault
 use Rattle.program_endings.specs.CheckpointFiles.{HasState}
-use Rattle.program_endings.specs.Endings.{IsPlanned}
-use Rattle.program_endings.specs.Moments.{Moment}
-use Rattle.program_endings.specs.Reading.{front_of}
-use Rattle.program_endings.specs.Runs.{IsSummaryOver, output_files, resumed_files, run_files}
-use Rattle.program_endings.specs.Statuses.{IsResumeDone, IsRunDone, IsStopDone}
+use Rattle.run_endings.specs.Endings.{IsPlanned}
+use Rattle.run_endings.specs.Moments.{Moment}
+use Rattle.run_endings.specs.Reading.{front_of}
+use Rattle.run_endings.specs.Runs.{IsSummaryOver, output_files, run_files}
+use Rattle.program_endings.specs.StoppedRuns.{resumed_files}
+use Rattle.program_endings.specs.Statuses.{IsResumeDone, IsStopDone}
+use Rattle.run_endings.specs.Done.{IsRunDone}
 use Rattle.program_endings.specs.StopLaws.{AreStoppedRunsWhole}
-use Rattle.program_endings.specs.Writing.{put_all, put_file}
+use Rattle.run_endings.specs.Writing.{put_all, put_file}
 use Rattle.program_endings.proofs.DoneByForm.{done_as}
 use Rattle.program_endings.proofs.StopsAreTold.{same_planned}
-use Rattle.program_endings.proofs.WrittenByPieces.{file_of-with_file}
+use Rattle.run_endings.proofs.WrittenByPieces.{file_of-with_file}
 
 -- the text of the state of a quiet half bit is read back, where it isn't too large
 judged_back : (plan : Plan) (t : ℕ) → IsQuiet plan t → length (text_of_state plan (state_at plan t)) ≤ most_state_octets → judged_state plan (text_of_state plan (state_at plan t)) ≡ Ok (state_at plan t)

@@ -10,19 +10,20 @@ use Rattle.program_texts.specs.Texts.{name_of_state}
 use Rattle.program_words.specs.Requests.{asked}
 use Rattle.quiet_state.specs.declared.state.NetState.{NetState}
 use Rattle.net_step.specs.Stops.{IsFirstQuiet}
-use Rattle.program_endings.specs.declared.endings.Ending.{Ending}
-use Rattle.program_endings.specs.declared.endings.Ending.TheVariants as ending
+use Rattle.run_endings.specs.declared.endings.Ending.{Ending}
+use Rattle.run_endings.specs.declared.endings.Ending.TheVariants as ending
 use Rattle.program_endings.specs.CheckpointFiles.{HasState}
-use Rattle.program_endings.specs.Answers.{status_of}
-use Rattle.program_endings.specs.Endings.{HasResumed, HasStopped, IsFiledEnd, IsPlanned, IsResumeEnd, IsStopEnd, IsUnstated}
-use Rattle.program_endings.specs.Moments.{Moment}
-use Rattle.program_endings.specs.Runs.{IsResumedSummary, IsStopLine, resumed_files, state_files}
+use Rattle.run_endings.specs.Answers.{status_of}
+use Rattle.program_endings.specs.Endings.{HasResumed, HasStopped, IsResumeEnd, IsStopEnd, IsUnstated}
+use Rattle.run_endings.specs.Endings.{IsFiledEnd, IsPlanned}
+use Rattle.run_endings.specs.Moments.{Moment}
+use Rattle.program_endings.specs.StoppedRuns.{IsResumedSummary, IsStopLine, resumed_files, state_files}
 use Rattle.program_endings.specs.Statuses.{IsDoneOrMemory, IsPlannedWith, IsUnbegun}
-use Rattle.program_endings.specs.Writing.{put_all}
+use Rattle.run_endings.specs.Writing.{put_all}
 use Rattle.program_endings.specs.StopLaws.{AreStopFilesWhole, AreStopsBroken, AreStopsComplete, AreStopsRefused, AreStopsSilent, IsResumeBroken, IsStopBroken, IsWritingBroken}
 use Rattle.program_endings.proofs.EndingsByStatus.{by_resume, by_stop, end_at, resume_end, stop_end}
 use Rattle.program_endings.proofs.LayoutDecidesStatus.{unread_status}
-use Rattle.program_endings.specs.WrittenNames.{AreNamesFree, RunOf, StateOf}
+use Rattle.run_endings.specs.WrittenNames.{AreNamesFree, RunOf, StateOf}
 use Rattle.program_endings.proofs.LoadsDecideStatus.{IfKnown, Says as SaysOfLoads, early_known, filed_whole, of_planned, taken_known, unloaded_known}
 use Rattle.program_endings.proofs.StopsAreTold.{FreeAnd, IfPlanned, absent_front, always_planned, faultless, never_planned, told_faulty, unrun_status}
 

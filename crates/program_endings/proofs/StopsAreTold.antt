@@ -12,22 +12,26 @@ use Rattle.quiet_state.specs.declared.state.NetState.{NetState}
 use Rattle.run_checkpoint.specs.Judging.{judged_state, most_state_octets}
 use Rattle.run_checkpoint.specs.declared.fault.StateFault.{StateFault}
 use Rattle.net_step.specs.Stops.{HasNoQuiet}
-use Rattle.program_endings.specs.declared.endings.Ending.{Ending}
-use Rattle.program_endings.specs.declared.endings.Ending.TheVariants as ending
+use Rattle.run_endings.specs.declared.endings.Ending.{Ending}
+use Rattle.run_endings.specs.declared.endings.Ending.TheVariants as ending
 use Rattle.program_endings.specs.CheckpointFiles.{HasState, IsStateFaulty}
-use Rattle.program_endings.specs.Answers.{IsEndOf, status_of}
-use Rattle.program_endings.specs.Endings.{IsPlanned, HasResumed, IsResumeEnd, IsStateFaultSaid, HasStopped, IsStopEnd, IsUnquietEnd, IsUnrun, IsUnstated, Says}
-use Rattle.program_endings.specs.Moments.{Moment}
-use Rattle.program_endings.specs.Reading.{IsFront, front_of}
-use Rattle.program_endings.specs.Runs.{IsPlanOf}
+use Rattle.program_endings.specs.Answers.{IsEndOf}
+use Rattle.run_endings.specs.Answers.{status_of}
+use Rattle.run_endings.specs.Endings.{IsPlanned, IsUnrun, Says}
+use Rattle.program_endings.specs.Endings.{HasResumed, IsResumeEnd, IsStateFaultSaid, HasStopped, IsStopEnd, IsUnquietEnd, IsUnstated}
+use Rattle.run_endings.specs.Moments.{Moment}
+use Rattle.run_endings.specs.Reading.{IsFront, front_of}
+use Rattle.run_endings.specs.Runs.{IsPlanOf}
 use Rattle.program_endings.specs.Statuses.{IsFaultStatus, IsPlannedWith, IsResumeDone, IsResumeWith, IsStopDone, IsStopWith, IsUnreadOrMemory}
 use Rattle.program_endings.specs.StopLaws.{AreStateFaultsSaid, AreUnquietSaid, DoAbsentStatesDecide, DoStateFaultsDecide, DoUnquietDecide}
-use Rattle.program_endings.specs.Writing.{added}
-use Rattle.program_endings.proofs.EndingsByStatus.{by_demo, by_meter, by_picture, by_probe, by_resume, by_stop, by_way, end_at, resume_end, stop_end, by_frames}
-use Rattle.program_endings.proofs.LayoutDecidesStatus.{same_network, unread_status}
-use Rattle.program_endings.specs.WrittenNames.{AreNamesFree, RunOf, StateOf, ToWrite}
+use Rattle.run_endings.specs.Writing.{added}
+use Rattle.program_endings.proofs.EndingsByStatus.{by_demo, by_meter, by_picture, by_probe, by_resume, by_stop, end_at, resume_end, stop_end, by_frames}
+use Rattle.run_endings.proofs.WaysOfEnding.{by_way}
+use Rattle.run_endings.proofs.OneNetwork.{same_network}
+use Rattle.program_endings.proofs.LayoutDecidesStatus.{unread_status}
+use Rattle.run_endings.specs.WrittenNames.{AreNamesFree, RunOf, StateOf, ToWrite}
 use Rattle.program_endings.proofs.LoadsDecideStatus.{IfKnown, Says as SaysOfLoads, early_known, of_planned, taken_known, unloaded_known}
-use Rattle.program_endings.proofs.OnePlan.{one_plan}
+use Rattle.run_endings.proofs.OnePlan.{one_plan}
 
 stop_of : (layout prefix : List ℕ) (from : ℕ) (before after : Moment) → HasStopped layout prefix from before after ending.Done → IsStopDone layout prefix from before after
 stop_of layout prefix from before after ran =

@@ -1,13 +1,15 @@
 -- How a call ends by its words, and the status that it answers (profile).
-use Rattle.std.specs.Prelude.{◌≡◌, ℕ, List, Option, None, Some, Result, Ok, Err}
-use Rattle.program_endings.specs.Moments.{Moment}
+use Rattle.std.specs.Prelude.{◌≡◌, ℕ, List, Option, None, Some}
+use Rattle.run_endings.specs.Moments.{Moment}
 use Rattle.program_words.specs.Requests.{Asked, asked, Check, Slack, Plain, Run, Stop, Resume, Demo, Probe, Meter, Picture, Frames, Help, Version}
 use Rattle.program_texts.specs.Texts.{line_of_words_fault}
-use Rattle.program_endings.specs.declared.endings.Ending.{Ending}
-use Rattle.program_endings.specs.declared.endings.Ending.TheVariants as ending
+use Rattle.run_endings.specs.declared.endings.Ending.{Ending}
+use Rattle.run_endings.specs.declared.endings.Ending.TheVariants as ending
 use Rattle.program_texts.specs.declared.texts.TheConstants.{HELP, VERSION}
-use Rattle.program_endings.specs.Endings.{Says, IsPlainEnd, IsStopEnd, IsResumeEnd, IsCheckEnd, IsSlackEnd, IsTextEnd, IsDemoEnd, IsMeterEnd, IsPictureEnd, IsFramesEnd}
+use Rattle.run_endings.specs.Endings.{Says, IsPlainEnd, IsCheckEnd, IsTextEnd}
+use Rattle.program_endings.specs.Endings.{IsDemoEnd, IsStopEnd, IsResumeEnd, IsSlackEnd, IsMeterEnd, IsPictureEnd, IsFramesEnd}
 use Rattle.program_endings.specs.ProbeEnds.{IsProbeEnd}
+use Rattle.run_endings.specs.Answers.{status_of}
 
 -- the end of words that ask for this; the words are none of the forms where they ask for nothing
 abbrev pub IsEndOf : Option Asked → Moment → Moment → Ending → Type 0
@@ -29,27 +31,6 @@ IsEndOf (Some Version) before after e = IsTextEnd VERSION.now before after e
 -- the end of a call with these words
 abbrev pub IsEnd : List (List ℕ) → Moment → Moment → Ending → Type 0
 IsEnd words before after e = IsEndOf (asked words) before after e
-
--- how a call ends that came to its end, or to this one
-abbrev pub ending_of : Result (Unit {0}) Ending → Ending
-ending_of (Ok _) = ending.Done
-ending_of (Err e) = e
-
--- the program's status
-abbrev pub status_of : Ending → ℕ
-status_of ending.Done = 0
-status_of ending.Words = 1
-status_of ending.Layout = 2
-status_of ending.Load = 3
-status_of ending.Read = 4
-status_of ending.Write = 5
-status_of ending.Memory = 6
-status_of ending.Probe = 7
-status_of ending.Log = 8
-status_of ending.Stranger = 11
-status_of ending.Unquiet = 9
-status_of ending.State = 10
-status_of ending.Output = 12
 
 -- the status is that of an ending which these words allow between entry and exit
 pub record IsAnswer (words : List (List ℕ)) (entry exit : Moment) (status : ℕ) : Type 0 where

@@ -5,7 +5,7 @@ use Rattle.outside.specs.Files.{Files}
 use Rattle.quiet_state.specs.declared.state.NetState.{NetState}
 use Rattle.run_checkpoint.specs.Judging.{judged_state, most_state_octets}
 use Rattle.run_checkpoint.specs.declared.fault.StateFault.{StateFault}
-use Rattle.program_endings.specs.Reading.{IsFront}
+use Rattle.run_endings.specs.Reading.{IsFront}
 
 -- the file, whole or at one octet past the most that it may have, is the text of this state of the plan
 pub record HasState (plan : Plan) (name : List ℕ) (held : Option Files) (state : NetState) : Type 0 where

@@ -4,7 +4,7 @@ use Rattle.capture_file.specs.declared.entries.Record.{Record}
 use Rattle.demo_layout.specs.Demo.{demo_of}
 use Rattle.layout.specs.declared.lines.Layout.{Layout}
 use Rattle.load_plan.specs.declared.plan.Plan.{Plan}
-use Rattle.program_endings.specs.Runs.{IsMadeOf, IsSummary}
+use Rattle.run_endings.specs.Runs.{IsMadeOf, IsSummary}
 
 -- no records for any station of a network
 abbrev pub empty_loads : Layout → List (List Record)

@@ -5,10 +5,10 @@ use Rattle.load_plan.specs.declared.plan.Plan.{Plan}
 use Rattle.log_meter.specs.declared.line.LogLine.{LogLine}
 use Rattle.outside.specs.Files.{Files}
 use Rattle.program_endings.specs.Meters.{HasLog}
-use Rattle.program_endings.specs.Moments.{Moment}
-use Rattle.program_endings.specs.Writing.{IsSaid}
-use Rattle.program_endings.specs.declared.endings.Ending.{Ending}
-use Rattle.program_endings.specs.declared.endings.Ending.TheVariants as ending
+use Rattle.run_endings.specs.Moments.{Moment}
+use Rattle.run_endings.specs.Writing.{IsSaid}
+use Rattle.run_endings.specs.declared.endings.Ending.{Ending}
+use Rattle.run_endings.specs.declared.endings.Ending.TheVariants as ending
 use Rattle.program_texts.specs.Texts.{line_of_unplanned}
 
 -- the log has no fault, and of its lines the one with this number is the first that names what a plan lacks

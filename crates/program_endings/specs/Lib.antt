@@ -1,14 +1,9 @@
-pub mod FileLimits
-pub mod Moments
-pub mod Reading
-pub mod Writing
-pub mod Runs
-pub mod Demos
+pub mod StoppedRuns
 pub mod Meters
 pub mod FrameTables
 pub mod Probes
 pub mod CheckpointFiles
-pub mod WrittenNames
+pub mod Demos
 pub mod Endings
 pub mod ProbeEnds
 pub mod Answers
@@ -21,5 +16,4 @@ pub mod ProbeLaws
 pub mod PictureLaws
 pub mod FrameLaws
 pub mod StopLaws
-pub mod LoggedCollisions
 pub mod LogLaws

@@ -1,5 +1,5 @@
 -- What no log may lack, where collisions are told: laws beside the clause on detected collisions (profile).
-use Rattle.std.specs.Prelude.{◌≡◌, ◌≢◌, ℕ, ◌<◌, ◌≤◌, ◌^◌, List, [], ◌∷◌, Option, Some, Ok}
+use Rattle.std.specs.Prelude.{◌≡◌, ◌≢◌, ℕ, ◌<◌, ◌≤◌, ◌^◌, List, [], ◌∷◌, Some, Ok}
 use Rattle.collision_log.specs.declared.row.Body.TheVariants.{Collided}
 use Rattle.collision_log.specs.declared.row.Row.{Row}
 use Rattle.layout.specs.declared.lines.Layout.{Layout}
@@ -9,18 +9,11 @@ use Rattle.mac_transmit.specs.Attempts.{Attempt}
 use Rattle.network.specs.Attempts.{OverlapOpenly}
 use Rattle.network.specs.Outputs.{half_bits}
 use Rattle.outside.specs.Files.{Files, file_of}
-use Rattle.program_endings.specs.Endings.{IsJudged}
-use Rattle.program_endings.specs.LoggedCollisions.{AreCollisionsLogged, AreDetected, IsWithin, IsWithinSaid, log_line}
-use Rattle.program_endings.specs.Moments.{Moment}
-use Rattle.program_endings.specs.Runs.{IsPlanOf}
+use Rattle.run_endings.specs.Endings.{IsJudged}
+use Rattle.run_endings.specs.LoggedCollisions.{AreCollisionsLogged, IsWithinSaid, log_line}
+use Rattle.run_endings.specs.Moments.{Moment}
+use Rattle.run_endings.specs.Runs.{IsPlanOf}
 use Rattle.program_texts.specs.Texts.{name_of_log}
-
--- where a layout is within, the rows of its run with the loads held at entry tell of its collisions, and the run's log
--- has their lines
-abbrev pub AreRunCollisionsDetected : Type 0
-AreRunCollisionsDetected =
-    (held : Option Files) (network : Layout) → IsWithin network → (plan : Plan) → IsPlanOf held network plan
-    → AreDetected plan
 
 -- the run of a layout has two attempts that overlap over an open path, the first of which ends within the run; the
 -- verdict is within, and the store tells its files at exit

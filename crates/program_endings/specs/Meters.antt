@@ -6,7 +6,7 @@ use Rattle.log_meter.specs.declared.fault.LogFault.{LogFault}
 use Rattle.log_meter.specs.declared.fault.LogFault.TheVariants as fault
 use Rattle.log_meter.specs.declared.line.LogLine.{LogLine}
 use Rattle.outside.specs.Files.{Files}
-use Rattle.program_endings.specs.Reading.{IsFront}
+use Rattle.run_endings.specs.Reading.{IsFront}
 
 -- these octets, read whole or up to one past the most that a log may have, have this fault
 abbrev pub IsFaultOfLog : List ℕ → LogFault → Type 0

@@ -3,10 +3,10 @@ use Rattle.std.specs.Prelude.{◌≡◌, ℕ, List, true, Some, Ok, IfSome}
 use Rattle.layout.specs.declared.lines.Layout.{Layout}
 use Rattle.outside.specs.Files.{Files, file_of}
 use Rattle.program_words.specs.Requests.{asked}
-use Rattle.program_endings.specs.Endings.{IsJudged}
+use Rattle.run_endings.specs.Endings.{IsJudged}
 use Rattle.program_endings.specs.StatusLaws.{OfAnswers}
 use Rattle.program_endings.specs.Statuses.{HasTakenName, IfLoaded, IsFaultStatus, IsNetworkWith, IsTakenNameSaid, IsWritingWith}
-use Rattle.program_endings.specs.WrittenNames.{is_name_of_input}
+use Rattle.run_endings.specs.WrittenNames.{is_name_of_input}
 
 -- with status 12 the layout held at entry has no fault, a file to be written has its name or that of a load, and the
 -- first such name was said

@@ -7,16 +7,16 @@ use Rattle.layout.specs.declared.lines.Layout.{Layout}
 use Rattle.line_probe.specs.declared.tap.Tap.{Tap}
 use Rattle.load_plan.specs.declared.plan.Plan.{Plan}
 use Rattle.network.specs.Outputs.{half_bits}
-use Rattle.program_endings.specs.Moments.{Moment}
+use Rattle.run_endings.specs.Moments.{Moment}
 use Rattle.program_endings.specs.Probes.{AreTapsOf, HasAim, IsMissLine}
 use Rattle.run_page.specs.Pages.{IsPage}
-use Rattle.program_texts.specs.HeardTexts.{IsTextOfTaps}
+use Rattle.report_texts.specs.HeardTexts.{IsTextOfTaps}
 use Rattle.program_words.specs.declared.words.Report.{Report}
 use Rattle.program_words.specs.declared.words.Report.TheVariants as report
 use Rattle.wave_dump.specs.Heard.{waves_of_plan}
-use Rattle.program_endings.specs.declared.endings.Ending.{Ending}
-use Rattle.program_endings.specs.declared.endings.Ending.TheVariants as ending
-use Rattle.program_endings.specs.Endings.{IsJudged, IsEarly, IsUnloadedSaid, IsText, IsPlanned, Says}
+use Rattle.run_endings.specs.declared.endings.Ending.{Ending}
+use Rattle.run_endings.specs.declared.endings.Ending.TheVariants as ending
+use Rattle.run_endings.specs.Endings.{IsJudged, IsEarly, IsUnloadedSaid, IsText, IsPlanned, Says}
 
 -- what a probe aims at isn't there: that was said, and nothing without memory
 abbrev pub IsAimEnd : Report → Layout → ℕ → List (List ℕ) → Moment → Moment → Ending → Type 0

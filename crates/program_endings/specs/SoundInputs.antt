@@ -13,7 +13,7 @@ use Rattle.program_endings.specs.Meters.{HasLog}
 use Rattle.program_endings.specs.Probes.{HasNoAim}
 use Rattle.program_endings.specs.Statuses.{HasStranger, IsDoneOrMemory, IsNetworkWith, IsPlannedWith}
 use Rattle.program_endings.specs.StatusLaws.{OfAnswers}
-use Rattle.program_endings.specs.WrittenNames.{AreNamesFree, RunOf, StateOf}
+use Rattle.run_endings.specs.WrittenNames.{AreNamesFree, RunOf, StateOf}
 
 -- what a form reads, the layout, its loads, a log or a state, is held by these files without a fault, and no file that
 -- it writes has the name of the layout or of a load

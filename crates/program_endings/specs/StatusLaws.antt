@@ -4,12 +4,14 @@ use Rattle.capture_file.specs.declared.fault.CaptureFault.{CaptureFault}
 use Rattle.outside.specs.Files.{IsAbsent, Rose}
 use Rattle.layout.specs.declared.lines.Layout.{Layout}
 use Rattle.program_endings.specs.Answers.{IsAnswer}
-use Rattle.program_endings.specs.Endings.{HasFault, IsFaultSaid, IsJudged, IsLoadFaultSaid, Says}
-use Rattle.program_endings.specs.Moments.{Moment}
+use Rattle.run_endings.specs.Endings.{HasFault, IsFaultSaid, IsJudged, IsLoadFaultSaid, Says}
+use Rattle.run_endings.specs.Answers.{IsRunFormAnswer}
+use Rattle.run_endings.specs.Moments.{Moment}
 use Rattle.program_words.specs.Requests.{asked}
-use Rattle.program_endings.specs.Statuses.{AreRunFilesHeld, HasAbsentLoad, HasLoadFault, IfDemo, IfFiles, IfLayout, IfLoaded, IfTelling, IfText, IsDemoCut, IsDemoStatus, IsDoneOrMemory, IsFaultStatus, IsLayoutWith, IsLoadedWith, IsNetworkWith, IsReadFaultSaid, IsTellingCut, IsUnreadOrMemory}
+use Rattle.program_endings.specs.Statuses.{AreRunFilesHeld, HasAbsentLoad, HasLoadFault, IfDemo, IfLayout, IfLoaded, IfTelling, IfText, IsDemoCut, IsDemoStatus, IsDoneOrMemory, IsFaultStatus, IsLayoutWith, IsLoadedWith, IsNetworkWith, IsReadFaultSaid, IsTellingCut, IsUnreadOrMemory}
+use Rattle.run_endings.specs.Done.{IfFiles}
 use Rattle.program_texts.specs.Texts.{line_of_words_fault}
-use Rattle.program_endings.specs.Writing.{IsCutShort}
+use Rattle.run_endings.specs.Writing.{IsCutShort}
 
 -- this holds of the answer of every call
 abbrev pub OfAnswers : (List (List ℕ) → Moment → Moment → ℕ → Type 0) → Type 0
@@ -169,3 +171,9 @@ abbrev pub AreTextsComplete : Type 0
 AreTextsComplete =
     OfAnswers (λ words entry exit status.
     IfText (asked words) (λ text. ¬ Rose entry.faults exit.faults → IsDoneOrMemory status))
+
+-- what the smaller program answers, which has the forms check and plain, is an answer of the whole one
+abbrev pub AreSmallerAnswers : Type 0
+AreSmallerAnswers =
+    (words : List (List ℕ)) (entry exit : Moment) (status : ℕ) → IsRunFormAnswer words entry exit status
+    → IsAnswer words entry exit status

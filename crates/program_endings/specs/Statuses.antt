@@ -11,11 +11,11 @@ use Rattle.load_plan.specs.declared.plan.Plan.{Plan}
 use Rattle.log_meter.specs.declared.line.LogLine.{LogLine}
 use Rattle.program_endings.specs.CheckpointFiles.{HasState}
 use Rattle.program_endings.specs.Demos.{IsDemoText}
-use Rattle.program_endings.specs.Endings.{IsJudged, IsLoadUnreadSaid, IsPlanned, IsUnreadSaid, Says}
+use Rattle.run_endings.specs.Endings.{IsJudged, IsLoadUnreadSaid, IsPlanned, IsUnreadSaid, Says}
 use Rattle.program_endings.specs.ProbeEnds.{IsProbeText}
 use Rattle.program_endings.specs.FrameTables.{HasUnplanned}
 use Rattle.program_endings.specs.Meters.{HasLog, IsMeterText}
-use Rattle.program_endings.specs.Moments.{Moment}
+use Rattle.run_endings.specs.Moments.{Moment}
 use Rattle.program_endings.specs.Probes.{IsMissLine}
 use Rattle.program_words.specs.Requests.{Asked, asked, Check, Slack, Plain, Run, Stop, Resume, Demo, Probe, Meter, Picture, Frames, Help, Version}
 use Rattle.program_words.specs.declared.words.Report.{Report}
@@ -25,13 +25,15 @@ use Rattle.run_checkpoint.specs.States.{text_of_state}
 use Rattle.net_step.specs.Stops.{IsFirstQuiet}
 use Rattle.run_picture.specs.Pictures.{picture_of}
 use Rattle.run_picture.specs.Strangers.{first_stranger}
-use Rattle.program_endings.specs.WrittenNames.{AreNamesFree, NoFile, RunOf, StateOf, ToWrite, first_taken_name}
-use Rattle.program_endings.specs.Runs.{IsResumedSummary, IsSummary, resumed_files, run_files}
-use Rattle.program_texts.specs.SlackTexts.{IsSlackText}
+use Rattle.run_endings.specs.WrittenNames.{AreNamesFree, NoFile, RunOf, StateOf, ToWrite, first_taken_name}
+use Rattle.program_endings.specs.StoppedRuns.{IsResumedSummary, resumed_files}
+use Rattle.run_endings.specs.Runs.{IsSummary, run_files}
+use Rattle.report_texts.specs.SlackTexts.{IsSlackText}
 use Rattle.program_texts.specs.Texts.{line_of_output_fault, line_of_stopped, line_of_stranger, line_of_unplanned, name_of_state}
 use Rattle.program_texts.specs.Verdicts.{IsVerdictLine}
-use Rattle.program_endings.specs.Writing.{put_all, put_file, added, IsBrokenAmong, IsCutShort}
+use Rattle.run_endings.specs.Writing.{put_all, put_file, added, IsBrokenAmong, IsCutShort}
 use Rattle.program_texts.specs.declared.texts.TheConstants.{HELP, VERSION}
+use Rattle.run_endings.specs.Done.{AskForFiles, IfFiles, IsCheckDone, IsRunDone, IsTellingDone, IsTextDone}
 
 -- if the words are check LAYOUT, this holds of the name
 abbrev pub IfCheck : Option Asked → (List ℕ → Type 0) → Type 0
@@ -44,16 +46,6 @@ IfSlack o P = (layout : List ℕ) → o ≡ Some (Slack layout) → P layout
 -- if the words are of a form that only tells of a layout, this holds of what its text tells and of the layout's name
 abbrev pub IfTelling : Option Asked → ((Layout → List ℕ → Type 0) → List ℕ → Type 0) → Type 0
 IfTelling o P = IfCheck o (P IsVerdictLine) × IfSlack o (P IsSlackText)
-
--- the words are of a form that writes the files of a run, plain LAYOUT PREFIX or run LAYOUT PREFIX WORKERS, with these
--- two names
-abbrev pub AskForFiles : Option Asked → List ℕ → List ℕ → Type 0
-AskForFiles o layout prefix =
-    (o ≡ Some (Plain layout prefix)) ⊎ ((workers : ℕ) × (o ≡ Some (Run layout prefix workers)))
-
--- if the words are of a form that writes the files of a run, this holds of the two names
-abbrev pub IfFiles : Option Asked → (List ℕ → List ℕ → Type 0) → Type 0
-IfFiles o P = (layout prefix : List ℕ) → AskForFiles o layout prefix → P layout prefix
 
 -- if the words are stop LAYOUT PREFIX FROM, this holds of the two names and of the half bit
 abbrev pub IfStop : Option Asked → (List ℕ → List ℕ → ℕ → Type 0) → Type 0
@@ -316,16 +308,6 @@ IsReadFaultSaid (Some Help) entry exit = ⊥
 IsReadFaultSaid (Some Version) entry exit = ⊥
 IsReadFaultSaid None entry exit = ⊥
 
--- a run is done: the layout and the loads held at entry have no fault, the files of their run are whole, every other
--- file is as at entry, and the sink got the run's summary
-pub record IsRunDone (layout prefix : List ℕ) (entry exit : Moment) : Type 0 where
-  pub plan : Plan
-  pub planned : IsPlanned layout entry.held plan
-  pub files : exit.held ≡ put_all (run_files prefix plan) entry.held
-  pub summary : List ℕ
-  pub summed : IsSummary plan summary
-  pub written : exit.written ≡ added summary entry.written
-
 -- a run is stopped: the layout and the loads held at entry have no fault, the file PREFIX.state is the text of the
 -- state of their network before its first quiet half bit at or after this one, every other file is as at entry, and the
 -- sink got the half bit's line
@@ -380,16 +362,6 @@ IsUnbegun entry exit = (exit.held ≡ entry.held) × (exit.written ≡ entry.wri
 abbrev pub IsRunRefused : List ℕ → List ℕ → Moment → Moment → Type 0
 IsRunRefused layout prefix entry exit = IsUnbegun entry exit ⊎ IsRunBroken layout prefix entry exit
 
--- a form that only tells of a layout is done: the layout held at entry has no fault, the sink got a text that tells
--- this of its network, and every file is as at entry
-pub record IsTellingDone (Tells : Layout → List ℕ → Type 0) (layout : List ℕ) (entry exit : Moment) : Type 0 where
-  pub network : Layout
-  pub judged : IsJudged layout entry.held (Ok network)
-  pub text : List ℕ
-  pub right : Tells network text
-  pub written : exit.written ≡ added text entry.written
-  pub held : exit.held ≡ entry.held
-
 -- the layout held at entry has no fault, and the sink got a front of a text that tells this of its network
 pub record IsTellingCut (Tells : Layout → List ℕ → Type 0) (layout : List ℕ) (entry exit : Moment) : Type 0 where
   pub network : Layout
@@ -397,10 +369,6 @@ pub record IsTellingCut (Tells : Layout → List ℕ → Type 0) (layout : List 
   pub text : List ℕ
   pub right : Tells network text
   pub cut : IsCutShort text entry.written exit.written
-
--- a check is done: the sink got the line of the layout's path verdict
-abbrev pub IsCheckDone : List ℕ → Moment → Moment → Type 0
-IsCheckDone layout entry exit = IsTellingDone IsVerdictLine layout entry exit
 
 -- the slacks are told: the sink got the text of the layout's slacks
 abbrev pub AreSlacksDone : List ℕ → Moment → Moment → Type 0
@@ -504,11 +472,6 @@ pub record IsTableCut (layout log : List ℕ) (entry exit : Moment) : Type 0 whe
   pub text : List ℕ
   pub right : IsTableText layout log entry.held text
   pub cut : IsCutShort text entry.written exit.written
-
--- a fixed text is told: the sink got it, and every file is as at entry
-pub record IsTextDone (text : List ℕ) (entry exit : Moment) : Type 0 where
-  pub written : exit.written ≡ added text entry.written
-  pub held : exit.held ≡ entry.held
 
 -- what these words ask for is done; words of no form ask for nothing that could be
 abbrev pub IsDone : Option Asked → Moment → Moment → Type 0

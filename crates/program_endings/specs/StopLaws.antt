@@ -10,13 +10,15 @@ use Rattle.run_checkpoint.specs.declared.fault.StateFault.{StateFault}
 use Rattle.net_step.specs.Stops.{HasNoQuiet, IsFirstQuiet}
 use Rattle.program_endings.specs.CheckpointFiles.{HasState, IsStateFaulty}
 use Rattle.program_endings.specs.Answers.{IsAnswer}
-use Rattle.program_endings.specs.Endings.{IsPlanned, IsStateFaultSaid, Says}
-use Rattle.program_endings.specs.Moments.{Moment}
-use Rattle.program_endings.specs.Runs.{IsResumedSummary, IsStopLine, resumed_files, state_files}
+use Rattle.run_endings.specs.Endings.{IsPlanned, Says}
+use Rattle.program_endings.specs.Endings.{IsStateFaultSaid}
+use Rattle.run_endings.specs.Moments.{Moment}
+use Rattle.program_endings.specs.StoppedRuns.{IsResumedSummary, IsStopLine, resumed_files, state_files}
 use Rattle.program_endings.specs.StatusLaws.{OfAnswers}
-use Rattle.program_endings.specs.Statuses.{IfResume, IfStop, IsDoneOrMemory, IsFaultStatus, IsPlannedWith, IsResumeWith, IsRunDone, IsStopWith, IsUnbegun, IsUnreadOrMemory}
-use Rattle.program_endings.specs.Writing.{IsBrokenAmong, IsCutShort, put_all}
-use Rattle.program_endings.specs.WrittenNames.{AreNamesFree, RunOf, StateOf}
+use Rattle.program_endings.specs.Statuses.{IfResume, IfStop, IsDoneOrMemory, IsFaultStatus, IsPlannedWith, IsResumeWith, IsStopWith, IsUnbegun, IsUnreadOrMemory}
+use Rattle.run_endings.specs.Done.{IsRunDone}
+use Rattle.run_endings.specs.Writing.{IsBrokenAmong, IsCutShort, put_all}
+use Rattle.run_endings.specs.WrittenNames.{AreNamesFree, RunOf, StateOf}
 
 -- with status 9 the layout and the loads held at entry have no fault, their run has no quiet half bit at or after the
 -- one that was asked for, and that was said

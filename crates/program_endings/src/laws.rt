@@ -1,5 +1,6 @@
 //! What each status says beyond the clauses of the top call: laws of every answer, each a call without a body.
-ghost use Rattle.program_endings.specs.LogLaws.{AreRunCollisionsDetected, IsEmptyLogRefused, IsInfixRefused, IsLateHitRefused};
+ghost use Rattle.run_endings.specs.LoggedCollisions.{AreRunCollisionsDetected};
+ghost use Rattle.program_endings.specs.LogLaws.{IsEmptyLogRefused, IsInfixRefused, IsLateHitRefused};
 ghost use Rattle.program_endings.specs.MeterLaws.{AreLogFaultsSaid, AreMetersComplete, AreMetersCutShort, AreMetersRefused, DoAbsentLogsDecide, DoLogFaultsDecide, DoMetersKeepFiles};
 ghost use Rattle.program_endings.specs.OutputLaws.{AreInputsKept, AreOutputFaultsSaid, DoOutputFaultsDecide};
 ghost use Rattle.program_endings.specs.FrameLaws.{AreTablesComplete, AreTablesCutShort, AreTablesRefused, DoTabledAbsentLogsDecide, DoTabledLogFaultsDecide, DoTablesKeepFiles, DoUnplannedDecide};
@@ -7,7 +8,12 @@ ghost use Rattle.program_endings.specs.PictureLaws.{ArePicturesComplete, ArePict
 ghost use Rattle.program_endings.specs.ProbeLaws.{AreMissesSaid, AreProbesComplete, AreProbesCutShort, AreProbesRefused, DoMissesDecide, DoProbedAbsentLoadsDecide, DoProbedLoadFaultsDecide, DoProbesKeepFiles};
 ghost use Rattle.program_endings.specs.StopLaws.{AreStateFaultsSaid, AreStopFilesWhole, AreStoppedRunsWhole, AreStopsBroken, AreStopsComplete, AreStopsRefused, AreStopsSilent, AreUnquietSaid, DoAbsentStatesDecide, DoStateFaultsDecide, DoUnquietDecide};
 ghost use Rattle.program_endings.specs.SoundInputs.{AreAnswersReliable};
-ghost use Rattle.program_endings.specs.StatusLaws.{AreDemosComplete, AreDemosCutShort, AreDemosRefused, AreFailuresSilent, AreFilesWhole, AreLayoutFaultsSaid, AreLoadFaultsSaid, AreReadFaultsSaid, AreTellingsComplete, AreTellingsCutShort, AreTellingsRefused, AreTextsComplete, AreTextsCutShort, AreTextsFailed, AreWordsSaid, DoAbsentLayoutsDecide, DoAbsentLoadsDecide, DoDemosKeepFiles, DoLayoutFaultsDecide, DoLoadFaultsDecide, DoTellingsKeepFiles, DoTextsKeepFiles, HaveDemosStatuses};
+ghost use Rattle.program_endings.specs.StatusLaws.{AreDemosComplete, AreDemosCutShort, AreDemosRefused, AreFailuresSilent, AreFilesWhole, AreLayoutFaultsSaid, AreLoadFaultsSaid, AreReadFaultsSaid, AreTellingsComplete, AreTellingsCutShort, AreTellingsRefused, AreTextsComplete, AreTextsCutShort, AreTextsFailed, AreWordsSaid, DoAbsentLayoutsDecide, DoAbsentLoadsDecide, DoDemosKeepFiles, DoLayoutFaultsDecide, DoLoadFaultsDecide, DoTellingsKeepFiles, DoTextsKeepFiles, HaveDemosStatuses, AreSmallerAnswers};
+
+/// What the smaller program answers is an answer of this one, so all that is proved of these holds of it, too.
+pub fn smaller_answers()
+    ensures { AreSmallerAnswers }
+{}
 
 /// Words of no form have their line on the sink, or a front of it where the sink refuses.
 pub fn words_are_said()

@@ -1,7 +1,6 @@
 //! How each form of words may end, and what each status of the program says: definitions and laws.
 #![tactic(auto)]
 
-mod endings;
 pub mod laws;
 
-pub use endings::Ending;
+pub use run_endings::Ending;

@@ -6,8 +6,8 @@ use Rattle.std.specs.Fmt.{digits}
 use Rattle.std.specs.List.Sorted.{IsStrictlySortedBy}
 use Rattle.log_meter.specs.FigureTexts.{AreFiguresIn}
 use Rattle.program_endings.specs.Meters.{IsReadLog}
-use Rattle.program_endings.specs.Moments.{Moment}
-use Rattle.program_endings.specs.Reading.{front_of}
+use Rattle.run_endings.specs.Moments.{Moment}
+use Rattle.run_endings.specs.Reading.{front_of}
 use Rattle.program_endings.specs.Statuses.{IsDone}
 use Rattle.outside.specs.Files.{Files}
 use Rattle.program_words.specs.Requests.{asked}

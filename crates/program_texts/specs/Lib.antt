@@ -1,4 +1,2 @@
 pub mod Texts
 pub mod Verdicts
-pub mod SlackTexts
-pub mod HeardTexts

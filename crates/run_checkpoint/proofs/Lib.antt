@@ -11,7 +11,6 @@ pub mod LogLines
 pub mod Pieces
 pub mod OctetsFound
 pub mod StateLengths
-pub mod HeldOctets
 pub mod LinesApart
 pub mod Judgements
 pub mod SendersJudged

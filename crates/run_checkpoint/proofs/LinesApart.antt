@@ -4,7 +4,7 @@ use Rattle.std.specs.Prelude.{◌≢◌}
 use Rattle.std.specs.List.{prefix_len}
 use Rattle.std.proofs.lemmas.Bool.{cases_Bool, eqb-true}
 use Rattle.run_checkpoint.specs.TextLines.{is_within_line, onto_first_line, text_lines}
-use Rattle.run_checkpoint.proofs.HeldOctets.{either, holds}
+use Rattle.run_texts.proofs.HeldOctets.{either, holds}
 
 -- a line without another line feed stands in front
 pub line_apart : (xs more : List ℕ) → holds 10 xs ≡ false → text_lines ((xs ++ 10 ∷ []) ++ more) ≡ (xs ++ 10 ∷ []) ∷ text_lines more

@@ -6,3 +6,5 @@ pub mod PlacesInQueues
 pub mod FramesLeft
 pub mod ShortCaptures
 pub mod StationsStay
+pub mod HeldOctets
+pub mod RowLines

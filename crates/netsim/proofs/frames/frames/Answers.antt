@@ -1,7 +1,7 @@
 use Rattle.std.proofs.Common.{rules, ◌≡◌, Err}
-use Rattle.program_endings.specs.Endings.{IsPlanned}
+use Rattle.run_endings.specs.Endings.{IsPlanned}
 use Rattle.netsim.proofs.FrameEnds.{frames-early, frames-tabled, frames-unqueued, frames-untabled}
-use Rattle.netsim.proofs.RunEnds.{plan-before, read-twice}
+use Rattle.run_forms.proofs.RunEnds.{plan-before, read-twice}
 use Rattle.netsim.proofs.frames.frames.Goals as goal
 
 pub returns-in_err-network : goal.returns-in_err-network

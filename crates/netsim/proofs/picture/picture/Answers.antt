@@ -1,6 +1,6 @@
 use Rattle.std.proofs.Common.{rules, ◌≡◌, Err}
 use Rattle.netsim.proofs.PictureEnds.{lines_few, picture-drawn, picture-early, picture-unlogged}
-use Rattle.netsim.proofs.RunEnds.{read-twice}
+use Rattle.run_forms.proofs.RunEnds.{read-twice}
 use Rattle.netsim.proofs.picture.picture.Goals as goal
 
 pub returns-in_err-network : goal.returns-in_err-network

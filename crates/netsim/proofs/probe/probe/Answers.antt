@@ -4,7 +4,7 @@ use Rattle.line_probe.specs.Taps.{HasTap}
 use Rattle.line_probe.specs.declared.tap.Tap.{Tap}
 use Rattle.program_endings.specs.Probes.{AreTapsOf, half_bits_of}
 use Rattle.netsim.proofs.ProbeEnds.{probe-early, probe-missed, probe-told, probe-unloaded}
-use Rattle.netsim.proofs.RunEnds.{plan-before, read-twice}
+use Rattle.run_forms.proofs.RunEnds.{plan-before, read-twice}
 use Rattle.netsim.proofs.TapsOfWords.{named_many}
 use Rattle.netsim.proofs.probe.probe.Goals as goal
 

@@ -2,7 +2,7 @@ use Rattle.std.proofs.Common.{Err, ℕ, List, get_or, length, ◌≡◌, ◌∙�
 use Rattle.load_plan.specs.declared.plan.Plan.{Plan}
 use Rattle.line_probe.specs.Heard.{rows_of_taps}
 use Rattle.line_probe.specs.declared.tap.Tap.{Tap}
-use Rattle.program_texts.specs.HeardTexts.{IsTextOfTap}
+use Rattle.report_texts.specs.HeardTexts.{IsTextOfTap}
 use Rattle.netsim.proofs.ProbeEnds.{cut_by, cut_with}
 use Rattle.netsim.proofs.TapTexts.{text_at, told_cut, told_more, told_unmade}
 use Rattle.netsim.proofs.probe.write_taps.Given.{Over}

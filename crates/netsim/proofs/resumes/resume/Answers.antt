@@ -1,6 +1,6 @@
 use Rattle.std.proofs.Common.{◌≡◌, rules, Err}
 use Rattle.program_texts.specs.Texts.{name_of_state}
-use Rattle.netsim.proofs.RunEnds.{read-twice}
+use Rattle.run_forms.proofs.RunEnds.{read-twice}
 use Rattle.netsim.proofs.StopEnds.{resume-ran, resume-unstated}
 use Rattle.netsim.proofs.resumes.resume.Goals as goal
 

@@ -1,4 +1,4 @@
-use Rattle.netsim.proofs.RunEnds.{plain-ran}
+use Rattle.run_forms.proofs.RunEnds.{plain-ran}
 use Rattle.netsim.proofs.runs.run.Goals as goal
 
 pub returns : goal.returns

@@ -1,9 +1,9 @@
 use Rattle.std.proofs.Common.{◌≡◌, rules}
-use Rattle.program_endings.specs.declared.endings.Ending.{Ending}
+use Rattle.run_endings.specs.declared.endings.Ending.{Ending}
 use Rattle.program_texts.specs.Texts.{name_of_state}
 use Rattle.run_checkpoint.specs.States.{text_of_state}
 use Rattle.netsim.proofs.StopEnds.{of-plan}
-use Rattle.netsim.proofs.FilesInTurn.{broken-same}
+use Rattle.run_forms.proofs.FilesInTurn.{broken-same}
 use Rattle.netsim.proofs.stops.file_state.Goals as goal
 
 pub returns-clause-err : goal.returns-clause-err

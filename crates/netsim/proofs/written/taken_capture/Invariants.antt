@@ -1,8 +1,0 @@
-use Rattle.std.proofs.Common.{◌≡◌, drop}
-use Rattle.program_endings.specs.WrittenNames.{capture_names, first_name_of_input}
-use Rattle.netsim.proofs.written.taken_capture.Given as goal
-
-abbrev pub invariant-loop-station : goal.invariant-loop-station
-invariant-loop-station l =
-    first_name_of_input l.layout l.network (capture_names l.prefix l.stations)
-    ≡ first_name_of_input l.layout l.network (capture_names l.prefix (drop l.station-index l.stations))

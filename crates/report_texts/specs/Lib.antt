@@ -1,0 +1,2 @@
+pub mod SlackTexts
+pub mod HeardTexts

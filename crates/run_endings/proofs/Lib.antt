@@ -1,0 +1,12 @@
+pub mod WrittenByPieces
+pub mod WaysOfEnding
+pub mod DoneRuns
+pub mod OneNetwork
+pub mod OnePlan
+pub mod DetectionFoundations
+pub mod OctetsOfNames
+pub mod LinesOfRows
+pub mod LogAmongFiles
+pub mod DetectedInTheLog
+pub mod CollisionsInTheLog
+pub mod DoneByRunForm

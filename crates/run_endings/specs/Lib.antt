@@ -1,0 +1,10 @@
+pub mod FileLimits
+pub mod Moments
+pub mod Reading
+pub mod Writing
+pub mod Runs
+pub mod WrittenNames
+pub mod Endings
+pub mod Answers
+pub mod Done
+pub mod LoggedCollisions

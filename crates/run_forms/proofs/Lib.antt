@@ -1,0 +1,4 @@
+pub mod FrontsOfFiles
+pub mod TextsByPieces
+pub mod FilesInTurn
+pub mod RunEnds

@@ -1,0 +1,2 @@
+pub mod LoadLines
+pub mod WrittenBy
