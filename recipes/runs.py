@@ -48,12 +48,13 @@ def figures(folder, name):
 
 
 @functools.cache
-def be_ready():
-    """Judges a layout. Where the program has to be built, it is built here, once, and shows how far it is."""
+def be_ready(form):
+    """Judges a layout by `check` or `slack`. Where the program has to be built, it is built here, once, and shows how far
+    it is: for `check` the one that has the forms check and plain, for `slack` the one that has all."""
     with tempfile.NamedTemporaryFile("w", suffix=".toml") as layout:
         layout.write('format = 1\nseed = 1\nuntil_bits = 1\n[[segment]]\nname = "x"\n')
         layout.flush()
-        if subprocess.run([PROGRAM, "check", layout.name], stdout=subprocess.DEVNULL).returncode != 0:
+        if subprocess.run([PROGRAM, form, layout.name], stdout=subprocess.DEVNULL).returncode != 0:
             sys.exit(f"{PROGRAM} doesn't run")
 
 
@@ -65,7 +66,7 @@ def finish(runs, folder, jobs):
         fcntl.flock(lock, fcntl.LOCK_EX | fcntl.LOCK_NB)
     except OSError:
         sys.exit(f"another recipe is at work in {folder}")
-    be_ready()
+    be_ready("slack")
     clear(folder)
     todo = [run for run in runs if not (folder / run.name).exists()]
     signal.signal(signal.SIGTERM, lambda number, frame: sys.exit(128 + number))

@@ -52,7 +52,7 @@ def verdict_of(survey):
 def check(plan, written):
     """The line that netsim prints of a layout. What it says of a fault is of the layout, and not of the plan."""
     try:
-        runs.be_ready()
+        runs.be_ready("check")
         with tempfile.TemporaryDirectory() as folder:
             pathlib.Path(folder, "l.toml").write_text(written, encoding="utf-8")
             done = subprocess.run([runs.PROGRAM, "check", "l.toml"], cwd=folder, stdin=subprocess.DEVNULL,

@@ -1,0 +1,28 @@
+//! The smaller program: the forms `check` and `plain`, the help, the version, and words of no form. With these it does
+//! what the whole program does, and says the same.
+#![tactic(auto)]
+
+use command_line::{read_words, tell, tell_no_memory, watched};
+use outside::{FolderStore, OutSink};
+use run_forms::{Ending, HELP, World, run_netsim};
+use std::process::ExitCode;
+
+fn main(rt: HostRuntime) -> ExitCode {
+    let Ok(words) = read_words(&rt) else {
+        tell_no_memory(&rt);
+        return ExitCode::from(Ending::Memory.status());
+    };
+    let mut world = World {
+        store: FolderStore::new(&rt, rt.alloc()),
+        out: OutSink::new(&rt, rt.alloc()),
+    };
+    let progress = watched(&rt, &rt.stderr(), words.as_slice());
+    let Some(status) = run_netsim(rt.alloc(), &words, &mut world, &progress) else {
+        let _ = eprint!(rt; "netsim: this program has the forms check and plain alone\n");
+        return ExitCode::from(Ending::Words.status());
+    };
+    progress.clear();
+    let World { mut store, mut out } = world;
+    tell(&rt, HELP, words.as_slice(), status, &mut store, &mut out);
+    ExitCode::from(status)
+}
