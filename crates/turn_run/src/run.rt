@@ -1,11 +1,12 @@
 //! The run of a plan on one thread.
-ghost use Rattle.std.specs.Prelude.{◌≡◌, ◌<◌, ◌≤◌, ◌+◌, ℕ, IfOk, OnOk, false, length};
+ghost use Rattle.std.specs.Prelude.{◌≡◌, ◌<◌, ◌≤◌, ◌+◌, ℕ, IfOk, OnOk, false, length, min};
 ghost use Rattle.net_parts.specs.Standing.{arrives, port_hears};
 ghost use Rattle.net_parts.specs.Windows.{lookahead, windows as windows_of};
 ghost use Rattle.network.specs.Outputs.{captures, rows};
 ghost use Rattle.network.specs.Times.{decided};
 ghost use Rattle.turn_run.specs.ParcelsInTurn.{all_parcels};
 ghost use Rattle.turn_run.specs.PartsInTurn.{AreAtWindow};
+ghost use Rattle.turn_run.specs.declared.run.TheConstants.{BETWEEN_LOOKS};
 
 use crate::first::{count_edges, empty_hand, first_parcels, make_parts};
 use crate::gathered::gather_outputs;
@@ -91,8 +92,8 @@ const BETWEEN_LOOKS: u64 = 16;
 /// How many of the windows that are left are made before the next look: none after some in which nothing happened, since
 /// it may be so in the next as well.
 fn before_look(quiet: u64, left: u64) -> u64
-    ensures within { result ≤ left }
-    ensures some { 0 < left → 0 < quiet + result }
+    ensures again { 0 < quiet → result ≡ 0 }
+    ensures most { quiet ≡ 0 → result ≡ min left BETWEEN_LOOKS }
 {
     if quiet > 0 {
         0
