@@ -1,12 +1,10 @@
-//! What a person is told on standard error of a run that went wrong, and how it is mended.
+//! What a person is told on standard error of a run that went wrong, and how it is mended, but for logs, states and taps.
 #![tactic(auto)]
 
 mod early;
 mod failures;
-mod lines;
 mod loads;
-mod logs;
-mod states;
+mod outputs;
 mod told;
 mod words;
 

@@ -2,9 +2,9 @@
 
 use crate::failures::tell_failure;
 use crate::loads::tell_loads;
-use crate::logs::{tell_log, tell_no_quiet, tell_output, tell_state, tell_stranger};
+use crate::outputs::tell_output;
 use crate::words::tell_words;
-use input_hints::{Ended, after, show, tell_layout, tell_range, tell_tap, word_at};
+use input_hints::{Ended, after, show, tell_layout, word_at};
 use lists::OutOfMemory;
 use load_hints::tell_load;
 use outside::{Failure, Store};
@@ -54,11 +54,6 @@ fn tell_over(out: &mut String, ended: &Ended<'_>, over: &str) -> Result<(), OutO
     Ok(())
 }
 
-/// Whether a probe or a page ends after the run.
-fn is_past_run(said: &str) -> bool {
-    said.starts_with("probe fault range") || said.starts_with("page fault range")
-}
-
 /// Puts the lines of a run that ended behind a text.
 fn tell_end<R: Files, S: Store>(
     rt: &R,
@@ -77,12 +72,6 @@ fn tell_end<R: Files, S: Store>(
             Some(failure) => tell_failure(out, ended.words, failure),
             None => Ok(()),
         },
-        7 if is_past_run(ended.said) => tell_range(alloc, out, ended, store),
-        7 => tell_tap(alloc, out, ended, store),
-        8 => tell_log(alloc, out, ended, store),
-        9 => tell_no_quiet(out, ended),
-        10 => tell_state(alloc, out, ended, store),
-        11 => tell_stranger(alloc, out, ended, store),
         12 => tell_output(out, ended),
         _ => {
             out.push_str(
@@ -93,7 +82,8 @@ fn tell_end<R: Files, S: Store>(
     }
 }
 
-/// The lines for standard error: each begins with `netsim: `, and what can't be found out is left unsaid.
+/// The lines for standard error, but for logs, states and taps: each begins with `netsim: `, and what can't be found out
+/// is left unsaid.
 pub fn hints<R: Files, S: Store>(
     rt: &R,
     alloc: Global,

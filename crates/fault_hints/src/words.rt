@@ -1,7 +1,7 @@
 //! What is wrong with words that are none of the forms. The forms are those of the help: `netsim FORM WORDS`, two
 //! blanks, and what it does.
 
-use input_hints::{Nearest, show_word};
+use input_hints::{Nearest, are_digits, show_word};
 use layout::MOST_REPEATERS;
 use lists::{OutOfMemory, Text};
 use mac_parameters::MOST_HALF_BITS;
@@ -77,10 +77,6 @@ fn range_of(name: &str) -> Option<(u32, u32)> {
         "FROM" | "TO" => Some((0, MOST_HALF_BITS as u32)),
         _ => None,
     }
-}
-
-pub fn are_digits(word: &str) -> bool {
-    !word.is_empty() && word.bytes().all(|octet| octet.is_ascii_digit())
 }
 
 /// Whether a word is a time with its unit.

@@ -38,3 +38,8 @@ pub fn after<'a>(line: &'a str, word: &str) -> Option<&'a str> {
     }
     None
 }
+
+/// Whether a word is some digits and nothing else.
+pub fn are_digits(word: &str) -> bool {
+    !word.is_empty() && word.bytes().all(|octet| octet.is_ascii_digit())
+}

@@ -3,6 +3,8 @@
 #![tactic(auto)]
 
 use command_line::{read_words, tell, tell_no_memory, watched};
+use input_hints::Ended;
+use log_hints::hints;
 use netsim::{Ending, HELP, World, netsim};
 use outside::{FolderStore, OutSink};
 use std::process::ExitCode;
@@ -20,6 +22,14 @@ fn main(rt: HostRuntime) -> ExitCode {
     let status = netsim(&rt, rt.alloc(), &words, &mut world, &progress);
     progress.clear();
     let World { mut store, mut out } = world;
-    tell(&rt, HELP, words.as_slice(), status, &mut store, &mut out);
+    let failure = store.take_failure().or(out.take_failure());
+    let ended = Ended {
+        help: HELP,
+        words: words.as_slice(),
+        status,
+        said: str::from_utf8(out.said()).unwrap_or(""),
+    };
+    let lines = hints(&rt, rt.alloc(), &ended, failure.as_ref(), &mut store);
+    tell(&rt, &ended, lines);
     ExitCode::from(status)
 }

@@ -1,8 +1,9 @@
-//! What is wrong with a log, a state or the names of files, by the program's own line.
+//! What is wrong with a log or a state, by the program's own line.
 
+use crate::fronts::{LineFront, read_line};
 use crate::lines::{first_word, row_fault, shape_fault};
 use crate::states::{form_fault, order_fault, tell_value};
-use input_hints::{Ended, LineFront, after, read_line, show, show_front, word_at};
+use input_hints::{Ended, after, show, show_front, word_at};
 use lists::OutOfMemory;
 use outside::Store;
 use std::alloc::Global;
@@ -149,29 +150,6 @@ pub fn tell_state<S: Store>(
     }
     tell_line(out, name.as_str(), number, what.as_str(), &found)?;
     out.push_str("netsim: 'netsim stop' writes a state anew\n")?;
-    Ok(())
-}
-
-/// Tells of a file to be written that has the name of the layout or of a load.
-pub fn tell_output(out: &mut String, ended: &Ended<'_>) -> Result<(), OutOfMemory> {
-    let name = ended
-        .said
-        .strip_prefix("output fault ")
-        .and_then(|rest| rest.strip_suffix("\n"));
-    let layout = word_at(ended.words, 1);
-    out.push_str("netsim: ")?;
-    match name {
-        Some(name) if name == layout => {
-            show(out, name)?;
-            out.push_str(" is the layout")?;
-        }
-        Some(name) => {
-            show(out, name)?;
-            out.push_str(" is a load of the layout")?;
-        }
-        None => out.push_str("a file is the layout or a load of it")?,
-    }
-    out.push_str(" and would be written over: give another PREFIX\n")?;
     Ok(())
 }
 

@@ -1,7 +1,6 @@
 //! The order of a layout's devices, in which a state has their rows.
 
-use crate::layouts::document_of;
-use crate::rows::{row_named, rows_of};
+use input_hints::{document_of, row_named, rows_of};
 use lists::OutOfMemory;
 use outside::Store;
 use std::alloc::Global;

@@ -1,10 +1,9 @@
 //! What is wrong with the taps and the half bits of a probe.
 
-use crate::asked::{Ended, or_empty, word_at};
-use crate::layouts::{document_of, number_at};
-use crate::message::Message;
-use crate::near::{Nearest, take_names, tell_nearest};
-use crate::rows::{is_named, rows_of};
+use input_hints::{
+    Ended, Message, Nearest, document_of, is_named, number_at, or_empty, rows_of, take_names,
+    tell_nearest, word_at,
+};
 use lists::OutOfMemory;
 use outside::Store;
 use std::alloc::Global;

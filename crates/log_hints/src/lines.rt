@@ -1,7 +1,6 @@
 //! What is wrong with a line of a log or a state, by its own text.
 
-use crate::words::are_digits;
-use input_hints::after;
+use input_hints::{after, are_digits};
 use mac_parameters::MOST_HALF_BITS;
 
 /// The greatest of a row's numbers that are no half bits.

@@ -1,7 +1,8 @@
 //! What is wrong with a line of a state.
 
 use crate::lines::{after_words, first_word, is_outside, is_padded, row_fault, shape_fault};
-use input_hints::{after, comes_before};
+use crate::order::comes_before;
+use input_hints::after;
 use lists::OutOfMemory;
 use mac_parameters::{
     ATTEMPT_LIMIT, INTERFRAME_GAP, LAST_BACKOFF, MOST_DRAWS, MOST_HALF_BITS, PARTITION_COLLISION,
