@@ -3,7 +3,8 @@ ghost use Rattle.std.specs.Prelude.{◌<◌, ◌^◌};
 
 use file_pieces::read_pieces;
 use lists::{List, OutOfMemory};
-use outside::{MemoryStore, StoreFail};
+use memory_files::MemoryStore;
+use outside::StoreFail;
 use std::alloc::Global;
 
 /// A file, by a room of so many octets and up to one octet past a limit.

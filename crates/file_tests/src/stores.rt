@@ -1,7 +1,7 @@
 use lists::OutOfMemory;
+use memory_files::{MemorySink, MemoryStore};
 use outside::{
-    Act, Failure, FolderStore, Gate, MemorySink, MemoryStore, OpenGate, OutSink, Sink, SinkFail,
-    Store, StoreFail,
+    Act, Failure, FolderStore, Gate, OpenGate, OutSink, Sink, SinkFail, Store, StoreFail,
 };
 use std::alloc::Global;
 use std::rt::Files;

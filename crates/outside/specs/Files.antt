@@ -1,6 +1,6 @@
 -- The files of a store by their names, and what each call does to them (profile).
 use Rattle.std.specs.Prelude.{◌≡◌, ◌⊎◌, ◌↔◌, ℕ, ◌+◌, ◌-◌, ◌≤◌, ◌<◌, ◌^◌, min, List, [], ◌∷◌, ◌++◌, length, take, drop, slice_index_or, slice_set, if◌then◌else◌, bytes_eq, Option, None, Some, unwrap_or, Result, Ok, Err, IfOk, IsErr}
-use Rattle.outside.specs.declared.memory.File.{File}
+use Rattle.outside.specs.declared.file.File.{File}
 
 -- files by their names; where two have one name the first counts
 abbrev pub Files : Type 0

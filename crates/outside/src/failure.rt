@@ -5,7 +5,7 @@ use std::alloc::Global;
 use std::io;
 
 /// What was asked of the system.
-#[derive(Clone, Copy, Debug, PartialEq, Eq)]
+#[derive(Clone, Copy)]
 pub enum Act {
     Read,
     Write,

@@ -95,7 +95,7 @@ pub trait Gate: Sync {
 }
 
 /// The gate that lets every part pass at once.
-#[derive(Clone, Copy, Debug)]
+#[derive(Clone, Copy)]
 pub struct OpenGate;
 
 impl Gate for OpenGate {

@@ -1,7 +1,7 @@
 -- What holds of every answer, whatever the form of words.
 use Rattle.std.proofs.Common.{◌≡◌, ◌<◌, ◌⊎◌, ◌↔◌, ℕ, Option, None, Some, List, refl, ap, subst, ◌∙◌, inl, inr, arith}
 use Rattle.outside.specs.Files.{Rose}
-use Rattle.outside.specs.declared.memory.File.{File}
+use Rattle.outside.specs.declared.file.File.{File}
 use Rattle.run_endings.specs.declared.endings.Ending.{Ending}
 use Rattle.run_endings.specs.declared.endings.Ending.TheVariants as ending
 use Rattle.program_endings.specs.Answers.{IsAnswer, IsEndOf}

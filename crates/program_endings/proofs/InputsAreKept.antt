@@ -10,7 +10,7 @@ use Rattle.load_plan.specs.declared.plan.Plan.{Plan}
 use Rattle.network.specs.Outputs.{captures, rows}
 use Rattle.network.specs.declared.outputs.Taken.{Taken}
 use Rattle.outside.specs.Files.{Files, file_of, with_file}
-use Rattle.outside.specs.declared.memory.File.{File}
+use Rattle.outside.specs.declared.file.File.{File}
 use Rattle.program_words.specs.Requests.{asked}
 use Rattle.quiet_state.specs.Resumed.{captures_from, rows_from}
 use Rattle.run_endings.specs.declared.endings.Ending.{Ending}

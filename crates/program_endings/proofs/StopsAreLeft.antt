@@ -5,7 +5,7 @@ use Rattle.layout.specs.declared.lines.Layout.{Layout}
 use Rattle.load_files.specs.Loaded.{Loaded, Whole}
 use Rattle.load_plan.specs.declared.plan.Plan.{Plan}
 use Rattle.outside.specs.Files.{Files, Rose}
-use Rattle.outside.specs.declared.memory.File.{File}
+use Rattle.outside.specs.declared.file.File.{File}
 use Rattle.program_texts.specs.Texts.{name_of_state}
 use Rattle.program_words.specs.Requests.{asked}
 use Rattle.quiet_state.specs.declared.state.NetState.{NetState}

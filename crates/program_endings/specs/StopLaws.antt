@@ -2,7 +2,7 @@
 use Rattle.std.specs.Prelude.{◌≡◌, ◌⊎◌, ℕ, List, Some, IfSome}
 use Rattle.load_plan.specs.declared.plan.Plan.{Plan}
 use Rattle.outside.specs.Files.{IsAbsent, Rose}
-use Rattle.outside.specs.declared.memory.File.{File}
+use Rattle.outside.specs.declared.file.File.{File}
 use Rattle.program_texts.specs.Texts.{line_of_no_quiet, name_of_state}
 use Rattle.program_words.specs.Requests.{asked, Resume, Stop}
 use Rattle.quiet_state.specs.declared.state.NetState.{NetState}

@@ -1,7 +1,7 @@
 -- What a run leaves that stopped, or went on from where one had stopped (profile).
 use Rattle.std.specs.Prelude.{◌≡◌, ℕ, List, [], ◌∷◌}
 use Rattle.load_plan.specs.declared.plan.Plan.{Plan}
-use Rattle.outside.specs.declared.memory.File.{File}
+use Rattle.outside.specs.declared.file.File.{File}
 use Rattle.quiet_state.specs.Resumed.{captures_from, rows_from, state_at}
 use Rattle.quiet_state.specs.declared.state.NetState.{NetState}
 use Rattle.run_checkpoint.specs.States.{text_of_state}

@@ -2,7 +2,7 @@
 use crate::calls::{BLOCK, CAPTURE, MemoryWorld, put, status_of};
 use lists::OutOfMemory;
 use netsim::World;
-use outside::{MemorySink, MemoryStore};
+use memory_files::{MemorySink, MemoryStore};
 use std::alloc::Global;
 use std::sync::Wait;
 use std::thread::Threads;

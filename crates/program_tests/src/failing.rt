@@ -1,7 +1,7 @@
 //! What is said and left where a call of the store or of the sink fails: each call in turn, for each form of words.
 use crate::calls::{Case, LOG, RUN, RUNS, STATE, holds, is_alone, store_after};
 use lists::OutOfMemory;
-use outside::MemoryStore;
+use memory_files::MemoryStore;
 use std::sync::Wait;
 use std::thread::Threads;
 

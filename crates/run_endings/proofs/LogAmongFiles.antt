@@ -8,7 +8,7 @@ use Rattle.load_plan.specs.declared.plan.Plan.{Plan}
 use Rattle.network.specs.Outputs.{captures}
 use Rattle.network.specs.declared.outputs.Taken.{Taken}
 use Rattle.outside.specs.Files.{Files, file_of, with_file}
-use Rattle.outside.specs.declared.memory.File.{File}
+use Rattle.outside.specs.declared.file.File.{File}
 use Rattle.run_endings.specs.Runs.{capture_files, counters, log, run_files}
 use Rattle.program_texts.specs.Texts.{name_of_capture, name_of_counters, name_of_log}
 use Rattle.run_endings.specs.Writing.{put_all}

@@ -2,7 +2,7 @@
 use Rattle.std.specs.Prelude.{◌≡◌, ◌≤◌, ◌⊎◌, ℕ, List, Option, None, Some, option_map, slice_get, Result, Ok, Err}
 use Rattle.capture_file.specs.declared.fault.CaptureFault.{CaptureFault}
 use Rattle.outside.specs.Files.{Files, IsAbsent, Rose}
-use Rattle.outside.specs.declared.memory.File.{File}
+use Rattle.outside.specs.declared.file.File.{File}
 use Rattle.layout_file.specs.Faults.{judged}
 use Rattle.layout.specs.declared.lines.Layout.{Layout}
 use Rattle.layout_file.specs.declared.fault.LayoutFault.{LayoutFault}

@@ -10,7 +10,7 @@ use Rattle.load_plan.specs.declared.plan.Plan.{Plan}
 use Rattle.network.specs.Outputs.{rows, captures}
 use Rattle.network.specs.declared.outputs.Taken.{Taken}
 use Rattle.outside.specs.Files.{Files}
-use Rattle.outside.specs.declared.memory.File.{File}
+use Rattle.outside.specs.declared.file.File.{File}
 use Rattle.path_checker.specs.Verdicts.{IsVerdict}
 use Rattle.path_checker.specs.declared.verdict.PathVerdict.{PathVerdict}
 use Rattle.run_texts.specs.Captures.{pcap_of_taken}

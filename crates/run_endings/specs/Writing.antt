@@ -1,7 +1,7 @@
 -- What is written of a text, to a file and to the sink (profile).
 use Rattle.std.specs.Prelude.{◌≡◌, ◌⊎◌, ℕ, ◌<◌, ◌≤◌, List, [], ◌∷◌, ◌++◌, take, length, Option, option_map}
 use Rattle.outside.specs.Files.{Files, with_file, Rose}
-use Rattle.outside.specs.declared.memory.File.{File}
+use Rattle.outside.specs.declared.file.File.{File}
 
 -- the store's files, where this one has a text
 abbrev pub put_file : List ℕ → List ℕ → Option Files → Option Files

@@ -6,7 +6,7 @@ use Rattle.std.proofs.lemmas.Bool.{cases_Bool, leb-true, leb-false}
 use Rattle.layout.specs.declared.lines.StationLine.{StationLine}
 use Rattle.network.specs.declared.outputs.Taken.{Taken}
 use Rattle.outside.specs.Files.{Files}
-use Rattle.outside.specs.declared.memory.File.{File}
+use Rattle.outside.specs.declared.file.File.{File}
 use Rattle.run_endings.specs.Writing.{IsBroken, IsBrokenAmong, put_file, put_all}
 use Rattle.run_endings.specs.Runs.{capture_files}
 use Rattle.program_texts.specs.Texts.{name_of_capture}

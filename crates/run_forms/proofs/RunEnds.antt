@@ -3,7 +3,7 @@ use Rattle.std.proofs.Common.{◌≡◌, ℕ, ◌≤◌, Option, Ok, List, ◌�
 use Rattle.layout.specs.declared.lines.Layout.{Layout}
 use Rattle.load_plan.specs.declared.plan.Plan.{Plan}
 use Rattle.outside.specs.Files.{Files, Rose}
-use Rattle.outside.specs.declared.memory.File.{File}
+use Rattle.outside.specs.declared.file.File.{File}
 use Rattle.run_endings.specs.declared.endings.Ending.{Ending}
 use Rattle.run_endings.specs.declared.endings.Ending.TheVariants as ending
 use Rattle.run_endings.specs.Moments.{Moment}

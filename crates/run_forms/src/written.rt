@@ -15,7 +15,7 @@ use run_endings::Ending;
 use std::alloc::Global;
 
 /// Which files of a prefix a form writes.
-#[derive(Clone, Copy, Debug)]
+#[derive(Clone, Copy)]
 pub enum Written {
     /// Those of a run.
     Run,

@@ -1,12 +1,12 @@
 //! Calls of one kind, some of which fail by their numbers.
 ghost use Rattle.std.specs.Prelude.{◌≡◌, [], IfOk};
-ghost use Rattle.outside.specs.Calls.{next_call, is_failing};
+ghost use Rattle.memory_files.specs.Calls.{next_call, is_failing};
 
 use lists::{List, OutOfMemory};
 use std::alloc::Global;
 
 /// The calls of one kind: the numbers of those that fail, counted from 1, and how many were made.
-#[derive(Debug, Drop)]
+#[derive(Drop)]
 pub(crate) struct Calls {
     failing: List<u32>,
     made: u64,

@@ -1,5 +1,5 @@
 use Rattle.std.proofs.Common.{◌≡◌, take}
-use Rattle.outside.proofs.calls.Calls.with_failing.Given as goal
+use Rattle.memory_files.proofs.calls.Calls.with_failing.Given as goal
 
 abbrev pub invariant-loop-number : goal.invariant-loop-number
 invariant-loop-number l = l.failing ≡ take l.number-index l.numbers

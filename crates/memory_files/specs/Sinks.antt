@@ -1,7 +1,7 @@
 -- What a sink in memory shows (profile).
 use Rattle.std.specs.Prelude.{ℕ, List}
-use Rattle.outside.specs.declared.calls.Calls.{Calls}
-use Rattle.outside.specs.declared.sink.MemorySink.{MemorySink}
+use Rattle.memory_files.specs.declared.calls.Calls.{Calls}
+use Rattle.memory_files.specs.declared.sink.MemorySink.{MemorySink}
 
 -- the octets that it got
 abbrev pub octets_of : MemorySink → List ℕ
@@ -12,8 +12,8 @@ abbrev pub writes_of : MemorySink → Calls
 writes_of sink = sink.writes
 
 -- how many writes failed
-abbrev pub faults_of : MemorySink → ℕ
-faults_of sink = sink.faults
+abbrev pub failed_of : MemorySink → ℕ
+failed_of sink = sink.faults
 
 -- how many writes took nothing of their piece
 abbrev pub refused_of : MemorySink → ℕ

@@ -1,23 +1,16 @@
 //! A store in memory, some of whose numbered calls fail.
 ghost use Rattle.std.specs.Prelude.{◌≡◌, ◌<◌, ◌≤◌, ◌↔◌, [], length, IfOk, OnOk, OnErr, IsErr, IsErrOf, IsTrue, None, option_map};
-ghost use Rattle.outside.specs.Calls.{is_failing};
+ghost use Rattle.memory_files.specs.Calls.{is_failing};
 ghost use Rattle.outside.specs.Files.{IsPiece, IsRead, with_file, file_of, started, appended, IsPlaceOf, Rose, RoseAtNothing};
-ghost use Rattle.outside.specs.Memory.{files_of, tally_of, no_tally, after_read, after_start, after_append};
+ghost use Rattle.memory_files.specs.Stores.{files_of, tally_of, no_tally, after_read, after_start, after_append};
 
 use crate::calls::Calls;
-use crate::{Store, StoreFail};
 use lists::{List, OutOfMemory, Text};
+use outside::{File, Store, StoreFail};
 use std::alloc::Global;
 
-/// A file by its name.
-#[derive(Debug, Drop)]
-pub struct File {
-    pub name: Text,
-    pub octets: List<u8>,
-}
-
 /// The calls of a store by their kinds, their faults, and the longest room or piece, in octets.
-#[derive(Debug, Drop)]
+#[derive(Drop)]
 pub(crate) struct CallTally {
     reads: Calls,
     starts: Calls,
@@ -74,7 +67,7 @@ impl CallTally {
 }
 
 /// A store that keeps its files in memory and tells them.
-#[derive(Debug, Drop)]
+#[derive(Drop)]
 pub struct MemoryStore {
     alloc: Global,
     files: Vec<File>,

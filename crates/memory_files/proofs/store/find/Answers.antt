@@ -1,7 +1,7 @@
 use Rattle.std.proofs.Common.{◌≡◌, true}
 use Rattle.std.specs.Prelude.{bytes_eq}
-use Rattle.outside.proofs.FoundFiles.{placed}
-use Rattle.outside.proofs.memory.find.Goals as goal
+use Rattle.memory_files.proofs.FoundFiles.{placed}
+use Rattle.memory_files.proofs.store.find.Goals as goal
 
 pub returns-then-eq : goal.returns-then-eq
 returns-then-eq c =

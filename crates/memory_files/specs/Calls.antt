@@ -1,7 +1,7 @@
 -- Calls of one kind, some of which fail by their numbers (profile).
 use Rattle.std.specs.Prelude.{◌==◌, ℕ, ◌+◌, ◌-◌, ◌^◌, min, List, Bool, if◌then◌else◌}
 use Rattle.std.specs.List.{list_any}
-use Rattle.outside.specs.declared.calls.Calls.{Calls}
+use Rattle.memory_files.specs.declared.calls.Calls.{Calls}
 
 -- no call was made yet; those of these numbers, counted from 1, fail
 abbrev pub no_calls : List ℕ → Calls

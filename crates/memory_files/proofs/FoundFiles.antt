@@ -2,7 +2,7 @@
 use Rattle.std.proofs.Common.{◌≡◌, ℕ, ◌<◌, true, List, ◌++◌, Some, length, get_or, set, take, drop, add-one, ◌∙◌}
 use Rattle.std.specs.Prelude.{bytes_eq}
 use Rattle.std.proofs.lemmas.List.{drop_more, get_or_default, set_split}
-use Rattle.outside.specs.declared.memory.File.{File}
+use Rattle.outside.specs.declared.file.File.{File}
 use Rattle.outside.specs.Files.{Files, file_of, with_file, IsPlace}
 
 module _ (name : List ℕ) (files : Files) (i : ℕ) (d : File) (within : i < length files) (same : bytes_eq (get_or files i d).name name ≡ true) where

@@ -1,9 +1,9 @@
 -- What a store in memory shows (profile).
 use Rattle.std.specs.Prelude.{ℕ, List, max}
-use Rattle.outside.specs.declared.calls.Calls.{Calls}
-use Rattle.outside.specs.declared.memory.MemoryStore.{MemoryStore}
-use Rattle.outside.specs.declared.memory.CallTally.{CallTally}
-use Rattle.outside.specs.Calls.{no_calls, next_call, is_failing, faults_after}
+use Rattle.memory_files.specs.declared.calls.Calls.{Calls}
+use Rattle.memory_files.specs.declared.store.MemoryStore.{MemoryStore}
+use Rattle.memory_files.specs.declared.store.CallTally.{CallTally}
+use Rattle.memory_files.specs.Calls.{no_calls, next_call, is_failing, faults_after}
 use Rattle.outside.specs.Files.{Files}
 
 -- its files
