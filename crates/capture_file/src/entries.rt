@@ -7,7 +7,7 @@ use lists::List;
 pub type FrameOctets = List<u8>;
 
 /// A frame that was captured.
-#[derive(Debug, Drop)]
+#[derive(Drop)]
 pub struct Record {
     /// When it was captured, in nanoseconds.
     pub nanos: u64,

@@ -18,21 +18,21 @@ pub const RECORD_OCTETS: usize = 16;
 pub const MOST_CAPTURED: usize = 262_144;
 
 /// Which octet of a number comes first: the lowest or the highest.
-#[derive(Clone, Copy, Debug, PartialEq, Eq)]
+#[derive(Clone, Copy)]
 pub enum Order {
     Little,
     Big,
 }
 
 /// What the fraction of a second counts.
-#[derive(Clone, Copy, Debug, PartialEq, Eq)]
+#[derive(Clone, Copy)]
 pub enum Fraction {
     Microseconds,
     Nanoseconds,
 }
 
 /// How the numbers of a capture are written.
-#[derive(Clone, Copy, Debug, PartialEq, Eq)]
+#[derive(Clone, Copy)]
 pub struct Form {
     pub order: Order,
     pub fraction: Fraction,

@@ -11,7 +11,7 @@ use crate::{CaptureFault, FrameOctets, OutOfMemory};
 use std::alloc::Global;
 
 /// How far a capture has come.
-#[derive(Clone, Copy, Debug, PartialEq, Eq)]
+#[derive(Clone, Copy)]
 pub enum Stage {
     /// The header isn't whole yet.
     Header,
@@ -22,7 +22,7 @@ pub enum Stage {
 }
 
 /// What is kept of the octets so far.
-#[derive(Debug, Drop)]
+#[derive(Drop)]
 pub struct Reading {
     pub stage: Stage,
     /// The whole records.

@@ -9,7 +9,7 @@ use mac_parameters::SLOT_TIME;
 
 /// The counts of a device: of its queue and of the records that didn't come into it, and of its rows by
 /// what happened.
-#[derive(Clone, Copy, Debug, PartialEq, Eq)]
+#[derive(Clone, Copy)]
 pub struct Counters {
     pub queued: u64,
     pub short: u64,

@@ -58,7 +58,7 @@ pub enum Body {
 }
 
 /// A row of the log: the half bit, the device, both counted from 0, and what happened.
-#[derive(Clone, Copy, Debug, PartialEq, Eq)]
+#[derive(Clone, Copy, PartialEq, Eq)]
 pub struct Row {
     pub t: u64,
     pub device: u32,

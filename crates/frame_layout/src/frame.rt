@@ -23,7 +23,7 @@ const CHECK: usize = CHECK_SEQUENCE as usize;
 
 /// A whole frame, which a contract sees as its octets in the order in which they are sent, the pad and the frame check
 /// sequence among them. Its copies share them.
-#[derive(Debug, Drop)]
+#[derive(Drop)]
 pub struct Frame {
     octets: Arc<Vec<u8>, Global>,
 }

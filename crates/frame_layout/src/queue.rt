@@ -8,7 +8,7 @@ use std::alloc::Global;
 use std::marker::Model;
 
 /// A frame and the half bit, counted from 0, from which on it may be sent.
-#[derive(Debug, Drop)]
+#[derive(Drop)]
 pub struct Ready {
     pub at: u64,
     pub frame: Frame,
@@ -16,7 +16,7 @@ pub struct Ready {
 
 /// At most 4,294,967,295 frames in the order in which they are sent, which is that of their half bits. A
 /// contract sees them as a list.
-#[derive(Debug, Drop)]
+#[derive(Drop)]
 pub struct Queue {
     items: Vec<Ready>,
 }

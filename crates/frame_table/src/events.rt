@@ -3,7 +3,7 @@ use collision_log::Body;
 use lists::List;
 
 /// What happened at a device, and in which half bit, from 0.
-#[derive(Clone, Copy, Debug, PartialEq, Eq)]
+#[derive(Clone, Copy)]
 pub struct Event {
     pub t: u64,
     pub body: Body,

@@ -9,7 +9,7 @@ use lists::OutOfMemory;
 use std::alloc::Global;
 
 /// What became of a frame.
-#[derive(Clone, Copy, Debug, PartialEq, Eq)]
+#[derive(Clone, Copy)]
 pub enum Outcome {
     Sent,
     GivenUp,
@@ -17,14 +17,14 @@ pub enum Outcome {
 }
 
 /// What became of a frame, and in which half bit.
-#[derive(Clone, Copy, Debug, PartialEq, Eq)]
+#[derive(Clone, Copy)]
 pub struct End {
     pub t: u64,
     pub outcome: Outcome,
 }
 
 /// The half bits in which a frame's first and its last attempt began, its end, and how many attempts there were.
-#[derive(Clone, Copy, Debug, PartialEq, Eq)]
+#[derive(Clone, Copy)]
 pub struct History {
     pub first: Option<u64>,
     pub start: Option<u64>,

@@ -9,7 +9,7 @@ use lists::{List, OutOfMemory};
 use std::alloc::Global;
 
 /// The half bit in which a port was closed or opened, and whether it is open after that.
-#[derive(Clone, Copy, Debug, PartialEq, Eq)]
+#[derive(Clone, Copy)]
 pub struct Change {
     pub t: u64,
     pub open_after: bool,

@@ -15,7 +15,7 @@ use crate::told::ToldByLog;
 use lists::OutOfMemory;
 
 /// How many stations a frame reached, and how many it missed.
-#[derive(Clone, Copy, Debug, PartialEq, Eq)]
+#[derive(Clone, Copy)]
 pub struct Reach {
     pub reached: u64,
     pub missed: u64,

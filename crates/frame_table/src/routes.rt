@@ -19,7 +19,7 @@ use path_checker::{MOST_TAPS, Network, Stop};
 use std::alloc::Global;
 
 /// The port by which a way enters a repeater, both from 0, and how many half bits the way has come before.
-#[derive(Clone, Copy, Debug, PartialEq, Eq)]
+#[derive(Clone, Copy)]
 pub struct WayIn {
     pub repeater: u32,
     pub port: u32,
@@ -27,7 +27,7 @@ pub struct WayIn {
 }
 
 /// Where a way from a station has come to, how long it is, and the ports by which it entered repeaters.
-#[derive(Debug, Drop)]
+#[derive(Drop)]
 pub struct Led {
     pub stop: Stop,
     pub length: u32,

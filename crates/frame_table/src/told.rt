@@ -15,7 +15,7 @@ use lists::{List, OutOfMemory};
 use std::alloc::Global;
 
 /// The receptions of each station in order, and the changes of each port of each repeater.
-#[derive(Debug, Drop)]
+#[derive(Drop)]
 pub struct ToldByLog {
     pub receptions: Vec<Vec<Reception>>,
     pub ports: Vec<List<Changes>>,

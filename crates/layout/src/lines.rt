@@ -5,7 +5,7 @@ use lists::{List, Text};
 pub type Octets = List<u8>;
 
 /// A segment: one coaxial cable.
-#[derive(Debug, Drop)]
+#[derive(Drop)]
 pub struct SegmentLine {
     pub name: Text,
 }
@@ -14,7 +14,7 @@ pub struct SegmentLine {
 pub type SegmentLines = List<SegmentLine>;
 
 /// A station and its tap.
-#[derive(Debug, Drop)]
+#[derive(Drop)]
 pub struct StationLine {
     pub name: Text,
     /// The segment's number, from 0.
@@ -31,7 +31,7 @@ pub struct StationLine {
 pub type StationLines = List<StationLine>;
 
 /// A port of a repeater and its tap.
-#[derive(Clone, Copy, Debug, PartialEq, Eq)]
+#[derive(Clone, Copy)]
 pub struct PortLine {
     /// The segment's number, from 0.
     pub segment: u32,
@@ -43,7 +43,7 @@ pub struct PortLine {
 pub type PortLines = List<PortLine>;
 
 /// A repeater.
-#[derive(Debug, Drop)]
+#[derive(Drop)]
 pub struct RepeaterLine {
     pub name: Text,
     /// From a decision to its emission, in half bits.
@@ -55,7 +55,7 @@ pub struct RepeaterLine {
 pub type RepeaterLines = List<RepeaterLine>;
 
 /// A frame that a station is asked to send.
-#[derive(Debug, Drop)]
+#[derive(Drop)]
 pub struct SendLine {
     /// The station's number, from 0.
     pub station: u32,
@@ -69,7 +69,7 @@ pub struct SendLine {
 pub type SendLines = List<SendLine>;
 
 /// A whole layout.
-#[derive(Debug, Drop)]
+#[derive(Drop)]
 pub struct Layout {
     pub format: u32,
     /// What all draws are made from.

@@ -2,7 +2,7 @@
 ghost use Rattle.std.specs.Prelude.{◌≡◌};
 
 /// A table of the file. A port row is a part of its repeater's row.
-#[derive(Clone, Copy, Debug, PartialEq, Eq)]
+#[derive(Clone, Copy, Debug)]
 pub enum Table {
     File,
     Segment,
@@ -29,7 +29,7 @@ impl Table {
 }
 
 /// A key of a table, or none where a fault is of the whole row.
-#[derive(Clone, Copy, Debug, PartialEq, Eq)]
+#[derive(Clone, Copy, Debug)]
 pub enum Key {
     None,
     Format,
@@ -76,7 +76,7 @@ impl Key {
 }
 
 /// What is wrong, in the order in which it is looked for.
-#[derive(Clone, Copy, Debug, PartialEq, Eq)]
+#[derive(Clone, Copy, Debug)]
 pub enum LayoutCode {
     /// The octets are no TOML document.
     NotToml,
@@ -161,7 +161,7 @@ impl LayoutCode {
 }
 
 /// Where a fault stands.
-#[derive(Clone, Copy, Debug, PartialEq, Eq)]
+#[derive(Clone, Copy, Debug)]
 pub struct Place {
     pub table: Table,
     /// The row from 1, or 0 for the file's own keys.
@@ -172,7 +172,7 @@ pub struct Place {
 }
 
 /// The first fault of a layout file.
-#[derive(Clone, Copy, Debug, PartialEq, Eq)]
+#[derive(Clone, Copy, Debug)]
 pub struct LayoutFault {
     pub code: LayoutCode,
     pub place: Place,

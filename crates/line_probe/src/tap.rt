@@ -8,7 +8,7 @@ ghost use Rattle.line_probe.specs.declared.tap.Tap.{Tap};
 use layout::{Layout, RepeaterLine, StationLine};
 
 /// A tap: its device, from 0, the stations before the repeaters, and its port, from 0. A station's tap has port 0.
-#[derive(Clone, Copy, Debug, PartialEq, Eq)]
+#[derive(Clone, Copy)]
 pub struct Tap {
     pub device: u32,
     pub port: u32,

@@ -5,7 +5,7 @@ use std::alloc::Global;
 use std::marker::Model;
 
 /// A text that a contract sees as the list of its octets.
-#[derive(Debug, Drop)]
+#[derive(Drop)]
 pub struct Text {
     text: String,
 }

@@ -13,7 +13,7 @@ use outside::{Store, StoreFail};
 use std::alloc::Global;
 
 /// Why one load can't be read.
-#[derive(Clone, Copy, Debug, PartialEq, Eq)]
+#[derive(Clone, Copy)]
 pub(crate) enum Unloaded {
     Fault(CaptureFault),
     Unread,
@@ -32,7 +32,7 @@ impl From<OutOfMemory> for Unloaded {
 }
 
 /// The records of a load, with the number of its octets.
-#[derive(Debug, Drop)]
+#[derive(Drop)]
 pub(crate) struct Load {
     pub records: Records,
     pub octets: usize,

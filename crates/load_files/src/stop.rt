@@ -2,7 +2,7 @@
 use capture_file::CaptureFault;
 
 /// Why the loads of stations can't be read. Stations are numbered from 0.
-#[derive(Clone, Copy, Debug, PartialEq, Eq)]
+#[derive(Clone, Copy)]
 pub enum LoadStop {
     /// The load of a station is the first with a fault.
     Fault { station: u32, fault: CaptureFault },

@@ -15,7 +15,7 @@ use mac_parameters::{ADDRESSES_AND_TYPE, NANOSECONDS_A_HALF_BIT};
 use std::alloc::Global;
 
 /// What becomes of a record.
-#[derive(Clone, Copy, Debug, PartialEq, Eq)]
+#[derive(Clone, Copy)]
 pub enum Fate {
     Sent,
     /// Octets of the frame were not kept.

@@ -10,7 +10,7 @@ use lists::List;
 pub type Queues = List<Queue>;
 
 /// The records of a load that are counted and not sent.
-#[derive(Clone, Copy, Debug, PartialEq, Eq)]
+#[derive(Clone, Copy)]
 pub struct Skips {
     pub short: u32,
     pub long: u32,
@@ -21,7 +21,7 @@ pub struct Skips {
 pub type SkipList = List<Skips>;
 
 /// A layout with what each of its stations has to send.
-#[derive(Debug, Drop)]
+#[derive(Drop)]
 pub struct Plan {
     pub layout: Layout,
     pub queues: Queues,

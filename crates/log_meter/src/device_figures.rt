@@ -3,7 +3,7 @@ use lists::{List, Text};
 
 /// What lines of a station count: how many of its frames were sent, met a collision, were given up or cut, how many it
 /// received and dropped, and for how many half bits it sent.
-#[derive(Clone, Copy, Debug, PartialEq, Eq)]
+#[derive(Clone, Copy)]
 pub struct StationTally {
     pub sent: u64,
     pub collided: u64,
@@ -15,7 +15,7 @@ pub struct StationTally {
 }
 
 /// What lines of a repeater count: collisions, and partitions, reconnections and halts of its ports.
-#[derive(Clone, Copy, Debug, PartialEq, Eq)]
+#[derive(Clone, Copy)]
 pub struct RepeaterTally {
     pub clash: u64,
     pub closed: u64,
@@ -25,7 +25,7 @@ pub struct RepeaterTally {
 
 /// What a station did, how many of each thousand of its sendings met a collision, and the most frames that it sent in a
 /// row while no other station sent one.
-#[derive(Debug, Drop)]
+#[derive(Drop)]
 pub struct StationFigures {
     pub name: Text,
     pub tally: StationTally,
@@ -34,7 +34,7 @@ pub struct StationFigures {
 }
 
 /// What a repeater did.
-#[derive(Debug, Drop)]
+#[derive(Drop)]
 pub struct RepeaterFigures {
     pub name: Text,
     pub tally: RepeaterTally,
@@ -47,7 +47,7 @@ pub type StationList = List<StationFigures>;
 pub type RepeaterList = List<RepeaterFigures>;
 
 /// The figures of a log.
-#[derive(Debug, Drop)]
+#[derive(Drop)]
 pub struct Figures {
     pub stations: StationList,
     pub repeaters: RepeaterList,

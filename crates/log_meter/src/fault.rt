@@ -2,7 +2,7 @@
 use lists::OutOfMemory;
 
 /// The fault of a line.
-#[derive(Clone, Copy, Debug, PartialEq, Eq)]
+#[derive(Clone, Copy)]
 pub enum LineFault {
     /// The octets are no line of a log.
     Bad,
@@ -37,7 +37,7 @@ impl From<OutOfMemory> for LineFault {
 }
 
 /// The first fault of a log. Lines are numbered from 1.
-#[derive(Clone, Copy, Debug, PartialEq, Eq)]
+#[derive(Clone, Copy)]
 pub enum LogFault {
     /// There are more than 268,435,456 octets.
     TooLarge,

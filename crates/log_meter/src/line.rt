@@ -11,7 +11,7 @@ use lists::{List, OutOfMemory, Text};
 use std::alloc::Global;
 
 /// A line: the half bit, from 0, whether the device is a repeater, its name, and what happened.
-#[derive(Debug, Drop)]
+#[derive(Drop)]
 pub struct LogLine {
     pub t: u64,
     pub repeater: bool,

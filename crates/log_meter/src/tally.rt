@@ -10,7 +10,7 @@ use collision_log::Body;
 use lists::OutOfMemory;
 
 /// Whether the name is a station's and whether it is a repeater's, and what its lines count.
-#[derive(Clone, Copy, Debug, PartialEq, Eq)]
+#[derive(Clone, Copy)]
 pub struct Tally {
     pub station: bool,
     pub repeater: bool,

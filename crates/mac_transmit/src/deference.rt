@@ -10,7 +10,7 @@ use crate::cases::sending;
 use mac_parameters::{INTERFRAME_GAP, INTERFRAME_GAP_PART_1};
 
 /// How a station waits for its turn (IEEE 802.3, 4.2.3.2.1).
-#[derive(Clone, Copy, Debug, PartialEq, Eq)]
+#[derive(Clone, Copy)]
 pub enum Defer {
     /// Nothing is heard, and the gap has gone.
     Watch,
@@ -21,7 +21,7 @@ pub enum Defer {
 }
 
 /// The next state, and whether the station is free to start now.
-#[derive(Clone, Copy, Debug, PartialEq, Eq)]
+#[derive(Clone, Copy)]
 pub struct Deferral {
     pub next: Defer,
     pub free: bool,

@@ -1,7 +1,7 @@
 //! What a sender is doing.
 
 /// What a sender is doing (IEEE 802.3, 4.2.8).
-#[derive(Clone, Copy, Debug, PartialEq, Eq)]
+#[derive(Clone, Copy, PartialEq, Eq)]
 pub enum Phase {
     /// It waits for a frame to be ready.
     Rest,

@@ -4,7 +4,7 @@ use crate::{Defer, Phase};
 
 /// What a sender is doing and how it waits, its attempt, from 1, its place in its queue, from 0, and its number of
 /// draws.
-#[derive(Clone, Copy, Debug, PartialEq, Eq)]
+#[derive(Clone, Copy)]
 pub struct SenderState {
     pub phase: Phase,
     pub defer: Defer,

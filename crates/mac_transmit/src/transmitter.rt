@@ -21,7 +21,7 @@ use std::marker::Model;
 const MOST_CALM: u64 = 4096;
 
 /// What a half bit of a sender gives.
-#[derive(Clone, Copy, Debug, PartialEq, Eq)]
+#[derive(Clone, Copy)]
 pub struct SendStep {
     pub emitted: Sym,
     pub event: Option<Body>,

@@ -9,7 +9,7 @@ use crate::deference::next_deference;
 use crate::{Defer, Phase};
 
 /// What a station does in a half bit, and how it waits after it.
-#[derive(Clone, Copy, Debug, PartialEq, Eq)]
+#[derive(Clone, Copy)]
 pub struct Turn {
     pub phase: Phase,
     pub defer: Defer,

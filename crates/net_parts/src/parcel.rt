@@ -8,7 +8,7 @@ use std::alloc::Global;
 use std::marker::Model;
 
 /// The symbols of half bits one after another. No call makes them more, so none but the first takes memory.
-#[derive(Debug, Drop)]
+#[derive(Drop)]
 pub struct Symbols {
     items: Vec<Sym>,
 }
@@ -82,7 +82,7 @@ impl Symbols {
 /// The one parcel of an edge: the symbols for a window; that window, which is its stamp; its way, to its repeater or
 /// else to its segment; and whether it is spoiled, which follows want of memory. The widest fields come first, so that
 /// it is short.
-#[derive(Debug, Drop)]
+#[derive(Drop)]
 pub struct Parcel {
     pub symbols: Symbols,
     pub window: u64,

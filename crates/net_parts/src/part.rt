@@ -70,7 +70,7 @@ pub trait Part: Send + Drop {
 }
 
 /// What a part hands out when it has made all windows: its rows, and what each of its stations captured.
-#[derive(Debug, Drop)]
+#[derive(Drop)]
 pub struct PartOutputs {
     pub part: u32,
     pub rows: Rows,

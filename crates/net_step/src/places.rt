@@ -8,7 +8,7 @@ use lists::OutOfMemory;
 use std::alloc::Global;
 
 /// Where a tap is: its segment, and its number among the taps of that segment, both counted from 0.
-#[derive(Clone, Copy, Debug, PartialEq, Eq)]
+#[derive(Clone, Copy)]
 pub struct TapOnSegment {
     pub segment: u32,
     pub local: u32,

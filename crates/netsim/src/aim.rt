@@ -18,7 +18,7 @@ use run_forms::World;
 use std::alloc::Global;
 
 /// Why there are no taps of these words.
-#[derive(Clone, Copy, Debug)]
+#[derive(Clone, Copy)]
 pub(crate) enum TapStop<'a> {
     /// The first word that names no tap.
     Unknown { word: &'a str },

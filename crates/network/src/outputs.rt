@@ -5,7 +5,7 @@ use lists::List;
 
 /// A frame that a station received: the half bit, from 0, at which its reception ended, and its octets
 /// with pad and without FCS.
-#[derive(Debug, Drop)]
+#[derive(Drop)]
 pub struct Taken {
     pub t: u64,
     pub octets: Octets,
@@ -18,7 +18,7 @@ pub type TakenList = List<Taken>;
 pub type Captures = List<TakenList>;
 
 /// The rows of a run in order of t, then device, and what each station received.
-#[derive(Debug, Drop)]
+#[derive(Drop)]
 pub struct Outputs {
     pub rows: Rows,
     pub captures: Captures,

@@ -14,7 +14,7 @@ use net_parts::edges_of;
 use std::alloc::Global;
 
 /// The number of an edge and that of the worker to which its parcel goes from a part.
-#[derive(Clone, Copy, Debug)]
+#[derive(Clone, Copy)]
 pub struct Outlet {
     pub edge: u32,
     pub worker: u32,

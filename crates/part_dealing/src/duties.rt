@@ -11,7 +11,7 @@ use std::alloc::Global;
 
 /// A part of a worker, and the last segment on which it is; its outlets are those from place `first` on to before place
 /// `end`.
-#[derive(Clone, Copy, Debug)]
+#[derive(Clone, Copy)]
 pub struct Duty {
     pub part: u32,
     pub last: u32,

@@ -14,7 +14,7 @@ use layout::{Attachment, Layout, Way};
 pub const MOST_TAPS: u32 = 5_120;
 
 /// A station's number, from 0, and how far it is in half bits.
-#[derive(Clone, Copy, Debug, PartialEq, Eq)]
+#[derive(Clone, Copy, Debug)]
 pub struct Far {
     pub length: u32,
     pub station: u32,

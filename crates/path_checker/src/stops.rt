@@ -11,7 +11,7 @@ use lists::{List, OutOfMemory};
 use std::alloc::Global;
 
 /// A tap, with its segment's number from 0 and its place there in half bits from the end of the cable.
-#[derive(Clone, Copy, Debug, PartialEq, Eq)]
+#[derive(Clone, Copy)]
 pub struct Stop {
     pub tap: Attachment,
     pub segment: u32,
@@ -22,7 +22,7 @@ pub struct Stop {
 pub type Stops = List<Stop>;
 
 /// The taps of each segment and of each repeater, in the file's order.
-#[derive(Debug, Drop)]
+#[derive(Drop)]
 pub struct Network {
     pub segments: List<Stops>,
     pub repeaters: List<Stops>,

@@ -10,7 +10,7 @@ use lists::{List, OutOfMemory};
 use std::alloc::Global;
 
 /// What is known of a port by one way: the farthest station, if there is any.
-#[derive(Clone, Copy, Debug, PartialEq, Eq)]
+#[derive(Clone, Copy)]
 pub enum Entry {
     Open,
     Found(Option<Far>),

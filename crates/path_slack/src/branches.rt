@@ -17,14 +17,14 @@ use path_checker::{Far, MOST_TAPS, Network, ReachTable, Stop, farther, farthest,
 use std::alloc::Global;
 
 /// A tap, and the station that is farthest from it off its cable.
-#[derive(Clone, Copy, Debug, PartialEq, Eq)]
+#[derive(Clone, Copy)]
 pub struct Branch {
     pub tap: Attachment,
     pub far: Option<Far>,
 }
 
 /// The branches of a segment, one for each of its taps.
-#[derive(Debug, Drop)]
+#[derive(Drop)]
 pub struct Branches {
     pub segment: u32,
     pub list: List<Branch>,

@@ -99,7 +99,7 @@ fn copied_ports(alloc: Global, ports: &[PortLine]) -> Result<PortLines, OutOfMem
 }
 
 /// A piece of cable that grows: `by` half bits just below the place `high` of a segment.
-#[derive(Clone, Copy, Debug)]
+#[derive(Clone, Copy)]
 struct Piece {
     segment: u32,
     high: u32,

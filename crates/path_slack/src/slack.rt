@@ -21,7 +21,7 @@ use path_checker::{Network, PathVerdict, ReachTable, check_paths, network_of, op
 use std::alloc::Global;
 
 /// What stops a lengthening.
-#[derive(Clone, Copy, Debug, PartialEq, Eq)]
+#[derive(Clone, Copy)]
 pub enum Limit {
     /// The round trip of these two stations, which count from 0; `a` is below `b`.
     Pair { a: u32, b: u32 },
@@ -31,7 +31,7 @@ pub enum Limit {
 
 /// How far a gap between two neighbouring places of a segment can grow, and what stops it; None where the layout itself
 /// has a round trip of the slot time or more.
-#[derive(Clone, Copy, Debug, PartialEq, Eq)]
+#[derive(Clone, Copy)]
 pub struct GapSlack {
     /// The segment's number, from 0.
     pub segment: u32,
@@ -44,7 +44,7 @@ pub struct GapSlack {
 
 /// How far a repeater's delay can grow, and what stops it; None where the layout itself has a round trip of the slot
 /// time or more.
-#[derive(Clone, Copy, Debug, PartialEq, Eq)]
+#[derive(Clone, Copy)]
 pub struct DelaySlack {
     /// The repeater's number, from 0.
     pub repeater: u32,
@@ -59,7 +59,7 @@ pub type GapList = List<GapSlack>;
 pub type DelayList = List<DelaySlack>;
 
 /// The slacks of a layout.
-#[derive(Debug, Drop)]
+#[derive(Drop)]
 pub struct Slacks {
     pub gaps: GapList,
     pub delays: DelayList,

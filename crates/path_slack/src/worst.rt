@@ -6,7 +6,7 @@ ghost use Rattle.path_slack.specs.Pairs.{pair_over, worse_of, worse_pair};
 use path_checker::Far;
 
 /// Two stations, the lower one first, and how far apart they are in half bits.
-#[derive(Clone, Copy, Debug, PartialEq, Eq)]
+#[derive(Clone, Copy)]
 pub struct FarthestPair {
     pub length: u32,
     pub a: u32,

@@ -11,7 +11,7 @@ use std::marker::Model;
 pub const FOREVER: u32 = u32::MAX;
 
 /// What a half bit did to a port: nothing, or it was partitioned, or connected again.
-#[derive(Clone, Copy, Debug, PartialEq, Eq)]
+#[derive(Clone, Copy, Debug)]
 pub enum GuardEvent {
     None,
     Closed,
@@ -22,7 +22,7 @@ pub enum GuardEvent {
 /// heard, whether the activity under way had a collision, the collisions in a row, and the half bits of the collision
 /// and of the clean run under way. Each is counted as far as it takes to partition the port or to connect it again, and
 /// only a closed port may open.
-#[derive(Clone, Copy, Debug, PartialEq, Eq)]
+#[derive(Clone, Copy)]
 pub struct PortGuard {
     pub closed: bool,
     pub mend: bool,

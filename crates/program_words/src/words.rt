@@ -27,7 +27,7 @@ const MOST_TAP_WORD: usize = 40;
 const MOST_PROBED: u32 = 1_000_000;
 
 /// What is reported of a stretch of a run.
-#[derive(Clone, Copy, Debug)]
+#[derive(Clone, Copy)]
 pub enum Report {
     /// What taps hear, tap by tap, as runs of one symbol and bursts.
     Runs,
@@ -38,7 +38,7 @@ pub enum Report {
 }
 
 /// What the words ask for.
-#[derive(Clone, Copy, Debug)]
+#[derive(Clone, Copy)]
 pub enum Request<'a> {
     /// Says the path verdict of a layout.
     Check {

@@ -16,7 +16,7 @@ pub type NumberList = List<u32>;
 
 /// A quiet network before half bit `t`, counted from 0. `rests` are the half bits that each port still rests, 0 to 191,
 /// in the order of `guards`. `rows` and `captures` are those of the half bits before `t`.
-#[derive(Debug, Drop)]
+#[derive(Drop)]
 pub struct NetState {
     pub t: u64,
     pub senders: SenderList,

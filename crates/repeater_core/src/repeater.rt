@@ -36,7 +36,7 @@ use std::marker::Model;
 
 /// What happened in a half bit: whether a collision of ports began, and the ports that were closed (partition), opened
 /// (reconnection) and halted (jabber lockup protection), where bit p, counted from 0, stands for port p.
-#[derive(Clone, Copy, Debug, PartialEq, Eq)]
+#[derive(Clone, Copy)]
 pub struct RepeaterEvents {
     pub clash: bool,
     pub closed: u32,

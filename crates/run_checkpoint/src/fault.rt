@@ -6,7 +6,7 @@ use lists::{List, OutOfMemory};
 use std::alloc::Global;
 
 /// The first fault of the text of a state. Lines are numbered from 1.
-#[derive(Clone, Copy, Debug, PartialEq, Eq)]
+#[derive(Clone, Copy)]
 pub enum StateFault {
     /// There are more than 268,435,456 octets.
     TooLarge,

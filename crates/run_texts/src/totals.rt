@@ -11,7 +11,7 @@ use load_plan::Plan;
 use std::alloc::Global;
 
 /// The sums over all devices.
-#[derive(Clone, Copy, Debug, PartialEq, Eq)]
+#[derive(Clone, Copy)]
 pub struct Sums {
     pub sent: u64,
     pub collided: u64,

@@ -9,7 +9,7 @@ use repeater_core::{Mode, sends_to};
 
 /// What a tap emits. A station sends a frame, and after a hit the jam. A port repeats what another port of its
 /// repeater hears, which is counted from 0, or makes a fragment longer, or jams.
-#[derive(Clone, Copy, Debug, PartialEq, Eq)]
+#[derive(Clone, Copy)]
 pub enum SignalKind {
     Frame,
     Jam,

@@ -7,7 +7,7 @@ use crate::kind::{SignalKind, is_same};
 use lists::{List, OutOfMemory};
 
 /// A stretch of half bits, from `start` to before `end`, in each of which a tap emits a signal of this kind.
-#[derive(Clone, Copy, Debug, PartialEq, Eq)]
+#[derive(Clone, Copy)]
 pub struct Stretch {
     pub start: u64,
     pub end: u64,
