@@ -1,8 +1,8 @@
 //! Files that are longer than a block are read and written by blocks.
 use crate::calls::{BLOCK, CAPTURE, MemoryWorld, put, status_of};
 use lists::OutOfMemory;
-use netsim::World;
 use memory_files::{MemorySink, MemoryStore};
+use netsim::World;
 use std::alloc::Global;
 use std::sync::Wait;
 use std::thread::Threads;

@@ -1,7 +1,7 @@
 //! Calls over stores and sinks in memory, for the tests. No contract says what the store holds: the tests look.
 use lists::{List, OutOfMemory, Text};
-use netsim::{Words, World, netsim};
 use memory_files::{MemorySink, MemoryStore};
+use netsim::{Words, World, netsim};
 use outside::OpenGate;
 use std::alloc::Global;
 use std::sync::Wait;
