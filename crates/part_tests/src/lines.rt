@@ -6,7 +6,7 @@ ghost use Rattle.tap_lines.specs.TapLists.{AreLoudTaps};
 use lists::OutOfMemory;
 use manchester_line::Sym;
 use std::alloc::Global;
-use tap_lines::{Line, LoudTaps, classes_ahead, farthest, hear_all, hear_listed, piece_of};
+use tap_lines::{Line, LoudTaps, class_ahead, farthest, hear_listed, piece_of};
 
 /// A line at place 0 that emits Idle, three signals and Idle.
 fn loud_line(alloc: Global) -> Result<Line, OutOfMemory> {
@@ -29,7 +29,6 @@ fn is_heard(lines: &[Line], source: Option<usize>, loud: &LoudTaps) -> bool
     requires source { IfSome source (IsOnlySource 3 lines.now) }
     requires loud { AreLoudTaps 3 lines.now loud.now.taps }
 {
-    let heard = [Sym::Idle, Sym::Hi];
     let piece = match piece_of(lines, source, 1, 4, 10, 13, 1) {
         Some(piece) => piece == [Sym::Hi].as_slice(),
         None => false,
@@ -37,7 +36,8 @@ fn is_heard(lines: &[Line], source: Option<usize>, loud: &LoudTaps) -> bool
     piece
         && piece_of(lines, source, 1, 4, 10, 13, 2).is_none()
         && piece_of(lines, source, 0, 4, 10, 13, 1).is_none()
-        && classes_ahead(lines, 2, loud, 4, 10, 13, &heard, 5) == 1
+        && class_ahead(lines, loud, 0, 4, 10, 13, 5, false) == 5
+        && class_ahead(lines, loud, 1, 4, 10, 13, 5, true) == 1
 }
 
 /// Whether from half bit 3 on tap 0 alone is loud, and is heard so, and from half bit 4 on none is.
@@ -80,11 +80,12 @@ fn first_line(alloc: Global) -> Result<Line, OutOfMemory> {
     Ok(line)
 }
 
-/// A line at place 10 that emits Idle, and then four signals.
+/// A line at place 10 that emits Idle, then four signals, and Idle.
 fn second_line(alloc: Global) -> Result<Line, OutOfMemory> {
     let mut line = Line::new(alloc, 10, 4, 20, 20)?;
     line.rest(13);
     line.extend(&[Sym::Hi, Sym::Lo, Sym::Hi, Sym::Lo]);
+    line.rest(1);
     Ok(line)
 }
 
@@ -101,17 +102,15 @@ fn are_found(lines: &[Line], loud: &mut LoudTaps) -> bool
     none && one && loud.len() == 2 && loud.only() == None && loud.tap(0) == 1 && loud.tap(1) == 2
 }
 
-/// Whether all taps hear what they must in half bit 20, and for as long as they must.
+/// Whether all taps hear a signal or Idle from half bit 20 on, and for as long as they must.
 fn hear_now(lines: &[Line], loud: &LoudTaps) -> bool
     requires taps { length lines.now ≡ 3 }
     requires reach { IsReachOf 20 4 lines.now }
     requires loud { AreLoudTaps 0 lines.now loud.now.taps }
 {
-    let mut heard = [Sym::Clash; 3];
-    hear_all(lines, 4, 20, 20, &mut heard);
-    heard == [Sym::Hi, Sym::Idle, Sym::Idle]
-        && classes_ahead(lines, 1, loud, 4, 20, 20, &heard, 10) == 7
-        && classes_ahead(lines, 3, loud, 4, 20, 20, &heard, 10) == 3
+    class_ahead(lines, loud, 0, 4, 20, 20, 10, true) == 7
+        && class_ahead(lines, loud, 1, 4, 20, 20, 10, false) == 3
+        && class_ahead(lines, loud, 2, 4, 20, 20, 10, false) == 10
 }
 
 /// Whether tap 0 hears what it must in the eight half bits from 20 on.

@@ -47,7 +47,10 @@ module _ (plan : Plan) (x : ℕ) (station : x < length plan.layout.stations) (p 
   heard_so = λ i d l.
       let many = size in
       let in_it : i < n = omega (arith, l, many) in
-      ap is_signal (get_or-span (λ a. heard_by_lines L a ls p) w.since n i d in_it) ∙ behind.steady (w.since + i) (omega arith) (omega (arith, in_it, until))
+      let from = behind.from_start in
+      ap is_signal (get_or-span (λ a. heard_by_lines L a ls p) w.since n i d in_it)
+      ∙ sym (right.classes (w.since + i) (omega (arith, from)) (omega (arith, in_it)))
+      ∙ behind.steady (w.since + i) (omega arith) (omega (arith, in_it, until))
 
   hears : span (heard plan x) w.since n ≡ hs
   hears = let from = behind.from_start in span_alike (heard plan x) (λ a. heard_by_lines L a ls p) w.since w.since n (λ i l. right.hears (w.since + i) (omega (arith, from)) (omega (arith, l)))
@@ -96,7 +99,7 @@ module _ (plan : Plan) (x : ℕ) (station : x < length plan.layout.stations) (p 
             let e = later_on j in
             ap is_signal (same_emission j) ∙ behind.signal (length hs + j) (omega (arith, e, l)) ∙ ap is_sending (sym phase);
         lasts = λ sending. sending_left s s' w.carrier hs (w.told - w.since) (w.told - u) (w.until - w.since) heard_so (omega (arith, many, until)) behind.calm sent (omega (arith, many, since)) (behind.lasts (ap is_sending (sym phase) ∙ sending));
-        ends = behind.ends;
+        goes = λ a low. behind.goes a (omega (arith, low, since)) ∙ ap is_sending (sym phase);
       })
     where
       watch_is : (w' : Watch) → w'.since ≡ u → w'.until ≡ w.until → w'.carrier ≡ w.carrier → w'.told ≡ w.told → w' ≡ record w { since = u }
@@ -157,9 +160,12 @@ module _ (plan : Plan) (x : ℕ) (station : x < length plan.layout.stations) (p 
   pub no_sending : (sender_step (sender_at plan x u) (heard plan x u)).event ≡ None
   no_sending =
       let size = length-span f w.since (m + 1) in
+      let from = behind.from_start in
       let all : AllHeardAs w.carrier (span f w.since (m + 1)) = λ i d l.
       let in_it : i < m + 1 = omega (arith, l, size) in
-      ap is_signal (get_or-span f w.since (m + 1) i d in_it) ∙ behind.steady (w.since + i) (omega arith) (omega (arith, in_it, until, at)) in
+      ap is_signal (get_or-span f w.since (m + 1) i d in_it)
+      ∙ sym (right.classes (w.since + i) (omega (arith, from)) (omega (arith, in_it, at)))
+      ∙ behind.steady (w.since + i) (omega arith) (omega (arith, in_it, until, at)) in
       let calm : AreCalm s (before ++ f u ∷ []) = subst (AreCalm s) all_of (behind.calm.calm (span f w.since (m + 1)) all (omega (arith, size, until, at))) in
       ap₂ (λ a b. (sender_step a b).event) sender_now heard_now ∙ last_calm s before (f u) calm
 
@@ -177,7 +183,9 @@ module _ (plan : Plan) (x : ℕ) (station : x < length plan.layout.stations) (p 
       ap (receiver_at plan x) (sym at) ∙ receiver_runs plan x station sending m w.since (λ i l. sends i (omega (arith, l))) ∙ ap (λ xs. receiver_after r0 xs sending) (heard_before m (omega arith)) in
       let none : receiver_bodies r0 (before ++ f u ∷ []) sending ≡ [] =
       ap (λ xs. receiver_bodies r0 xs sending) (sym all_of)
-      ∙ bodies_of sending w.carrier f w.since (m + 1) r0 k (λ j l. behind.steady (w.since + j) (omega arith) (omega (arith, l, until, at))) still behind.receiver in
+      ∙ bodies_of sending w.carrier f w.since (m + 1) r0 k
+      (λ j l. sym (right.classes (w.since + j) (omega (arith, from)) (omega (arith, l, at))) ∙ behind.steady (w.since + j) (omega arith) (omega (arith, l, until, at)))
+      still behind.receiver in
       ap₂ (λ a b. (receiver_step a b (is_signal (emitted plan x u))).event) later heard_now
       ∙ ap (λ b. (receiver_step (receiver_after r0 before sending) (f u) b).event) now
       ∙ last_still r0 before (f u) sending none
@@ -202,9 +210,13 @@ idle_after r false (x ∷ xs) e = refl
 pub idle_halves : (r : Receiving) → (receiver_step r Idle false).state.halves ≡ []
 idle_halves r = idle_after r r.deaf r.halves refl
 
-pub idle_now : (plan : Plan) (x p L t u : ℕ) (ls : List TapLine) (w : Watch) (s : Sender) (k : KeptReception) → StandsBehind plan x p L t ls w s k → u < w.until → EndsAt u w s → heard_for L w.since (u + 1 - w.since) ls p ≡ Idle ∷ []
-idle_now plan x p L t u ls w s k behind until ends =
+pub idle_now : (plan : Plan) (x p L t u : ℕ) (ls : List TapLine) (w : Watch) (s : Sender) (k : KeptReception) → StandsBehind plan x p L t ls w s k → u < w.until → EndsAt u w s →
+    HearsByLines plan x p L t (u + 1) ls → heard_for L w.since (u + 1 - w.since) ls p ≡ Idle ∷ []
+idle_now plan x p L t u ls w s k behind until ends right =
     let at = ends.now in
+    let from = behind.from_start in
     let n : u + 1 - w.since ≡ 1 = omega (arith, at) in
-    idle_piece (λ a. heard_by_lines L a ls p) w.since (u + 1 - w.since) (λ j l. behind.steady (w.since + j) (omega arith) (omega (arith, l, n, at, until)) ∙ ends.idle)
+    idle_piece (λ a. heard_by_lines L a ls p) w.since (u + 1 - w.since)
+    (λ j l. sym (right.classes (w.since + j) (omega (arith, from)) (omega (arith, l, n, at)))
+    ∙ behind.steady (w.since + j) (omega arith) (omega (arith, l, n, at, until)) ∙ ends.idle)
     ∙ ap (λ m. replicate m Idle) n

@@ -1,5 +1,5 @@
 -- What taps hear by lines of which some have changed.
-use Rattle.std.proofs.Common.{◌≡◌, ◌≢◌, ℕ, suc, ◌+◌, ◌-◌, ◌<◌, ◌≤◌, ◌∷◌, Bool, true, false, cond, eqb, leb, inl, inr, List, [], map, take, length, length-append, get_or, refl, sym, subst, ap, ap₂, ◌∙◌, arith}
+use Rattle.std.proofs.Common.{◌≡◌, ◌≢◌, ℕ, suc, ◌+◌, ◌-◌, ◌<◌, ◌≤◌, ◌∷◌, ◌||◌, Bool, true, false, cond, eqb, leb, inl, inr, List, [], map, take, length, length-append, get_or, refl, sym, subst, ap, ap₂, ◌∙◌, arith}
 use Rattle.std.proofs.lemmas.List.{get_or-map, get_or_append_left}
 use Rattle.std.proofs.lemmas.Bool.{cases_lt, cases_eq, cases_order, eq-eqb}
 use Rattle.manchester_line.specs.declared.Sym.{Sym}
@@ -19,9 +19,9 @@ use Rattle.net_parts.specs.Windows.{edge_ports, lookahead}
 use Rattle.net_parts.specs.SegmentParts.{wiring}
 use Rattle.net_parts.proofs.LateRows.{if_true, if_false}
 use Rattle.net_parts.proofs.StationNumbers.{numbered, count-left}
-use Rattle.tap_lines.specs.TapLines.{TapLine, no_line, half_bits_back, heard_of_lines, heard_by_lines, symbol_on}
+use Rattle.tap_lines.specs.TapLines.{TapLine, no_line, half_bits_back, heard_of_lines, heard_by_lines, symbol_on, class_on, class_back, class_of_lines, class_by_lines}
 use Rattle.tap_lines.specs.TapLists.{AreIdleButFor}
-use Rattle.tap_lines.proofs.HeardClasses.{idle_symbol}
+use Rattle.tap_lines.proofs.LineClasses.{IsAlikeBelow, class_same, heard_alike, heard_unchanged, le_false, le_true}
 use Rattle.segment_engine.specs.declared.apart.Watch.{Watch}
 use Rattle.segment_engine.specs.KnownLines.{KnowLines}
 use Rattle.segment_engine.specs.StationsApart.{StandsBehind, HearsByLines, AreToldAnew, IsToldAnew, lowered_watch}
@@ -42,35 +42,6 @@ heard_same L t p at q (l ∷ ls) (l' ∷ ls') many same =
     (same 0 q (omega arith) (omega arith))
     (heard_same L t p at (q + 1) ls ls' (omega (arith, many)) (λ i r h e. same (suc i) r (omega (arith, h)) (omega (arith, e))))
 
-mix_class : (a b : Sym) → is_signal (mix_of a b) ≡ cond (is_signal a) true (is_signal b)
-mix_class Idle b = refl
-mix_class Hi Idle = refl
-mix_class Hi Hi = refl
-mix_class Hi Lo = refl
-mix_class Hi Clash = refl
-mix_class Lo Idle = refl
-mix_class Lo Hi = refl
-mix_class Lo Lo = refl
-mix_class Lo Clash = refl
-mix_class Clash Idle = refl
-mix_class Clash Hi = refl
-mix_class Clash Lo = refl
-mix_class Clash Clash = refl
-
--- lines of each of which the tap hears a signal where it did
-class_same : (L t p at q : ℕ) (ls ls' : List TapLine) → length ls' ≡ length ls →
-    ((i r : ℕ) → i < length ls → r ≡ q + i → is_signal (heard_of_one L t p at r (get_or ls' i no_line)) ≡ is_signal (heard_of_one L t p at r (get_or ls i no_line))) →
-    is_signal (heard_of_lines L t p at q ls') ≡ is_signal (heard_of_lines L t p at q ls)
-class_same L t p at q [] [] many same = refl
-class_same L t p at q [] (l' ∷ ls') many same = absurd (omega (arith, many))
-class_same L t p at q (l ∷ ls) [] many same = absurd (omega (arith, many))
-class_same L t p at q (l ∷ ls) (l' ∷ ls') many same =
-    mix_class (heard_of_one L t p at q l') (heard_of_lines L t p at (q + 1) ls')
-    ∙ ap₂ (λ (b c : Bool). cond b true c)
-    (same 0 q (omega arith) (omega arith))
-    (class_same L t p at (q + 1) ls ls' (omega (arith, many)) (λ i r h e. same (suc i) r (omega (arith, h)) (omega (arith, e))))
-    ∙ sym (mix_class (heard_of_one L t p at q l) (heard_of_lines L t p at (q + 1) ls))
-
 -- one line, of which nothing up to the half bit has changed
 one_same : (L t p at q : ℕ) (l l' : TapLine) → l'.at ≡ l.at → l'.delay ≡ l.delay → ((a : ℕ) → a ≤ t → symbol_on l' a ≡ symbol_on l a) →
     heard_of_one L t p at q l' ≡ heard_of_one L t p at q l
@@ -80,30 +51,9 @@ one_same L t p at q l l' place wait same =
     ap (λ b. cond (eqb q p) Idle (earlier (symbol_on l') t b)) way
     ∙ ap (λ x. cond (eqb q p) Idle (cond (leb back t) x Idle)) (same (t - back) (omega arith))
 
-class_under : (b : Bool) (x y : Sym) → is_signal x ≡ is_signal y → is_signal (cond b Idle x) ≡ is_signal (cond b Idle y)
-class_under true x y h = refl
-class_under false x y h = h
-
--- one line, which has a signal where it had one in what is heard of it
-one_class : (L t p at q from : ℕ) (l l' : TapLine) → l'.at ≡ l.at → l'.delay ≡ l.delay → t < from + half_bits_back L at l →
-    ((a : ℕ) → a < from → is_signal (symbol_on l' a) ≡ is_signal (symbol_on l a)) →
-    is_signal (heard_of_one L t p at q l') ≡ is_signal (heard_of_one L t p at q l)
-one_class L t p at q from l l' place wait early alike =
-    let back = half_bits_back L at l in
-    let way : half_bits_back L at l' ≡ back = ap₂ (λ x d. distance at x + d - L) place wait in
-    let heard : is_signal (earlier (symbol_on l') t back) ≡ is_signal (earlier (symbol_on l) t back) = elim (cases_lt t back) [
-      | inl before ↦ ap is_signal (if_false {m = back} {n = t} _ _ before) ∙ sym (ap is_signal (if_false {m = back} {n = t} _ _ before))
-      | inr there ↦
-          ap is_signal (if_true {m = back} {n = t} _ _ there)
-          ∙ alike (t - back) (omega (arith, early, there))
-          ∙ sym (ap is_signal (if_true {m = back} {n = t} _ _ there))
-    ] in
-    ap (λ b. is_signal (cond (eqb q p) Idle (earlier (symbol_on l') t b))) way
-    ∙ class_under (eqb q p) (earlier (symbol_on l') t back) (earlier (symbol_on l) t back) heard
-
 -- Lines that differ from half bit u on at most say the same of what is heard below it, and of what they are right below.
 unchanged : (u : ℕ) (l : TapLine) → IsToldAnew u l l
-unchanged u l = record { place = refl; wait = refl; keeps = refl; begins = refl; size = refl; before = λ a h. refl }
+unchanged u l = record { place = refl; wait = refl; keeps = refl; begins = refl; size = refl; before = λ a h. refl; classes = λ a h. refl }
 
 pub line_anew : (u n q : ℕ) (ls ls' : List TapLine) → AreToldAnew u n ls ls' → IsToldAnew u (get_or ls q no_line) (get_or ls' q no_line)
 line_anew u n q ls ls' anew = elim (cases_lt q n) [
@@ -111,7 +61,7 @@ line_anew u n q ls ls' anew = elim (cases_lt q n) [
   | inr other ↦ subst (λ l. IsToldAnew u (get_or ls q no_line) l) (sym (anew.others q other)) (unchanged u (get_or ls q no_line))
 ]
 
-same_places : (ls ls' : List TapLine) → length ls' ≡ length ls → ((i : ℕ) → (get_or ls' i no_line).at ≡ (get_or ls i no_line).at) →
+pub same_places : (ls ls' : List TapLine) → length ls' ≡ length ls → ((i : ℕ) → (get_or ls' i no_line).at ≡ (get_or ls i no_line).at) →
     map (λ (l : TapLine). l.at) ls' ≡ map (λ (l : TapLine). l.at) ls
 same_places [] [] many same = refl
 same_places [] (l' ∷ ls') many same = absurd (omega (arith, many))
@@ -148,6 +98,12 @@ known_anew plan s u front ls ls' anew know =
           let is = anew.others (n + p) (omega arith) in
           let base = ap (λ (l : TapLine). l.base) is in
           ap (λ l. symbol_on l a) is ∙ know.arrivals p a h (omega (arith, low, base)) high;
+      classes = λ r a h low.
+          let is = line_anew u n r ls ls' anew in
+          is.classes a low ∙ know.classes r a h low ∙ sym (ap is_signal (is.before a low));
+      port_classes = λ p a h low.
+          let is = anew.others (n + p) (omega arith) in
+          subst (λ l. class_on l a ≡ is_signal (symbol_on l a)) (sym is) (know.port_classes p a h low);
     }
 
 pub heard_anew : (L u n a q : ℕ) (ls ls' : List TapLine) → AreToldAnew u n ls ls' → a < u → heard_by_lines L a ls' q ≡ heard_by_lines L a ls q
@@ -158,50 +114,19 @@ heard_anew L u n a q ls ls' anew below =
     let is = line_anew u n i ls ls' anew in
     one_same L a q at r (get_or ls i no_line) (get_or ls' i no_line) is.place is.wait (λ b c. is.before b (omega (arith, c, below))))
 
+pub class_anew : (L u n a q : ℕ) (ls ls' : List TapLine) → AreToldAnew u n ls ls' → a < u → class_by_lines L a ls' q ≡ class_by_lines L a ls q
+class_anew L u n a q ls ls' anew below =
+    class_same L a q ls ls' anew.many (line_anew u n q ls ls' anew).place
+    (λ r h e. (line_anew u n r ls ls' anew).place)
+    (λ r h e. (line_anew u n r ls ls' anew).wait)
+    (λ r h e there. (line_anew u n r ls ls' anew).classes (a - half_bits_back L (get_or ls q no_line).at (get_or ls r no_line)) (omega (arith, below)))
+
 pub hears_anew : (plan : Plan) (x q L t u n : ℕ) (ls ls' : List TapLine) → AreToldAnew u n ls ls' → HearsByLines plan x q L t u ls → HearsByLines plan x q L t u ls'
 hears_anew plan x q L t u n ls ls' anew right = record {
   hears = λ a low high. right.hears a low high ∙ sym (heard_anew L u n a q ls ls' anew high);
+  classes = λ a low high. class_anew L u n a q ls ls' anew high ∙ right.classes a low high ∙ ap is_signal (sym (heard_anew L u n a q ls ls' anew high));
   emits = λ a low high. right.emits a low high ∙ sym ((line_anew u n q ls ls' anew).before a high);
 }
-
--- Lines of which that of tap p alone has changed, and has a signal below half bit `from` where it had one.
-pub record IsAlikeBelow (p from : ℕ) (ls ls' : List TapLine) : Type 0 where
-  pub many : length ls' ≡ length ls
-  pub place : (get_or ls' p no_line).at ≡ (get_or ls p no_line).at
-  pub wait : (get_or ls' p no_line).delay ≡ (get_or ls p no_line).delay
-  pub others : (r : ℕ) (d : TapLine) → r ≢ p → get_or ls' r d ≡ get_or ls r d
-  pub alike : (a : ℕ) → a < from → is_signal (symbol_on (get_or ls' p no_line) a) ≡ is_signal (symbol_on (get_or ls p no_line) a)
-
-place_alike : (p from q : ℕ) (ls ls' : List TapLine) → IsAlikeBelow p from ls ls' → (get_or ls' q no_line).at ≡ (get_or ls q no_line).at
-place_alike p from q ls ls' is = elim (cases_eq q p) [
-  | inl own ↦ subst (λ j. (get_or ls' j no_line).at ≡ (get_or ls j no_line).at) (sym own) is.place
-  | inr differs ↦ ap (λ (l : TapLine). l.at) (is.others q no_line differs)
-]
-
-pub heard_alike : (L p from a q : ℕ) (ls ls' : List TapLine) → IsAlikeBelow p from ls ls' → p < length ls → q < length ls →
-    a < from + half_bits_back L (get_or ls q no_line).at (get_or ls p no_line) → is_signal (heard_by_lines L a ls' q) ≡ is_signal (heard_by_lines L a ls q)
-heard_alike L p from a q ls ls' is tap other below =
-    let at = (get_or ls q no_line).at in
-    ap (λ x. is_signal (heard_of_lines L a q x 0 ls')) (place_alike p from q ls ls' is)
-    ∙ class_same L a q at 0 ls ls' is.many (λ i r h e. elim (cases_eq i p) [
-      | inl own ↦
-          subst (λ j. is_signal (heard_of_one L a q at r (get_or ls' j no_line)) ≡ is_signal (heard_of_one L a q at r (get_or ls j no_line))) (sym own)
-          (one_class L a q at r from (get_or ls p no_line) (get_or ls' p no_line) is.place is.wait below is.alike)
-      | inr differs ↦ ap (λ l. is_signal (heard_of_one L a q at r l)) (is.others i no_line differs)
-    ])
-
--- a tap doesn't hear its own line, so that this may change as it will
-pub heard_own : (L p a : ℕ) (ls ls' : List TapLine) → IsAlikeBelow p 0 ls ls' → heard_by_lines L a ls' p ≡ heard_by_lines L a ls p
-heard_own L p a ls ls' is =
-    let at = (get_or ls p no_line).at in
-    ap (λ x. heard_of_lines L a p x 0 ls') is.place
-    ∙ heard_same L a p at 0 ls ls' is.many (λ i r h e. elim (cases_eq i p) [
-      | inl own ↦
-          let same : eqb r p ≡ true = eq-eqb r p (omega (arith, e, own)) in
-          ap (λ b. cond b Idle (earlier (symbol_on (get_or ls' i no_line)) a (half_bits_back L at (get_or ls' i no_line)))) same
-          ∙ sym (ap (λ b. cond b Idle (earlier (symbol_on (get_or ls i no_line)) a (half_bits_back L at (get_or ls i no_line)))) same)
-      | inr differs ↦ ap (λ l. heard_of_one L a p at r l) (is.others i no_line differs)
-    ])
 
 -- Two stations' taps share no place.
 nowhere : PortLine
@@ -264,10 +189,77 @@ reaches_later plan s t front ls know q p hq hp other =
     let some = some_way (get_or ls q no_line).at (get_or ls p no_line).at (λ e. places_apart plan s q p hq hp other (sym first ∙ e ∙ second)) in
     omega (arith, wait, some)
 
+-- A tap hears a signal by lines as they go on where it hears one by them.
+mix_class : (a b : Sym) → is_signal (mix_of a b) ≡ is_signal a || is_signal b
+mix_class Idle b = refl
+mix_class Hi Idle = refl
+mix_class Hi Hi = refl
+mix_class Hi Lo = refl
+mix_class Hi Clash = refl
+mix_class Lo Idle = refl
+mix_class Lo Hi = refl
+mix_class Lo Lo = refl
+mix_class Lo Clash = refl
+mix_class Clash Idle = refl
+mix_class Clash Hi = refl
+mix_class Clash Lo = refl
+mix_class Clash Clash = refl
+
+class_once : (b : Bool) (c : Bool) (x : Sym) → c ≡ is_signal x → cond b false c ≡ is_signal (cond b Idle x)
+class_once true c x h = refl
+class_once false c x h = h
+
+-- of one line, with a signal where there is one
+class_of_one : (L t p at r : ℕ) (l : TapLine) → (half_bits_back L at l ≤ t → class_on l (t - half_bits_back L at l) ≡ is_signal (symbol_on l (t - half_bits_back L at l))) →
+    class_back l t (half_bits_back L at l) ≡ is_signal (earlier (symbol_on l) t (half_bits_back L at l))
+class_of_one L t p at r l so =
+    let back = half_bits_back L at l in
+    elim (cases_lt t back) [
+      | inl before ↦ le_false {m = back} {n = t} _ _ before ∙ sym (ap is_signal (if_false {m = back} {n = t} _ _ before))
+      | inr there ↦ le_true {m = back} {n = t} _ _ there ∙ so there ∙ sym (ap is_signal (if_true {m = back} {n = t} _ _ there))
+    ]
+
+class_of_all : (L t p at q : ℕ) (ls : List TapLine) →
+    ((i r : ℕ) → i < length ls → r ≡ q + i → r ≢ p → half_bits_back L at (get_or ls i no_line) ≤ t →
+    class_on (get_or ls i no_line) (t - half_bits_back L at (get_or ls i no_line)) ≡ is_signal (symbol_on (get_or ls i no_line) (t - half_bits_back L at (get_or ls i no_line)))) →
+    class_of_lines L t p at q ls ≡ is_signal (heard_of_lines L t p at q ls)
+class_of_all L t p at q [] so = refl
+class_of_all L t p at q (l ∷ ls) so =
+    let first : cond (eqb q p) false (class_back l t (half_bits_back L at l)) ≡ is_signal (cond (eqb q p) Idle (earlier (symbol_on l) t (half_bits_back L at l))) =
+    elim (cases_eq q p) [
+      | inl own ↦
+          let same : eqb q p ≡ true = eq-eqb q p own in
+          ap (λ b. cond b false (class_back l t (half_bits_back L at l))) same ∙ sym (ap (λ b. is_signal (cond b Idle (earlier (symbol_on l) t (half_bits_back L at l)))) same)
+      | inr differs ↦ class_once (eqb q p) (class_back l t (half_bits_back L at l)) (earlier (symbol_on l) t (half_bits_back L at l)) (class_of_one L t p at q l (so 0 q (omega arith) (omega arith) differs))
+    ] in
+    ap₂ ◌||◌ first (class_of_all L t p at (q + 1) ls (λ i r h e. so (suc i) r (omega (arith, h)) (omega (arith, e))))
+    ∙ sym (mix_class (cond (eqb q p) Idle (earlier (symbol_on l) t (half_bits_back L at l))) (heard_of_lines L t p at (q + 1) ls))
+
+-- a station of a segment whose lines are right hears a signal by these as they go on where it hears one by them
+pub class_known : (plan : Plan) (s t front : ℕ) (ls : List TapLine) → KnowLines plan (wiring plan.layout s) (lookahead plan.layout) t front ls → t < front →
+    (q : ℕ) → q < length (wiring plan.layout s).stations → class_by_lines (lookahead plan.layout) t ls q ≡ is_signal (heard_by_lines (lookahead plan.layout) t ls q)
+class_known plan s t front ls know below q hq =
+    let n = length (wiring plan.layout s).stations in
+    let L = lookahead plan.layout in
+    let at = (get_or ls q no_line).at in
+    class_of_all L t q at 0 ls (λ i r h e differs there.
+    let back = half_bits_back L at (get_or ls i no_line) in
+    elim (cases_lt i n) [
+      | inl station ↦
+          let some = reaches_later plan s t front ls know q i hq station (λ e'. differs (omega (arith, e, e'))) in
+          know.classes i (t - back) station (omega (arith, some, there))
+      | inr port ↦
+          let p = i - n in
+          let same : n + p ≡ i = omega (arith, port) in
+          let many = know.many in
+          subst (λ j. class_on (get_or ls j no_line) (t - back) ≡ is_signal (symbol_on (get_or ls j no_line) (t - back))) same
+          (know.port_classes p (t - back) (omega (arith, h, many, same)) (omega (arith, below)))
+    ])
+
 -- What holds of another station, where its watch goes no further than the change is heard.
-pub lowered : (plan : Plan) (x q L t p from : ℕ) (ls ls' : List TapLine) (w : Watch) (s : Sender) (k : KeptReception) → IsAlikeBelow p from ls ls' → p < length ls → q < length ls → q ≢ p →
+pub lowered : (plan : Plan) (x q L t p from : ℕ) (ls ls' : List TapLine) (w : Watch) (s : Sender) (k : KeptReception) → IsAlikeBelow p from ls ls' → q ≢ p →
     StandsBehind plan x q L t ls w s k → StandsBehind plan x q L t ls' (lowered_watch (from + half_bits_back L (get_or ls q no_line).at (get_or ls p no_line)) w) s k
-lowered plan x q L t p from ls ls' w s k is tap other apart behind =
+lowered plan x q L t p from ls ls' w s k is apart behind =
     let back = half_bits_back L (get_or ls q no_line).at (get_or ls p no_line) in
     let same : get_or ls' q no_line ≡ get_or ls q no_line = is.others q no_line apart in
     let order = behind.ordered in
@@ -285,16 +277,16 @@ lowered plan x q L t p from ls ls' w s k is tap other apart behind =
         number = omega (arith, number);
         calm = λ hs heard few. behind.calm.calm hs heard (omega (arith, few));
       };
-      steady = λ a low high. heard_alike L p from a q ls ls' is tap other (omega (arith, low, high)) ∙ behind.steady a low (omega (arith, high));
+      steady = λ a low high. heard_alike L p from a q ls ls' is (omega (arith, low, high)) ∙ behind.steady a low (omega (arith, high));
       line = λ j h. ap (λ l. symbol_on l (w.since + j)) same ∙ behind.line j h;
       signal = behind.signal;
       lasts = behind.lasts;
-      ends = ap (λ (l : TapLine). l.base + length l.symbols) same ∙ behind.ends;
+      goes = λ a low. ap (λ l. class_on l a) same ∙ behind.goes a low;
     }
 
-pub unlowered : (plan : Plan) (x q L t p : ℕ) (ls ls' : List TapLine) (w : Watch) (s : Sender) (k : KeptReception) → ((from : ℕ) → IsAlikeBelow p from ls ls') → p < length ls → q < length ls → q ≢ p →
+pub unlowered : (plan : Plan) (x q L t p : ℕ) (ls ls' : List TapLine) (w : Watch) (s : Sender) (k : KeptReception) → ((from : ℕ) → IsAlikeBelow p from ls ls') → q ≢ p →
     StandsBehind plan x q L t ls w s k → StandsBehind plan x q L t ls' w s k
-unlowered plan x q L t p ls ls' w s k is tap other apart behind =
+unlowered plan x q L t p ls ls' w s k is apart behind =
     let same : get_or ls' q no_line ≡ get_or ls q no_line = (is 0).others q no_line apart in
     record {
       from_start = behind.from_start;
@@ -305,11 +297,11 @@ unlowered plan x q L t p ls ls' w s k is tap other apart behind =
       time = behind.time;
       steps = behind.steps;
       calm = behind.calm;
-      steady = λ a low high. heard_alike L p (suc a) a q ls ls' (is (suc a)) tap other (omega arith) ∙ behind.steady a low high;
+      steady = λ a low high. heard_unchanged L p a q ls ls' is ∙ behind.steady a low high;
       line = λ j h. ap (λ l. symbol_on l (w.since + j)) same ∙ behind.line j h;
       signal = behind.signal;
       lasts = behind.lasts;
-      ends = ap (λ (l : TapLine). l.base + length l.symbols) same ∙ behind.ends;
+      goes = λ a low. ap (λ l. class_on l a) same ∙ behind.goes a low;
     }
 
 -- the list of loud taps stands where no line has a signal in the place of Idle
@@ -320,12 +312,12 @@ listed_alike u p ls ls' ns is idle =
       within = λ i h. let z = idle.within i h in omega (arith, z, many);
       rising = idle.rising;
       others = λ r h out v late.
-          let before : symbol_on (get_or ls r no_line) v ≡ Idle = idle.others r (omega (arith, h, many)) out v late in
+          let before : class_on (get_or ls r no_line) v ≡ false = idle.others r (omega (arith, h, many)) out v late in
           elim (cases_eq r p) [
             | inl own ↦
-                let one : is_signal (symbol_on (get_or ls' r no_line) v) ≡ is_signal (symbol_on (get_or ls r no_line) v) =
-                subst (λ j. is_signal (symbol_on (get_or ls' j no_line) v) ≡ is_signal (symbol_on (get_or ls j no_line) v)) (sym own) ((is (suc v)).alike v (omega arith)) in
-                idle_symbol (symbol_on (get_or ls' r no_line) v) (one ∙ ap is_signal before)
-            | inr differs ↦ ap (λ l. symbol_on l v) ((is 0).others r no_line differs) ∙ before
+                let one : class_on (get_or ls' r no_line) v ≡ class_on (get_or ls r no_line) v =
+                subst (λ j. class_on (get_or ls' j no_line) v ≡ class_on (get_or ls j no_line) v) (sym own) ((is (suc v)).alike v (omega arith)) in
+                one ∙ before
+            | inr differs ↦ ap (λ l. class_on l v) ((is 0).others r no_line differs) ∙ before
           ];
     }

@@ -162,9 +162,9 @@ covers_less e n k ws ss ks w' s' k' l lw ls lk dw ds dk room within c =
     within) c
 
 -- all stations stand apart, where one has changed
-pub stand_set : (of : Segment) (t u end k : ℕ) (ls : List TapLine) (ws : List Watch) (ss : List Sender) (ks : List KeptReception) (w' : Watch) (s' : Sender) (k' : KeptReception) →
-    k < length ss → StandAllApart of t u end ls ws ss ks → StandsApart of t u end k ls w' s' k' → StandAllApart of t u end ls (set ws k w') (set ss k s') (set ks k k')
-stand_set of t u end k ls ws ss ks w' s' k' l all one =
+pub stand_set : (of : Segment) (t u k : ℕ) (ls : List TapLine) (ws : List Watch) (ss : List Sender) (ks : List KeptReception) (w' : Watch) (s' : Sender) (k' : KeptReception) →
+    k < length ss → StandAllApart of t u ls ws ss ks → StandsApart of t u k ls w' s' k' → StandAllApart of t u ls (set ws k w') (set ss k s') (set ks k k')
+stand_set of t u k ls ws ss ks w' s' k' l all one =
     let a = all.senders in
     let b = all.receivers in
     let c = all.watches in
@@ -173,7 +173,7 @@ stand_set of t u end k ls ws ss ks w' s' k' l all one =
       receivers = length-set ks k k' ∙ b;
       watches = c ∙ sym (length-set ws k w');
       taps = all.taps;
-      each = each_set (λ i w s r. StandsApart of t u end i ls w s r) (length of.stations.items) k ws ss ks w' s' k' (omega (arith, l, a, c)) l (omega (arith, l, a, b)) (λ i w s r h e. all.each i w s r h) one;
+      each = each_set (λ i w s r. StandsApart of t u i ls w s r) (length of.stations.items) k ws ss ks w' s' k' (omega (arith, l, a, c)) l (omega (arith, l, a, b)) (λ i w s r h e. all.each i w s r h) one;
     }
 
 -- what holds of the watches below k, where that of station k has changed

@@ -1,13 +1,11 @@
 -- Lines go on standing for what they hold.
-use Rattle.std.proofs.Common.{◌≡◌, ℕ, ◌+◌, ◌-◌, ◌<◌, ◌≤◌, true, false, ltb, inl, inr, List, ◌++◌, drop, length, get_or, sym, ap, ap₂, ◌∙◌, arith}
-use Rattle.std.proofs.lemmas.Bool.{cases_lt}
-use Rattle.std.proofs.lemmas.Bool.Decides.{nat_tests}
+use Rattle.std.proofs.Common.{◌≡◌, ℕ, ◌+◌, ◌-◌, ◌<◌, ◌≤◌, List, ◌++◌, drop, length, get_or, sym, ap, ap₂, ◌∙◌, arith}
 use Rattle.manchester_line.specs.declared.Sym.{Sym}
 use Rattle.manchester_line.specs.declared.Sym.TheVariants.{Idle}
 use Rattle.net_parts.specs.Machines.{span}
 use Rattle.net_parts.proofs.LateRows.{if_true}
 use Rattle.net_parts.proofs.RepeaterSteps.{length-span, get_or-span}
-use Rattle.tap_lines.specs.TapLines.{TapLine, symbol_on, line_extended, dropped_from, slid}
+use Rattle.tap_lines.specs.TapLines.{TapLine, symbol_on, line_extended, dropped_from}
 use Rattle.segment_engine.specs.PartStates.{IsLineOf}
 use Rattle.tap_lines.proofs.Spans.{span_two, drop-span}
 
@@ -54,15 +52,3 @@ module _ (f : ℕ → Sym) (front t : ℕ) (l : TapLine) (is : IsLineOf f front 
         ahead = omega (arith, ahead);
         holds = ap (drop k) is.holds ∙ drop-span f l.base (front - l.base) k few ∙ ap (span f (l.base + k)) rest;
       }
-
-  pub line_slid : (n : ℕ) → front ≡ t → IsLineOf f front t (slid n l)
-  line_slid n e = elim (cases_lt l.room n) [
-    | inl less ↦
-        let begins = is.begins in
-        let ahead = is.ahead in
-        let size = line_size in
-        let k = length l.symbols - l.backlog in
-        let test : ltb l.room n ≡ true = grind (arith, nat_tests) in
-        rw test (dropped_line k (omega (arith, size)) (omega (arith, size, begins, ahead, e)))
-    | inr enough ↦ let test : ltb l.room n ≡ false = grind (arith, nat_tests) in rw test is
-  ]

@@ -28,10 +28,8 @@ use Rattle.window_room.specs.Rooms.{Room, KeepsRoom}
 use Rattle.window_room.specs.NeededRoom.{Demand, Covers, IsDemandWithin, stations_demand, demand_times, station_demand}
 use Rattle.window_room.proofs.PaidRoom.{any_stations}
 use Rattle.mac_transmit.specs.Sender.{Sender}
-use Rattle.segment_engine.specs.declared.running.Running.{Running}
 use Rattle.segment_engine.specs.PartStates.{AreStationsAt}
-use Rattle.segment_engine.specs.RunningStates.{IsRunningAt}
-use Rattle.segment_engine.specs.KeptParts.{KeepsSegment, StandsInNetwork, is_segment_state, segment_state}
+use Rattle.segment_engine.specs.KeptParts.{is_segment_state, segment_state}
 use Rattle.segment_engine.proofs.Beginnings.{receiver_new, stations_within}
 
 -- the part that stands at a window is a segment
@@ -40,19 +38,6 @@ unfolding part_at
 part_is plan s wd t below at =
     let is : is_segment_part plan s ≡ true = grind (arith, nat_tests) in
     ap (λ b. part_of_kind plan b s (time plan wd)) is ∙ ap (λ u. OfSegment (segment_at plan (lookahead plan.layout) (wiring plan.layout s) u)) (sym at)
-
-pub kept_of : (plan : Plan) (s wd front : ℕ) (a : Running) → s < length plan.layout.segments → a.t ≡ time plan wd → IsRunningAt plan s front a → KeepsSegment a (part_at plan s wd)
-kept_of plan s wd front a below at is =
-    let st = is.stations in
-    subst (KeepsSegment a) (sym (part_is plan s wd a.t below at)) (record {
-      kind = refl;
-      time = refl;
-      senders = st.senders;
-      as_many = sym (length-AllHear (map (λ k. receiver_at plan k a.t) (wiring plan.layout s).stations) a.receivers.items st.receivers);
-      receivers = λ i d r h. AllHear-at (map (λ k. receiver_at plan k a.t) (wiring plan.layout s).stations) a.receivers.items i r d st.receivers h;
-      rows = st.logged;
-      captures = st.kept;
-    })
 
 -- receivers one by one, and all of them
 pub hear_each : (f : ℕ → Receiving) (ks : List ℕ) (rs : List KeptReception) → length rs ≡ length ks → ((i : ℕ) (d : KeptReception) → i < length rs → Hears (f (get_or ks i 0)) (get_or rs i d)) → AllHear (map f ks) rs
@@ -78,41 +63,6 @@ receiver_stands {plan = plan} {ks = ks} {t = t} {rs = rs} stand i d h =
 
 pub all_receivers : {plan : Plan} {ks : List ℕ} {t : ℕ} {ss : List Sender} {rs : List KeptReception} {rows : List Row} {captures : List (List Taken)} → AreStationsAt plan ks t ss rs rows captures → All IsReceiver rs
 all_receivers {plan = plan} {ks = ks} {t = t} stand = λ i d h. (receiver_at plan (get_or ks i 0) t, receiver_stands stand i d h)
-
-pub running_of : (plan : Plan) (s front : ℕ) (a : Running) → StandsInNetwork plan s front a → IsRunningAt plan s front a
-running_of plan s front a is = record {
-  stations = record {
-    senders = is.senders;
-    receivers = hear_each (λ k. receiver_at plan k a.t) (wiring plan.layout s).stations a.receivers.items is.as_many is.receivers;
-    times = is.times;
-    steps = is.steps;
-    logged = is.logged;
-    kept = is.kept;
-  };
-  lines = is.lines;
-  reach = is.reach;
-  hearing = is.hearing;
-  listing = is.listing;
-  emitting = is.emitting;
-}
-
-pub standing_of : (plan : Plan) (s front : ℕ) (a : Running) → IsRunningAt plan s front a → StandsInNetwork plan s front a
-standing_of plan s front a is =
-    let st = is.stations in
-    record {
-      senders = st.senders;
-      as_many = receivers_many st;
-      receivers = receiver_stands st;
-      times = st.times;
-      steps = st.steps;
-      logged = st.logged;
-      kept = st.kept;
-      lines = is.lines;
-      reach = is.reach;
-      hearing = is.hearing;
-      listing = is.listing;
-      emitting = is.emitting;
-    }
 
 -- what such a part hands out
 pub handed_rows : (plan : Plan) (u : ℕ) (p : PartState) → is_segment_state p ≡ true → (segment_state p).rows ++ cut_rows_on (segment_state p).t (wiring plan.layout u).stations (segment_state p).senders ≡ rows_handed_out plan u p

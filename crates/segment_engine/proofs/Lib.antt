@@ -5,7 +5,6 @@ pub mod StationsStep
 pub mod HalfBits
 pub mod WindowLines
 pub mod WindowParcels
-pub mod Strides
 pub mod SegmentWindows
 pub mod Beginnings
 pub mod KeptParts
@@ -21,6 +20,8 @@ pub mod SteadyReceivers
 pub mod SteadyCalm
 pub mod CalmLater
 pub mod SendersStep
+pub mod SignalSenders
+pub mod AnewLines
 pub mod StepOne
 pub mod StepPasses
 pub mod BehindStations
@@ -30,6 +31,9 @@ pub mod RowsOfBoth
 pub mod ChangedStations
 pub mod StepAll
 pub mod RunsApart
+pub mod SettledLines
+pub mod ArrivedLines
+pub mod FilledParcels
 pub mod RowsApart
 pub mod GoneApart
 pub mod NearExample

@@ -22,7 +22,6 @@ use Rattle.tap_lines.specs.TapLines.{TapLine, no_line, symbol_on, half_bits_back
 use Rattle.segment_engine.specs.KnownLines.{KnowLines}
 use Rattle.segment_engine.specs.PartStates.{AreLinesAt}
 use Rattle.tap_lines.proofs.Spans.{take-span, drop-span}
-use Rattle.segment_engine.proofs.HeldLines.{line_at}
 
 test_true : {X : Type 0} (a b : ℕ) (x y : X) → a < b → cond (ltb a b) x y ≡ x
 test_true a b x y h = grind (arith, nat_tests)
@@ -48,28 +47,6 @@ mixed_alike L t p at q told (l ∷ ls) same =
     ap₂ mix_of
     (ap (λ s. cond (eqb q p) Idle s) (same 0 q (omega arith) (omega arith)))
     (mixed_alike L t p at (q + 1) told ls (λ i r h e. same (suc i) r (omega arith) (omega (arith, e))))
-
-pub begins_all : (plan : Plan) (w : Wiring) (L t front : ℕ) (ls : List TapLine) → AreLinesAt plan w L t front ls → (r : ℕ) → r < length ls → (get_or ls r no_line).base ≤ t - (get_or ls r no_line).backlog
-begins_all plan w L t front ls are r h = elim (cases_lt r (length w.stations)) [
-  | inl station ↦ (are.emissions r station).begins
-  | inr port ↦
-      let p = r - length w.stations in
-      let same : length w.stations + p ≡ r = omega arith in
-      let many = are.many in
-      subst (λ i. (get_or ls i no_line).base ≤ t - (get_or ls i no_line).backlog) same (are.arrivals p (omega (arith, h, many))).begins
-]
-
-pub known : (plan : Plan) (w : Wiring) (L t front : ℕ) (ls : List TapLine) → AreLinesAt plan w L t front ls → KnowLines plan w L t front ls
-known plan w L t front ls are = record {
-  many = are.many;
-  places = are.places;
-  no_delays = are.no_delays;
-  delays = are.delays;
-  begins = begins_all plan w L t front ls are;
-  near = are.near;
-  emissions = λ r u h low high. line_at (emitted plan (get_or w.stations r 0)) t t (get_or ls r no_line) (are.emissions r h) u low high;
-  arrivals = λ p u h low high. line_at (arrives plan L (get_or w.edges p 0)) front t (get_or ls (length w.stations + p) no_line) (are.arrivals p h) u low high;
-}
 
 -- lines of the same taps reach as far
 line_place : (plan : Plan) (w : Wiring) (L t front : ℕ) (ls : List TapLine) → AreLinesAt plan w L t front ls → (i : ℕ) → i < length ls → (get_or ls i no_line).at ≡ get_or w.positions i 0

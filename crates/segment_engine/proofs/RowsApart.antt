@@ -16,14 +16,14 @@ use Rattle.net_parts.proofs.NetworkFacts.{station_facts}
 use Rattle.tap_lines.specs.TapLines.{TapLine}
 use Rattle.segment_engine.specs.declared.apart.Watch.{Watch}
 use Rattle.segment_engine.specs.declared.segment.Segment.{Segment}
-use Rattle.segment_engine.specs.StationsApart.{StandAllApart, IsStillBy, HearAllByLines, number_on, heard_reception}
+use Rattle.segment_engine.specs.StationsApart.{StandAllApart, AreStill, HearAllByLines, number_on, heard_reception}
 use Rattle.segment_engine.proofs.BehindStations.{no_sending, no_reception}
 use Rattle.segment_engine.proofs.StationsLater.{station, rows_stay, captures_to}
 
 abbrev a_watch : Watch
 a_watch = record { since = 0; until = 0; carrier = false; told = 0 }
 
-module _ (of : Segment) (t end : ℕ) (ls : List TapLine) (ds : Sender) (dk : KeptReception) where
+module _ (of : Segment) (t : ℕ) (ls : List TapLine) (ds : Sender) (dk : KeptReception) where
   abbrev plan : Plan
   plan = of.plan.value
 
@@ -41,12 +41,13 @@ module _ (of : Segment) (t end : ℕ) (ls : List TapLine) (ds : Sender) (dk : Ke
   pub heard_less : (u v : ℕ) → u ≤ v → HearAllByLines of t v ls → HearAllByLines of t u ls
   heard_less u v h right = λ i l. record {
     hears = λ a low high. (right i l).hears a low (omega (arith, high, h));
+    classes = λ a low high. (right i l).classes a low (omega (arith, high, h));
     emits = λ a low high. (right i l).emits a low (omega (arith, high, h));
   }
 
   -- half bits in which nothing happens
-  module _ (u v : ℕ) (later : u ≤ v) (ws : List Watch) (ss : List Sender) (ks : List KeptReception) (all : StandAllApart of t u end ls ws ss ks)
-      (still : (i : ℕ) (w : Watch) (s : Sender) (k : KeptReception) → i < n → (get_or ws i w).since < (get_or ws i w).until → IsStillBy (get_or ws i w) (get_or ss i s) (get_or ks i k))
+  module _ (u v : ℕ) (later : u ≤ v) (ws : List Watch) (ss : List Sender) (ks : List KeptReception) (all : StandAllApart of t u ls ws ss ks)
+      (still : AreStill of ws ss ks)
       (until : (i : ℕ) (w : Watch) → i < n → v ≤ (get_or ws i w).until) (right : HearAllByLines of t v ls) where
     abbrev Nothing : List ℕ → Type 0
     Nothing xs = (r j : ℕ) → r < length xs → j < v - u → ((sender_step (sender_at plan (get_or xs r 0) (u + j)) (heard plan (get_or xs r 0) (u + j))).event ≡ None)
@@ -78,6 +79,16 @@ module _ (of : Segment) (t end : ℕ) (ls : List TapLine) (ds : Sender) (dk : Ke
         let P : List ℕ → Type 0 = λ xs. captures_at plan (get_or xs r 0) (u + (v - u)) ≡ captures_at plan (get_or xs r 0) u in
         ap (captures_at plan (number_on of r)) (sym at_last)
         ∙ subst P (sym numbers) (captures_to plan of.number u (v - u) (subst Nothing numbers nothing) r (v - u) (let e = ap length numbers in omega (arith, e, h)) (omega arith))
+
+  pub captures_stay : (u v : ℕ) → ((i : ℕ) → i < n → captures_at plan (number_on of i) u ≡ captures_at plan (number_on of i) v) →
+      map (λ x. captures_at plan x u) items ≡ map (λ x. captures_at plan x v) items
+  captures_stay u v same =
+      let c = λ (x : ℕ). captures_at plan x u in
+      let c' = λ (x : ℕ). captures_at plan x v in
+      same_lists (map c items) (map c' items) (length-map items c ∙ sym (length-map items c')) (λ i d l.
+      let size = length-map items c in
+      let in_it : i < n = omega (arith, l, size) in
+      get_or-map c items i 0 d in_it ∙ same i in_it ∙ sym (get_or-map c' items i 0 d in_it))
 
   -- captures after the half bit u and those up to v
   pub kept_later : (u v : ℕ) (caps caps' : List (List Taken)) → caps ≡ map (λ x. captures_at plan x u) items → length caps' ≡ length caps →

@@ -1,5 +1,5 @@
 -- Stations that go on one by one, from a half bit to the next in which one of them is due.
-use Rattle.std.proofs.Common.{◌≡◌, ℕ, ◌+◌, ◌-◌, ◌<◌, ◌≤◌, false, List, length, get_or, refl, sym, subst, ap, ap₂, ◌∙◌, arith}
+use Rattle.std.proofs.Common.{◌≡◌, ℕ, zero, suc, ◌+◌, ◌-◌, ◌<◌, ◌≤◌, false, List, length, get_or, refl, sym, subst, ap, ap₂, ◌∙◌, arith}
 use Rattle.mac_parameters.specs.Distances.{distance}
 use Rattle.load_plan.specs.declared.plan.Plan.{Plan}
 use Rattle.mac_receive.specs.KeptReceiver.{KeptReception}
@@ -10,7 +10,12 @@ use Rattle.tap_lines.specs.TapLines.{TapLine, IsReachOf, half_bits_back, no_line
 use Rattle.segment_engine.specs.declared.apart.Watch.{Watch}
 use Rattle.segment_engine.specs.declared.segment.Segment.{Segment}
 use Rattle.segment_engine.specs.KnownLines.{KnowLines}
-use Rattle.segment_engine.specs.StationsApart.{StandsBehind, StandAllApart, HearsByLines, HearAllByLines, IsStillBy, IsToldAnew, AreToldAnew, TellsUpTo}
+use Rattle.segment_engine.specs.StationsApart.{StandsBehind, StandAllApart, AreStill, HearsByLines, HearAllByLines, AreToldAnew, TellsUpTo, CoversApart, behind_demand, first_demands}
+use Rattle.segment_engine.proofs.KeptParts.{covers_within}
+use Rattle.segment_engine.proofs.QuietRoom.{both_within}
+use Rattle.segment_engine.proofs.StepAll.{both_more}
+use Rattle.window_room.specs.NeededRoom.{Demand, IsDemandWithin}
+use Rattle.window_room.specs.Rooms.{Room}
 use Rattle.segment_engine.proofs.ChangedLines.{line_anew}
 use Rattle.segment_engine.proofs.LinesApart.{know_below, hears_below}
 
@@ -21,7 +26,7 @@ a_watch = record { since = 0; until = 0; carrier = false; told = 0 }
 pub not_told : (u n : ℕ) (ls : List TapLine) → AreToldAnew u n ls ls
 not_told u n ls = record {
   many = refl;
-  told = λ r h. record { place = refl; wait = refl; keeps = refl; begins = refl; size = refl; before = λ a l. refl };
+  told = λ r h. record { place = refl; wait = refl; keeps = refl; begins = refl; size = refl; before = λ a l. refl; classes = λ a l. refl };
   others = λ r h. refl;
 }
 
@@ -38,6 +43,7 @@ told_again u v n ls ls' ls'' later first last = record {
         begins = y.begins ∙ x.begins;
         size = y.size ∙ x.size;
         before = λ a l. y.before a (omega (arith, l, later)) ∙ x.before a l;
+        classes = λ a l. y.classes a (omega (arith, l, later)) ∙ x.classes a l;
       };
   others = λ r h. last.others r h ∙ first.others r h;
 }
@@ -53,8 +59,42 @@ reach_anew far L u n ls ls' anew reach = λ p r hp hr.
     ap₂ (λ x y. x + y - L) (ap₂ distance one.place other.place) other.wait in
     omega (arith, back, way)
 
-module _ (of : Segment) (t u end : ℕ) (ls : List TapLine) (ws : List Watch) (ss : List Sender) (ks : List KeptReception) (ds : Sender) (dk : KeptReception)
-    (all : StandAllApart of t u end ls ws ss ks) (v : ℕ) (later : u ≤ v)
+-- they have room for as much
+pub all_tell : (n a u v end : ℕ) (old new : List TapLine) → AreToldAnew a n old new → ((r : ℕ) → r < n → TellsUpTo u end (get_or old r no_line)) → u ≤ v →
+    (r : ℕ) → r < n → TellsUpTo v end (get_or new r no_line)
+all_tell n a u v end old new anew tell after r h =
+    let is = anew.told r h in
+    let was = tell r h in
+    let begins = is.begins in
+    let size = is.size in
+    let begun = was.begun in
+    let takes = was.takes in
+    let fits = was.fits in
+    record {
+      begun = omega (arith, begins, begun, after);
+      takes = omega (arith, begins, size, takes);
+      fits = omega (arith, begins, size, fits);
+    }
+
+pub tells_sooner : (u a b : ℕ) (l : TapLine) → a ≤ b → TellsUpTo u b l → TellsUpTo u a l
+tells_sooner u a b l h is = record { begun = is.begun; takes = let x = is.takes in omega (arith, x, h); fits = is.fits }
+
+-- up to an earlier half bit they need no more
+first_within : (n : ℕ) (f g : ℕ → Demand) → ((i : ℕ) → i < n → IsDemandWithin (f i) (g i)) → IsDemandWithin (first_demands n f) (first_demands n g)
+first_within zero f g h = record { fewer_rows = omega arith; fewer_frames = omega arith; fewer_octets = omega arith }
+first_within (suc n) f g h =
+    both_within (first_demands n f) (f n) (first_demands n g) (g n) (first_within n f g (λ i l. h i (omega (arith, l)))) (h n (omega arith))
+
+pub covers_sooner : (a b n : ℕ) (ws : List Watch) (ss : List Sender) (ks : List KeptReception) (room : Room) → a ≤ b → CoversApart b n ws ss ks room → CoversApart a n ws ss ks room
+covers_sooner a b n ws ss ks room h c = λ w s k.
+    let f = λ (i : ℕ). behind_demand a (get_or ws i w) (get_or ss i s) (get_or ks i k) in
+    let g = λ (i : ℕ). behind_demand b (get_or ws i w) (get_or ss i s) (get_or ks i k) in
+    covers_within (first_demands n f) (first_demands n g) room
+    (first_within n f g (λ i l. both_more (get_or ss i s) (get_or ks i k) (a - (get_or ws i w).since) (b - (get_or ws i w).since) (omega (arith, h))))
+    (c w s k)
+
+module _ (of : Segment) (t u : ℕ) (ls : List TapLine) (ws : List Watch) (ss : List Sender) (ks : List KeptReception) (ds : Sender) (dk : KeptReception)
+    (all : StandAllApart of t u ls ws ss ks) (v : ℕ) (later : u ≤ v)
     (until : (i : ℕ) (w : Watch) → i < length of.stations.items → v ≤ (get_or ws i w).until) where
   abbrev plan : Plan
   plan = of.plan.value
@@ -69,8 +109,7 @@ module _ (of : Segment) (t u end : ℕ) (ls : List TapLine) (ws : List Watch) (s
   items = of.stations.items
 
   -- no station is due before v
-  pub all_stand : ((i : ℕ) (w : Watch) (s : Sender) (k : KeptReception) → i < length items → (get_or ws i w).since < (get_or ws i w).until →
-      IsStillBy (get_or ws i w) (get_or ss i s) (get_or ks i k)) → StandAllApart of t v end ls ws ss ks
+  pub all_stand : AreStill of ws ss ks → StandAllApart of t v ls ws ss ks
   all_stand still = record {
     senders = all.senders;
     receivers = all.receivers;
@@ -88,26 +127,6 @@ module _ (of : Segment) (t u end : ℕ) (ls : List TapLine) (ws : List Watch) (s
           still = λ before. still i x s k h (omega (arith, before, late));
         };
   }
-
-  -- their lines reach up to v
-  pub all_tell : (a : ℕ) (old : List TapLine) → AreToldAnew a (length items) old ls → ((r : ℕ) → r < length items → TellsUpTo a end (get_or old r no_line)) → a ≤ v →
-      (r : ℕ) → r < length items → TellsUpTo v end (get_or ls r no_line)
-  all_tell a old anew tell after r h =
-      let one = (all.each r a_watch ds dk h).behind in
-      let is = anew.told r h in
-      let was = tell r h in
-      let begins = is.begins in
-      let size = is.size in
-      let begun = was.begun in
-      let takes = was.takes in
-      let ends = one.ends in
-      let told = one.within in
-      let late = until r a_watch h in
-      record {
-        begun = omega (arith, begins, begun, after);
-        reaches = omega (arith, ends, told, late);
-        takes = omega (arith, begins, size, takes);
-      }
 
   -- they are right below v, where they are right below u
   module _ (front : ℕ) (know : KnowLines plan w of.lookahead u front ls) (from : t ≤ u) (upto : v ≤ front) (right : HearAllByLines of t u ls) where

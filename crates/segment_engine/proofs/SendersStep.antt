@@ -1,8 +1,7 @@
--- One half bit of a sender of which a sending is under way, and the line that is told anew from that half bit on.
-use Rattle.std.proofs.Common.{◌≡◌, ℕ, zero, suc, ◌+◌, ◌-◌, ◌*◌, ◌<◌, ◌≤◌, Bool, true, false, ltb, leb, ◌&&◌, Option, Some, None, inl, inr, List, [], ◌∷◌, ◌++◌, take, length, length-append, length-take-le, get_or, refl, sym, ap, subst, ◌∙◌, arith}
-use Rattle.std.proofs.lemmas.Bool.{cases_lt, cond-true, cond-false, cond_both, leb-true}
+-- One half bit of a sender of which a sending is under way.
+use Rattle.std.proofs.Common.{◌≡◌, ℕ, zero, suc, ◌+◌, ◌-◌, ◌*◌, ◌<◌, ◌≤◌, Bool, true, false, ltb, leb, ◌&&◌, Option, Some, None, List, [], ◌∷◌, length, refl, sym, ap, subst, ◌∙◌, arith}
+use Rattle.std.proofs.lemmas.Bool.{cond-true, cond-false, cond_both, leb-true}
 use Rattle.std.proofs.lemmas.Bool.Decides.{nat_tests}
-use Rattle.std.proofs.lemmas.List.{get_or-take}
 use Rattle.manchester_line.specs.declared.Sym.{Sym}
 use Rattle.manchester_line.specs.declared.Sym.TheVariants.{Idle}
 use Rattle.manchester_line.specs.Line.{is_signal, jam_at}
@@ -16,12 +15,7 @@ use Rattle.mac_transmit.specs.Emissions.{IsSendingFor, emission_by}
 use Rattle.mac_transmit.proofs.CalmHalfBits.{state_is}
 use Rattle.mac_transmit.proofs.EndedSendings.{ended_either}
 use Rattle.mac_transmit.proofs.SignalSendings.{jam_later}
-use Rattle.net_parts.proofs.LateRows.{if_true, if_false}
-use Rattle.net_parts.proofs.RepeaterSteps.{length-span, get_or-span}
-use Rattle.tap_lines.specs.TapLines.{TapLine, line_cut, line_extended, symbol_on}
-use Rattle.tap_lines.proofs.LinesAhead.{symbol_ahead, symbol_before}
-use Rattle.segment_engine.specs.SteadyPieces.{IsCalmAs, sent_ahead}
-use Rattle.segment_engine.specs.StationsApart.{IsToldAnew}
+use Rattle.segment_engine.specs.SteadyPieces.{IsCalmAs}
 
 -- a hit changes nothing in the half bit in which it comes
 less : (a b : ℕ) → a < b → ltb a b ≡ true
@@ -172,24 +166,6 @@ same_emits s h n = emits_in s.phase
     emits_in (Sending start hit) lasts = emits_on s h start hit (past (end_of s start hit) s.t (omega (arith, lasts)))
     emits_in (Backoff until) lasts = absurd lasts
 
-pub sending_emits : (s : Sender) (h : Sym) (n : ℕ) → IsSendingFor s (suc n) s.phase → is_signal (emission_by s 0 s.phase) ≡ true → is_signal (sender_step s h).emitted ≡ true
-sending_emits s h n lasts signal = ap is_signal (same_emits s h n lasts) ∙ signal
-
--- a sending that ends had nothing left
-none_left : (s : Sender) (h : Sym) (n start : ℕ) (hit : Option ℕ) (b : Bool) → leb (end_of s start hit) s.t ≡ b → is_sending (sender_step (under s start hit) h).state.phase ≡ false →
-    n ≤ end_of s start hit - s.t → n ≡ 0
-none_left s h n start hit true l after lasts = let ended = leb-true (end_of s start hit) s.t l in omega (arith, ended, lasts)
-none_left s h n start hit false l after lasts = absurd (let no : true ≡ false = sym (sends_on s h start hit l) ∙ after in cc)
-
-pub ended_last : (s : Sender) (h : Sym) (n : ℕ) → is_sending s.phase ≡ true → is_sending (sender_step s h).state.phase ≡ false → IsSendingFor s n s.phase → n ≡ 0
-ended_last s h n = ended_in s.phase
-  where
-    ended_in : (p : Phase) → is_sending p ≡ true → is_sending (sender_step (record s { phase = p }) h).state.phase ≡ false → IsSendingFor (record s { phase = p }) n p → n ≡ 0
-    ended_in Rest e after lasts = absurd lasts
-    ended_in Waiting e after lasts = absurd lasts
-    ended_in (Sending start hit) e after lasts = none_left s h n start hit (leb (end_of s start hit) s.t) refl after lasts
-    ended_in (Backoff until) e after lasts = absurd lasts
-
 -- in a half bit after which it doesn't send a sender emitted Idle
 silent_symbol : (octets : List ℕ) (t : ℕ) (p : Phase) (c : Bool) → is_sending (phase_after t p c) ≡ false → symbol_emitted octets t p c ≡ Idle
 unfolding symbol_emitted
@@ -240,70 +216,3 @@ pub sending_left : (s s' : Sender) (carrier : Bool) (hs : List Sym) (n m least :
     s' ≡ after_all s hs → m ≤ n - length hs → IsSendingFor s n s.phase → IsSendingFor s' m s'.phase
 sending_left s s' carrier hs n m least heard few calm sent size lasts =
     subst (λ x. IsSendingFor x m x.phase) (sym sent) (left_after hs s n m (calm.calm hs heard few) size (is_under_way s n s.phase lasts) lasts)
-
--- the line that is told anew: how long it is without what is told, and what it has below half bit u
-cut_size : (u : ℕ) (l : TapLine) → l.base ≤ u → u ≤ l.base + length l.symbols → l.base + length (line_cut u l).symbols ≡ u
-cut_size u l begun known = let n = length-take-le (u - l.base) l.symbols (omega (arith, begun, known)) in omega (arith, n, begun)
-
-said_size : (u : ℕ) (e : Sym) (l : TapLine) → l.base ≤ u → u ≤ l.base + length l.symbols → l.base + length (line_extended (line_cut u l) (e ∷ [])).symbols ≡ u + 1
-said_size u e l begun known = let n = cut_size u l begun known in let sum = length-append (line_cut u l).symbols (e ∷ []) in omega (arith, n, sum)
-
-symbol_cut : (u a : ℕ) (l : TapLine) → a < u → symbol_on (line_cut u l) a ≡ symbol_on l a
-symbol_cut u a l below = elim (cases_lt a l.base) [
-  | inl before ↦ if_false {m = l.base} {n = a} _ _ before ∙ sym (if_false {m = l.base} {n = a} _ _ before)
-  | inr from ↦
-      if_true {m = l.base} {n = a} _ _ from
-      ∙ get_or-take (u - l.base) l.symbols (a - l.base) Idle (omega (arith, below, from))
-      ∙ sym (if_true {m = l.base} {n = a} _ _ from)
-]
-
-symbol_below : (u a : ℕ) (e : Sym) (l : TapLine) (piece : List Sym) → l.base ≤ u → u ≤ l.base + length l.symbols → a < u →
-    symbol_on (line_extended (line_extended (line_cut u l) (e ∷ [])) piece) a ≡ symbol_on l a
-symbol_below u a e l piece begun known below = elim (cases_lt a l.base) [
-  | inl before ↦ if_false {m = l.base} {n = a} _ _ before ∙ sym (if_false {m = l.base} {n = a} _ _ before)
-  | inr from ↦
-      let n = cut_size u l begun known in
-      let n' = said_size u e l begun known in
-      symbol_before (line_extended (line_cut u l) (e ∷ [])) piece a from (omega (arith, n', below))
-      ∙ symbol_before (line_cut u l) (e ∷ []) a from (omega (arith, n, below))
-      ∙ symbol_cut u a l below
-]
-
--- what it has in u, from u + 1 on, and where it ends
-pub anew_now : (u m : ℕ) (e : Sym) (l : TapLine) (s : Sender) → l.base ≤ u → u ≤ l.base + length l.symbols → symbol_on (line_extended (line_extended (line_cut u l) (e ∷ [])) (sent_ahead s m)) u ≡ e
-anew_now u m e l s begun known =
-    let n = cut_size u l begun known in
-    let n' = said_size u e l begun known in
-    symbol_before (line_extended (line_cut u l) (e ∷ [])) (sent_ahead s m) u begun (omega (arith, n'))
-    ∙ symbol_ahead (line_cut u l) (e ∷ []) u 0 (omega (arith, n))
-
-pub anew_later : (u m j : ℕ) (e : Sym) (l : TapLine) (s : Sender) → l.base ≤ u → u ≤ l.base + length l.symbols → j < m →
-    symbol_on (line_extended (line_extended (line_cut u l) (e ∷ [])) (sent_ahead s m)) (u + 1 + j) ≡ emission_by s j s.phase
-anew_later u m j e l s begun known few =
-    let n = said_size u e l begun known in
-    let first : 0 + j ≡ j = omega arith in
-    symbol_ahead (line_extended (line_cut u l) (e ∷ [])) (sent_ahead s m) (u + 1 + j) j (omega (arith, n))
-    ∙ get_or-span (λ i. emission_by s i s.phase) 0 m j Idle few
-    ∙ ap (λ i. emission_by s i s.phase) first
-
-pub anew_ends : (u m : ℕ) (e : Sym) (l : TapLine) (s : Sender) → l.base ≤ u → u ≤ l.base + length l.symbols →
-    l.base + length (line_extended (line_extended (line_cut u l) (e ∷ [])) (sent_ahead s m)).symbols ≡ u + 1 + m
-anew_ends u m e l s begun known =
-    let n = said_size u e l begun known in
-    let sum = length-append (line_extended (line_cut u l) (e ∷ [])).symbols (sent_ahead s m) in
-    let size = length-span (λ i. emission_by s i s.phase) 0 m in
-    omega (arith, n, sum, size)
-
-pub anew_line : (u m : ℕ) (e : Sym) (l : TapLine) (s : Sender) → l.base ≤ u → u ≤ l.base + length l.symbols → u + 1 + m ≤ l.base + length l.symbols + l.room →
-    IsToldAnew u l (line_extended (line_extended (line_cut u l) (e ∷ [])) (sent_ahead s m))
-anew_line u m e l s begun known room = record {
-  place = refl;
-  wait = refl;
-  keeps = refl;
-  begins = refl;
-  size =
-      let ends = anew_ends u m e l s begun known in
-      let size = length-span (λ i. emission_by s i s.phase) 0 m in
-      omega (arith, ends, size, begun, known, room);
-  before = λ a below. symbol_below u a e l (sent_ahead s m) begun known below;
-}

@@ -1,16 +1,23 @@
 -- Stations to which nothing happens for several half bits, and what their lines tell ahead.
-use Rattle.std.proofs.Common.{◌≡◌, ℕ, ◌+◌, ◌-◌, ◌<◌, ◌≤◌, Bool, false, List, [], ◌∷◌, length, replicate, sym, subst, ap, ap₂, ◌∙◌, arith}
+use Rattle.std.proofs.Common.{◌≡◌, ℕ, ◌+◌, ◌-◌, ◌<◌, ◌≤◌, Bool, false, List, [], ◌∷◌, length, replicate, refl, sym, subst, ap, ap₂, ◌∙◌, arith}
 use Rattle.std.specs.Prelude.{◌↔◌, Option}
 use Rattle.manchester_line.specs.declared.Sym.{Sym}
 use Rattle.manchester_line.specs.declared.Sym.TheVariants.{Idle}
 use Rattle.manchester_line.specs.Line.{is_signal}
-use Rattle.mac_transmit.specs.declared.phase.Phase.TheVariants.{Sending}
+use Rattle.mac_transmit.specs.declared.phase.Phase.{Phase}
+use Rattle.mac_transmit.specs.declared.phase.Phase.TheVariants.{Rest, Waiting, Sending, Backoff}
 use Rattle.mac_transmit.specs.Sender.{Sender, is_sending, frame_at, symbol_of}
 use Rattle.mac_transmit.specs.Calm.{AllHeardAs, AreCalm, calm_of}
 use Rattle.mac_transmit.specs.Emissions.{emission_by}
-use Rattle.tap_lines.specs.TapLines.{TapLine, line_extended}
-use Rattle.segment_engine.specs.SteadyPieces.{IsCalmAs, IsToldAhead, sent_ahead}
-use Rattle.segment_engine.proofs.QuietHalfBits.{emits_idle, span_same}
+use Rattle.segment_engine.specs.SteadyPieces.{IsCalmAs, sent_ahead}
+use Rattle.segment_engine.proofs.SteadyReceivers.{span_same}
+
+-- a sender that doesn't send emits Idle
+pub emits_idle : (s : Sender) (j : ℕ) (p : Phase) → is_sending p ≡ false → emission_by s j p ≡ Idle
+emits_idle s j Rest h = refl
+emits_idle s j Waiting h = refl
+emits_idle s j (Sending start hit) h = absurd (cc)
+emits_idle s j (Backoff until) h = refl
 
 none_calm : (s : Sender) (hs : List Sym) → length hs ≤ 0 → AreCalm s hs
 none_calm s [] h = tt
@@ -47,19 +54,3 @@ idle_ahead s n h = span_same (λ j. emission_by s j s.phase) 0 n Idle (λ i l. e
 
 pub idle_class : (s : Sender) (j : ℕ) → is_sending s.phase ≡ false → is_signal (emission_by s j s.phase) ≡ is_sending s.phase
 idle_class s j h = ap is_signal (emits_idle s j s.phase h) ∙ sym h
-
--- lines told ahead for fewer half bits, and one line
-pub told_less : (s : Sender) (least least' most : ℕ) (l l' : TapLine) → least' ≤ least → IsToldAhead s least most l l' → IsToldAhead s least' most l l'
-told_less s least least' most l l' h is = record {
-  number = is.number;
-  enough = let x = is.enough in omega (arith, x, h);
-  few = is.few;
-  line = is.line;
-  signal = λ j l. is.signal j (omega (arith, l, h));
-}
-
-pub told_one : (s s' : Sender) (least most n : ℕ) (l l' : TapLine) → least ≤ n → n ≤ most → l' ≡ line_extended l (sent_ahead s n) →
-    ((j : ℕ) → j < n → is_signal (emission_by s j s.phase) ≡ is_sending s.phase) → s ≡ s' → IsToldAhead s' least most l l'
-told_one s s' least most n l l' a b line signal same =
-    let one : IsToldAhead s least most l l' = record { number = n; enough = a; few = b; line = line; signal = λ j h. signal j (omega (arith, h, a)) } in
-    subst (λ x. IsToldAhead x least most l l') same one

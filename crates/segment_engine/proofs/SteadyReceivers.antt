@@ -1,12 +1,22 @@
 -- What a receiver hears of a piece that is all a signal, or all Idle.
-use Rattle.std.proofs.Common.{◌≡◌, ◌≢◌, ℕ, ◌+◌, ◌<◌, All, true, false, replicate, get_or, refl, sym, ap, ◌∙◌, arith}
+use Rattle.std.proofs.Common.{◌≡◌, ◌≢◌, ℕ, zero, suc, ◌+◌, ◌<◌, ◌∷◌, All, true, false, length, replicate, get_or, refl, sym, ap, ap₂, ◌∙◌, arith}
+use Rattle.std.proofs.lemmas.List.{length-replicate, get_or-replicate}
 use Rattle.std.proofs.lemmas.Bool.{false≢true}
 use Rattle.manchester_line.specs.declared.Sym.{Sym}
 use Rattle.manchester_line.specs.declared.Sym.TheVariants.{Idle, Hi, Lo, Clash}
 use Rattle.manchester_line.specs.Line.{is_signal}
+use Rattle.mac_transmit.specs.Calm.{AllHeardAs}
 use Rattle.net_parts.specs.Machines.{span}
 use Rattle.net_parts.proofs.RepeaterSteps.{length-span, get_or-span}
-use Rattle.segment_engine.proofs.QuietHalfBits.{span_same}
+
+pub span_same : {X : Type 0} (f : ℕ → X) (k n : ℕ) (x : X) → ((i : ℕ) → i < n → f (k + i) ≡ x) → span f k n ≡ replicate n x
+span_same f k zero x h = refl
+span_same f k (suc n) x h =
+    ap₂ ◌∷◌ ((let z : k ≡ k + 0 = omega arith in ap f z) ∙ h 0 (omega arith))
+    (span_same f (suc k) n x (λ i l. (let z : suc k + i ≡ k + suc i = omega arith in ap f z) ∙ h (suc i) (omega (arith, l))))
+
+pub all_idle : (n : ℕ) → AllHeardAs false (replicate n Idle)
+all_idle n = λ i d c. let size = length-replicate n Idle in ap is_signal (get_or-replicate n i Idle d (omega (arith, c, size)))
 
 idle_of : (s : Sym) → is_signal s ≡ false → s ≡ Idle
 idle_of Idle h = refl

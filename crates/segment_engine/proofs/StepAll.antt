@@ -14,15 +14,16 @@ use Rattle.network.specs.Rows.{row_of}
 use Rattle.network.specs.Times.{heard, emitted}
 use Rattle.net_parts.specs.Windows.{lookahead}
 use Rattle.net_parts.specs.SegmentParts.{wiring}
-use Rattle.tap_lines.specs.TapLines.{IsReachOf, TapLine, no_line, half_bits_back, heard_by_lines, symbol_on}
+use Rattle.tap_lines.specs.TapLines.{IsReachOf, TapLine, no_line, class_by_lines, class_on, half_bits_back, heard_by_lines, symbol_on}
 use Rattle.window_room.specs.NeededRoom.{Covers, IsDemandWithin, both_demands, receiver_demand, sender_demand}
 use Rattle.window_room.specs.Rooms.{Room}
+use Rattle.tap_lines.proofs.LineClasses.{IsAlikeBelow}
 use Rattle.segment_engine.specs.declared.apart.Watch.{Watch}
 use Rattle.segment_engine.specs.declared.segment.Segment.{Segment}
 use Rattle.segment_engine.specs.KnownLines.{KnowLines}
-use Rattle.segment_engine.specs.StationsApart.{StandsBehind, StandsApart, HearsByLines, IsStillBy, IsToldAnew, AreToldAnew, TellsUpTo, CoversApart, behind_demand, heard_reception, lowered_watch, number_on, rows_of_both, sent_event}
+use Rattle.segment_engine.specs.StationsApart.{StandsBehind, StandsApart, HearsByLines, IsStillBy, IsToldAnew, AreToldAnew, SaysOf, TellsUpTo, CoversApart, behind_demand, heard_reception, lowered_watch, number_on, rows_of_both, sent_event}
 use Rattle.segment_engine.proofs.BehindStations.{no_reception, no_sending}
-use Rattle.segment_engine.proofs.ChangedLines.{IsAlikeBelow, known_anew, line_anew, reaches_later, lowered, unlowered}
+use Rattle.segment_engine.proofs.ChangedLines.{class_known, known_anew, line_anew, reaches_later, lowered, unlowered}
 use Rattle.segment_engine.proofs.ChangedStations.{demands_alike, each_set}
 use Rattle.segment_engine.proofs.LinesApart.{hears_so_far, emits_one}
 use Rattle.segment_engine.proofs.QuietRoom.{both_within}
@@ -31,7 +32,7 @@ use Rattle.segment_engine.proofs.WindowParcels.{receiver_more}
 
 -- lines of which one is told anew
 still_told : (u : ℕ) (l : TapLine) → IsToldAnew u l l
-still_told u l = record { place = refl; wait = refl; keeps = refl; begins = refl; size = refl; before = λ a h. refl }
+still_told u l = record { place = refl; wait = refl; keeps = refl; begins = refl; size = refl; before = λ a h. refl; classes = λ a h. refl }
 
 pub anew_none : (u n : ℕ) (ls : List TapLine) → AreToldAnew u n ls ls
 anew_none u n ls = record { many = refl; told = λ r h. still_told u (get_or ls r no_line); others = λ r h. refl }
@@ -53,7 +54,7 @@ anew_twice u n ls ls' ls'' a b = record {
   told = λ r h.
       let x = a.told r h in
       let y = b.told r h in
-      record { place = y.place ∙ x.place; wait = y.wait ∙ x.wait; keeps = y.keeps ∙ x.keeps; begins = y.begins ∙ x.begins; size = y.size ∙ x.size; before = λ i l. y.before i l ∙ x.before i l };
+      record { place = y.place ∙ x.place; wait = y.wait ∙ x.wait; keeps = y.keeps ∙ x.keeps; begins = y.begins ∙ x.begins; size = y.size ∙ x.size; before = λ i l. y.before i l ∙ x.before i l; classes = λ i l. y.classes i l ∙ x.classes i l };
   others = λ r h. b.others r h ∙ a.others r h;
 }
 
@@ -65,7 +66,7 @@ reach_anew far L u n ls ls' anew within = λ p r hp hr.
     subst (λ x. x ≤ far) (sym (ap₂ (λ x y. x + y - L) (ap₂ distance a.place b.place) b.wait)) (within p r (omega (arith, hp, many)) (omega (arith, hr, many)))
 
 pub alike_to : (u n p from : ℕ) (ls ls' : List TapLine) → p < n → AreToldAnew u n ls ls' → ((r : ℕ) (d : TapLine) → r ≢ p → get_or ls' r d ≡ get_or ls r d) →
-    ((a : ℕ) → a < from → is_signal (symbol_on (get_or ls' p no_line) a) ≡ is_signal (symbol_on (get_or ls p no_line) a)) → IsAlikeBelow p from ls ls'
+    ((a : ℕ) → a < from → class_on (get_or ls' p no_line) a ≡ class_on (get_or ls p no_line) a) → IsAlikeBelow p from ls ls'
 alike_to u n p from ls ls' few anew others alike =
     let is = anew.told p few in
     record { many = anew.many; place = is.place; wait = is.wait; others = others; alike = alike }
@@ -79,11 +80,15 @@ back_alike L p from q ls ls' is other =
 
 -- one more half bit of what is heard
 pub right_next : (plan : Plan) (x p L t u : ℕ) (ls : List TapLine) → HearsByLines plan x p L t u ls → heard plan x u ≡ heard_by_lines L u ls p →
-    emitted plan x u ≡ symbol_on (get_or ls p no_line) u → HearsByLines plan x p L t (u + 1) ls
-right_next plan x p L t u ls right hears emits = record {
+    class_by_lines L u ls p ≡ is_signal (heard_by_lines L u ls p) → emitted plan x u ≡ symbol_on (get_or ls p no_line) u → HearsByLines plan x p L t (u + 1) ls
+right_next plan x p L t u ls right hears class emits = record {
   hears = λ a low high. elim (cases_lt a u) [
     | inl before ↦ right.hears a low before
     | inr now ↦ let e : u ≡ a = omega (arith, now, high) in subst (λ b. heard plan x b ≡ heard_by_lines L b ls p) e hears
+  ];
+  classes = λ a low high. elim (cases_lt a u) [
+    | inl before ↦ right.classes a low before
+    | inr now ↦ let e : u ≡ a = omega (arith, now, high) in subst (λ b. class_by_lines L b ls p ≡ is_signal (heard_by_lines L b ls p)) e class
   ];
   emits = λ a low high. elim (cases_lt a u) [
     | inl before ↦ right.emits a low before
@@ -116,19 +121,27 @@ module _ (of : Segment) where
       (subst (λ (L : ℕ). heard plan (get_or (wiring plan.layout of.number).stations r 0) u ≡ heard_by_lines L u ls r) (sym of.window_length)
       (hears_so_far plan of.number u front ls (plainly u front ls know) below r (omega (arith, h, len))))
 
-  pub emits_so : (t u front end r : ℕ) (ls : List TapLine) (w : Watch) (s : Sender) (k : KeptReception) → Know u front ls → u < front → r < n → StandsApart of t u end r ls w s k → u < w.until →
-      HearsByLines plan (number_on of r) r of.lookahead t u ls → emitted plan (number_on of r) u ≡ symbol_on (get_or ls r no_line) u
-  emits_so t u front end r ls w s k know below h is on right =
+  pub class_so : (u front r : ℕ) (ls : List TapLine) → Know u front ls → u < front → r < n → class_by_lines of.lookahead u ls r ≡ is_signal (heard_by_lines of.lookahead u ls r)
+  class_so u front r ls know below h =
+      let len = ap length of.station_numbers in
+      subst (λ (L : ℕ). class_by_lines L u ls r ≡ is_signal (heard_by_lines L u ls r)) (sym of.window_length)
+      (class_known plan of.number u front ls (plainly u front ls know) below r (omega (arith, h, len)))
+
+  pub emits_so : (t u front r : ℕ) (ls : List TapLine) (w : Watch) (s : Sender) (k : KeptReception) → Know u front ls → u < front → r < n → StandsApart of t u r ls w s k → u < w.until →
+      HearsByLines plan (number_on of r) r of.lookahead t u ls → SaysOf plan (number_on of r) u (get_or ls r no_line)
+  emits_so t u front r ls w s k know below h is on right =
       let len = ap length of.station_numbers in
       let L = lookahead plan.layout in
       let behind = subst (λ (xs : List ℕ). StandsBehind plan (get_or xs r 0) r L t ls w s k) of.station_numbers (subst (λ (y : ℕ). StandsBehind plan (number_on of r) r y t ls w s k) of.window_length is.behind) in
       let so = subst (λ (xs : List ℕ). HearsByLines plan (get_or xs r 0) r L t u ls) of.station_numbers (subst (λ (y : ℕ). HearsByLines plan (number_on of r) r y t u ls) of.window_length right) in
-      subst (λ (xs : List ℕ). emitted plan (get_or xs r 0) u ≡ symbol_on (get_or ls r no_line) u) (sym of.station_numbers)
-      (sym (emits_one plan of.number u front ls (plainly u front ls know) t r (omega (arith, h, len)) w s k behind is.since so u (omega arith) on below (λ r' a i low high. absurd (omega (arith, low, high)))))
+      subst (λ (xs : List ℕ). SaysOf plan (get_or xs r 0) u (get_or ls r no_line)) (sym of.station_numbers)
+      (emits_one plan of.number u front ls (plainly u front ls know) t r (omega (arith, h, len)) w s k behind is.since so u (omega arith) on below (λ r' a i low high. absurd (omega (arith, low, high))))
 
-  pub know_next : (u front : ℕ) (ls : List TapLine) → Know u front ls → ((i : ℕ) → i < n → emitted plan (number_on of i) u ≡ symbol_on (get_or ls i no_line) u) → Know (u + 1) front ls
+  pub know_next : (u front : ℕ) (ls : List TapLine) → Know u front ls → ((i : ℕ) → i < n → SaysOf plan (number_on of i) u (get_or ls i no_line)) → Know (u + 1) front ls
   know_next u front ls know now =
       let len = ap length of.station_numbers in
+      let says : (r : ℕ) → r < length (wiring plan.layout of.number).stations → SaysOf plan (get_or (wiring plan.layout of.number).stations r 0) u (get_or ls r no_line) =
+      λ r l. subst (λ (xs : List ℕ). SaysOf plan (get_or xs r 0) u (get_or ls r no_line)) of.station_numbers (now r (omega (arith, l, len))) in
       record {
         many = know.many;
         places = know.places;
@@ -140,36 +153,43 @@ module _ (of : Segment) where
           | inl before ↦ know.emissions r a l low before
           | inr after ↦
               let e : u ≡ a = omega (arith, after, high) in
-              subst (λ b. symbol_on (get_or ls r no_line) b ≡ emitted plan (get_or (wiring plan.layout of.number).stations r 0) b) e
-              (sym (subst (λ (xs : List ℕ). emitted plan (get_or xs r 0) u ≡ symbol_on (get_or ls r no_line) u) of.station_numbers (now r (omega (arith, l, len)))))
+              subst (λ b. symbol_on (get_or ls r no_line) b ≡ emitted plan (get_or (wiring plan.layout of.number).stations r 0) b) e (sym (says r l).emits)
         ];
         arrivals = know.arrivals;
+        classes = λ r a l high. elim (cases_lt a u) [
+          | inl before ↦ know.classes r a l before
+          | inr after ↦
+              let e : u ≡ a = omega (arith, after, high) in
+              subst (λ b. class_on (get_or ls r no_line) b ≡ is_signal (symbol_on (get_or ls r no_line) b)) e (says r l).class
+        ];
+        port_classes = know.port_classes;
       }
 
   -- a station that goes on over half bit u
-  pub right_on : (t u front end r : ℕ) (ls : List TapLine) (w : Watch) (s : Sender) (k : KeptReception) → Know u front ls → u < front → r < n → StandsApart of t u end r ls w s k → u < w.until →
+  pub right_on : (t u front r : ℕ) (ls : List TapLine) (w : Watch) (s : Sender) (k : KeptReception) → Know u front ls → u < front → r < n → StandsApart of t u r ls w s k → u < w.until →
       HearsByLines plan (number_on of r) r of.lookahead t u ls → HearsByLines plan (number_on of r) r of.lookahead t (u + 1) ls
-  right_on t u front end r ls w s k know below h is on right =
-      right_next plan (number_on of r) r of.lookahead t u ls right (heard_so u front r ls know below h) (emits_so t u front end r ls w s k know below h is on right)
+  right_on t u front r ls w s k know below h is on right =
+      right_next plan (number_on of r) r of.lookahead t u ls right (heard_so u front r ls know below h) (class_so u front r ls know below h)
+      (emits_so t u front r ls w s k know below h is on right).emits
 
   there : (i : ℕ) → i < n → number_on of i < length plan.layout.stations
   there i h =
       let len = ap length of.station_numbers in
       subst (λ (xs : List ℕ). get_or xs i 0 < length plan.layout.stations) (sym of.station_numbers) (station plan of.number i (omega (arith, h, len)))
 
-  pub silent_on : (t u front end r : ℕ) (ls : List TapLine) (w : Watch) (s : Sender) (k : KeptReception) → Know u front ls → u < front → r < n → StandsApart of t u end r ls w s k → u < w.until →
+  pub silent_on : (t u front r : ℕ) (ls : List TapLine) (w : Watch) (s : Sender) (k : KeptReception) → Know u front ls → u < front → r < n → StandsApart of t u r ls w s k → u < w.until →
       HearsByLines plan (number_on of r) r of.lookahead t u ls → sent_event plan (number_on of r) u ≡ None
-  silent_on t u front end r ls w s k know below h is on right =
-      no_sending plan (number_on of r) (there r h) r of.lookahead t u ls w s k is.behind is.since on (right_on t u front end r ls w s k know below h is on right)
+  silent_on t u front r ls w s k know below h is on right =
+      no_sending plan (number_on of r) (there r h) r of.lookahead t u ls w s k is.behind is.since on (right_on t u front r ls w s k know below h is on right)
 
-  pub nothing_on : (t u front end r : ℕ) (ls : List TapLine) (w : Watch) (s : Sender) (k : KeptReception) → Know u front ls → u < front → r < n → StandsApart of t u end r ls w s k → u < w.until →
+  pub nothing_on : (t u front r : ℕ) (ls : List TapLine) (w : Watch) (s : Sender) (k : KeptReception) → Know u front ls → u < front → r < n → StandsApart of t u r ls w s k → u < w.until →
       HearsByLines plan (number_on of r) r of.lookahead t u ls → IsStillBy w s k → (heard_reception plan (number_on of r) u).event ≡ None
-  nothing_on t u front end r ls w s k know below h is on right still =
-      no_reception plan (number_on of r) (there r h) r of.lookahead t u ls w s k is.behind is.since on (right_on t u front end r ls w s k know below h is on right) still
+  nothing_on t u front r ls w s k know below h is on right still =
+      no_reception plan (number_on of r) (there r h) r of.lookahead t u ls w s k is.behind is.since on (right_on t u front r ls w s k know below h is on right) still
 
-  pub gone_on : (t u end r : ℕ) (ls : List TapLine) (w : Watch) (s : Sender) (k : KeptReception) → StandsApart of t u end r ls w s k → u < w.until → (w.since < w.until → IsStillBy w s k) →
-      StandsApart of t (u + 1) end r ls w s k
-  gone_on t u end r ls w s k is on still =
+  pub gone_on : (t u r : ℕ) (ls : List TapLine) (w : Watch) (s : Sender) (k : KeptReception) → StandsApart of t u r ls w s k → u < w.until → (w.since < w.until → IsStillBy w s k) →
+      StandsApart of t (u + 1) r ls w s k
+  gone_on t u r ls w s k is on still =
       let early = is.since in
       record {
         behind = is.behind;
@@ -198,47 +218,44 @@ module _ (of : Segment) where
       subst (λ b. 1 ≤ b) (sym (back_alike of.lookahead p from q ls ls' alike other)) (later_on u front q p ls know hq hp other)
 
   -- another station stands as it stood, where its watch goes no further than it hears the change
-  pub apart_lowered : (t u v end front q p from : ℕ) (ls ls' : List TapLine) (w : Watch) (s : Sender) (k : KeptReception) → Know u front ls → IsAlikeBelow p from ls ls' → u ≤ from → v ≤ u + 1 →
-      q < n → p < n → q ≢ p → StandsApart of t v end q ls w s k →
-      StandsApart of t v end q ls' (lowered_watch (from + half_bits_back of.lookahead (get_or ls' q no_line).at (get_or ls' p no_line)) w) s k
-  apart_lowered t u v end front q p from ls ls' w s k know alike late few hq hp other is =
+  pub apart_lowered : (t u v front q p from : ℕ) (ls ls' : List TapLine) (w : Watch) (s : Sender) (k : KeptReception) → Know u front ls → IsAlikeBelow p from ls ls' → u ≤ from → v ≤ u + 1 →
+      q < n → p < n → q ≢ p → StandsApart of t v q ls w s k →
+      StandsApart of t v q ls' (lowered_watch (from + half_bits_back of.lookahead (get_or ls' q no_line).at (get_or ls' p no_line)) w) s k
+  apart_lowered t u v front q p from ls ls' w s k know alike late few hq hp other is =
       let some = later_on u front q p ls know hq hp other in
       let a = is.until in
       let b = is.since in
       let c = is.within in
-      subst (λ x. StandsApart of t v end q ls' (lowered_watch (from + x) w) s k) (sym (back_alike of.lookahead p from q ls ls' alike other)) (record {
-        behind = lowered plan (number_on of q) q of.lookahead t p from ls ls' w s k alike (tap_there u front p ls know hp) (tap_there u front q ls know hq) other is.behind;
+      subst (λ x. StandsApart of t v q ls' (lowered_watch (from + x) w) s k) (sym (back_alike of.lookahead p from q ls ls' alike other)) (record {
+        behind = lowered plan (number_on of q) q of.lookahead t p from ls ls' w s k alike other is.behind;
         since = b;
         until = omega (arith, a, late, few, some);
         within = omega (arith, c);
         still = is.still;
       })
 
-  pub apart_alike : (t u v end front q p : ℕ) (ls ls' : List TapLine) (w : Watch) (s : Sender) (k : KeptReception) → Know u front ls → ((from : ℕ) → IsAlikeBelow p from ls ls') →
-      q < n → p < n → q ≢ p → StandsApart of t v end q ls w s k → StandsApart of t v end q ls' w s k
-  apart_alike t u v end front q p ls ls' w s k know alike hq hp other is = record {
-    behind = unlowered plan (number_on of q) q of.lookahead t p ls ls' w s k alike (tap_there u front p ls know hp) (tap_there u front q ls know hq) other is.behind;
+  pub apart_alike : (t u v front q p : ℕ) (ls ls' : List TapLine) (w : Watch) (s : Sender) (k : KeptReception) → Know u front ls → ((from : ℕ) → IsAlikeBelow p from ls ls') →
+      q < n → p < n → q ≢ p → StandsApart of t v q ls w s k → StandsApart of t v q ls' w s k
+  apart_alike t u v front q p ls ls' w s k know alike hq hp other is = record {
+    behind = unlowered plan (number_on of q) q of.lookahead t p ls ls' w s k alike other is.behind;
     since = is.since;
     until = is.until;
     within = is.within;
     still = is.still;
   }
 
--- the line of a station that has made half bit u reaches beyond it
-pub tells_anew : (of : Segment) (t u end p : ℕ) (ls ls' : List TapLine) (w : Watch) (s : Sender) (k : KeptReception) → TellsUpTo u end (get_or ls p no_line) →
-    IsToldAnew u (get_or ls p no_line) (get_or ls' p no_line) → StandsApart of t (u + 1) end p ls' w s k → TellsUpTo u end (get_or ls' p no_line)
-tells_anew of t u end p ls ls' w s k before anew is =
+-- the line of a station that is told anew has room for as much as before
+pub tells_anew : (u v end : ℕ) (l l' : TapLine) → TellsUpTo v end l → IsToldAnew u l l' → TellsUpTo v end l'
+tells_anew u v end l l' before anew =
     let base = anew.begins in
     let size = anew.size in
     let begun = before.begun in
     let takes = before.takes in
-    let ends = is.behind.ends in
-    let within = is.behind.within in
-    let until = is.until in
+    let fits = before.fits in
     record {
       begun = omega (arith, base, begun);
-      reaches = omega (arith, ends, within, until);
       takes = omega (arith, base, size, takes);
+      fits = omega (arith, base, size, fits);
     }
 
 -- the station itself stands where it stood

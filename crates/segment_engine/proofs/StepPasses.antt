@@ -11,13 +11,12 @@ use Rattle.mac_transmit.specs.Sender.{Sender}
 use Rattle.network.specs.declared.outputs.Taken.{Taken}
 use Rattle.network.specs.Attempts.{sender_at}
 use Rattle.network.specs.Captures.{taken_by}
-use Rattle.network.specs.Times.{emitted}
 use Rattle.net_parts.specs.SegmentParts.{wiring}
-use Rattle.tap_lines.specs.TapLines.{TapLine, no_line, symbol_on}
+use Rattle.tap_lines.specs.TapLines.{TapLine, no_line}
 use Rattle.segment_engine.specs.declared.apart.Watch.{Watch}
 use Rattle.segment_engine.specs.declared.segment.Segment.{Segment}
 use Rattle.segment_engine.specs.KnownLines.{KnowLines}
-use Rattle.segment_engine.specs.StationsApart.{StandsApart, IsStillBy, HearAllByLines, heard_reception, number_on, rows_of_both, sent_event}
+use Rattle.segment_engine.specs.StationsApart.{StandsApart, IsStillBy, HearAllByLines, SaysOf, heard_reception, number_on, rows_of_both, sent_event}
 use Rattle.segment_engine.proofs.FirstReceptions.{same_rows}
 use Rattle.segment_engine.proofs.PieceRoom.{below_next}
 use Rattle.segment_engine.proofs.StepAll.{emits_so, gone_on, nothing_on, rows_silent, silent_on}
@@ -41,25 +40,25 @@ octets g u i = (heard_reception g.plan.value (number_on g i) u).octets
 -- The stations below k have made half bit u, or go on beyond it; the lines are still right below u, and those of the
 -- stations below k in u too.
 pub record HaveMade
-    (of : Segment) (t u end front k : ℕ) (ls : List TapLine) (ws : List Watch) (ss : List Sender) (ks : List KeptReception)
+    (of : Segment) (t u front k : ℕ) (ls : List TapLine) (ws : List Watch) (ss : List Sender) (ks : List KeptReception)
     (old rows : List Row) (kept_before caps : List (List Taken)) :
     Type 0 where
   pub know : KnowLines of.plan.value (wiring of.plan.value.layout of.number) of.lookahead u front ls
   pub right : HearAllByLines of t u ls
-  pub now : (i : ℕ) → i < length of.stations.items → i < k → emitted of.plan.value (number_on of i) u ≡ symbol_on (get_or ls i no_line) u
+  pub now : (i : ℕ) → i < length of.stations.items → i < k → SaysOf of.plan.value (number_on of i) u (get_or ls i no_line)
   pub done : (i : ℕ) (w : Watch) (s : Sender) (r : KeptReception) → i < length of.stations.items → i < k →
-      StandsApart of t (u + 1) end i ls (get_or ws i w) (get_or ss i s) (get_or ks i r)
+      StandsApart of t (u + 1) i ls (get_or ws i w) (get_or ss i s) (get_or ks i r)
   pub still : (i : ℕ) (w : Watch) (s : Sender) (r : KeptReception) → i < length of.stations.items → i < k →
       (get_or ws i w).since < (get_or ws i w).until → IsStillBy (get_or ws i w) (get_or ss i s) (get_or ks i r)
   pub others : (i : ℕ) (w : Watch) (s : Sender) (r : KeptReception) → i < length of.stations.items → k ≤ i →
-      StandsApart of t u end i ls (get_or ws i w) (get_or ss i s) (get_or ks i r)
+      StandsApart of t u i ls (get_or ws i w) (get_or ss i s) (get_or ks i r)
   pub waits : (i : ℕ) (w : Watch) (s : Sender) (r : KeptReception) → i < length of.stations.items → k ≤ i →
       (get_or ws i w).since < (get_or ws i w).until → IsStillBy (get_or ws i w) (get_or ss i s) (get_or ks i r)
   pub logged : rows ≡ old ++ rows_of_both u of.stations.items (sent of u) (event of u) k
   pub kept : (i : ℕ) → i < k → get_or caps i [] ≡ get_or kept_before i [] ++ taken_by u (event of u i) (octets of u i)
   pub unkept : (i : ℕ) → k ≤ i → get_or caps i [] ≡ get_or kept_before i []
 
-module _ (g : Segment) (t u end front : ℕ) (ls : List TapLine) (ws : List Watch) (ss : List Sender) (ks : List KeptReception)
+module _ (g : Segment) (t u front : ℕ) (ls : List TapLine) (ws : List Watch) (ss : List Sender) (ks : List KeptReception)
     (old rows : List Row) (kept_before caps : List (List Taken)) (below : u < front) where
   abbrev plan : Plan
   plan = g.plan.value
@@ -68,7 +67,7 @@ module _ (g : Segment) (t u end front : ℕ) (ls : List TapLine) (ws : List Watc
   n = length g.stations.items
 
   abbrev Made : ℕ → Type 0
-  Made k = HaveMade g t u end front k ls ws ss ks old rows kept_before caps
+  Made k = HaveMade g t u front k ls ws ss ks old rows kept_before caps
 
   -- one of them
   one_passed : (k : ℕ) → k < n → Made k → ((w : Watch) → u < (get_or ws k w).until) → Made (k + 1)
@@ -81,18 +80,18 @@ module _ (g : Segment) (t u end front : ℕ) (ls : List TapLine) (ws : List Watc
       let on : u < w.until = later a_watch in
       let early = one.since in
       let quiet : event g u k ≡ None =
-      nothing_on g t u front end k ls w s r made.know below in_it one on (made.right k in_it) (made.waits k a_watch ds a_kept in_it (omega arith) (omega (arith, early, on))) in
+      nothing_on g t u front k ls w s r made.know below in_it one on (made.right k in_it) (made.waits k a_watch ds a_kept in_it (omega arith) (omega (arith, early, on))) in
       record {
         know = made.know;
         right = made.right;
-        now = λ i l h. below_next k (λ i. i < n → emitted plan (number_on g i) u ≡ symbol_on (get_or ls i no_line) u) (λ i b l. made.now i l b)
-            (λ l. emits_so g t u front end k ls w s r made.know below in_it one on (made.right k in_it)) i h l;
+        now = λ i l h. below_next k (λ i. i < n → SaysOf plan (number_on g i) u (get_or ls i no_line)) (λ i b l. made.now i l b)
+            (λ l. emits_so g t u front k ls w s r made.know below in_it one on (made.right k in_it)) i h l;
         done = λ i w s r l h. elim (cases_lt i k) [
           | inl low ↦ made.done i w s r l low
           | inr high ↦
               let e : k ≡ i = omega (arith, h, high) in
-              subst (λ j. StandsApart g t (u + 1) end j ls (get_or ws j w) (get_or ss j s) (get_or ks j r)) e
-              (gone_on g t u end k ls (get_or ws k w) (get_or ss k s) (get_or ks k r) (made.others k w s r in_it (omega arith)) (later w) (made.waits k w s r in_it (omega arith)))
+              subst (λ j. StandsApart g t (u + 1) j ls (get_or ws j w) (get_or ss j s) (get_or ks j r)) e
+              (gone_on g t u k ls (get_or ws k w) (get_or ss k s) (get_or ks k r) (made.others k w s r in_it (omega arith)) (later w) (made.waits k w s r in_it (omega arith)))
         ];
         still = λ i w s r l h. elim (cases_lt i k) [
           | inl low ↦ made.still i w s r l low
@@ -101,7 +100,7 @@ module _ (g : Segment) (t u end front : ℕ) (ls : List TapLine) (ws : List Watc
         others = λ i w s r l h. made.others i w s r l (omega (arith, h));
         waits = λ i w s r l h. made.waits i w s r l (omega (arith, h));
         logged = rows_silent u g.stations.items (sent g u) (event g u) k old rows rows
-            (silent_on g t u front end k ls w s r made.know below in_it one on (made.right k in_it)) made.logged (same_rows u (number_on g k) (event g u k) rows quiet);
+            (silent_on g t u front k ls w s r made.know below in_it one on (made.right k in_it)) made.logged (same_rows u (number_on g k) (event g u k) rows quiet);
         kept = λ q l. below_next k (λ q. get_or caps q [] ≡ get_or kept_before q [] ++ taken_by u (event g u q) (octets g u q))
             (λ q b. made.kept q b)
             (made.unkept k (omega arith) ∙ sym (ap (λ x. get_or kept_before k [] ++ taken_by u x (octets g u k)) quiet ∙ append-nil (get_or kept_before k [])))

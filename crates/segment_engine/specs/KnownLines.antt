@@ -2,14 +2,16 @@
 -- from 0.
 use Rattle.std.specs.Prelude.{ℕ, ◌≡◌, ◌+◌, ◌-◌, ◌<◌, ◌≤◌, List, map, length, slice_index_or}
 use Rattle.mac_parameters.specs.Distances.{distance}
+use Rattle.manchester_line.specs.Line.{is_signal}
 use Rattle.load_plan.specs.declared.plan.Plan.{Plan}
 use Rattle.network.specs.Times.{emitted}
 use Rattle.net_parts.specs.SegmentParts.{Wiring}
 use Rattle.net_parts.specs.Standing.{arrives}
-use Rattle.tap_lines.specs.TapLines.{TapLine, no_line, symbol_on}
+use Rattle.tap_lines.specs.TapLines.{TapLine, no_line, symbol_on, class_on}
 
 -- The lines of a segment in half bit t say what each station emitted below it, and what comes in for each port below
--- `front` (profile).
+-- `front`; and below these half bits none of them goes on with a signal in the place of Idle, or with Idle in the place
+-- of a signal (profile).
 pub record KnowLines (plan : Plan) (w : Wiring) (L t front : ℕ) (ls : List TapLine) : Type 0 where
   pub many : length ls ≡ length w.stations + length w.edges
   pub places : map (λ l. l.at) ls ≡ w.positions
@@ -27,3 +29,8 @@ pub record KnowLines (plan : Plan) (w : Wiring) (L t front : ℕ) (ls : List Tap
   pub arrivals : (p u : ℕ) → p < length w.edges → (slice_index_or ls (length w.stations + p) no_line).base ≤ u →
       u < front →
       symbol_on (slice_index_or ls (length w.stations + p) no_line) u ≡ arrives plan L (slice_index_or w.edges p 0) u
+  pub classes : (r u : ℕ) → r < length w.stations → u < t →
+      class_on (slice_index_or ls r no_line) u ≡ is_signal (symbol_on (slice_index_or ls r no_line) u)
+  pub port_classes : (p u : ℕ) → p < length w.edges → u < front →
+      class_on (slice_index_or ls (length w.stations + p) no_line) u
+      ≡ is_signal (symbol_on (slice_index_or ls (length w.stations + p) no_line) u)

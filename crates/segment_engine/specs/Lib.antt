@@ -3,7 +3,6 @@ pub mod StationPasses
 pub mod PartStates
 pub mod KnownLines
 pub mod RunningStates
-pub mod Strides
 pub mod KeptParts
 pub mod QuietHalfBits
 pub mod SteadyPieces

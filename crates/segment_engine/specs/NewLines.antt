@@ -1,5 +1,5 @@
 -- The lines of a segment's taps before half bit 0 (profile). Taps and edges count from 0.
-use Rattle.std.specs.Prelude.{ℕ, ◌≡◌, ◌+◌, ◌-◌, ◌<◌, ◌≤◌, nat_lt, if◌then◌else◌, List, [], length, slice_index, slice_index_or}
+use Rattle.std.specs.Prelude.{ℕ, ◌≡◌, ◌+◌, ◌-◌, ◌<◌, ◌≤◌, nat_lt, if◌then◌else◌, max, List, [], length, slice_index, slice_index_or}
 use Rattle.mac_parameters.specs.Distances.{distance}
 use Rattle.tap_lines.specs.TapLines.{TapLine}
 
@@ -9,11 +9,12 @@ abbrev pub new_delay : ℕ → ℕ → List ℕ → List ℕ → ℕ → ℕ
 new_delay n L edges delays r = if nat_lt r n then L else slice_index delays (slice_index edges (r - n))
 
 -- A line without symbols, of a tap at a place and with a delay, that takes what it keeps and a window's symbols without
--- memory, where a window has L half bits. It keeps what reaches a tap that is so many half bits away (profile).
+-- memory, where a window has L half bits. It keeps what reaches a tap that is so many half bits away, and its last symbol
+-- at least (profile).
 pub record IsNewLine (place wait away L : ℕ) (l : TapLine) : Type 0 where
   pub at_place : l.at ≡ place
   pub with_delay : l.delay ≡ wait
-  pub keeps : l.backlog ≡ away + wait - L
+  pub keeps : l.backlog ≡ max 1 (away + wait - L)
   pub from_first : l.base ≡ 0
   pub empty : l.symbols ≡ []
   pub roomy : l.backlog + L ≤ l.room

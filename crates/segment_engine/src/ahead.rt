@@ -1,12 +1,12 @@
 //! What stations emit in the half bits ahead, if nothing happens to them.
-ghost use Rattle.std.specs.Prelude.{◌≡◌, ◌≤◌, ◌<◌, ◌+◌, ◌^◌, ℕ, true, All, length, take, slice_index_or};
+ghost use Rattle.std.specs.Prelude.{◌≡◌, ◌≤◌, ◌<◌, ◌+◌, ◌^◌, ℕ, true, length};
 ghost use Rattle.mac_parameters.specs.Parameters.{most_half_bits};
 ghost use Rattle.manchester_line.specs.Line.{is_signal as is_signal_of};
 ghost use Rattle.mac_transmit.specs.Emissions.{IsSendingFor, emission_by};
-ghost use Rattle.mac_transmit.specs.Sender.{Sender, symbol_of, is_sending as is_sending_in};
+ghost use Rattle.mac_transmit.specs.Sender.{symbol_of, is_sending as is_sending_in};
 ghost use Rattle.net_parts.specs.Machines.{span};
-ghost use Rattle.segment_engine.specs.SteadyPieces.{IsToldAhead, sent_ahead};
-ghost use Rattle.tap_lines.specs.TapLines.{TapLine, line_extended};
+ghost use Rattle.segment_engine.specs.SteadyPieces.{sent_ahead};
+ghost use Rattle.tap_lines.specs.TapLines.{line_extended};
 
 use crate::quiet::is_sending;
 use crate::sendings::write_ahead;
@@ -62,25 +62,8 @@ fn send_on(t: u64, count: u32, sender: &Transmitter, line: &mut Line, piece: &mu
     send_ahead(frame.octets(), hit, t - start, left, line, piece)
 }
 
-/// Puts on a station's line what it emits in the half bits from `t` on, at most so many, if nothing happens to its
-/// sender. It answers for how many.
-fn go_ahead(t: u64, count: u32, sender: &Transmitter, line: &mut Line, piece: &mut [Sym]) -> u32
-    requires time { t ≡ sender.now.t }
-    requires in_time { t + count ≤ most_half_bits }
-    requires room { count ≤ line.old.room }
-    requires piece { count ≤ length piece.old }
-    ensures within { result ≤ count }
-    ensures line { line.new ≡ line_extended line.old (sent_ahead sender.now result) }
-    ensures signal { (j : ℕ) → j < result → is_signal_of (emission_by sender.now j sender.now.phase) ≡ is_sending_in sender.now.phase }
-{
-    if is_sending(sender) {
-        return send_on(t, count, sender, line, piece);
-    }
-    line.rest(count as usize);
-    count
-}
-
-/// The same, and no further than the end of its sending.
+/// Puts on a station's line what it emits in the half bits from `t` on, at most so many and no further than the end of
+/// its sending, if nothing happens to its sender. It answers for how many.
 pub fn go_on_ahead(
     t: u64,
     count: u32,
@@ -103,32 +86,4 @@ pub fn go_on_ahead(
     }
     let most = sender.calm(t, false).min(u64::from(count)) as u32;
     send_on(t, most, sender, line, piece)
-}
-
-/// Puts on the line of each station what it emits in the half bits from `t` on, at most so many, if nothing happens to
-/// its sender: those lines come first. It answers for how many half bits all of them have that.
-pub fn emit_ahead(
-    t: u64,
-    count: u32,
-    senders: &[Transmitter],
-    lines: &mut [Line],
-    piece: &mut [Sym],
-) -> u32
-    requires few { length senders.now ≤ length lines.old }
-    requires times { All (λ s. s.t ≡ t) senders.now }
-    requires in_time { t + count ≤ most_half_bits }
-    requires piece { count ≤ length piece.old }
-    requires room { (r : ℕ) (d : TapLine) → r < length senders.now → count ≤ (slice_index_or lines.old r d).room }
-    ensures within { result ≤ count }
-    ensures told { (r : ℕ) (d : TapLine) (e : Sender) → r < length senders.now →
-        IsToldAhead (slice_index_or senders.now r e) result count (slice_index_or lines.old r d) (slice_index_or lines.new r d) }
-    ensures others { (r : ℕ) (d : TapLine) → length senders.now ≤ r →
-        slice_index_or lines.new r d ≡ slice_index_or lines.old r d }
-{
-    let mut ahead = count;
-    for r in 0..senders.len() {
-        let line = &mut lines[r];
-        ahead = ahead.min(go_ahead(t, count, &senders[r], line, piece));
-    }
-    ahead
 }

@@ -8,20 +8,20 @@ ghost use Rattle.mac_receive.specs.Receiver.{Receiving, receiver_after, receiver
 ghost use Rattle.mac_transmit.specs.Sender.{Sender, is_sending as is_sending_in};
 ghost use Rattle.network.specs.Captures.{taken_by};
 ghost use Rattle.network.specs.Rows.{row_of};
-ghost use Rattle.segment_engine.specs.FirstReceptions.{rows_of_first};
 ghost use Rattle.net_parts.specs.SegmentParts.{wiring};
 ghost use Rattle.net_parts.specs.Standing.{captures_at, rows_of_devices};
 ghost use Rattle.segment_engine.specs.KnownLines.{KnowLines};
+ghost use Rattle.segment_engine.specs.PartStates.{half_filled};
+ghost use Rattle.segment_engine.specs.QuietHalfBits.{ComeInIdle, IsQuietFor};
+ghost use Rattle.segment_engine.specs.RunningStates.{GoesOnAt, IsRunningAt};
 ghost use Rattle.segment_engine.specs.SteadyPieces.{IsCalmAs};
-ghost use Rattle.segment_engine.specs.Strides.{MayGoOnFor, HasGoneOn};
-ghost use Rattle.segment_engine.specs.StationsApart.{StandsBehind, StandsApart, StandAllApart, EndsAt, IsStillBy, HearsByLines, HearAllByLines, AreToldAnew, IsToldTo, TellsUpTo, CoversApart, behind_demand, number_on, heard_reception};
-ghost use Rattle.tap_lines.specs.TapLines.{IsReachOf, TapLine, heard_by_lines, heard_for, no_line};
+ghost use Rattle.segment_engine.specs.StationsApart.{StandsBehind, StandsApart, StandAllApart, AreStill, AreToldAnew, EndsAt, IsStillBy, HearsByLines, HearAllByLines, TellsUpTo, CoversApart, behind_demand, heard_reception, most_ahead, number_on};
+ghost use Rattle.tap_lines.specs.TapLines.{IsReachOf, class_by_lines, heard_by_lines, heard_for, no_line};
 ghost use Rattle.tap_lines.specs.TapLists.{AreIdleButFor, HearsListed};
 ghost use Rattle.window_room.specs.NeededRoom.{Covers, Demand, IsDemandWithin, both_demands, receiver_demand, sender_demand, stations_demand};
 ghost use Rattle.window_room.specs.Rooms.{Room, captures_with};
 
-use crate::ahead::go_on_ahead;
-use crate::due::step_all;
+use crate::due::{lower_all, step_all};
 use crate::quiet::is_sending;
 use crate::running::Running;
 use crate::segment::Segment;
@@ -30,7 +30,7 @@ use mac_transmit::Transmitter;
 use manchester_line::Sym;
 use net_parts::Parcel;
 use reception_laws::{LateReceiver, Teller};
-use tap_lines::{Line, LoudTaps, class_ahead, cut_all, hear_listed, piece_of};
+use tap_lines::{Line, LoudTaps, are_idle_from, class_ahead, hear_listed, piece_of};
 use window_room::RowRoom;
 
 /// A station that stands before half bit `since`: up to half bit `until` it hears a signal in each, or Idle in each, as
@@ -47,7 +47,7 @@ pub struct Watch {
 fn hear_on(
     t: u64,
     lines: &[Line],
-    loud: &LoudTaps,
+    late: &mut LoudTaps,
     p: usize,
     lookahead: u32,
     far: u64,
@@ -58,7 +58,7 @@ fn hear_on(
 )
     requires tap { p < length lines.now }
     requires reach { IsReachOf far lookahead lines.now }
-    requires loud { AreIdleButFor (t - far) lines.now loud.now.taps }
+    requires listing { length lines.now ≤ late.old.room }
     requires steps { receiver.old.steps ≡ t }
     requires in_time { t + length piece.old ≤ most_half_bits }
     requires rest { carrier ≡ false → sending ≡ false → receiver.old.halves ≡ 0 }
@@ -66,6 +66,7 @@ fn hear_on(
     ensures state { (r : Receiving) → Hears r receiver.old →
         Hears (receiver_after r (heard_for lookahead t (length piece.old) lines.now p) sending) receiver.new }
     ensures steps { receiver.new.steps ≡ t + length piece.old }
+    ensures listing { late.new.room ≡ late.old.room }
 {
     let count = piece.len() as u64;
     if sending {
@@ -74,21 +75,24 @@ fn hear_on(
         receiver.leap_quiet(count);
     } else if receiver.is_deaf() {
         receiver.leap_deaf(count);
-    } else if let Some(heard) = piece_of(lines, loud.only(), p, lookahead, far, t, piece.len()) {
-        receiver.take(heard);
     } else {
-        hear_listed(lines, loud, p, lookahead, far, t, piece);
-        receiver.take(piece);
+        late.find(lines, t.saturating_sub(far));
+        if let Some(heard) = piece_of(lines, late.only(), p, lookahead, far, t, piece.len()) {
+            receiver.take(heard);
+        } else {
+            hear_listed(lines, late, p, lookahead, far, t, piece);
+            receiver.take(piece);
+        }
     }
 }
 
 /// Station `p` of a segment, which stands behind in half bits from `t` on, goes on up to half bit `u`.
 fn bring_one(
     of: &Segment,
-    t: u64,
+    from: u64,
     u: u64,
     lines: &[Line],
-    loud: &LoudTaps,
+    late: &mut LoudTaps,
     p: usize,
     far: u64,
     watch: &mut Watch,
@@ -98,22 +102,23 @@ fn bring_one(
 )
     requires tap { p < length lines.now }
     requires reach { IsReachOf far of.now.lookahead lines.now }
-    requires loud { AreIdleButFor (t - far) lines.now loud.now.taps }
+    requires listing { length lines.now ≤ late.old.room }
     requires station { p < length of.now.stations.items }
     requires since { watch.old.since ≤ u }
     requires until { u ≤ watch.old.until }
     requires in_time { u ≤ most_half_bits }
     requires piece { u ≤ watch.old.since + length piece.old }
-    requires behind { StandsBehind of.now.plan.value (number_on of.now p) p of.now.lookahead t lines.now watch.old sender.old receiver.old }
+    requires behind { StandsBehind of.now.plan.value (number_on of.now p) p of.now.lookahead from lines.now watch.old sender.old receiver.old }
     requires still { watch.old.since < u → IsStillBy watch.old sender.old receiver.old }
-    requires right { HearsByLines of.now.plan.value (number_on of.now p) p of.now.lookahead t u lines.now }
-    ensures behind { StandsBehind of.now.plan.value (number_on of.now p) p of.now.lookahead t lines.now watch.new sender.new receiver.new }
+    requires right { HearsByLines of.now.plan.value (number_on of.now p) p of.now.lookahead from u lines.now }
+    ensures behind { StandsBehind of.now.plan.value (number_on of.now p) p of.now.lookahead from lines.now watch.new sender.new receiver.new }
     ensures since { watch.new.since ≡ u }
     ensures until { watch.new.until ≡ watch.old.until }
     ensures carrier { watch.new.carrier ≡ watch.old.carrier }
     ensures left { (e : ℕ) → u ≤ e → IsDemandWithin (behind_demand e watch.new sender.new receiver.new) (behind_demand e watch.old sender.old receiver.old) }
+    ensures listing { late.new.room ≡ late.old.room }
 {
-    let _ = t;
+    let _ = from;
     let since = watch.since;
     let count = u - since;
     if count == 0 {
@@ -124,7 +129,7 @@ fn bring_one(
     let lookahead = of.lookahead;
     let part = &mut piece[..count as usize];
     hear_on(
-        since, lines, loud, p, lookahead, far, sending, carrier, receiver, part,
+        since, lines, late, p, lookahead, far, sending, carrier, receiver, part,
     );
     sender.leap(since, count, carrier);
     watch.since = u;
@@ -133,11 +138,10 @@ fn bring_one(
 /// All stations of a segment go on up to half bit `u`.
 fn bring_all(
     of: &Segment,
-    t: u64,
+    from: u64,
     u: u64,
-    end: u64,
     lines: &[Line],
-    loud: &LoudTaps,
+    late: &mut LoudTaps,
     far: u64,
     watches: &mut [Watch],
     senders: &mut [Transmitter],
@@ -145,27 +149,33 @@ fn bring_all(
     piece: &mut [Sym],
 )
     requires reach { IsReachOf far of.now.lookahead lines.now }
-    requires loud { AreIdleButFor (t - far) lines.now loud.now.taps }
-    requires in_time { end ≤ most_half_bits }
-    requires piece { end ≤ t + length piece.old }
-    requires apart { StandAllApart of.now t u end lines.now watches.old senders.old receivers.old }
-    requires right { HearAllByLines of.now t u lines.now }
-    ensures apart { StandAllApart of.now t u end lines.now watches.new senders.new receivers.new }
+    requires listing { length lines.now ≤ late.old.room }
+    requires in_time { u ≤ most_half_bits }
+    requires piece { most_ahead ≤ length piece.old }
+    requires apart { StandAllApart of.now from u lines.now watches.old senders.old receivers.old }
+    requires right { HearAllByLines of.now from u lines.now }
+    ensures apart { StandAllApart of.now from u lines.now watches.new senders.new receivers.new }
     ensures since { (i : ℕ) (w : Watch) → i < length of.now.stations.items → (slice_index_or watches.new i w).since ≡ u }
     ensures left { (e : ℕ) (room : Room) → u ≤ e →
         CoversApart e (length of.now.stations.items) watches.old senders.old receivers.old room →
         CoversApart e (length of.now.stations.items) watches.new senders.new receivers.new room }
+    ensures listing { late.new.room ≡ late.old.room }
 {
-    let _ = end;
     for k in 0..senders.len() {
         let watch = &mut watches[k];
         let sender = &mut senders[k];
         let receiver = &mut receivers[k];
         bring_one(
-            of, t, u, lines, loud, k, far, watch, sender, receiver, piece,
+            of, from, u, lines, late, k, far, watch, sender, receiver, piece,
         );
     }
 }
+
+/// The half bits that are told or looked ahead at most.
+pub const AHEAD: u64 = 4_096;
+
+/// The half bits that stations may stand behind, beyond a window.
+pub const KEEP: u64 = 2_048;
 
 /// The watch of a station from half bit `u` on, which hears a signal in each of so many half bits, or Idle in each.
 fn calm_watch(u: u64, carrier: bool, steady: usize, told: u64, sender: &Transmitter) -> Watch
@@ -209,7 +219,7 @@ fn watch_from(
     ensures from { u ≤ result.until }
     ensures within { result.until ≤ u + most }
     ensures calm { IsCalmAs (result.until - u) result.carrier sender.now }
-    ensures steady { (j : ℕ) → u + j < result.until → is_signal_of (heard_by_lines lookahead (u + j) lines.now p) ≡ result.carrier }
+    ensures steady { (j : ℕ) → u + j < result.until → class_by_lines lookahead (u + j) lines.now p ≡ result.carrier }
 {
     let ahead = class_ahead(lines, loud, p, lookahead, far, u, most, likely);
     if ahead > 0 {
@@ -219,15 +229,14 @@ fn watch_from(
     calm_watch(u, !likely, other, told, sender)
 }
 
-/// Station `p` of a segment, which is due in half bit `u`, goes on up to it and is looked at. At the front of a run it
-/// mostly hears what it heard before, and later what it didn't.
+/// Station `p` of a segment, which is due in half bit `u`, goes on up to it and is looked at.
 pub fn look_one(
     of: &Segment,
-    t: u64,
+    from: u64,
     u: u64,
-    end: u64,
     lines: &[Line],
     loud: &LoudTaps,
+    late: &mut LoudTaps,
     p: usize,
     far: u64,
     watch: &mut Watch,
@@ -237,23 +246,24 @@ pub fn look_one(
 )
     requires tap { p < length lines.now }
     requires reach { IsReachOf far of.now.lookahead lines.now }
-    requires loud { AreIdleButFor (t - far) lines.now loud.now.taps }
+    requires loud { AreIdleButFor (u - far) lines.now loud.now.taps }
+    requires listing { length lines.now ≤ late.old.room }
     requires station { p < length of.now.stations.items }
-    requires below { u < end }
-    requires in_time { end ≤ most_half_bits }
-    requires piece { end ≤ t + length piece.old }
-    requires apart { StandsApart of.now t u end p lines.now watch.old sender.old receiver.old }
-    requires right { HearsByLines of.now.plan.value (number_on of.now p) p of.now.lookahead t u lines.now }
-    ensures apart { StandsApart of.now t u end p lines.now watch.new sender.new receiver.new }
+    requires in_time { u < most_half_bits }
+    requires piece { most_ahead ≤ length piece.old }
+    requires apart { StandsApart of.now from u p lines.now watch.old sender.old receiver.old }
+    requires right { HearsByLines of.now.plan.value (number_on of.now p) p of.now.lookahead from u lines.now }
+    ensures apart { StandsApart of.now from u p lines.now watch.new sender.new receiver.new }
     ensures since { watch.new.since ≡ u }
     ensures left { (e : ℕ) → u ≤ e → IsDemandWithin (behind_demand e watch.new sender.new receiver.new) (behind_demand e watch.old sender.old receiver.old) }
+    ensures listing { late.new.room ≡ late.old.room }
 {
     bring_one(
-        of, t, u, lines, loud, p, far, watch, sender, receiver, piece,
+        of, from, u, lines, late, p, far, watch, sender, receiver, piece,
     );
     let told = watch.told;
-    let most = end.min(told).saturating_sub(u) as usize;
-    let likely = watch.carrier == (u == t);
+    let most = told.saturating_sub(u).min(AHEAD) as usize;
+    let likely = !watch.carrier;
     let lookahead = of.lookahead;
     *watch = watch_from(
         u, lines, loud, p, lookahead, far, most, likely, told, sender,
@@ -272,9 +282,8 @@ fn ends_at(u: u64, watch: &Watch, sender: &Transmitter, receiver: &LateReceiver)
 /// half bit. The device is counted among all.
 pub fn end_one(
     of: &Segment,
-    t: u64,
+    from: u64,
     u: u64,
-    end: u64,
     lines: &[Line],
     p: usize,
     watch: &mut Watch,
@@ -286,11 +295,11 @@ pub fn end_one(
     requires station { p < length of.now.stations.items }
     requires captures { p < length room.old.captures }
     requires in_time { u < most_half_bits }
-    requires apart { StandsApart of.now t u end p lines.now watch.old sender.old receiver.old }
+    requires apart { StandsApart of.now from u p lines.now watch.old sender.old receiver.old }
     requires on { u < watch.old.until }
-    requires right { HearsByLines of.now.plan.value (number_on of.now p) p of.now.lookahead t (u + 1) lines.now }
+    requires right { HearsByLines of.now.plan.value (number_on of.now p) p of.now.lookahead from (u + 1) lines.now }
     requires room { Covers (receiver_demand 1 receiver.old) room.old }
-    ensures apart { StandsApart of.now t (u + 1) end p lines.now watch.new sender.new receiver.new }
+    ensures apart { StandsApart of.now from (u + 1) p lines.now watch.new sender.new receiver.new }
     ensures still { IsStillBy watch.new sender.new receiver.new }
     ensures rows { room.new.rows ≡ room.old.rows ++ row_of u (number_on of.now p) (heard_reception of.now.plan.value (number_on of.now p) u).event }
     ensures captures { room.new.captures ≡ captures_with p
@@ -299,8 +308,7 @@ pub fn end_one(
         Covers (both_demands other (behind_demand e watch.old sender.old receiver.old)) room.old →
         Covers (both_demands other (behind_demand e watch.new sender.new receiver.new)) room.new }
 {
-    let _ = t;
-    let _ = end;
+    let _ = from;
     let _ = lines;
     if !ends_at(u, watch, sender, receiver) {
         return;
@@ -324,46 +332,157 @@ fn first_due(watches: &[Watch], end: u64) -> u64
     due
 }
 
-/// Puts on the line of each station what it emits in the half bits from `t` on, so many at most, if nothing happens to its
-/// sender: those lines come first. All stations are due in half bit `t`.
-fn tell_all(
-    t: u64,
-    count: u32,
-    senders: &[Transmitter],
-    lines: &mut [Line],
-    watches: &mut [Watch],
-    piece: &mut [Sym],
-)
-    requires few { length senders.now ≤ length lines.old }
-    requires watched { length senders.now ≡ length watches.old }
-    requires times { All (λ s. s.t ≡ t) senders.now }
-    requires in_time { t + count ≤ most_half_bits }
-    requires piece { count ≤ length piece.old }
-    requires room { (r : ℕ) (d : TapLine) → r < length senders.now → count ≤ (slice_index_or lines.old r d).room }
-    ensures since { (i : ℕ) (w : Watch) → i < length watches.new → (slice_index_or watches.new i w).since ≡ t }
-    ensures until { (i : ℕ) (w : Watch) → i < length watches.new → (slice_index_or watches.new i w).until ≡ t }
-    ensures told { (r : ℕ) (d : TapLine) (e : Sender) (w : Watch) → r < length senders.now →
-        IsToldTo (slice_index_or senders.now r e) t (t + count) (slice_index_or watches.new r w).told (slice_index_or lines.old r d) (slice_index_or lines.new r d) }
-    ensures others { (r : ℕ) (d : TapLine) → length senders.now ≤ r → slice_index_or lines.new r d ≡ slice_index_or lines.old r d }
+/// What came in for the ports in a window is put on their lines. No station goes on beyond the half bit in which it hears
+/// anything else of it than it was said to.
+pub fn arrive(of: &Segment, window: u64, state: &mut Running, parcels: &[Parcel])
+    requires at { IsRunningAt of.now (window * of.now.lookahead) state.old }
+    requires time { state.old.t ≡ window * of.now.lookahead }
+    requires in_time { state.old.t < most_half_bits }
+    requires parcels { parcels.now
+        ≡ map (half_filled of.now.plan.value of.now.lookahead window 0) (wiring of.now.plan.value.layout of.now.number).edges }
+    ensures at { IsRunningAt of.now ((window + 1) * of.now.lookahead) state.new }
+    ensures time { state.new.t ≡ state.old.t }
+    ensures from { state.new.from ≡ state.old.from }
+    ensures since { (i : ℕ) (w : Watch) → (slice_index_or state.new.watches.items i w).since ≡ (slice_index_or state.old.watches.items i w).since }
+    ensures senders { state.new.senders ≡ state.old.senders }
+    ensures receivers { state.new.receivers ≡ state.old.receivers }
+    ensures room { state.new.room ≡ state.old.room }
 {
-    for k in 0..senders.len() {
-        let told = go_on_ahead(t, count, &senders[k], &mut lines[k], piece);
-        let watch = &mut watches[k];
-        watch.since = t;
-        watch.until = t;
-        watch.told = t + u64::from(told);
+    let _ = window;
+    let t = state.t;
+    let from = of.stations.len();
+    for p in 0..parcels.len() {
+        let symbols = parcels[p].symbols.as_slice();
+        let same = state.lines[from + p].alike_first(symbols);
+        if same == symbols.len() {
+            state.lines[from + p].go_on(symbols);
+        } else {
+            state.lines[from + p].extend(symbols);
+            lower_all(
+                t + same as u64,
+                of.lookahead,
+                &state.lines,
+                from + p,
+                &mut state.watches,
+            );
+        }
     }
 }
 
+/// For how many half bits from its present one on nothing happens.
+pub fn quiet_ahead(of: &Segment, state: &Running, most: u64) -> u64
+    requires goes { GoesOnAt of.now state.now.t state.now }
+    requires in_time { state.now.t < most_half_bits }
+    requires few { most ≤ most_ahead }
+    ensures within { result ≤ most }
+    ensures quiet { (n : ℕ) → 0 < n → n ≤ result → IsQuietFor n state.now }
+{
+    let _ = of;
+    let t = state.t;
+    if !are_idle_from(&state.lines, t.saturating_sub(state.far)) {
+        return 0;
+    }
+    if state.from != t {
+        return first_due(&state.watches, t + most) - t;
+    }
+    let mut calm = most;
+    for k in 0..state.senders.len() {
+        if is_sending(&state.senders[k]) || state.receivers[k].is_receiving() {
+            return 0;
+        }
+        calm = calm.min(state.senders[k].calm(t, false));
+    }
+    calm
+}
+
+/// So many half bits in which nothing happens and nothing but Idle comes in.
+pub fn pass(of: &Segment, count: u64, state: &mut Running)
+    requires at { IsRunningAt of.now state.old.t state.old }
+    requires in_time { state.old.t + count ≤ most_half_bits }
+    requires quiet { IsQuietFor count state.old }
+    requires silent { ComeInIdle of.now.plan.value (wiring of.now.plan.value.layout of.now.number).edges state.old.t count }
+    ensures at { IsRunningAt of.now state.new.t state.new }
+    ensures time { state.new.t ≡ state.old.t + count }
+    ensures from { state.new.from ≡ state.new.t }
+    ensures room { state.new.room ≡ state.old.room }
+{
+    if state.from != state.t {
+        settle(of, state.t, state);
+    }
+    let t = state.t + count;
+    for k in 0..state.senders.len() {
+        state.senders[k].leap(state.t, count, false);
+        state.receivers[k].leap_quiet(count);
+        state.watches[k].since = t;
+        state.watches[k].until = t;
+        state.watches[k].carrier = false;
+    }
+    state.t = t;
+    state.from = t;
+    for line in state.lines.iter_mut() {
+        line.pass_to(t);
+    }
+}
+
+/// The half bits after which a quiet segment is settled.
+const SOME: u64 = 256;
+
+/// All stations go on up to the end of a window where they stand far behind, or nothing sounds any more.
+pub fn settle_if_due(of: &Segment, front: u64, last: bool, state: &mut Running)
+    requires goes { GoesOnAt of.now front state.old }
+    requires in_time { state.old.t ≤ most_half_bits }
+    ensures at { IsRunningAt of.now front state.new }
+    ensures time { state.new.t ≡ state.old.t }
+    ensures last { last ≡ true → state.new.from ≡ state.new.t }
+    ensures room { state.new.room ≡ state.old.room }
+{
+    let behind = state.t - state.from;
+    if last || behind > KEEP || (behind >= SOME && are_idle_from(&state.lines, state.t.saturating_sub(state.far))) {
+        settle(of, front, state);
+    }
+}
+
+/// All stations go on up to the present half bit, and what their lines needn't keep is forgotten.
+fn settle(of: &Segment, front: u64, state: &mut Running)
+    requires goes { GoesOnAt of.now front state.old }
+    requires in_time { state.old.t ≤ most_half_bits }
+    ensures goes { GoesOnAt of.now front state.new }
+    ensures time { state.new.t ≡ state.old.t }
+    ensures from { state.new.from ≡ state.new.t }
+    ensures since { (i : ℕ) (w : Watch) → i < length of.now.stations.items → (slice_index_or state.new.watches.items i w).since ≡ state.new.t }
+    ensures room { state.new.room ≡ state.old.room }
+    ensures left { (e : ℕ) → state.old.t ≤ e →
+        CoversApart e (length of.now.stations.items) state.old.watches.items state.old.senders.items state.old.receivers.items state.old.room →
+        CoversApart e (length of.now.stations.items) state.new.watches.items state.new.senders.items state.new.receivers.items state.new.room }
+{
+    let _ = front;
+    let t = state.t;
+    let from = state.from;
+    let far = state.far;
+    let watches: &mut [Watch] = &mut state.watches;
+    let senders: &mut [Transmitter] = &mut state.senders;
+    let receivers: &mut [LateReceiver] = &mut state.receivers;
+    let piece: &mut [Sym] = &mut state.piece;
+    bring_all(
+        of, from, t, &state.lines, &mut state.late, far, watches, senders, receivers, piece,
+    );
+    for line in state.lines.iter_mut() {
+        line.forget(t);
+    }
+    state.from = t;
+}
+
 /// The half bits of a segment from `t` on below `end`: each station goes from one half bit in which something happens at
-/// it to the next by itself.
+/// it to the next by itself. They stand behind from half bit `from` on.
 fn run_apart(
     of: &Segment,
     window: u64,
+    from: u64,
     t: u64,
     end: u64,
     lines: &mut [Line],
     loud: &mut LoudTaps,
+    late: &mut LoudTaps,
     far: u64,
     watches: &mut [Watch],
     senders: &mut [Transmitter],
@@ -375,23 +494,28 @@ fn run_apart(
     requires reach { IsReachOf far of.now.lookahead lines.old }
     requires loud { AreIdleButFor (t - far) lines.old loud.old.taps }
     requires listing { length lines.old ≤ loud.old.room }
-    requires from { t ≤ end }
+    requires late { length lines.old ≤ late.old.room }
+    requires begun { from ≤ t }
+    requires upto { t ≤ end }
     requires ahead { end ≤ (window + 1) * of.now.lookahead }
     requires in_time { end ≤ most_half_bits }
-    requires piece { end ≤ t + length piece.old }
-    requires apart { StandAllApart of.now t t end lines.old watches.old senders.old receivers.old }
-    requires due { (i : ℕ) (w : Watch) → i < length of.now.stations.items → (slice_index_or watches.old i w).until ≡ (slice_index_or watches.old i w).since }
+    requires piece { most_ahead ≤ length piece.old }
+    requires apart { StandAllApart of.now from t lines.old watches.old senders.old receivers.old }
+    requires still { AreStill of.now watches.old senders.old receivers.old }
     requires know { KnowLines of.now.plan.value (wiring of.now.plan.value.layout of.now.number) of.now.lookahead t ((window + 1) * of.now.lookahead) lines.old }
-    requires tell { (r : ℕ) → r < length of.now.stations.items → TellsUpTo t end (slice_index_or lines.old r no_line) }
+    requires right { HearAllByLines of.now from t lines.old }
+    requires tell { (r : ℕ) → r < length of.now.stations.items → TellsUpTo t (end + most_ahead) (slice_index_or lines.old r no_line) }
     requires room { CoversApart end (length of.now.stations.items) watches.old senders.old receivers.old room.old }
     requires logged { room.old.rows ≡ rows_of_devices of.now.plan.value of.now.stations.items t }
     requires kept { room.old.captures ≡ map (λ x. captures_at of.now.plan.value x t) of.now.stations.items }
-    ensures apart { StandAllApart of.now t end end lines.new watches.new senders.new receivers.new }
+    ensures apart { StandAllApart of.now from end lines.new watches.new senders.new receivers.new }
+    ensures still { AreStill of.now watches.new senders.new receivers.new }
     ensures know { KnowLines of.now.plan.value (wiring of.now.plan.value.layout of.now.number) of.now.lookahead end ((window + 1) * of.now.lookahead) lines.new }
-    ensures right { HearAllByLines of.now t end lines.new }
+    ensures right { HearAllByLines of.now from end lines.new }
     ensures lines { AreToldAnew t (length of.now.stations.items) lines.old lines.new }
     ensures loud { AreIdleButFor (t - far) lines.new loud.new.taps }
     ensures listing { loud.new.room ≡ loud.old.room }
+    ensures late { late.new.room ≡ late.old.room }
     ensures logged { room.new.rows ≡ rows_of_devices of.now.plan.value of.now.stations.items end }
     ensures kept { room.new.captures ≡ map (λ x. captures_at of.now.plan.value x end) of.now.stations.items }
     ensures left { (e : ℕ) → end ≤ e →
@@ -399,50 +523,42 @@ fn run_apart(
         CoversApart e (length of.now.stations.items) watches.new senders.new receivers.new room.new }
 {
     let _ = window;
-    let mut u = t;
+    let mut u = first_due(watches, end);
     while u < end {
         step_all(
-            of, window, t, u, end, lines, loud, far, watches, senders, receivers, teller, room,
-            piece,
+            of, window, from, t, u, lines, loud, late, far, watches, senders, receivers, teller,
+            room, piece,
         );
         u = first_due(watches, end);
     }
 }
 
-/// Whether each station heard a signal last is kept.
-fn keep_classes(watches: &[Watch], heard: &mut [Sym]) {
-    for k in 0..watches.len().min(heard.len()) {
-        heard[k] = if watches[k].carrier {
-            Sym::Clash
-        } else {
-            Sym::Idle
-        };
-    }
-}
-
-/// As many half bits of a window of a segment from half bit `k` on, from 0, as all stations go on with what they emit, and
-/// at most so many. With the room that they can need it takes no memory. It answers how many.
-pub fn go_apart(
-    of: &Segment,
-    window: u64,
-    k: u32,
-    count: u32,
-    state: &mut Running,
-    parcels: &mut [Parcel],
-) -> u32
-    requires stands { MayGoOnFor of.now window k count state.old parcels.old }
-    requires piece { count ≤ length state.old.piece.items }
-    requires room { Covers (stations_demand count state.old.senders.items state.old.receivers.items) state.old.room }
-    ensures within { result ≤ count }
-    ensures gone { HasGoneOn of.now window k result state.old state.new parcels.new }
+/// The half bits of a window of a segment: each station goes from one half bit in which something happens at it to the
+/// next by itself.
+pub fn go_apart(of: &Segment, window: u64, count: u32, state: &mut Running, parcels: &mut [Parcel])
+    requires at { IsRunningAt of.now ((window + 1) * of.now.lookahead) state.old }
+    requires time { state.old.t ≡ window * of.now.lookahead }
+    requires within { count ≤ of.now.lookahead }
+    requires in_time { state.old.t + count ≤ most_half_bits }
+    requires parcels { parcels.old
+        ≡ map (half_filled of.now.plan.value of.now.lookahead window 0) (wiring of.now.plan.value.layout of.now.number).edges }
+    requires room { CoversApart (state.old.t + count) (length of.now.stations.items)
+        state.old.watches.items state.old.senders.items state.old.receivers.items state.old.room }
+    ensures goes { GoesOnAt of.now ((window + 1) * of.now.lookahead) state.new }
+    ensures time { state.new.t ≡ state.old.t + count }
+    ensures from { state.new.from ≡ state.old.from }
+    ensures parcels { parcels.new
+        ≡ map (half_filled of.now.plan.value of.now.lookahead window count) (wiring of.now.plan.value.layout of.now.number).edges }
+    ensures left { (e : ℕ) → state.new.t ≤ e →
+        CoversApart e (length of.now.stations.items) state.old.watches.items state.old.senders.items state.old.receivers.items state.old.room →
+        CoversApart e (length of.now.stations.items) state.new.watches.items state.new.senders.items state.new.receivers.items state.new.room }
 {
     let t = state.t;
+    let from = state.from;
     let far = state.far;
     let lookahead = of.lookahead;
     let stations = of.stations.len();
-    if state.watches.len() != stations {
-        return 0;
-    }
+    let end = t + u64::from(count);
     let watches: &mut [Watch] = &mut state.watches;
     let senders: &mut [Transmitter] = &mut state.senders;
     let receivers: &mut [LateReceiver] = &mut state.receivers;
@@ -451,21 +567,15 @@ pub fn go_apart(
     let room = &mut state.room;
     let lines: &mut [Line] = &mut state.lines;
     let loud = &mut state.loud;
-    let end = t + u64::from(count);
-    tell_all(t, count, senders, lines, watches, piece);
+    let late = &mut state.late;
     loud.find(lines, t.saturating_sub(far));
     run_apart(
-        of, window, t, end, lines, loud, far, watches, senders, receivers, piece, teller, room,
+        of, window, from, t, end, lines, loud, late, far, watches, senders, receivers, piece,
+        teller, room,
     );
-    bring_all(
-        of, t, end, end, lines, loud, far, watches, senders, receivers, piece,
-    );
-    keep_classes(watches, &mut state.heard);
     let part = &mut piece[..count as usize];
     put_all(
-        t, k as usize, lines, loud, stations, lookahead, far, parcels, part,
+        t, 0, lines, loud, stations, lookahead, far, parcels, part,
     );
-    cut_all(lines, stations, end);
     state.t = end;
-    count
 }

@@ -2,30 +2,29 @@
 //! Where it emits something else from then on than its line tells, its line is told anew, and no other station goes on
 //! beyond the half bit in which it hears that.
 
-ghost use Rattle.std.specs.Prelude.{◌≡◌, ◌≢◌, ◌≤◌, ◌<◌, ◌+◌, ◌-◌, ◌++◌, ◌*◌, ◌⊎◌, IfNone, IfSome, min, ℕ, [], ◌∷◌, true, false, length, slice_index_or};
+ghost use Rattle.std.specs.Prelude.{◌≡◌, ◌≢◌, ◌≤◌, ◌<◌, ◌+◌, ◌-◌, ◌++◌, ◌*◌, ◌⊎◌, ◌^◌, IfNone, IfSome, ℕ, [], ◌∷◌, true, false, length, slice_index_or};
 ghost use Rattle.mac_parameters.specs.Parameters.{most_half_bits};
 ghost use Rattle.manchester_line.specs.Line.{is_signal as is_signal_of};
 ghost use Rattle.mac_receive.specs.KeptReceiver.{KeptReception};
-ghost use Rattle.mac_transmit.specs.Emissions.{IsSendingFor, emission_by};
 ghost use Rattle.mac_transmit.specs.Sender.{Sender, is_sending as is_sending_in};
 ghost use Rattle.net_parts.specs.SegmentParts.{wiring};
 ghost use Rattle.network.specs.Captures.{taken_by};
 ghost use Rattle.network.specs.Rows.{row_of};
-ghost use Rattle.network.specs.Times.{heard, emitted};
+ghost use Rattle.network.specs.Times.{heard};
 ghost use Rattle.segment_engine.specs.KnownLines.{KnowLines};
-ghost use Rattle.segment_engine.specs.SteadyPieces.{sent_ahead};
-ghost use Rattle.segment_engine.specs.StationsApart.{StandsApart, StandAllApart, IsStillBy, HearsByLines, HearAllByLines, IsToldAnew, AreToldAnew, TellsUpTo, CoversApart, behind_demand, heard_reception, lowered_watch, number_on, rows_of_both, sent_event};
+ghost use Rattle.segment_engine.specs.StationsApart.{StandsApart, StandAllApart, AreStill, IsStillBy, HearsByLines, HearAllByLines, IsAnew, IsToldAnew, AreToldAnew, SaysOf, TellsUpTo, CoversApart, behind_demand, heard_reception, lowered_watch, most_ahead, number_on, rows_of_both, sent_event};
 ghost use Rattle.segment_engine.specs.declared.apart.Watch.{Watch};
-ghost use Rattle.tap_lines.specs.TapLines.{IsReachOf, TapLine, half_bits_back, heard_by_lines, line_cut, line_extended, no_line, symbol_on};
+ghost use Rattle.tap_lines.specs.TapLines.{IsReachOf, TapLine, class_on, goes_on as goes_on_with, half_bits_back, heard_by_lines, no_line, symbol_on};
 ghost use Rattle.tap_lines.specs.TapLists.{AreIdleButFor, HearsListed};
 ghost use Rattle.window_room.specs.NeededRoom.{Covers, Demand, both_demands, receiver_demand, sender_demand};
 ghost use Rattle.window_room.specs.Rooms.{captures_with};
 
 use crate::ahead::go_on_ahead;
-use crate::apart::{Watch, end_one, look_one};
+use crate::apart::{AHEAD, Watch, end_one, look_one};
 use crate::quiet::is_sending;
 use crate::segment::Segment;
 use crate::stations::step_station;
+use mac_parameters::MOST_HALF_BITS;
 use mac_transmit::{Phase, Transmitter};
 use manchester_line::Sym;
 use reception_laws::{LateReceiver, Teller};
@@ -62,49 +61,38 @@ fn goes_on(was: Phase, now: Phase) -> bool
     !matches!(was, Phase::Sending { .. }) && !matches!(now, Phase::Sending { .. })
 }
 
-/// The line of a station that emitted this symbol in half bit `u` is told anew from there on, for half bits below `end`.
-/// It answers up to which half bit it has what the station emits.
-fn tell_anew(
-    u: u64,
-    end: u64,
-    said: Sym,
-    sender: &Transmitter,
-    line: &mut Line,
-    piece: &mut [Sym],
-) -> u64
+/// The line of a station that emitted this symbol in half bit `u` is told anew from there on. It answers up to which half
+/// bit it has what the station emits.
+fn tell_anew(u: u64, said: Sym, sender: &Transmitter, line: &mut Line, piece: &mut [Sym]) -> u64
     requires time { sender.now.t ≡ u + 1 }
-    requires below { u < end }
-    requires in_time { end ≤ most_half_bits }
-    requires piece { end ≤ u + length piece.old }
-    requires known { u ≤ line.old.base + length line.old.symbols }
-    requires begun { line.old.base ≤ u }
-    requires room { end ≤ line.old.base + length line.old.symbols + line.old.room }
-    ensures from { u + 1 ≤ result }
-    ensures within { result ≤ end }
-    ensures line { line.new ≡ line_extended (line_extended (line_cut u line.old) (said ∷ [])) (sent_ahead sender.now (result - (u + 1))) }
-    ensures signal { (j : ℕ) → u + 1 + j < result → is_signal_of (emission_by sender.now j sender.now.phase) ≡ is_sending_in sender.now.phase }
-    ensures lasts { is_sending_in sender.now.phase ≡ true → IsSendingFor sender.now (result - (u + 1)) sender.now.phase }
+    requires in_time { u < most_half_bits }
+    requires piece { most_ahead ≤ length piece.old }
+    requires line { TellsUpTo u (u + 1 + most_ahead) line.old }
+    requires reaches { goes_on_with line.old ≡ true → u ≤ line.old.base + length line.old.symbols }
+    requires class { is_signal_of said ≡ is_sending_in sender.now.phase }
+    ensures { IsAnew u result said line.old line.new sender.now }
 {
-    line.cut(u);
+    line.set_end(u);
     line.push(said);
     let next = u + 1;
-    next + u64::from(go_on_ahead(next, (end - next) as u32, sender, line, piece))
+    if !is_sending(sender) {
+        line.rest(1);
+        return u64::MAX;
+    }
+    let most = (MOST_HALF_BITS - next).min(AHEAD) as u32;
+    next + u64::from(go_on_ahead(next, most, sender, line, piece))
 }
 
 /// From which half bit on the line of a station that was told anew in half bit `u` has Idle in the place of a signal, or
-/// a signal in the place of Idle: its phase before, and up to which half bits it was told, and is.
-fn changes_from(u: u64, was: Phase, sender: &Transmitter, before: u64, told: u64) -> Option<u64>
-    ensures none { IfNone result ((is_sending_in was ≡ true) × (is_sending_in sender.now.phase ≡ false)) }
-    ensures starts { IfSome result (λ f. is_sending_in was ≡ false → f ≡ u) }
-    ensures goes { IfSome result (λ f. is_sending_in was ≡ true → (is_sending_in sender.now.phase ≡ true) × (f ≡ min before told)) }
+/// a signal in the place of Idle, by its phase before: from that one on, if it has.
+fn changes_from(u: u64, was: Phase, sender: &Transmitter) -> Option<u64>
+    ensures none { IfNone result (is_sending_in was ≡ is_sending_in sender.now.phase) }
+    ensures at { IfSome result (λ f. f ≡ u) }
 {
-    if !matches!(was, Phase::Sending { .. }) {
-        return Some(u);
-    }
-    if is_sending(sender) {
-        Some(before.min(told))
-    } else {
+    if matches!(was, Phase::Sending { .. }) == is_sending(sender) {
         None
+    } else {
+        Some(u)
     }
 }
 
@@ -112,9 +100,8 @@ fn changes_from(u: u64, was: Phase, sender: &Transmitter, before: u64, told: u64
 /// in the place of Idle, or Idle in the place of a signal, if it has. The device is counted among all.
 fn step_one(
     of: &Segment,
-    t: u64,
+    from: u64,
     u: u64,
-    end: u64,
     lines: &mut [Line],
     loud: &LoudTaps,
     p: usize,
@@ -128,27 +115,27 @@ fn step_one(
 ) -> Option<u64>
     requires tap { p < length lines.old }
     requires reach { IsReachOf far of.now.lookahead lines.old }
-    requires loud { AreIdleButFor (t - far) lines.old loud.now.taps }
+    requires loud { AreIdleButFor (u - far) lines.old loud.now.taps }
     requires station { p < length of.now.stations.items }
     requires captures { p < length room.old.captures }
-    requires below { u < end }
-    requires in_time { end ≤ most_half_bits }
-    requires piece { end ≤ t + length piece.old }
-    requires apart { StandsApart of.now t u end p lines.old watch.old sender.old receiver.old }
+    requires in_time { u < most_half_bits }
+    requires piece { most_ahead ≤ length piece.old }
+    requires apart { StandsApart of.now from u p lines.old watch.old sender.old receiver.old }
     requires since { watch.old.since ≡ u }
     requires due { watch.old.until ≡ u }
     requires hears { heard of.now.plan.value (number_on of.now p) u ≡ heard_by_lines of.now.lookahead u lines.old p }
-    requires line { TellsUpTo u end (slice_index_or lines.old p no_line) }
+    requires classes { (a : ℕ) → a < u →
+        class_on (slice_index_or lines.old p no_line) a ≡ is_signal_of (symbol_on (slice_index_or lines.old p no_line) a) }
+    requires line { TellsUpTo u (u + 1 + most_ahead) (slice_index_or lines.old p no_line) }
     requires room { Covers (both_demands (sender_demand 1 sender.old) (receiver_demand 1 receiver.old)) room.old }
-    ensures apart { StandsApart of.now t (u + 1) end p lines.new watch.new sender.new receiver.new }
+    ensures apart { StandsApart of.now from (u + 1) p lines.new watch.new sender.new receiver.new }
     ensures since { watch.new.since ≡ u + 1 }
     ensures until { watch.new.until ≡ u + 1 }
-    ensures emits { emitted of.now.plan.value (number_on of.now p) u ≡ symbol_on (slice_index_or lines.new p no_line) u }
+    ensures says { SaysOf of.now.plan.value (number_on of.now p) u (slice_index_or lines.new p no_line) }
     ensures line { IsToldAnew u (slice_index_or lines.old p no_line) (slice_index_or lines.new p no_line) }
     ensures others { (r : ℕ) (d : TapLine) → r ≢ p → slice_index_or lines.new r d ≡ slice_index_or lines.old r d }
-    ensures early { IfSome result (λ f. f ≤ end) }
-    ensures alike { IfNone result ((a : ℕ) → is_signal_of (symbol_on (slice_index_or lines.new p no_line) a) ≡ is_signal_of (symbol_on (slice_index_or lines.old p no_line) a)) }
-    ensures alike_below { IfSome result (λ f. (u ≤ f) × ((a : ℕ) → a < f → is_signal_of (symbol_on (slice_index_or lines.new p no_line) a) ≡ is_signal_of (symbol_on (slice_index_or lines.old p no_line) a))) }
+    ensures changed { IfSome result (λ f. f ≡ u) }
+    ensures alike { IfNone result ((a : ℕ) → class_on (slice_index_or lines.new p no_line) a ≡ class_on (slice_index_or lines.old p no_line) a) }
     ensures rows { room.new.rows ≡ (room.old.rows
         ++ row_of u (number_on of.now p) (sent_event of.now.plan.value (number_on of.now p) u))
         ++ row_of u (number_on of.now p) (heard_reception of.now.plan.value (number_on of.now p) u).event }
@@ -158,6 +145,7 @@ fn step_one(
         Covers (both_demands other (behind_demand e watch.old sender.old receiver.old)) room.old →
         Covers (both_demands other (behind_demand e watch.new sender.new receiver.new)) room.new }
 {
+    let _ = from;
     let heard = heard_now(u, lines, loud, p, of.lookahead, far, piece);
     let was = sender.phase();
     let device = of.stations[p];
@@ -169,21 +157,19 @@ fn step_one(
     if u < before && goes_on(was, sender.phase()) {
         return None;
     }
-    watch.told = tell_anew(u, end, emitted, sender, &mut lines[p], piece);
-    changes_from(u, was, sender, before, watch.told)
+    watch.told = tell_anew(u, emitted, sender, &mut lines[p], piece);
+    changes_from(u, was, sender)
 }
 
-/// Half bit `u` of station `p` of a segment, which is due in it: it goes on up to it and is looked at, and where it doesn't
-/// go on with what it does it makes the half bit by itself. It answers from which half bit on its line has a signal in the
-/// place of Idle, or Idle in the place of a signal, if it has. The device is counted among all.
+/// Half bit `u` of station `p` of a segment, which is due in it.
 fn take_turn(
     of: &Segment,
     window: u64,
-    t: u64,
+    from: u64,
     u: u64,
-    end: u64,
     lines: &mut [Line],
     loud: &LoudTaps,
+    late: &mut LoudTaps,
     p: usize,
     far: u64,
     watch: &mut Watch,
@@ -194,27 +180,26 @@ fn take_turn(
     piece: &mut [Sym],
 ) -> Option<u64>
     requires reach { IsReachOf far of.now.lookahead lines.old }
-    requires loud { AreIdleButFor (t - far) lines.old loud.now.taps }
+    requires loud { AreIdleButFor (u - far) lines.old loud.now.taps }
+    requires listing { length lines.old ≤ late.old.room }
     requires station { p < length of.now.stations.items }
     requires captures { p < length room.old.captures }
-    requires below { u < end }
-    requires ahead { end ≤ (window + 1) * of.now.lookahead }
-    requires in_time { end ≤ most_half_bits }
-    requires piece { end ≤ t + length piece.old }
-    requires apart { StandsApart of.now t u end p lines.old watch.old sender.old receiver.old }
+    requires ahead { u < (window + 1) * of.now.lookahead }
+    requires in_time { u < most_half_bits }
+    requires piece { most_ahead ≤ length piece.old }
+    requires apart { StandsApart of.now from u p lines.old watch.old sender.old receiver.old }
     requires know { KnowLines of.now.plan.value (wiring of.now.plan.value.layout of.now.number) of.now.lookahead u ((window + 1) * of.now.lookahead) lines.old }
-    requires right { HearsByLines of.now.plan.value (number_on of.now p) p of.now.lookahead t u lines.old }
-    requires line { TellsUpTo u end (slice_index_or lines.old p no_line) }
-    requires room { Covers (behind_demand end watch.old sender.old receiver.old) room.old }
-    ensures apart { StandsApart of.now t (u + 1) end p lines.new watch.new sender.new receiver.new }
+    requires right { HearsByLines of.now.plan.value (number_on of.now p) p of.now.lookahead from u lines.old }
+    requires line { TellsUpTo u (u + 1 + most_ahead) (slice_index_or lines.old p no_line) }
+    requires room { Covers (behind_demand (u + 1) watch.old sender.old receiver.old) room.old }
+    ensures apart { StandsApart of.now from (u + 1) p lines.new watch.new sender.new receiver.new }
     ensures still { watch.new.since < watch.new.until → IsStillBy watch.new sender.new receiver.new }
-    ensures emits { emitted of.now.plan.value (number_on of.now p) u ≡ symbol_on (slice_index_or lines.new p no_line) u }
+    ensures says { SaysOf of.now.plan.value (number_on of.now p) u (slice_index_or lines.new p no_line) }
     ensures line { IsToldAnew u (slice_index_or lines.old p no_line) (slice_index_or lines.new p no_line) }
     ensures others { (r : ℕ) (d : TapLine) → r ≢ p → slice_index_or lines.new r d ≡ slice_index_or lines.old r d }
     ensures due { IfSome result (λ f. watch.new.until ≡ watch.new.since) }
-    ensures early { IfSome result (λ f. f ≤ end) }
-    ensures alike { IfNone result ((a : ℕ) → is_signal_of (symbol_on (slice_index_or lines.new p no_line) a) ≡ is_signal_of (symbol_on (slice_index_or lines.old p no_line) a)) }
-    ensures alike_below { IfSome result (λ f. (u ≤ f) × ((a : ℕ) → a < f → is_signal_of (symbol_on (slice_index_or lines.new p no_line) a) ≡ is_signal_of (symbol_on (slice_index_or lines.old p no_line) a))) }
+    ensures changed { IfSome result (λ f. f ≡ u) }
+    ensures alike { IfNone result ((a : ℕ) → class_on (slice_index_or lines.new p no_line) a ≡ class_on (slice_index_or lines.old p no_line) a) }
     ensures rows { room.new.rows ≡ (room.old.rows
         ++ row_of u (number_on of.now p) (sent_event of.now.plan.value (number_on of.now p) u))
         ++ row_of u (number_on of.now p) (heard_reception of.now.plan.value (number_on of.now p) u).event }
@@ -223,28 +208,29 @@ fn take_turn(
     ensures left { (e : ℕ) (other : Demand) → u < e →
         Covers (both_demands other (behind_demand e watch.old sender.old receiver.old)) room.old →
         Covers (both_demands other (behind_demand e watch.new sender.new receiver.new)) room.new }
+    ensures listing { late.new.room ≡ late.old.room }
 {
     let _ = window;
     look_one(
-        of, t, u, end, lines, loud, p, far, watch, sender, receiver, piece,
+        of, from, u, lines, loud, late, p, far, watch, sender, receiver, piece,
     );
     if watch.until > u {
         end_one(
-            of, t, u, end, lines, p, watch, sender, receiver, teller, room,
+            of, from, u, lines, p, watch, sender, receiver, teller, room,
         );
         return None;
     }
     step_one(
-        of, t, u, end, lines, loud, p, far, watch, sender, receiver, teller, room, piece,
+        of, from, u, lines, loud, p, far, watch, sender, receiver, teller, room, piece,
     )
 }
 
 /// The line of tap `p` has from half bit `u` on a signal in the place of Idle, or Idle in the place of a signal: no
 /// station goes on beyond the half bit in which it hears that.
-fn lower_all(u: u64, lookahead: u32, lines: &[Line], p: usize, watches: &mut [Watch])
+pub fn lower_all(u: u64, lookahead: u32, lines: &[Line], p: usize, watches: &mut [Watch])
     requires tap { p < length lines.now }
     requires taps { length watches.old ≤ length lines.now }
-    requires in_time { (k : ℕ) (d : Watch) → k < length watches.old → (slice_index_or watches.old k d).until ≤ most_half_bits }
+    requires in_time { (k : ℕ) (d : Watch) → k < length watches.old → (slice_index_or watches.old k d).until < 2 ^ 64 }
     ensures { (k : ℕ) (d : Watch) → k < length watches.new → slice_index_or watches.new k d
         ≡ lowered_watch (u + half_bits_back lookahead (slice_index_or lines.now k no_line).at (slice_index_or lines.now p no_line)) (slice_index_or watches.old k d) }
 {
@@ -275,11 +261,12 @@ fn next_due(watches: &[Watch], from: usize, u: u64) -> usize
 pub fn step_all(
     of: &Segment,
     window: u64,
+    from: u64,
     t: u64,
     u: u64,
-    end: u64,
     lines: &mut [Line],
     loud: &mut LoudTaps,
+    late: &mut LoudTaps,
     far: u64,
     watches: &mut [Watch],
     senders: &mut [Transmitter],
@@ -291,28 +278,26 @@ pub fn step_all(
     requires reach { IsReachOf far of.now.lookahead lines.old }
     requires loud { AreIdleButFor (t - far) lines.old loud.old.taps }
     requires listing { length lines.old ≤ loud.old.room }
-    requires below { u < end }
-    requires ahead { end ≤ (window + 1) * of.now.lookahead }
-    requires in_time { end ≤ most_half_bits }
-    requires piece { end ≤ t + length piece.old }
-    requires apart { StandAllApart of.now t u end lines.old watches.old senders.old receivers.old }
-    requires still { (i : ℕ) (w : Watch) (s : Sender) (k : KeptReception) → i < length of.now.stations.items →
-        (slice_index_or watches.old i w).since < (slice_index_or watches.old i w).until →
-        IsStillBy (slice_index_or watches.old i w) (slice_index_or senders.old i s) (slice_index_or receivers.old i k) }
+    requires late { length lines.old ≤ late.old.room }
+    requires after { t ≤ u }
+    requires ahead { u < (window + 1) * of.now.lookahead }
+    requires in_time { u < most_half_bits }
+    requires piece { most_ahead ≤ length piece.old }
+    requires apart { StandAllApart of.now from u lines.old watches.old senders.old receivers.old }
+    requires still { AreStill of.now watches.old senders.old receivers.old }
     requires know { KnowLines of.now.plan.value (wiring of.now.plan.value.layout of.now.number) of.now.lookahead u ((window + 1) * of.now.lookahead) lines.old }
-    requires right { HearAllByLines of.now t u lines.old }
-    requires tell { (r : ℕ) → r < length of.now.stations.items → TellsUpTo u end (slice_index_or lines.old r no_line) }
+    requires right { HearAllByLines of.now from u lines.old }
+    requires tell { (r : ℕ) → r < length of.now.stations.items → TellsUpTo u (u + 1 + most_ahead) (slice_index_or lines.old r no_line) }
     requires captures { length room.old.captures ≡ length of.now.stations.items }
-    requires room { CoversApart end (length of.now.stations.items) watches.old senders.old receivers.old room.old }
-    ensures apart { StandAllApart of.now t (u + 1) end lines.new watches.new senders.new receivers.new }
-    ensures still { (i : ℕ) (w : Watch) (s : Sender) (k : KeptReception) → i < length of.now.stations.items →
-        (slice_index_or watches.new i w).since < (slice_index_or watches.new i w).until →
-        IsStillBy (slice_index_or watches.new i w) (slice_index_or senders.new i s) (slice_index_or receivers.new i k) }
+    requires room { CoversApart (u + 1) (length of.now.stations.items) watches.old senders.old receivers.old room.old }
+    ensures apart { StandAllApart of.now from (u + 1) lines.new watches.new senders.new receivers.new }
+    ensures still { AreStill of.now watches.new senders.new receivers.new }
     ensures know { KnowLines of.now.plan.value (wiring of.now.plan.value.layout of.now.number) of.now.lookahead (u + 1) ((window + 1) * of.now.lookahead) lines.new }
-    ensures right { HearAllByLines of.now t (u + 1) lines.new }
+    ensures right { HearAllByLines of.now from (u + 1) lines.new }
     ensures lines { AreToldAnew u (length of.now.stations.items) lines.old lines.new }
     ensures loud { AreIdleButFor (t - far) lines.new loud.new.taps }
     ensures listing { loud.new.room ≡ loud.old.room }
+    ensures late { late.new.room ≡ late.old.room }
     ensures rows { room.new.rows ≡ room.old.rows ++ rows_of_both u of.now.stations.items (λ i. sent_event of.now.plan.value (number_on of.now i) u)
         (λ i. (heard_reception of.now.plan.value (number_on of.now i) u).event) (length of.now.stations.items) }
     ensures captures { (i : ℕ) → i < length of.now.stations.items → slice_index_or room.new.captures i [] ≡ slice_index_or room.old.captures i [] ++
@@ -327,15 +312,14 @@ pub fn step_all(
         let watch = &mut watches[k];
         let sender = &mut senders[k];
         let receiver = &mut receivers[k];
-        let Some(from) = take_turn(
-            of, window, t, u, end, lines, loud, k, far, watch, sender, receiver, teller, room,
-            piece,
+        let Some(at) = take_turn(
+            of, window, from, u, lines, loud, late, k, far, watch, sender, receiver, teller, room, piece,
         ) else {
             k = next_due(watches, k + 1, u);
             continue;
         };
         loud.find(lines, t.saturating_sub(far));
-        lower_all(from, of.lookahead, lines, k, watches);
+        lower_all(at, of.lookahead, lines, k, watches);
         k = next_due(watches, k + 1, u);
     }
 }

@@ -6,11 +6,12 @@ ghost use Rattle.net_parts.specs.Parts.{edges_of_part, part_at};
 ghost use Rattle.net_parts.specs.SegmentParts.{wiring};
 ghost use Rattle.net_parts.specs.Standing.{rows_of_devices};
 ghost use Rattle.net_parts.specs.Windows.{lookahead as lookahead_of, time as time_of, windows as windows_of};
-ghost use Rattle.segment_engine.specs.KeptParts.{KeepsSegment, StandsInNetwork};
+ghost use Rattle.segment_engine.specs.KeptParts.{KeepsSegment};
 ghost use Rattle.segment_engine.specs.QuietHalfBits.{ComeInIdle, GoOutIdle, IsQuietFor};
-ghost use Rattle.window_room.specs.NeededRoom.{Covers, stations_demand};
+ghost use Rattle.segment_engine.specs.RunningStates.{IsRunningAt};
+ghost use Rattle.segment_engine.specs.StationsApart.{CoversApart};
 
-use crate::quiet::{pass, quiet_half_bits};
+use crate::apart::{pass, quiet_ahead};
 use crate::running::Running;
 use crate::segment::Segment;
 use crate::start::start;
@@ -36,11 +37,12 @@ pub struct SegmentPart {
     most: u32,
     reserved: bool,
     state: Running,
-    ghost stands: { StandsInNetwork segment.plan.value segment.number (window * segment.lookahead) state },
+    ghost stands: { IsRunningAt segment (window * segment.lookahead) state },
     ghost at_time: { state.t ≡ time_of segment.plan.value window },
     ghost octets: { most ≡ most_octets_of (segment.plan.value.layout.format == 2) },
-    ghost room: { reserved ≡ true → Covers (stations_demand segment.lookahead state.senders.items state.receivers.items) state.room },
-    ghost kept: { KeepsSegment state (part_at segment.plan.value segment.number window) },
+    ghost last: { window ≡ segment.windows → state.from ≡ state.t },
+    ghost room: { reserved ≡ true → CoversApart (state.t + segment.lookahead) (length segment.stations.items) state.watches.items state.senders.items state.receivers.items state.room },
+    ghost kept: { KeepsSegment segment state (part_at segment.plan.value segment.number window) },
 }
 
 /// Writes the rows of the sendings that are under way at the end `t` of a run.
@@ -133,8 +135,8 @@ impl SegmentPart {
             GoOutIdle self.now.segment.plan.value (edges_of_part self.now.segment.plan.value self.now.segment.number)
             (self.now.window * lookahead_of self.now.segment.plan.value.layout) n }
     {
-        let quiet = quiet_half_bits(&self.state, MOST_AT_ONCE) / self.segment.lookahead;
-        u64::from(quiet).min(most)
+        let quiet = quiet_ahead(&self.segment, &self.state, u64::from(MOST_AT_ONCE)) / u64::from(self.segment.lookahead);
+        quiet.min(most)
     }
 
     /// Goes over so many windows, none of them the last, in which nothing happens at it and nothing but Idle comes in.
@@ -148,7 +150,7 @@ impl SegmentPart {
         ensures at { self.new.window ≡ self.old.window + count }
     {
         let half_bits = count * u64::from(self.segment.lookahead);
-        pass(&self.segment, half_bits as u32, &mut self.state);
+        pass(&self.segment, half_bits, &mut self.state);
         self.window += count;
         self.reserved = false;
     }
@@ -180,6 +182,8 @@ impl SegmentPart {
             lines: _,
             far: _,
             loud: _,
+            late: _,
+            from: _,
             heard: _,
             emitted: _,
             piece: _,
@@ -200,7 +204,7 @@ impl Part for SegmentPart {
 
     ghost reserved = { λ s. s.reserved };
 
-    ghost keeps = { λ s state. KeepsSegment s.state state };
+    ghost keeps = { λ s state. KeepsSegment s.segment s.state state };
 
     fn part(&self) -> u32 {
         self.segment.number
@@ -223,7 +227,7 @@ impl Part for SegmentPart {
             &mut self.state.room,
             self.segment.stations.len(),
             self.most,
-            self.segment.lookahead,
+            self.segment.lookahead + 8_192,
         )?;
         self.reserved = true;
         Ok(())

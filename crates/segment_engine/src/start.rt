@@ -9,7 +9,7 @@ ghost use Rattle.segment_engine.specs.NewLines.{AreNewLines, AreWithin, new_dela
 ghost use Rattle.segment_engine.specs.PartStates.{AreLinesAt};
 ghost use Rattle.segment_engine.specs.RunningStates.{IsRunningAt};
 
-use crate::apart::Watch;
+use crate::apart::{AHEAD, KEEP, Watch};
 use crate::running::Running;
 use crate::segment::Segment;
 use backoff_draw::Draws;
@@ -31,6 +31,7 @@ const SPARE_ROOM: usize = 256;
 #[derive(Drop)]
 struct Silence {
     loud: LoudTaps,
+    late: LoudTaps,
     heard: Vec<Sym>,
     emitted: Vec<Sym>,
     piece: Vec<Sym>,
@@ -115,8 +116,9 @@ fn lines_of(
     let mut lines = Vec::new(alloc);
     for r in 0..places.len() {
         let delay = delay_of(r, stations, lookahead, edges, delays);
-        let backlog = (width + u64::from(delay)).saturating_sub(u64::from(lookahead)) as usize;
-        let room = 2 * backlog + lookahead as usize + SPARE_ROOM;
+        let far = (width + u64::from(delay)).saturating_sub(u64::from(lookahead));
+        let backlog = far.max(1) as usize;
+        let room = 2 * backlog + 2 * lookahead as usize + SPARE_ROOM + (KEEP + 2 * AHEAD) as usize;
         lines.push(Line::new(alloc, places[r], delay, backlog, room)?)?;
     }
     Ok(lines)
@@ -149,9 +151,10 @@ fn all_idle(
 {
     Ok(Silence {
         loud: LoudTaps::new(alloc, taps)?,
+        late: LoudTaps::new(alloc, taps)?,
         heard: vec![in alloc; Sym::Idle; taps]?,
         emitted: vec![in alloc; Sym::Idle; stations]?,
-        piece: vec![in alloc; Sym::Idle; lookahead as usize]?,
+        piece: vec![in alloc; Sym::Idle; 2 * lookahead as usize + (KEEP + 2 * AHEAD) as usize]?,
     })
 }
 
@@ -161,7 +164,7 @@ fn watches_of(alloc: Global, stations: usize) -> Result<Vec<Watch>, OutOfMemory>
         since: 0,
         until: 0,
         carrier: false,
-        told: 0,
+        told: u64::MAX,
     };
     Ok(vec![in alloc; watch; stations]?)
 }
@@ -169,7 +172,7 @@ fn watches_of(alloc: Global, stations: usize) -> Result<Vec<Watch>, OutOfMemory>
 /// A segment before half bit 0.
 pub fn start(alloc: Global, of: &Segment, plan: &Plan) -> Result<Running, OutOfMemory>
     requires { of.now.plan.value ≡ plan.now }
-    ensures at { IfOk result (λ state. IsRunningAt plan.now of.now.number 0 state) }
+    ensures at { IfOk result (λ state. IsRunningAt of.now 0 state) }
     ensures time { IfOk result (λ state. state.t ≡ 0) }
 {
     let stations = of.stations.len();
@@ -188,6 +191,8 @@ pub fn start(alloc: Global, of: &Segment, plan: &Plan) -> Result<Running, OutOfM
         far: farthest(&lines, of.lookahead),
         lines,
         loud: silence.loud,
+        late: silence.late,
+        from: 0,
         heard: silence.heard,
         emitted: silence.emitted,
         piece: silence.piece,

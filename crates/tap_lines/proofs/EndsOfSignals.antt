@@ -4,11 +4,13 @@ use Rattle.std.proofs.lemmas.List.{append-nil, length-replicate, get_or-take, ge
 use Rattle.std.proofs.lemmas.Bool.{cases_lt}
 use Rattle.std.proofs.lemmas.Bool.Decides.{nat_tests}
 use Rattle.manchester_line.specs.declared.Sym.{Sym}
-use Rattle.manchester_line.specs.declared.Sym.TheVariants.{Idle}
+use Rattle.manchester_line.specs.declared.Sym.TheVariants.{Idle, Hi, Lo, Clash}
 use Rattle.manchester_line.specs.Line.{is_signal}
 use Rattle.net_parts.proofs.LateRows.{if_true, if_false}
-use Rattle.tap_lines.specs.Signals.{signals_end, EndsInSignals}
-use Rattle.tap_lines.specs.TapLines.{TapLine, no_line, symbol_on, line_cut, AreIdleFrom, IsIdleFrom, IsOnlySource}
+use Rattle.tap_lines.specs.Signals.{signals_end, EndsInSignals, class_at}
+use Rattle.tap_lines.specs.TapLines.{TapLine, no_line, symbol_on, class_on, class_back, goes_on, line_cut, AreIdleFrom, IsIdleFrom, IsOnlySource}
+use Rattle.tap_lines.proofs.ExtendedLines.{unwritten_size}
+use Rattle.tap_lines.proofs.LineClasses.{class_within, class_behind, le_true, lt_true, lt_false}
 use Rattle.tap_lines.proofs.LinesAhead.{idle_tail, cut_written}
 
 -- the place behind the last signal
@@ -42,29 +44,76 @@ pub symbol_at : (l : TapLine) (xs : List Sym) (q v : ℕ) → l.symbols ≡ xs +
 symbol_at l xs q v is low =
     if_true {m = l.base} {n = v} _ _ low ∙ ap (λ ys. get_or ys (v - l.base) Idle) is ∙ idle_tail xs q (v - l.base)
 
--- a line on which all signals are before a half bit
-pub quiet_from : (l : TapLine) (xs : List Sym) (q u : ℕ) → l.symbols ≡ xs ++ replicate q Idle → (0 < length xs → l.base + length xs ≤ u) → IsIdleFrom u l
-quiet_from l xs q u is early v late = elim (cases_lt v l.base) [
-  | inl before ↦ if_false {m = l.base} {n = v} _ _ before
-  | inr low ↦ symbol_at l xs q v is low ∙ get_or_past xs (v - l.base) Idle (elim (cases_lt 0 (length xs)) [
-    | inl some ↦ let e = early some in omega (arith, e, late, low)
-    | inr none ↦ omega (arith, none)
-  ])
-]
-
 pub no_signal : true ≡ false → {A : Type 0} → A
 no_signal e = absurd (search rules)
+
+-- how a line goes on whose text has q times Idle behind it
+goes_text : (l : TapLine) (xs : List Sym) (q : ℕ) → l.symbols ≡ xs ++ replicate q Idle → goes_on l ≡ is_signal (get_or xs (length xs + q - 1) Idle)
+goes_text l xs q is =
+    let size : length l.symbols ≡ length xs + q = ap length is ∙ unwritten_size q xs in
+    ap₂ (λ ys i. is_signal (get_or ys (i - 1) Idle)) is size ∙ ap is_signal (idle_tail xs q (length xs + q - 1))
+
+-- where there is any, with Idle
+goes_rest : (l : TapLine) (xs : List Sym) (q : ℕ) → l.symbols ≡ xs ++ replicate q Idle → 0 < q → goes_on l ≡ false
+goes_rest l xs q is some = goes_text l xs q is ∙ ap is_signal (get_or_past xs (length xs + q - 1) Idle (omega (arith, some)))
+
+-- the class of what is at a place of the text, and behind it
+pub text_class : (l : TapLine) (xs : List Sym) (q i : ℕ) → l.symbols ≡ xs ++ replicate q Idle → class_at xs (goes_on l) i ≡ class_on l (l.base + i)
+text_class l xs q i is =
+    let size : length l.symbols ≡ length xs + q = ap length is ∙ unwritten_size q xs in
+    let place : l.base + i - l.base ≡ i = omega arith in
+    let symbol : symbol_on l (l.base + i) ≡ get_or xs i Idle = symbol_at l xs q (l.base + i) is (omega arith) ∙ ap (λ k. get_or xs k Idle) place in
+    let behind_text : length xs ≤ i → class_on l (l.base + i) ≡ goes_on l = λ past. elim (cases_lt (l.base + i) (l.base + length l.symbols)) [
+      | inl before ↦
+          class_within l (l.base + i) before ∙ ap is_signal (symbol ∙ get_or_past xs i Idle past)
+          ∙ sym (goes_rest l xs q is (omega (arith, size, before, past)))
+      | inr behind ↦ class_behind l (l.base + i) behind
+    ] in
+    elim (cases_lt i (length xs)) [
+      | inl there ↦
+          lt_true {m = i} {n = length xs} (is_signal (get_or xs i Idle)) (goes_on l) there
+          ∙ sym (class_within l (l.base + i) (omega (arith, size, there)) ∙ ap is_signal symbol)
+      | inr past ↦ lt_false {m = i} {n = length xs} (is_signal (get_or xs i Idle)) (goes_on l) past ∙ sym (behind_text past)
+    ]
+
+-- the same, so many half bits before
+pub back_class : (l : TapLine) (xs : List Sym) (q t back j : ℕ) → l.symbols ≡ xs ++ replicate q Idle → back ≤ t → l.base ≤ t - back →
+    class_at xs (goes_on l) (t - back - l.base + j) ≡ class_back l (t + j) back
+back_class l xs q t back j is low high =
+    let e : l.base + (t - back - l.base + j) ≡ t + j - back = omega (arith, low, high) in
+    text_class l xs q (t - back - l.base + j) is
+    ∙ ap (class_on l) e
+    ∙ sym (le_true {m = back} {n = t + j} (class_on l (t + j - back)) false (omega (arith, low)))
+
+-- a line that goes on with a signal
+pub loud_on : (l : TapLine) (u : ℕ) → goes_on l ≡ true → ¬ IsIdleFrom u l
+loud_on l u on idle =
+    let v = u + (l.base + length l.symbols) in
+    no_signal (sym on ∙ sym (class_behind l v (omega arith)) ∙ idle v (omega arith))
 
 -- a line on which a signal is later, of which so many symbols are written
 pub loud_from : (l : TapLine) (items : List Sym) (w q n u : ℕ) → l.symbols ≡ take w items ++ replicate q Idle → w + q ≤ length items → EndsInSignals n (take w items) → 0 < w → u < l.base + w → ¬ IsIdleFrom u l
 loud_from l items w q n u is within ends some late idle =
     let text = take w items in
     let size = length-take-le w items (omega (arith, within)) in
+    let all : length l.symbols ≡ length text + q = ap length is ∙ unwritten_size q text in
     let one = ends.some (omega (arith, size, some)) in
     let v = l.base + w - 1 in
     let place : v - l.base ≡ w - 1 = omega (arith, some) in
     let signal = ends.signals (w - 1) (omega (arith, one, size)) (omega (arith, size, some)) in
-    no_signal (sym signal ∙ ap (λ i. is_signal (get_or text i Idle)) (sym place) ∙ ap is_signal (sym (symbol_at l text q v is (omega (arith, some))) ∙ idle v (omega (arith, late, some))))
+    no_signal (sym signal ∙ ap (λ i. is_signal (get_or text i Idle)) (sym place) ∙ ap is_signal (sym (symbol_at l text q v is (omega (arith, some))))
+    ∙ sym (class_within l v (omega (arith, all, size, some))) ∙ idle v (omega (arith, late, some)))
+
+-- symbols that are all Idle
+pub idle_piece : (xs : List Sym) → ((j : ℕ) → j < length xs → is_signal (get_or xs j Idle) ≡ false) → replicate (length xs) Idle ≡ xs
+idle_piece [] idle = refl
+idle_piece (x ∷ xs) idle = ap₂ ◌∷◌ (first x (idle 0 (omega arith))) (idle_piece xs (λ j h. idle (suc j) (omega (arith, h))))
+  where
+    first : (s : Sym) → is_signal s ≡ false → Idle ≡ s
+    first Idle h = refl
+    first Hi h = no_signal h
+    first Lo h = no_signal h
+    first Clash h = no_signal h
 
 -- symbols behind which all is Idle
 pub idle_rest : (xs : List Sym) (k m : ℕ) → k + m ≡ length xs → ((i : ℕ) → k ≤ i → i < length xs → get_or xs i Idle ≡ Idle) →

@@ -1,11 +1,9 @@
 -- Lines that are extended and slide.
-use Rattle.std.proofs.Common.{◌≡◌, ℕ, zero, suc, min, ◌+◌, ◌-◌, ◌<◌, ◌≤◌, true, false, ltb, inl, inr, List, [], ◌∷◌, ◌++◌, replicate, take, drop, length, length-append, length-drop, length-take-le, get_or, sym, ap, ◌∙◌, arith, append_assoc}
-use Rattle.std.proofs.lemmas.Bool.{cases_lt}
+use Rattle.std.proofs.Common.{◌≡◌, ℕ, zero, suc, min, ◌+◌, ◌-◌, ◌<◌, ◌≤◌, List, [], ◌∷◌, ◌++◌, replicate, take, drop, length, length-append, length-drop, length-take-le, get_or, sym, ap, ◌∙◌, arith, append_assoc}
 use Rattle.std.proofs.lemmas.List.{append-nil, length-replicate, drop-replicate, same_lists, get_or-take, get_or-drop}
-use Rattle.std.proofs.lemmas.Bool.Decides.{nat_tests}
 use Rattle.manchester_line.specs.declared.Sym.{Sym}
 use Rattle.manchester_line.specs.declared.Sym.TheVariants.{Idle}
-use Rattle.tap_lines.specs.TapLines.{TapLine, line_extended, dropped_from, slid}
+use Rattle.tap_lines.specs.TapLines.{TapLine, line_extended, dropped_from}
 
 -- a line that is extended twice
 pub extended_more : (l : TapLine) (xs ys : List Sym) → line_extended (line_extended l xs) ys ≡ line_extended l (xs ++ ys)
@@ -43,17 +41,6 @@ dropped_unwritten at delay backlog base room q q' gone xs xs' rest left room' mo
 -- how many symbols it has
 pub unwritten_size : (q : ℕ) (xs : List Sym) → length (xs ++ replicate q Idle) ≡ length xs + q
 unwritten_size q xs = length-append xs (replicate q Idle) ∙ ap (λ m. length xs + m) (length-replicate q Idle)
-
--- a line that had less room than it wants has dropped what it needn't keep
-pub slid_less : (n gone : ℕ) (l : TapLine) → l.room < n → gone ≡ length l.symbols - l.backlog → dropped_from gone l ≡ slid n l
-slid_less n gone l less all = let test : ltb l.room n ≡ true = grind (arith, nat_tests) in rw test (ap (λ k. dropped_from k l) all)
-
--- the line's room after it has slid
-pub slid_room : (n : ℕ) (l : TapLine) → l.backlog + n ≤ length l.symbols + l.room → n ≤ (slid n l).room
-slid_room n l h = elim (cases_lt l.room n) [
-  | inl less ↦ let test : ltb l.room n ≡ true = grind (arith, nat_tests) in rw test (omega (arith, h, less))
-  | inr enough ↦ let test : ltb l.room n ≡ false = grind (arith, nat_tests) in rw test enough
-]
 
 -- a buffer whose written symbols have moved to its front, but for the first of them
 pub moved_front : (old new : List Sym) (w first gone : ℕ) → w ≤ length old → first ≡ min gone w → length new ≡ length old →

@@ -12,6 +12,7 @@ use Rattle.net_parts.specs.Machines.{span}
 use Rattle.net_parts.proofs.LateRows.{if_true, if_false}
 use Rattle.net_parts.proofs.RepeaterSteps.{length-span, get_or-span}
 use Rattle.tap_lines.specs.TapLines.{TapLine, no_line, symbol_on, half_bits_back, heard_of_line, heard_of_lines, heard_by_lines, IsOnlySource, IsReachOf}
+use Rattle.tap_lines.proofs.LineClasses.{idle_on}
 use Rattle.tap_lines.proofs.Spans.{rest_of}
 
 pub mix_idle : (s : Sym) → mix_of s Idle ≡ s
@@ -47,23 +48,6 @@ silent_line L t far p q ls within hp hq silent =
       | inr late ↦ if_true {m = back} {n = t} _ _ late ∙ silent (t - back) (omega (arith, near, late))
     ] in
     ap (λ x. cond (eqb q p) Idle x) there ∙ idle_either (eqb q p)
-
--- all lines
-pub heard_all : (L t q : ℕ) (ls : List TapLine) (heard : List Sym) → length heard ≡ length ls → length ls ≤ q →
-    ((p : ℕ) → p < length ls → mix_of (get_or heard p Idle) (heard_of_lines L t p (get_or ls p no_line).at q (drop q ls)) ≡ heard_by_lines L t ls p) →
-    heard ≡ span (heard_by_lines L t ls) 0 (length ls)
-heard_all L t q ls heard len end all =
-    let f = heard_by_lines L t ls in
-    same_lists heard (span f 0 (length ls)) (len ∙ sym (length-span f 0 (length ls))) (λ p d h.
-    let in_it : p < length ls = omega (arith, h, len) in
-    let at = (get_or ls p no_line).at in
-    let place : 0 + p ≡ p = omega arith in
-    sym (get_or_default heard p Idle d h)
-    ∙ sym (mix_idle (get_or heard p Idle))
-    ∙ ap (λ xs. mix_of (get_or heard p Idle) (heard_of_lines L t p at q xs)) (sym (drop_all q ls end))
-    ∙ all p in_it
-    ∙ ap f (sym place)
-    ∙ sym (get_or-span f 0 (length ls) p d in_it))
 
 -- all lines over several half bits
 pub heard_piece : (L t n p q : ℕ) (ls : List TapLine) (piece : List Sym) → length piece ≡ n → length ls ≤ q →
@@ -148,7 +132,7 @@ only_heard L t far u p q ls within hp only late =
     one_heard L u p at 0 q ls only.within (λ i m other.
     let first : 0 + i ≡ i = omega arith in
     ap (λ n. cond (eqb n p) Idle (earlier (symbol_on (get_or ls i no_line)) u (half_bits_back L at (get_or ls i no_line)))) first
-    ∙ silent_line L u far p i ls within hp m (λ v after. only.others i v m other (omega (arith, late, after))))
+    ∙ silent_line L u far p i ls within hp m (λ v after. idle_on (t - far) v (get_or ls i no_line) (λ w behind. only.others i w m other behind) (omega (arith, late, after))))
     ∙ ap (λ n. cond (eqb n p) Idle (earlier (symbol_on (get_or ls q no_line)) u (half_bits_back L at (get_or ls q no_line)))) none
 
 -- the same, where it isn't the tap's own

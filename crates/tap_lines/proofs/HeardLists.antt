@@ -6,6 +6,7 @@ use Rattle.manchester_line.specs.declared.Sym.TheVariants.{Idle}
 use Rattle.manchester_line.specs.Line.{mix_of}
 use Rattle.tap_lines.specs.TapLines.{TapLine, no_line, IsIdleFrom, heard_of_line, heard_of_lines, heard_by_lines, IsReachOf}
 use Rattle.tap_lines.specs.TapLists.{AreIdleButFor, IsLeftOut}
+use Rattle.tap_lines.proofs.LineClasses.{idle_on}
 use Rattle.tap_lines.proofs.HeardLines.{mix_idle, idle_mix, heard_next, silent_line}
 
 -- the first i of these are below q, and the others aren't
@@ -29,7 +30,7 @@ heard_behind L t far p q zero ls s all within hp room idle before =
 heard_behind L t far p q (suc n) ls s all within hp room idle before =
     let e : q + suc n ≡ q + 1 + n = omega arith in
     let in_it : q < length ls = omega (arith, room) in
-    let none = silent_line L t far p q ls within hp in_it (idle q (omega arith) (omega arith)) in
+    let none = silent_line L t far p q ls within hp in_it (λ v after. idle_on (t - far) v (get_or ls q no_line) (idle q (omega arith) (omega arith)) after) in
     let one = heard_next L t p q ls s s all in_it (sym (ap (mix_of s) none ∙ mix_idle s)) before in
     ap (λ k. mix_of s (heard_of_lines L t p (get_or ls p no_line).at k (drop k ls))) e
     ∙ heard_behind L t far p (q + 1) n ls s all within hp (omega (arith, room)) (λ r low high. idle r (omega (arith, low)) (omega (arith, high))) one

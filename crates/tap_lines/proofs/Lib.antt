@@ -7,5 +7,7 @@ pub mod LoudLists
 pub mod HeardLists
 pub mod HeardClasses
 pub mod Mixes
+pub mod LineClasses
+pub mod KeptLines
 pub mod LoudExample
 pub mod ListedExample

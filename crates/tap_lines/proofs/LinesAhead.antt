@@ -46,12 +46,12 @@ pub cut_unwritten : (k q : ℕ) (xs : List Sym) → length xs ≤ k → take k (
 cut_unwritten k q xs h = take_both k xs (replicate q Idle) ∙ ap₂ ◌++◌ (take_more k xs h) (take_idle (k - length xs) q)
 
 -- what stands on a line with a piece more
-get_first : (xs ys : List Sym) (i : ℕ) (d : Sym) → i < length xs → get_or (xs ++ ys) i d ≡ get_or xs i d
+pub get_first : (xs ys : List Sym) (i : ℕ) (d : Sym) → i < length xs → get_or (xs ++ ys) i d ≡ get_or xs i d
 get_first [] ys i d h = absurd (omega (arith, h))
 get_first (x ∷ xs) ys zero d h = refl
 get_first (x ∷ xs) ys (suc i) d h = get_first xs ys i d (omega (arith, h))
 
-get_second : (xs ys : List Sym) (i : ℕ) (d : Sym) → get_or (xs ++ ys) (length xs + i) d ≡ get_or ys i d
+pub get_second : (xs ys : List Sym) (i : ℕ) (d : Sym) → get_or (xs ++ ys) (length xs + i) d ≡ get_or ys i d
 get_second [] ys i d = let e : 0 + i ≡ i = omega arith in ap (λ k. get_or ys k d) e
 get_second (x ∷ xs) ys i d = (let e : suc (length xs) + i ≡ suc (length xs + i) = omega arith in ap (λ k. get_or (x ∷ (xs ++ ys)) k d) e) ∙ get_second xs ys i d
 

@@ -7,6 +7,7 @@ use Rattle.manchester_line.specs.Line.{is_signal}
 use Rattle.tap_lines.specs.TapLines.{TapLine, no_line, IsIdleFrom}
 use Rattle.tap_lines.specs.TapLists.{AreLoudTaps, IsLeftOut}
 use Rattle.tap_lines.proofs.EndsOfSignals.{symbol_at}
+use Rattle.tap_lines.proofs.LineClasses.{class_off}
 
 abbrev pub one_signal : TapLine
 one_signal = record { at = 0; delay = 4; backlog = 10; base = 0; symbols = Idle ∷ Hi ∷ Idle ∷ []; room = 0 }
@@ -15,13 +16,13 @@ abbrev pub two_lines : List TapLine
 two_lines = one_signal ∷ no_line ∷ []
 
 nothing_emitted : (u : ℕ) → IsIdleFrom u no_line
-nothing_emitted u v h = symbol_at no_line [] 0 v refl (omega arith) ∙ get_or_past [] (v - 0) Idle (omega arith)
+nothing_emitted u v h = class_off no_line v refl ∙ ap is_signal (symbol_at no_line [] 0 v refl (omega arith) ∙ get_or_past [] (v - 0) Idle (omega arith))
 
 idle_behind : IsIdleFrom 2 one_signal
-idle_behind v h = symbol_at one_signal (Idle ∷ Hi ∷ []) 1 v refl (omega arith) ∙ get_or_past (Idle ∷ Hi ∷ []) (v - 0) Idle (omega (arith, h))
+idle_behind v h = class_off one_signal v refl ∙ ap is_signal (symbol_at one_signal (Idle ∷ Hi ∷ []) 1 v refl (omega arith) ∙ get_or_past (Idle ∷ Hi ∷ []) (v - 0) Idle (omega (arith, h)))
 
 pub loud_at_one : ¬ IsIdleFrom 1 one_signal
-loud_at_one idle = false≢true (sym (ap is_signal (idle 1 (omega arith))))
+loud_at_one idle = false≢true (sym (idle 1 (omega arith)))
 
 abbrev pub first_alone : List ℕ
 first_alone = 0 ∷ []

@@ -1,5 +1,5 @@
 -- Symbols of which the last are signals (clause 7). Places count from 0.
-use Rattle.std.specs.Prelude.{ℕ, ◌≡◌, ◌-◌, ◌<◌, ◌≤◌, true, suc, nat_lt, if◌then◌else◌, List, [], ◌∷◌, length, slice_index_or}
+use Rattle.std.specs.Prelude.{ℕ, ◌≡◌, ◌-◌, ◌<◌, ◌≤◌, Bool, true, suc, nat_lt, if◌then◌else◌, List, [], ◌∷◌, length, slice_index_or}
 use Rattle.manchester_line.specs.declared.Sym.{Sym}
 use Rattle.manchester_line.specs.declared.Sym.TheVariants.{Idle}
 use Rattle.manchester_line.specs.Line.{is_signal}
@@ -17,3 +17,7 @@ pub record EndsInSignals (n : ℕ) (symbols : List Sym) : Type 0 where
   pub few : n ≤ length symbols
   pub some : 0 < length symbols → 0 < n
   pub signals : (i : ℕ) → length symbols - n ≤ i → i < length symbols → is_signal (slice_index_or symbols i Idle) ≡ true
+
+-- Whether a signal is at place i of these symbols: behind their end as `on` says (profile).
+abbrev pub class_at : List Sym → Bool → ℕ → Bool
+class_at symbols on i = if nat_lt i (length symbols) then is_signal (slice_index_or symbols i Idle) else on

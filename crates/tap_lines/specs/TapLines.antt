@@ -1,6 +1,6 @@
 -- The lines of a segment's taps, and what the taps hear by them (profile). The taps of a segment are numbered from 0:
 -- those of its stations in their order, then those of its ports in the order of edges. Half bits count from 0.
-use Rattle.std.specs.Prelude.{ℕ, ◌≡◌, ◌≢◌, ◌+◌, ◌-◌, ◌==◌, ◌<◌, ◌≤◌, true, nat_le, nat_lt, if◌then◌else◌, List, [], ◌∷◌, ◌++◌, length, take, drop, min, replicate, slice_index_or}
+use Rattle.std.specs.Prelude.{ℕ, ◌≡◌, ◌≢◌, ◌+◌, ◌-◌, ◌==◌, ◌<◌, ◌≤◌, Bool, true, false, ◌||◌, nat_le, nat_lt, if◌then◌else◌, List, [], ◌∷◌, ◌++◌, length, take, drop, min, replicate, slice_index_or}
 use Rattle.mac_parameters.specs.Distances.{distance}
 use Rattle.manchester_line.specs.declared.Sym.{Sym}
 use Rattle.manchester_line.specs.declared.Sym.TheVariants.{Idle}
@@ -68,10 +68,6 @@ line_extended l ss = record l { symbols = l.symbols ++ ss; room = l.room - lengt
 abbrev pub dropped_from : ℕ → TapLine → TapLine
 dropped_from k l = record l { base = l.base + k; symbols = drop k l.symbols; room = l.room + k }
 
--- A line that has dropped all but the symbols that it keeps, where it had room for fewer than n more (profile).
-abbrev pub slid : ℕ → TapLine → TapLine
-slid n l = if nat_lt l.room n then dropped_from (length l.symbols - l.backlog) l else l
-
 -- A line after n half bits in which nothing but Idle stands on it: of these and of what stood on it before it has no
 -- more than it keeps (profile).
 abbrev pub passed : ℕ → TapLine → TapLine
@@ -91,13 +87,60 @@ line_cut u l = record l {
   room = l.room + (length l.symbols - (u - l.base));
 }
 
--- Nothing but Idle stands on a line from half bit u on (profile).
-abbrev pub IsIdleFrom : ℕ → TapLine → Type 0
-IsIdleFrom u l = (v : ℕ) → u ≤ v → symbol_on l v ≡ Idle
+-- A line that ends at half bit u: with Idle up to there, or without what stands on it for half bit u and later ones
+-- (profile).
+abbrev pub line_ended : ℕ → TapLine → TapLine
+line_ended u l =
+    if nat_lt (l.base + length l.symbols) u
+    then line_extended l (replicate (u - (l.base + length l.symbols)) Idle)
+    else line_cut u l
 
--- A signal stands on a line in each of the n half bits from u on (profile).
-abbrev pub IsSignalOver : ℕ → ℕ → TapLine → Type 0
-IsSignalOver u n l = (v : ℕ) → u ≤ v → v < u + n → is_signal (symbol_on l v) ≡ true
+-- A line that has come to half bit u where it ended before: nothing but Idle stands on it for the half bits between
+-- (profile).
+abbrev pub passed_to : ℕ → TapLine → TapLine
+passed_to u l =
+    if nat_lt (l.base + length l.symbols) u then passed (u - (l.base + length l.symbols)) l else l
+
+-- A line that has come to half bit u, and has dropped what is further back from there than it keeps (profile).
+abbrev pub forgotten : ℕ → TapLine → TapLine
+forgotten u l =
+    if nat_lt (l.base + length l.symbols) u
+    then passed (u - (l.base + length l.symbols)) l
+    else dropped_from (u - l.backlog - l.base) l
+
+-- Whether a line goes on with a signal behind its end: as its last symbol is one; else it goes on with Idle (profile).
+abbrev pub goes_on : TapLine → Bool
+goes_on l = is_signal (slice_index_or l.symbols (length l.symbols - 1) Idle)
+
+-- Whether a signal is on a line in half bit u: where it has ended, as it goes on (profile).
+abbrev pub class_on : TapLine → ℕ → Bool
+class_on l u = if nat_lt u (l.base + length l.symbols) then is_signal (symbol_on l u) else goes_on l
+
+-- Whether a signal was on a line `back` half bits before half bit t; none before half bit 0 (profile).
+abbrev pub class_back : TapLine → ℕ → ℕ → Bool
+class_back l t back = if nat_le back t then class_on l (t - back) else false
+
+-- Whether tap p, at a place, hears a signal in half bit t by these lines as they go on, the first of them being that of
+-- tap q: of each but its own (clause 8, profile).
+abbrev pub class_of_lines : ℕ → ℕ → ℕ → ℕ → ℕ → List TapLine → Bool
+class_of_lines L t p at q [] = false
+class_of_lines L t p at q (l ∷ ls) =
+    (if q == p then false else class_back l t (half_bits_back L at l)) || class_of_lines L t p at (q + 1) ls
+
+-- Whether tap p hears a signal in half bit t by the lines of all taps as they go on (clause 8, profile).
+abbrev pub class_by_lines : ℕ → ℕ → List TapLine → ℕ → Bool
+class_by_lines L t ls p = class_of_lines L t p (slice_index_or ls p no_line).at 0 ls
+
+-- Whether tap p hears a signal in half bit t of tap q's line as it goes on: none of its own (clause 8, profile).
+abbrev pub class_of_line : ℕ → ℕ → List TapLine → ℕ → ℕ → Bool
+class_of_line L t ls p q =
+    let l = slice_index_or ls q no_line in
+    if q == p then false
+    else class_back l t (half_bits_back L (slice_index_or ls p no_line).at l)
+
+-- Nothing but Idle stands on a line from half bit u on, and it goes on so (profile).
+abbrev pub IsIdleFrom : ℕ → TapLine → Type 0
+IsIdleFrom u l = (v : ℕ) → u ≤ v → class_on l v ≡ false
 
 -- What stands on a line `back` half bits before the n half bits from t on is neither before its first symbol nor behind
 -- its last signal (profile).
@@ -105,14 +148,14 @@ pub record IsWithinSignals (back t n : ℕ) (l : TapLine) : Type 0 where
   pub begun : back + l.base ≤ t
   pub ended : t + n ≤ back + l.base + signals_end l.symbols
 
--- Nothing but Idle stands on these lines from half bit u on (profile).
+-- Nothing but Idle stands on these lines from half bit u on, and they go on so (profile).
 abbrev pub AreIdleFrom : ℕ → List TapLine → Type 0
-AreIdleFrom u ls = (r v : ℕ) → r < length ls → u ≤ v → symbol_on (slice_index_or ls r no_line) v ≡ Idle
+AreIdleFrom u ls = (r v : ℕ) → r < length ls → u ≤ v → class_on (slice_index_or ls r no_line) v ≡ false
 
--- Nothing but Idle stands on the lines of other taps than q from half bit u on (profile).
+-- Nothing but Idle stands on the lines of other taps than q from half bit u on, and they go on so (profile).
 abbrev pub AreOthersIdle : ℕ → List TapLine → ℕ → Type 0
 AreOthersIdle u ls q =
-    (r v : ℕ) → r < length ls → r ≢ q → u ≤ v → symbol_on (slice_index_or ls r no_line) v ≡ Idle
+    (r v : ℕ) → r < length ls → r ≢ q → u ≤ v → class_on (slice_index_or ls r no_line) v ≡ false
 
 -- Tap q is one of those with these lines, and nothing but Idle stands on the lines of the others from half bit u on
 -- (profile).

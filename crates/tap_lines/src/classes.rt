@@ -1,16 +1,12 @@
 //! For how long taps go on to hear a signal, or Idle, where the taps are listed on whose lines anything stands that
-//! may still be heard: a tap hears Idle where all that reaches it is Idle.
-ghost use Rattle.std.specs.Prelude.{◌≡◌, ◌≢◌, ◌≤◌, ◌<◌, ◌+◌, ◌-◌, ◌^◌, ◌==◌, ℕ, length, slice_index_or};
-ghost use Rattle.std.specs.Prelude.{if◌then◌else◌, true, false};
-ghost use Rattle.manchester_line.specs.declared.Sym.TheVariants.{Idle};
-ghost use Rattle.manchester_line.specs.Line.{is_signal as is_signal_of};
-ghost use Rattle.tap_lines.specs.TapLines.{IsReachOf, heard_by_lines};
-ghost use Rattle.tap_lines.specs.TapLists.{AreIdleButFor, HearsListed};
+//! may still be heard: a tap hears Idle where all that reaches it is Idle. A line that has ended goes on as it ends.
+ghost use Rattle.std.specs.Prelude.{◌≡◌, ◌≢◌, ◌≤◌, ◌<◌, ◌+◌, ℕ, true, false};
+ghost use Rattle.tap_lines.specs.TapLines.{class_by_lines};
+ghost use Rattle.tap_lines.specs.TapLists.{HearsListed};
 
 use crate::line::Line;
 use crate::loud::LoudTaps;
 use crate::sources::known_ahead;
-use manchester_line::{Sym, is_signal};
 
 /// For how many half bits from `t` on, at most `most`, tap `p` hears Idle in all of them.
 fn idle_ahead(
@@ -24,8 +20,8 @@ fn idle_ahead(
 ) -> usize
     requires listed { HearsListed p lookahead far t most lines.now loud.now.taps }
     ensures within { result ≤ most }
-    ensures idle { (j : ℕ) → j < result → is_signal_of (heard_by_lines lookahead (t + j) lines.now p) ≡ false }
-    ensures longest { result < most → is_signal_of (heard_by_lines lookahead (t + result) lines.now p) ≡ true }
+    ensures idle { (j : ℕ) → j < result → class_by_lines lookahead (t + j) lines.now p ≡ false }
+    ensures longest { result < most → class_by_lines lookahead (t + result) lines.now p ≡ true }
 {
     let _ = far;
     let at = lines[p].place();
@@ -54,8 +50,8 @@ fn one_signal_ahead(
 ) -> usize
     requires listed { HearsListed p lookahead far t most lines.now loud.now.taps }
     ensures within { result ≤ most }
-    ensures signals { (j : ℕ) → j < result → is_signal_of (heard_by_lines lookahead (t + j) lines.now p) ≡ true }
-    ensures none { result ≡ 0 → 0 < most → is_signal_of (heard_by_lines lookahead t lines.now p) ≡ false }
+    ensures signals { (j : ℕ) → j < result → class_by_lines lookahead (t + j) lines.now p ≡ true }
+    ensures none { result ≡ 0 → 0 < most → class_by_lines lookahead t lines.now p ≡ false }
 {
     let _ = far;
     let at = lines[p].place();
@@ -89,8 +85,8 @@ fn signals_ahead(
 ) -> usize
     requires listed { HearsListed p lookahead far t most lines.now loud.now.taps }
     ensures within { result ≤ most }
-    ensures signals { (j : ℕ) → j < result → is_signal_of (heard_by_lines lookahead (t + j) lines.now p) ≡ true }
-    ensures longest { result < most → is_signal_of (heard_by_lines lookahead (t + result) lines.now p) ≡ false }
+    ensures signals { (j : ℕ) → j < result → class_by_lines lookahead (t + j) lines.now p ≡ true }
+    ensures longest { result < most → class_by_lines lookahead (t + result) lines.now p ≡ false }
 {
     let mut steady = 0;
     while steady < most {
@@ -118,8 +114,8 @@ pub fn class_ahead(
 ) -> usize
     requires listed { HearsListed p lookahead far t most lines.now loud.now.taps }
     ensures within { result ≤ most }
-    ensures steady { (j : ℕ) → j < result → is_signal_of (heard_by_lines lookahead (t + j) lines.now p) ≡ carrier }
-    ensures longest { result < most → is_signal_of (heard_by_lines lookahead (t + result) lines.now p) ≢ carrier }
+    ensures steady { (j : ℕ) → j < result → class_by_lines lookahead (t + j) lines.now p ≡ carrier }
+    ensures longest { result < most → class_by_lines lookahead (t + result) lines.now p ≢ carrier }
 {
     if let Some(q) = loud.only() {
         return known_ahead(lines, q, p, lookahead, far, t, most, carrier);
@@ -129,57 +125,4 @@ pub fn class_ahead(
     } else {
         idle_ahead(lines, loud, p, lookahead, far, t, most)
     }
-}
-
-/// Whether of the first so many taps each hears a signal but that of the source, which hears Idle.
-fn hear_source(taps: usize, source: usize, heard: &[Sym]) -> bool
-    requires { taps ≤ length heard.now }
-    ensures all { result ≡ true → (r : ℕ) → r < taps →
-        is_signal_of (slice_index_or heard.now r Idle) ≡ if r == source then false else true }
-    ensures other { result ≡ false → ¬ ((r : ℕ) → r < taps →
-        is_signal_of (slice_index_or heard.now r Idle) ≡ if r == source then false else true) }
-{
-    for r in 0..taps {
-        if is_signal(heard[r]) == (r == source) {
-            return false;
-        }
-    }
-    true
-}
-
-/// For how many half bits from `t` on, at most `most`, each of the first so many taps hears a signal, where it does so
-/// now, and else Idle. Only the lines of the listed taps are looked at.
-pub fn classes_ahead(
-    lines: &[Line],
-    taps: usize,
-    loud: &LoudTaps,
-    lookahead: u32,
-    far: u64,
-    t: u64,
-    heard: &[Sym],
-    most: usize,
-) -> usize
-    requires taps { taps ≤ length lines.now }
-    requires many { taps ≤ length heard.now }
-    requires reach { IsReachOf far lookahead lines.now }
-    requires loud { AreIdleButFor (t - far) lines.now loud.now.taps }
-    requires in_time { t + most < 2 ^ 64 }
-    ensures within { result ≤ most }
-    ensures steady { (r j : ℕ) → r < taps → j < result →
-        is_signal_of (heard_by_lines lookahead (t + j) lines.now r) ≡ is_signal_of (slice_index_or heard.now r Idle) }
-    ensures longest { result < most → ¬ ((r : ℕ) → r < taps →
-        is_signal_of (heard_by_lines lookahead (t + result) lines.now r)
-        ≡ is_signal_of (slice_index_or heard.now r Idle)) }
-{
-    if let Some(q) = loud.only() {
-        if far <= t && lines[q].is_signal_over(t - far, far as usize + most) {
-            return if hear_source(taps, q, heard) { most } else { 0 };
-        }
-    }
-    let mut steady = most;
-    for r in 0..taps {
-        let carrier = is_signal(heard[r]);
-        steady = class_ahead(lines, loud, r, lookahead, far, t, steady, carrier);
-    }
-    steady
 }

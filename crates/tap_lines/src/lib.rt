@@ -10,11 +10,9 @@ mod loud;
 mod runs;
 mod sources;
 
-pub use classes::{class_ahead, classes_ahead};
+pub use classes::class_ahead;
 pub use line::Line;
-pub use lines::{
-    are_idle_from, cut_all, farthest, hear_all, pass_all, rest_all, slide_all, take_in, tell,
-};
+pub use lines::{are_idle_from, farthest};
 pub use listed::hear_listed;
 pub use loud::LoudTaps;
 pub use sources::piece_of;

@@ -5,10 +5,11 @@ ghost use Rattle.manchester_line.specs.declared.Sym.TheVariants.{Idle};
 ghost use Rattle.manchester_line.specs.Line.{mix_of, is_signal as is_signal_of};
 ghost use Rattle.net_parts.specs.Machines.{span};
 ghost use Rattle.tap_lines.specs.Signals.{signals_end};
-ghost use Rattle.tap_lines.specs.TapLines.{line_cut, IsIdleFrom, IsSignalOver, IsWithinSignals, TapLine, symbol_on, half_bits_back, line_extended, slid, dropped_from, passed};
+ghost use Rattle.tap_lines.specs.TapLines.{line_cut, IsIdleFrom, IsWithinSignals, TapLine, symbol_on, half_bits_back, line_extended, dropped_from, passed};
+ghost use Rattle.tap_lines.specs.TapLines.{class_back, class_on, forgotten, goes_on, line_ended, passed_to};
 ghost use Rattle.network.specs.Times.{earlier};
 
-use crate::runs::{end_of_signals, steady_from};
+use crate::runs::{end_of_signals, steady_first, steady_from};
 use lists::OutOfMemory;
 use manchester_line::{Sym, is_signal, mix};
 use std::alloc::Global;
@@ -17,8 +18,7 @@ use std::marker::Model;
 /// A line, from half bit `base` on, of a tap at a place in half bits from its segment's end. What stands on it for a
 /// half bit is emitted `delay` half bits later, less the half bits of a window. The first `written` symbols of the
 /// buffer stand on it; the last of them, at least the last `loud`, are signals. The Idle behind them, `quiet` half
-/// bits, isn't written. What is further back than `backlog` half bits reaches no other tap, and is dropped where there
-/// is want of room.
+/// bits, isn't written. What is further back than `backlog` half bits reaches no other tap, and is dropped now and then.
 #[derive(Drop)]
 pub struct Line {
     at: u32,
@@ -200,13 +200,6 @@ impl Line {
         }
     }
 
-    /// What a tap at a place hears of it in half bit `t`.
-    pub fn reaches(&self, at: u32, lookahead: u32, t: u64) -> Sym
-        ensures { result ≡ earlier (symbol_on self.now) t (half_bits_back lookahead at self.now) }
-    {
-        self.back_from(self.back(at, lookahead), t)
-    }
-
     /// Adds to what a tap hears in the half bits from `t` on, as many as the piece has, what stands on it so many half
     /// bits before.
     fn mix_back(&self, back: u64, t: u64, piece: &mut [Sym])
@@ -239,44 +232,57 @@ impl Line {
         }
     }
 
-    /// What `steady_back` answers, symbol by symbol.
+    /// Whether a signal is on it in half bit `u`: where it has ended, as it goes on.
+    fn class(&self, u: u64) -> bool
+        ensures { result ≡ class_on self.now u }
+    {
+        if u < self.base {
+            return false;
+        }
+        let place = u - self.base;
+        if place < self.written as u64 {
+            is_signal(self.buffer[place as usize])
+        } else {
+            self.goes_on()
+        }
+    }
+
+    /// Whether a signal was on it so many half bits before half bit `t`.
+    fn class_before(&self, back: u64, t: u64) -> bool
+        ensures { result ≡ class_back self.now t back }
+    {
+        back <= t && self.class(t - back)
+    }
+
+    /// What `steady_back` answers, half bit by half bit.
     fn steady_before(&self, back: u64, t: u64, most: usize, carrier: bool) -> usize
         requires { t + most < 2 ^ 64 }
         ensures within { result ≤ most }
-        ensures steady { (j : ℕ) → j < result → is_signal_of (earlier (symbol_on self.now) (t + j) back) ≡ carrier }
-        ensures longest { result < most → is_signal_of (earlier (symbol_on self.now) (t + result) back) ≢ carrier }
+        ensures steady { (j : ℕ) → j < result → class_back self.now (t + j) back ≡ carrier }
+        ensures longest { result < most → class_back self.now (t + result) back ≢ carrier }
     {
         for j in 0..most {
-            if is_signal(self.back_from(back, t + j as u64)) != carrier {
+            if self.class_before(back, t + j as u64) != carrier {
                 return j;
             }
         }
         most
     }
 
-    /// For how many half bits from `t` on, at most `most`, what stands on it so many half bits before is a signal in
-    /// all of them, or Idle in all, as `carrier` says.
+    /// For how many half bits from `t` on, at most `most`, a signal is on it so many half bits before in all of them,
+    /// or Idle in all, as `carrier` says: where it has ended, as it goes on.
     pub fn steady_back(&self, back: u64, t: u64, most: usize, carrier: bool) -> usize
         requires { t + most < 2 ^ 64 }
         ensures within { result ≤ most }
-        ensures steady { (j : ℕ) → j < result → is_signal_of (earlier (symbol_on self.now) (t + j) back) ≡ carrier }
-        ensures longest { result < most → is_signal_of (earlier (symbol_on self.now) (t + result) back) ≢ carrier }
+        ensures steady { (j : ℕ) → j < result → class_back self.now (t + j) back ≡ carrier }
+        ensures longest { result < most → class_back self.now (t + result) back ≢ carrier }
     {
         if t < back || t - back < self.base {
             return self.steady_before(back, t, most, carrier);
         }
         let place = t - back - self.base;
         let text = &self.buffer[..self.written];
-        steady_from(text, self.loud, place, most, carrier)
-    }
-
-    /// Whether a signal stands on it in each of so many half bits from `u` on.
-    pub fn is_signal_over(&self, u: u64, count: usize) -> bool
-        requires { u + count < 2 ^ 64 }
-        ensures signals { result ≡ true → IsSignalOver u count self.now }
-        ensures other { result ≡ false → ¬ IsSignalOver u count self.now }
-    {
-        self.steady_back(0, u, count, true) == count
+        steady_from(text, self.loud, self.goes_on(), place, most, carrier)
     }
 
     /// What stands on it so many half bits before those from `t` on, as many as `count`; none where not all of it is
@@ -300,12 +306,99 @@ impl Line {
         Some(&text[first..first + count])
     }
 
-    /// Whether nothing but Idle stands on it from half bit `u` on.
+    /// Whether nothing but Idle stands on it from half bit `u` on, and it goes on so.
     pub fn is_quiet_from(&self, u: u64) -> bool
         ensures quiet { result ≡ true → IsIdleFrom u self.now }
         ensures loud { result ≡ false → ¬ IsIdleFrom u self.now }
     {
-        self.written == 0 || (self.base <= u && self.written as u64 <= u - self.base)
+        !self.goes_on()
+            && (self.written == 0 || (self.base <= u && self.written as u64 <= u - self.base))
+    }
+
+    /// Whether it goes on with a signal behind its end: as its last symbol is one.
+    pub fn goes_on(&self) -> bool
+        ensures { result ≡ goes_on self.now }
+    {
+        self.quiet == 0 && self.loud > 0
+    }
+
+    /// How many of the first symbols of a piece are signals, where it goes on with a signal, and else Idle.
+    pub fn alike_first(&self, piece: &[Sym]) -> usize
+        ensures within { result ≤ length piece.now }
+        ensures alike { (j : ℕ) → j < result → is_signal_of (slice_index_or piece.now j Idle) ≡ goes_on self.now }
+        ensures longest { result < length piece.now →
+            is_signal_of (slice_index_or piece.now result Idle) ≢ goes_on self.now }
+    {
+        steady_first(piece, self.goes_on())
+    }
+
+    /// Puts the next symbols on it, all of which are signals, where it goes on with a signal, and else Idle.
+    pub fn go_on(&mut self, piece: &[Sym])
+        requires room { length piece.now ≤ self.old.room }
+        requires alike { (j : ℕ) → j < length piece.now →
+            is_signal_of (slice_index_or piece.now j Idle) ≡ goes_on self.old }
+        ensures { self.new ≡ line_extended self.old piece.now }
+    {
+        if piece.is_empty() {
+            return;
+        }
+        if self.goes_on() {
+            self.put(piece);
+        } else {
+            self.rest(piece.len());
+        }
+    }
+
+    /// The half bit behind its last symbol.
+    pub fn end(&self) -> u64
+        requires { self.now.base + length self.now.symbols < 2 ^ 64 }
+        ensures { result ≡ self.now.base + length self.now.symbols }
+    {
+        self.base + (self.written + self.quiet) as u64
+    }
+
+    /// Lets it end at half bit `u`: with Idle up to there, or without what stands on it for `u` and later half bits.
+    pub fn set_end(&mut self, u: u64)
+        requires in_time { self.old.base + length self.old.symbols < 2 ^ 64 }
+        requires begun { self.old.base ≤ u }
+        requires room { u ≤ self.old.base + length self.old.symbols + self.old.room }
+        ensures { self.new ≡ line_ended u self.old }
+    {
+        let end = self.end();
+        if end < u {
+            self.rest((u - end) as usize);
+        } else {
+            self.cut(u);
+        }
+    }
+
+    /// Comes to half bit `u`, and drops what is further back from there than it must keep.
+    pub fn forget(&mut self, u: u64)
+        requires in_time { self.old.base + length self.old.symbols < 2 ^ 64 }
+        requires keeps { self.old.backlog ≤ length self.old.symbols + self.old.room }
+        ensures { self.new ≡ forgotten u self.old }
+    {
+        let end = self.end();
+        if end < u {
+            self.pass((u - end) as usize);
+            return;
+        }
+        let gone = u
+            .saturating_sub(self.backlog as u64)
+            .saturating_sub(self.base);
+        self.drop_first(gone as usize);
+    }
+
+    /// Comes to half bit `u`, where it has ended before: nothing but Idle stands on it for the half bits between.
+    pub fn pass_to(&mut self, u: u64)
+        requires in_time { self.old.base + length self.old.symbols < 2 ^ 64 }
+        requires keeps { self.old.backlog ≤ length self.old.symbols + self.old.room }
+        ensures { self.new ≡ passed_to u self.old }
+    {
+        let end = self.end();
+        if end < u {
+            self.pass((u - end) as usize);
+        }
     }
 
     /// Puts the next symbols on it, which are signals, and at least one.
@@ -384,7 +477,7 @@ impl Line {
     }
 
     /// Takes from it what stands on it for half bit `u` and later ones.
-    pub fn cut(&mut self, u: u64)
+    fn cut(&mut self, u: u64)
         ensures { self.new ≡ line_cut u self.old }
     {
         let written = self.written as u64;
@@ -393,17 +486,6 @@ impl Line {
             self.cut_text(kept as usize);
         } else {
             self.quiet = (self.quiet as u64).min(kept - written) as usize;
-        }
-    }
-
-    /// Makes room for so many symbols: where there is less, it drops all but those that it keeps.
-    pub fn slide(&mut self, room: usize)
-        requires { self.old.base + length self.old.symbols < 2 ^ 64 }
-        ensures { self.new ≡ slid room self.old }
-    {
-        let len = self.written + self.quiet;
-        if self.buffer.len() - len < room {
-            self.drop_first(len.saturating_sub(self.backlog));
         }
     }
 
@@ -422,7 +504,7 @@ impl Line {
     }
 
     /// So many half bits pass in which nothing but Idle stands on it, of which it keeps no more than it must.
-    pub fn pass(&mut self, count: usize)
+    fn pass(&mut self, count: usize)
         requires keeps { self.old.backlog ≤ length self.old.symbols + self.old.room }
         requires in_time { self.old.base + length self.old.symbols + count < 2 ^ 64 }
         ensures { self.new ≡ passed count self.old }

@@ -2,7 +2,7 @@
 ghost use Rattle.std.specs.Prelude.{◌≡◌, ◌≢◌, ◌<◌, ◌≤◌, ◌+◌, ◌-◌, ℕ, true, false, length, slice_index_or};
 ghost use Rattle.manchester_line.specs.declared.Sym.TheVariants.{Idle};
 ghost use Rattle.manchester_line.specs.Line.{is_signal as is_signal_of};
-ghost use Rattle.tap_lines.specs.Signals.{EndsInSignals};
+ghost use Rattle.tap_lines.specs.Signals.{EndsInSignals, class_at};
 
 use manchester_line::{Sym, is_signal};
 
@@ -55,22 +55,30 @@ pub fn steady_first(piece: &[Sym], carrier: bool) -> usize
     steady
 }
 
-/// How many symbols from place `place` on, from 0, at most `most`, are all a signal, or are all Idle, as `carrier`
-/// says, where behind the text only Idle stands. At least the last `loud` symbols of the text are signals.
-pub fn steady_from(text: &[Sym], loud: usize, place: u64, most: usize, carrier: bool) -> usize
+/// For how many places from `place` on, from 0, at most `most`, there is a signal in all, or Idle in all, as `carrier`
+/// says, where the text goes on behind its end as `on` says. At least the last `loud` symbols of the text are signals.
+pub fn steady_from(
+    text: &[Sym],
+    loud: usize,
+    on: bool,
+    place: u64,
+    most: usize,
+    carrier: bool,
+) -> usize
     requires { EndsInSignals loud text.now }
     ensures within { result ≤ most }
-    ensures steady { (j : ℕ) → j < result → is_signal_of (slice_index_or text.now (place + j) Idle) ≡ carrier }
-    ensures longest { result < most → is_signal_of (slice_index_or text.now (place + result) Idle) ≢ carrier }
+    ensures steady { (j : ℕ) → j < result → class_at text.now on (place + j) ≡ carrier }
+    ensures longest { result < most → class_at text.now on (place + result) ≢ carrier }
 {
     let first = place.min(text.len() as u64) as usize;
     let count = most.min(text.len() - first);
     if carrier && text.len() - loud <= first {
-        return count;
+        return if on { most } else { count };
     }
     let steady = steady_first(&text[first..first + count], carrier);
-    if carrier {
-        return steady;
+    if steady < count || carrier != on {
+        steady
+    } else {
+        most
     }
-    if steady < count { steady } else { most }
 }

@@ -1,7 +1,6 @@
 //! The one line that taps hear, where nothing but Idle stands on the others.
 ghost use Rattle.std.specs.Prelude.{◌≡◌, ◌≢◌, ◌≤◌, ◌<◌, ◌+◌, ◌-◌, ◌^◌, ℕ, length, Some, slice_index_or, IfSome, IfNone};
-ghost use Rattle.manchester_line.specs.Line.{is_signal as is_signal_of};
-ghost use Rattle.tap_lines.specs.TapLines.{IsWithinSignals, half_bits_back, heard_by_lines, heard_for, no_line, IsOnlySource, IsReachOf};
+ghost use Rattle.tap_lines.specs.TapLines.{IsWithinSignals, half_bits_back, class_by_lines, heard_for, no_line, IsOnlySource, IsReachOf};
 
 use crate::line::Line;
 use manchester_line::Sym;
@@ -23,8 +22,8 @@ pub fn known_ahead(
     requires source { IsOnlySource (t - far) lines.now source }
     requires in_time { t + most < 2 ^ 64 }
     ensures within { result ≤ most }
-    ensures known { (j : ℕ) → j < result → is_signal_of (heard_by_lines lookahead (t + j) lines.now p) ≡ carrier }
-    ensures longest { result < most → is_signal_of (heard_by_lines lookahead (t + result) lines.now p) ≢ carrier }
+    ensures known { (j : ℕ) → j < result → class_by_lines lookahead (t + j) lines.now p ≡ carrier }
+    ensures longest { result < most → class_by_lines lookahead (t + result) lines.now p ≢ carrier }
 {
     let _ = far;
     if source == p {

@@ -6,18 +6,6 @@ use Rattle.segment_engine.proofs.apart.bring_all.Goals as goal
 abbrev a_watch : Watch
 a_watch = record { since = 0; until = 0; carrier = false; told = 0 }
 
-pub bring_one-requires-clause-in_time : goal.bring_one-requires-clause-in_time
-bring_one-requires-clause-in_time c =
-    let inv = c.loop-k.invariant in
-    let test = c.loop-k-test.true in
-    let many = inv.apart.senders in
-    let len = c.loop-k.auto.senders in
-    let one = inv.apart.each c.loop-k.k a_watch c.index-senders-k.result c.index-receivers-k.result (omega (arith, test, many, len)) in
-    let a = one.until in
-    let b = one.within in
-    let d = c.requires.in_time in
-    omega (arith, a, b, d)
-
 pub loop-k-preserved : goal.loop-k-preserved
 loop-k-preserved c =
     let k = c.loop-k.k in
@@ -34,21 +22,23 @@ loop-k-preserved c =
     let at = now.since in
     let kept = now.until in
     let late = one.until in
+    let early = one.since in
     let within = one.within in
     let lw : k < length c.loop-k.watches = omega (arith, in_it, watched) in
     let ls : k < length c.loop-k.senders = omega (arith, in_it, many) in
     let lk : k < length c.loop-k.receivers = omega (arith, in_it, heard) in
     record {
-      apart = stand_set c.args.of.now c.args.t c.args.u c.args.end k c.args.lines.now c.loop-k.watches c.loop-k.senders c.loop-k.receivers w' c.bring_one.new.sender c.bring_one.new.receiver ls inv.apart
+      apart = stand_set c.args.of.now c.args.from c.args.u k c.args.lines.now c.loop-k.watches c.loop-k.senders c.loop-k.receivers w' c.bring_one.new.sender c.bring_one.new.receiver ls inv.apart
           (record {
             behind = now.behind;
             since = omega (arith, at);
             until = omega (arith, kept, late);
-            within = omega (arith, kept, within);
+            within = omega (arith, kept, within, early, at);
             still = λ h. absurd (omega (arith, h, at));
           });
       since = below_set (λ (w : Watch). w.since ≡ c.args.u) k c.loop-k.watches w' lw (λ i w h. inv.since i w h) at;
       piece_len = c.bring_one.auto.piece ∙ inv.piece_len;
+      listing = now.listing ∙ inv.listing;
       left = λ e room h covers.
           covers_less e (length c.args.of.now.stations.items) k c.loop-k.watches c.loop-k.senders c.loop-k.receivers w' c.bring_one.new.sender c.bring_one.new.receiver in_it lw ls lk
           a_watch c.index-senders-k.result c.index-receivers-k.result room (now.left e h) (inv.left e room h covers);

@@ -11,14 +11,18 @@ use Rattle.segment_engine.proofs.BehindStations.{brought, heard_so, size, needs_
 use Rattle.segment_engine.proofs.StationsLater.{station}
 use Rattle.segment_engine.proofs.apart.bring_one.Goals as goal
 
-pub hear_on-requires-clause-loud : goal.hear_on-requires-clause-loud
-hear_on-requires-clause-loud c =
-    let from = c.requires.behind.from_start in
-    record {
-      within = c.requires.loud.within;
-      rising = c.requires.loud.rising;
-      others = λ r h left v low. c.requires.loud.others r h left v (omega (arith, low, from));
-    }
+pub hear_on-requires-clause-steady : goal.hear_on-requires-clause-steady
+hear_on-requires-clause-steady c = λ j h.
+    let w = c.args.watch.now in
+    let n = c.args.u - w.since in
+    let b = c.requires.behind in
+    let from = b.from_start in
+    let early = c.requires.since in
+    let late = c.requires.until in
+    let long = c.requires.piece in
+    let fits : length (take n c.args.piece.now) ≡ n = length-take-le n c.args.piece.now (omega (arith, early, long)) in
+    sym (c.requires.right.classes (w.since + j) (omega (arith, from)) (omega (arith, h, fits, early)))
+    ∙ b.steady (w.since + j) (omega arith) (omega (arith, h, fits, early, late))
 
 pub returns-clause-behind : goal.returns-clause-behind
 returns-clause-behind c =
@@ -40,9 +44,9 @@ returns-clause-behind c =
     let long = c.requires.piece in
     let fits : length (take n c.args.piece.now) ≡ n = length-take-le n c.args.piece.now (omega (arith, early, long)) in
     let leapt : c.leap.new.self ≡ after_all s hs = c.leap.ensures.state hs
-    (heard_so plan x there p g.lookahead c.args.t c.args.u ls w s k b early late c.requires.right)
-    (size plan x there p g.lookahead c.args.t c.args.u ls w s k b early late c.requires.right) in
-    brought plan x there p g.lookahead c.args.t c.args.u ls w s k b early late c.requires.right
+    (heard_so plan x there p g.lookahead c.args.from c.args.u ls w s k b early late c.requires.right)
+    (size plan x there p g.lookahead c.args.from c.args.u ls w s k b early late c.requires.right) in
+    brought plan x there p g.lookahead c.args.from c.args.u ls w s k b early late c.requires.right
     c.leap.new.self c.hear_on.new.receiver (record { since = c.args.u; until = w.until; carrier = w.carrier; told = w.told }) refl refl refl refl
     leapt
     (c.leap.ensures.time ∙ ap (λ a. a + n) b.time)
@@ -69,9 +73,9 @@ returns-clause-left c = λ e h.
     let late = c.requires.until in
     let long = c.requires.piece in
     let fits : length (take n c.args.piece.now) ≡ n = length-take-le n c.args.piece.now (omega (arith, early, long)) in
-    let many = size plan x there p g.lookahead c.args.t c.args.u ls w s k b early late c.requires.right in
+    let many = size plan x there p g.lookahead c.args.from c.args.u ls w s k b early late c.requires.right in
     let leapt : c.leap.new.self ≡ after_all s hs = c.leap.ensures.state hs
-    (heard_so plan x there p g.lookahead c.args.t c.args.u ls w s k b early late c.requires.right) many in
+    (heard_so plan x there p g.lookahead c.args.from c.args.u ls w s k b early late c.requires.right) many in
     needs_less e (record { since = c.args.u; until = w.until; carrier = w.carrier; told = w.told }) w s c.leap.new.self k c.hear_on.new.receiver hs (is_sending s.phase)
     (omega (arith, many, h, early)) leapt (record {
       receiver = receiver_at plan x w.since;

@@ -23,7 +23,7 @@ use Rattle.segment_engine.proofs.BehindStations.{brought, heard_so, no_reception
 use Rattle.segment_engine.proofs.ChangedStations.{regroup, regroup_less}
 use Rattle.segment_engine.proofs.FirstReceptions.{same_rows, same_captures}
 use Rattle.segment_engine.proofs.QuietRoom.{sender_needs}
-use Rattle.segment_engine.proofs.QuietHalfBits.{all_idle}
+use Rattle.segment_engine.proofs.SteadyReceivers.{all_idle}
 use Rattle.segment_engine.proofs.StationsLater.{station}
 use Rattle.segment_engine.proofs.apart.end_one.Goals as goal
 
@@ -37,7 +37,7 @@ ended plan x p L t u ls w s k behind until ends right =
     let now : w.since + 0 ≡ u = omega (arith, at) in
     let in_it : w.since + 0 < w.told = omega (arith, at, until, told) in
     let idle : heard plan x u ≡ Idle =
-    idle_symbol (heard plan x u) (ap is_signal (right.hears u (omega (arith, from, at)) (omega arith)) ∙ behind.steady u (omega (arith, at)) until ∙ ends.idle) in
+    idle_symbol (heard plan x u) (ap is_signal (right.hears u (omega (arith, from, at)) (omega arith)) ∙ sym (right.classes u (omega (arith, from, at)) (omega arith)) ∙ behind.steady u (omega (arith, at)) until ∙ ends.idle) in
     let silent : is_signal (emitted plan x u) ≡ false =
     subst (λ a. is_signal (emitted plan x a) ≡ false) now
     (ap is_signal (right.emits (w.since + 0) (omega (arith, from)) (omega (arith, now)) ∙ behind.line 0 in_it) ∙ behind.signal 0 in_it ∙ ends.silent) in
@@ -60,7 +60,7 @@ returns-then-not-ends_at-clause-rows c =
       | inr now ↦ c.ends_at.ensures.other no (omega (arith, now, early))
     ] in
     same_rows c.args.u x (heard_reception plan x c.args.u).event c.args.room.now.rows
-    (no_reception plan x there p g.lookahead c.args.t c.args.u c.args.lines.now w c.args.sender.now c.args.receiver.now a.behind early c.requires.on c.requires.right still)
+    (no_reception plan x there p g.lookahead c.args.from c.args.u c.args.lines.now w c.args.sender.now c.args.receiver.now a.behind early c.requires.on c.requires.right still)
 
 pub returns-then-not-ends_at-clause-captures : goal.returns-then-not-ends_at-clause-captures
 returns-then-not-ends_at-clause-captures c =
@@ -79,7 +79,7 @@ returns-then-not-ends_at-clause-captures c =
       | inr now ↦ c.ends_at.ensures.other no (omega (arith, now, early))
     ] in
     same_captures c.args.u p (heard_reception plan x c.args.u).event (heard_reception plan x c.args.u).octets c.args.room.now.captures c.requires.captures
-    (no_reception plan x there p g.lookahead c.args.t c.args.u c.args.lines.now w c.args.sender.now c.args.receiver.now a.behind early c.requires.on c.requires.right still)
+    (no_reception plan x there p g.lookahead c.args.from c.args.u c.args.lines.now w c.args.sender.now c.args.receiver.now a.behind early c.requires.on c.requires.right still)
 
 pub returns-clause-apart : goal.returns-clause-apart
 returns-clause-apart c =
@@ -87,7 +87,7 @@ returns-clause-apart c =
     let plan = g.plan.value in
     let p = c.args.p in
     let x = number_on g p in
-    let t = c.args.t in
+    let t = c.args.from in
     let u = c.args.u in
     let ls = c.args.lines.now in
     let numbers = g.station_numbers in
@@ -102,7 +102,7 @@ returns-clause-apart c =
     let at = ends.now in
     let on = c.requires.on in
     let hs = heard_for g.lookahead w.since (u + 1 - w.since) ls p in
-    let one : hs ≡ Idle ∷ [] = idle_now plan x p g.lookahead t u ls w s k b on ends in
+    let one : hs ≡ Idle ∷ [] = idle_now plan x p g.lookahead t u ls w s k b on ends c.requires.right in
     let single : u + 1 - w.since ≡ 1 = omega (arith, at) in
     let heard_idle : AllHeardAs false hs = subst (λ q. AllHeardAs q hs) ends.idle (heard_so plan x there p g.lookahead t (u + 1) ls w s k b (omega (arith, at)) (omega (arith, on)) c.requires.right) in
     let sent : c.leap.new.self ≡ after_all s hs = c.leap.ensures.state hs heard_idle (ap length one) in
@@ -116,7 +116,7 @@ returns-clause-apart c =
           (subst (λ (xs : List Sym). Hears (receiver_after r xs false) c.receive.new.self) (sym one) (c.receive.ensures.state r h)));
       since = omega arith;
       until = omega (arith, on);
-      within = a.within;
+      within = (let few = a.within in let early = a.since in omega (arith, few, early));
       still = λ h. absurd (omega (arith, h));
     }
 
@@ -155,7 +155,7 @@ returns-clause-rows c =
     let w = c.args.watch.now in
     let b = c.requires.apart.behind in
     let yes : c.ends_at.result ≡ true = search rules in
-    let is = ended g.plan.value x c.args.p g.lookahead c.args.t c.args.u c.args.lines.now w c.args.sender.now c.args.receiver.now b c.requires.on (c.ends_at.ensures.ends yes) c.requires.right in
+    let is = ended g.plan.value x c.args.p g.lookahead c.args.from c.args.u c.args.lines.now w c.args.sender.now c.args.receiver.now b c.requires.on (c.ends_at.ensures.ends yes) c.requires.right in
     let device : c.index-device.result.now ≡ x = get_or_read g.stations.items c.args.p c.index-device.result.now c.requires.station c.index-device.ensures 0 in
     c.receive.ensures.rows (receiver_at g.plan.value x w.since) b.receiver
     ∙ ap₂ (λ (d : ℕ) (y : Reception). c.args.room.now.rows ++ row_of c.args.u d y.event) device is
@@ -167,6 +167,6 @@ returns-clause-captures c =
     let w = c.args.watch.now in
     let b = c.requires.apart.behind in
     let yes : c.ends_at.result ≡ true = search rules in
-    let is = ended g.plan.value x c.args.p g.lookahead c.args.t c.args.u c.args.lines.now w c.args.sender.now c.args.receiver.now b c.requires.on (c.ends_at.ensures.ends yes) c.requires.right in
+    let is = ended g.plan.value x c.args.p g.lookahead c.args.from c.args.u c.args.lines.now w c.args.sender.now c.args.receiver.now b c.requires.on (c.ends_at.ensures.ends yes) c.requires.right in
     c.receive.ensures.captures (receiver_at g.plan.value x w.since) b.receiver
     ∙ ap (λ (y : Reception). captures_with c.args.p (taken_by c.args.u y.event y.octets) c.args.room.now.captures) is

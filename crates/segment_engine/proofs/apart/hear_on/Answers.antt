@@ -5,11 +5,24 @@ use Rattle.mac_receive.specs.KeptReceiver.{Hears}
 use Rattle.mac_receive.specs.Receiver.{receiver_after}
 use Rattle.net_parts.proofs.RepeaterSteps.{length-span}
 use Rattle.tap_lines.specs.TapLines.{heard_by_lines, heard_for}
+use Rattle.tap_lines.specs.TapLists.{AreIdleButFor}
 use Rattle.segment_engine.proofs.SteadyReceivers.{idle_piece, signal_piece}
 use Rattle.segment_engine.proofs.apart.hear_on.Goals as goal
 
 pub piece_of-requires-clause-source : goal.piece_of-requires-clause-source
-piece_of-requires-clause-source c = c.only.ensures.only (c.args.t - c.args.far) c.args.lines.now c.requires.loud
+piece_of-requires-clause-source c =
+    c.only.ensures.only (c.args.t - c.args.far) c.args.lines.now
+    (subst (λ v. AreIdleButFor v c.args.lines.now c.find.new.self.taps) c.saturating_sub.ensures c.find.ensures.loud.idle)
+
+pub hear_listed-requires-clause-listed : goal.hear_listed-requires-clause-listed
+hear_listed-requires-clause-listed c =
+    let last = c.requires.in_time in
+    record {
+      tap = c.requires.tap;
+      reach = c.requires.reach;
+      loud = subst (λ v. AreIdleButFor v c.args.lines.now c.find.new.self.taps) c.saturating_sub.ensures c.find.ensures.loud.idle;
+      in_time = omega (arith, last);
+    }
 
 pub take-requires-clause-signal : goal.take-requires-clause-signal
 take-requires-clause-signal c =

@@ -1,11 +1,9 @@
 use Rattle.std.proofs.Common.{◌≡◌, ◌+◌, ◌-◌, get_or, sym, subst, ap, ◌∙◌, arith}
-use Rattle.manchester_line.specs.Line.{is_signal}
 use Rattle.mac_receive.specs.KeptReceiver.{Hears}
 use Rattle.mac_transmit.specs.Emissions.{IsSendingFor}
 use Rattle.network.specs.Attempts.{sender_at}
 use Rattle.net_parts.specs.Standing.{receiver_at}
-use Rattle.tap_lines.specs.TapLines.{no_line, symbol_on, heard_by_lines}
-use Rattle.tap_lines.proofs.LoudLists.{later_idle}
+use Rattle.tap_lines.specs.TapLines.{no_line, class_by_lines, symbol_on}
 use Rattle.segment_engine.specs.SteadyPieces.{IsCalmAs}
 use Rattle.window_room.specs.NeededRoom.{IsDemandWithin, both_demands, receiver_demand, sender_demand}
 use Rattle.segment_engine.specs.StationsApart.{behind_demand, number_on}
@@ -13,17 +11,13 @@ use Rattle.segment_engine.proofs.apart.look_one.Goals as goal
 
 pub watch_from-requires-clause-listed : goal.watch_from-requires-clause-listed
 watch_from-requires-clause-listed c =
-    let from = c.bring_one.ensures.behind.from_start in
-    let at = c.bring_one.ensures.since in
-    let least = c.min.ensures in
-    let most = c.saturating_sub-most.ensures in
-    let below = c.requires.below in
+    let most = c.min-most.ensures in
     let last = c.requires.in_time in
     record {
       tap = c.requires.tap;
       reach = c.requires.reach;
-      loud = later_idle (c.args.t - c.args.far) (c.args.u - c.args.far) c.args.lines.now c.args.loud.now.taps (omega (arith, from, at)) c.requires.loud;
-      in_time = omega (arith, least, most, below, last);
+      loud = c.requires.loud;
+      in_time = omega (arith, most, last);
     }
 
 pub returns-clause-apart : goal.returns-clause-apart
@@ -32,7 +26,6 @@ returns-clause-apart c =
     let plan = g.plan.value in
     let p = c.args.p in
     let x = number_on g p in
-    let t = c.args.t in
     let u = c.args.u in
     let b = c.bring_one.ensures.behind in
     let k = c.bring_one.new.receiver in
@@ -43,9 +36,8 @@ returns-clause-apart c =
     let from = b.from_start in
     let begins = c.watch_from.ensures.from in
     let few = c.watch_from.ensures.within in
-    let below = c.requires.below in
-    let least = c.min.ensures in
-    let most = c.saturating_sub-most.ensures in
+    let least = c.saturating_sub.ensures in
+    let most = c.min-most.ensures in
     let late = c.requires.apart.until in
     let kept = c.bring_one.ensures.until in
     let reaches = b.within in
@@ -62,18 +54,18 @@ returns-clause-apart c =
         calm = subst (λ a. IsCalmAs (is.until - a) is.carrier c.bring_one.new.sender) (sym at) c.watch_from.ensures.calm;
         steady = λ a low high.
             let e : u + (a - u) ≡ a = omega (arith, low, at) in
-            subst (λ y. is_signal (heard_by_lines g.lookahead y c.args.lines.now p) ≡ is.carrier) e (c.watch_from.ensures.steady (a - u) (omega (arith, e, high)));
+            subst (λ y. class_by_lines g.lookahead y c.args.lines.now p ≡ is.carrier) e (c.watch_from.ensures.steady (a - u) (omega (arith, e, high)));
         line = λ j h.
             ap (λ a. symbol_on (get_or c.args.lines.now p no_line) (a + j)) (sym same) ∙ b.line j (omega (arith, h, same, told));
         signal = λ j h. b.signal j (omega (arith, h, same, told));
         lasts = λ sending.
             let left : is.told - is.since ≡ c.bring_one.new.watch.told - c.bring_one.new.watch.since = omega (arith, same, told) in
             subst (λ m. IsSendingFor c.bring_one.new.sender m c.bring_one.new.sender.phase) (sym left) (b.lasts sending);
-        ends = b.ends ∙ sym told;
+        goes = λ a low. b.goes a (omega (arith, low, same));
       };
       since = omega (arith, at);
       until = begins;
-      within = omega (arith, few, least, most, below);
+      within = omega (arith, few, most, at);
       still = λ h. absurd (omega (arith, h, at));
     }
 

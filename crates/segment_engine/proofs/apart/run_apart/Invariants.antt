@@ -1,31 +1,28 @@
 use Rattle.std.proofs.Common.{◌≡◌, ℕ, ◌+◌, ◌-◌, ◌*◌, ◌<◌, ◌≤◌, map, length, slice_index_or}
-use Rattle.mac_receive.specs.KeptReceiver.{KeptReception}
-use Rattle.mac_transmit.specs.Sender.{Sender}
 use Rattle.net_parts.specs.SegmentParts.{wiring}
 use Rattle.net_parts.specs.Standing.{captures_at, rows_of_devices}
 use Rattle.tap_lines.specs.TapLines.{IsReachOf, no_line}
 use Rattle.tap_lines.specs.TapLists.{AreIdleButFor}
 use Rattle.segment_engine.specs.declared.apart.Watch.{Watch}
 use Rattle.segment_engine.specs.KnownLines.{KnowLines}
-use Rattle.segment_engine.specs.StationsApart.{StandAllApart, IsStillBy, HearAllByLines, AreToldAnew, TellsUpTo, CoversApart}
+use Rattle.segment_engine.specs.StationsApart.{StandAllApart, AreStill, HearAllByLines, AreToldAnew, TellsUpTo, CoversApart, most_ahead}
 use Rattle.segment_engine.proofs.apart.run_apart.Given as goal
 
 -- the stations stand apart, at half bit u, and their lines are right below it
 abbrev pub invariant-loop-u : goal.invariant-loop-u
 invariant-loop-u l = record {
-  from : l.t ≤ l.u;
+  after : l.t ≤ l.u;
   within : l.u ≤ l.end;
   reach : IsReachOf l.far l.of.lookahead l.lines;
   loud : AreIdleButFor (l.t - l.far) l.lines l.loud.taps;
   listing : l.loud.room ≡ l.fn.loud.room;
+  late : l.late.room ≡ l.fn.late.room;
   lines : AreToldAnew l.t (length l.of.stations.items) l.fn.lines l.lines;
-  apart : StandAllApart l.of l.t l.u l.end l.lines l.watches l.senders l.receivers;
-  still : (i : ℕ) (w : Watch) (s : Sender) (k : KeptReception) → i < length l.of.stations.items →
-      (slice_index_or l.watches i w).since < (slice_index_or l.watches i w).until →
-      IsStillBy (slice_index_or l.watches i w) (slice_index_or l.senders i s) (slice_index_or l.receivers i k);
+  apart : StandAllApart l.of l.from l.u l.lines l.watches l.senders l.receivers;
+  still : AreStill l.of l.watches l.senders l.receivers;
   know : KnowLines l.of.plan.value (wiring l.of.plan.value.layout l.of.number) l.of.lookahead l.u ((l.window + 1) * l.of.lookahead) l.lines;
-  right : HearAllByLines l.of l.t l.u l.lines;
-  tell : (r : ℕ) → r < length l.of.stations.items → TellsUpTo l.u l.end (slice_index_or l.lines r no_line);
+  right : HearAllByLines l.of l.from l.u l.lines;
+  tell : (r : ℕ) → r < length l.of.stations.items → TellsUpTo l.u (l.end + most_ahead) (slice_index_or l.lines r no_line);
   piece_len : length l.piece ≡ length l.fn.piece;
   logged : l.room.rows ≡ rows_of_devices l.of.plan.value l.of.stations.items l.u;
   kept : l.room.captures ≡ map (λ x. captures_at l.of.plan.value x l.u) l.of.stations.items;

@@ -1,26 +1,24 @@
-use Rattle.std.proofs.Common.{◌≡◌, ◌≢◌, ℕ, ◌+◌, ◌-◌, ◌*◌, ◌<◌, ◌≤◌, ◌++◌, false, inl, inr, refl, None, Option, List, [], length, set, get_or, get_or-set_same, length-set, sym, subst, ap, ◌∙◌, arith}
+use Rattle.std.proofs.Common.{◌≡◌, ◌≢◌, ℕ, ◌+◌, ◌-◌, ◌*◌, ◌^◌, ◌<◌, ◌≤◌, ◌++◌, false, inl, inr, refl, None, Option, List, [], length, set, get_or, get_or-set_same, length-set, sym, subst, ap, ◌∙◌, arith}
 use Rattle.std.proofs.lemmas.Bool.{cases_eq, cases_lt}
 use Rattle.std.proofs.lemmas.List.{append-nil, get_or-set_other, get_or_default}
 use Rattle.std.specs.Prelude.{IfNone, IfSome}
 use Rattle.collision_log.specs.declared.row.Body.{Body}
 use Rattle.manchester_line.specs.Decoding.{new_decoding}
-use Rattle.manchester_line.specs.Line.{is_signal}
 use Rattle.network.specs.declared.outputs.Taken.{Taken}
 use Rattle.mac_receive.specs.KeptReceiver.{KeptReception}
 use Rattle.network.specs.Attempts.{sender_at}
 use Rattle.network.specs.Captures.{taken_by}
-use Rattle.network.specs.Times.{emitted}
 use Rattle.tap_lines.specs.TapLists.{AreIdleButFor}
-use Rattle.tap_lines.specs.TapLines.{no_line, half_bits_back, symbol_on}
-use Rattle.mac_parameters.specs.Parameters.{most_half_bits}
+use Rattle.tap_lines.specs.TapLines.{no_line, half_bits_back, class_on}
 use Rattle.segment_engine.specs.declared.apart.Watch.{Watch}
 use Rattle.segment_engine.specs.declared.segment.Segment.{Segment}
-use Rattle.segment_engine.specs.StationsApart.{StandsApart, IsStillBy, AreToldAnew, TellsUpTo, behind_demand, heard_reception, lowered_watch, number_on, rows_of_both, sent_event}
-use Rattle.segment_engine.proofs.ChangedLines.{IsAlikeBelow, hears_anew, listed_alike}
+use Rattle.segment_engine.specs.StationsApart.{StandsApart, IsStillBy, AreToldAnew, SaysOf, TellsUpTo, behind_demand, heard_reception, lowered_watch, most_ahead, number_on, rows_of_both, sent_event}
+use Rattle.tap_lines.proofs.LineClasses.{IsAlikeBelow}
+use Rattle.segment_engine.proofs.ChangedLines.{hears_anew, listed_alike}
 use Rattle.segment_engine.proofs.ChangedStations.{each_set, covers_one, covers_with}
 use Rattle.segment_engine.proofs.FirstReceptions.{same_rows}
 use Rattle.segment_engine.proofs.PieceRoom.{below_next}
-use Rattle.segment_engine.proofs.StepAll.{anew_none, anew_one, anew_twice, alike_to, apart_alike, apart_lowered, covers_lowered, each_lowered, emits_so, gone_on, heard_so, know_anew, know_next, lowered_own, nothing_on, reach_anew, right_next, rows_silent, rows_stepped, silent_on, tap_there, tells_anew}
+use Rattle.segment_engine.proofs.StepAll.{anew_none, anew_one, anew_twice, alike_to, apart_alike, apart_lowered, class_so, covers_lowered, each_lowered, emits_so, gone_on, heard_so, know_anew, know_next, lowered_own, nothing_on, reach_anew, right_next, rows_silent, rows_stepped, silent_on, tap_there, tells_anew}
 use Rattle.segment_engine.proofs.StepPasses.{HaveMade, event, octets, passed, sent}
 use Rattle.segment_engine.proofs.due.step_all.Goals as goal
 
@@ -35,9 +33,8 @@ loop-k-init c =
     let all = c.requires.apart in
     let watched = all.watches in
     let within = c.next_due-k.ensures.within in
-    let below = c.requires.below in
     let ahead = c.requires.ahead in
-    let first : HaveMade g c.args.t u c.args.end front 0 c.args.lines.now c.args.watches.now c.args.senders.now c.args.receivers.now c.args.room.now.rows c.args.room.now.rows c.args.room.now.captures c.args.room.now.captures = record {
+    let first : HaveMade g c.args.from u front 0 c.args.lines.now c.args.watches.now c.args.senders.now c.args.receivers.now c.args.room.now.rows c.args.room.now.rows c.args.room.now.captures c.args.room.now.captures = record {
       know = c.requires.know;
       right = c.requires.right;
       now = λ i l h. absurd (omega (arith, h));
@@ -59,10 +56,11 @@ loop-k-init c =
       reach = c.requires.reach;
       loud = c.requires.loud;
       listing = refl;
+      late = refl;
       lines = anew_none u (length g.stations.items) c.args.lines.now;
       tell = c.requires.tell;
-      made = passed g c.args.t u c.args.end front c.args.lines.now c.args.watches.now c.args.senders.now c.args.receivers.now c.args.room.now.rows c.args.room.now.rows c.args.room.now.captures c.args.room.now.captures
-          (omega (arith, below, ahead)) 0 c.next_due-k.result (omega arith) (omega (arith, within, watched)) first (λ i w low high. c.next_due-k.ensures.later i w low high);
+      made = passed g c.args.from u front c.args.lines.now c.args.watches.now c.args.senders.now c.args.receivers.now c.args.room.now.rows c.args.room.now.rows c.args.room.now.captures c.args.room.now.captures
+          (ahead) 0 c.next_due-k.result (omega arith) (omega (arith, within, watched)) first (λ i w low high. c.next_due-k.ensures.later i w low high);
       left = λ e h covers. covers;
     }
 
@@ -94,7 +92,7 @@ take_turn-requires-clause-line c =
 pub take_turn-requires-clause-room : goal.take_turn-requires-clause-room
 take_turn-requires-clause-room c =
     let k = c.loop-k.k in
-    let e = c.args.end in
+    let e = c.args.u + 1 in
     let ws = c.loop-k.watches in
     let ss = c.loop-k.senders in
     let ks = c.loop-k.receivers in
@@ -106,7 +104,7 @@ take_turn-requires-clause-room c =
     let len = c.loop-k.auto.senders in
     let n = length c.args.of.now.stations.items in
     let in_it : k < n = omega (arith, test, many, len) in
-    covers_one n k (λ i. behind_demand e (get_or ws i a_watch) (get_or ss i ds) (get_or ks i dk)) c.loop-k.room in_it (inv.left e c.requires.below c.requires.room a_watch ds dk)
+    covers_one n k (λ i. behind_demand e (get_or ws i a_watch) (get_or ss i ds) (get_or ks i dk)) c.loop-k.room in_it (inv.left e (omega arith) c.requires.room a_watch ds dk)
 
 pub find-requires : goal.find-requires
 find-requires c =
@@ -147,23 +145,28 @@ lower_all-requires-clause-in_time c = λ i d l.
     let inv = c.loop-k.invariant in
     let last = c.requires.in_time in
     let until = c.take_turn.ensures.apart.within in
+    let now = c.take_turn.ensures.apart.since in
     let size = length-set ws k w in
     let many = inv.watches in
     let here : i < length c.args.of.now.stations.items = omega (arith, l, size, many) in
-    let P : Watch → Type 0 = λ x. x.until ≤ most_half_bits in
+    let P : Watch → Type 0 = λ x. x.until < 2 ^ 64 in
     elim (cases_lt i k) [
       | inl low ↦
-          let within = (inv.made.done i d s r here low).within in
-          subst P (sym (get_or-set_other ws k i w d (λ e. omega (arith, e, low)))) (omega (arith, within, last))
+          let one = inv.made.done i d s r here low in
+          let within = one.within in
+          let since = one.since in
+          subst P (sym (get_or-set_other ws k i w d (λ e. omega (arith, e, low)))) (omega (arith, within, since, last))
       | inr high ↦
           elim (cases_lt k i) [
             | inl up ↦
-                let within = (inv.made.others i d s r here (omega (arith, up))).within in
-                subst P (sym (get_or-set_other ws k i w d (λ e. omega (arith, e, up)))) (omega (arith, within, last))
+                let one = inv.made.others i d s r here (omega (arith, up)) in
+                let within = one.within in
+                let since = one.since in
+                subst P (sym (get_or-set_other ws k i w d (λ e. omega (arith, e, up)))) (omega (arith, within, since, last))
             | inr same ↦
                 let eq : k ≡ i = omega (arith, same, high) in
                 let there : k < length ws = omega (arith, here, many, eq) in
-                subst (λ z. P (get_or (set ws k w) z d)) eq (subst P (sym (get_or-set_same ws k w d there)) (omega (arith, until, last)))
+                subst (λ z. P (get_or (set ws k w) z d)) eq (subst P (sym (get_or-set_same ws k w d there)) (omega (arith, until, now, last)))
           ]
     ]
 
@@ -172,9 +175,9 @@ loop-k-preserved-in_default c =
     let g = c.args.of.now in
     let plan = g.plan.value in
     let k = c.loop-k.k in
-    let t = c.args.t in
+    let t = c.args.from in
     let u = c.args.u in
-    let end = c.args.end in
+    let end = u + 1 + most_ahead in
     let front = (c.args.window + 1) * g.lookahead in
     let n = length g.stations.items in
     let lines = c.loop-k.lines in
@@ -197,7 +200,6 @@ loop-k-preserved-in_default c =
     let watched = inv.watches in
     let took = inv.captures in
     let len = c.loop-k.auto.senders in
-    let below = c.requires.below in
     let ahead = c.requires.ahead in
     let in_it : k < n = omega (arith, test, many, len) in
     let lw : k < length ws = omega (arith, in_it, watched) in
@@ -205,24 +207,24 @@ loop-k-preserved-in_default c =
     let lk : k < length ks = omega (arith, in_it, heard) in
     let lc : k < length room.captures = omega (arith, in_it, took) in
     let anew : AreToldAnew u n lines lines' = anew_one u n k lines lines' in_it c.take_turn.auto.lines now.line now.others in
-    let same : (a : ℕ) → is_signal (symbol_on (get_or lines' k no_line) a) ≡ is_signal (symbol_on (get_or lines k no_line) a) =
-    subst (λ (o : Option ℕ). IfNone o ((a : ℕ) → is_signal (symbol_on (get_or lines' k no_line) a) ≡ is_signal (symbol_on (get_or lines k no_line) a))) c.in_default.is now.alike in
+    let same : (a : ℕ) → class_on (get_or lines' k no_line) a ≡ class_on (get_or lines k no_line) a =
+    subst (λ (o : Option ℕ). IfNone o ((a : ℕ) → class_on (get_or lines' k no_line) a ≡ class_on (get_or lines k no_line) a)) c.in_default.is now.alike in
     let alike : (from : ℕ) → IsAlikeBelow k from lines lines' = λ from. alike_to u n k from lines lines' in_it anew now.others (λ a h. same a) in
     let other_captures : (q : ℕ) → q ≢ k → get_or room'.captures q [] ≡ get_or room.captures q [] = λ q e.
     ap (λ (cs : List (List Taken)). get_or cs q []) now.captures ∙ get_or-set_other room.captures k q _ [] e in
-    let next : HaveMade g t u end front (k + 1) lines' (set ws k w') (set ss k s') (set ks k k') c.args.room.now.rows room'.rows c.args.room.now.captures room'.captures = record {
+    let next : HaveMade g t u front (k + 1) lines' (set ws k w') (set ss k s') (set ks k k') c.args.room.now.rows room'.rows c.args.room.now.captures room'.captures = record {
       know = know_anew g u front lines lines' anew inv.made.know;
       right = λ i l. hears_anew plan (number_on g i) i g.lookahead t u n lines lines' anew (inv.made.right i l);
-      now = λ i l h. below_next k (λ i. i < n → emitted plan (number_on g i) u ≡ symbol_on (get_or lines' i no_line) u)
-          (λ i b l. inv.made.now i l b ∙ ap (λ x. symbol_on x u) (sym (now.others i no_line (λ e. omega (arith, e, b)))))
-          (λ l. now.emits) i h l;
-      done = λ i w s r l h. each_set (λ i w s r. i < k + 1 → StandsApart g t (u + 1) end i lines' w s r) n k ws ss ks w' s' k' lw ls lk
-          (λ i w s r l e h. apart_alike g t u (u + 1) end front i k lines lines' (get_or ws i w) (get_or ss i s) (get_or ks i r) inv.made.know alike l in_it e (inv.made.done i w s r l (omega (arith, h, e))))
+      now = λ i l h. below_next k (λ i. i < n → SaysOf plan (number_on g i) u (get_or lines' i no_line))
+          (λ i b l. subst (λ y. SaysOf plan (number_on g i) u y) (sym (now.others i no_line (λ e. omega (arith, e, b)))) (inv.made.now i l b))
+          (λ l. now.says) i h l;
+      done = λ i w s r l h. each_set (λ i w s r. i < k + 1 → StandsApart g t (u + 1) i lines' w s r) n k ws ss ks w' s' k' lw ls lk
+          (λ i w s r l e h. apart_alike g t u (u + 1) front i k lines lines' (get_or ws i w) (get_or ss i s) (get_or ks i r) inv.made.know alike l in_it e (inv.made.done i w s r l (omega (arith, h, e))))
           (λ h. now.apart) i w s r l h;
       still = λ i w s r l h. each_set (λ i w s r. i < k + 1 → w.since < w.until → IsStillBy w s r) n k ws ss ks w' s' k' lw ls lk
           (λ i w s r l e h. inv.made.still i w s r l (omega (arith, h, e))) (λ h. now.still) i w s r l h;
-      others = λ i w s r l h. each_set (λ i w s r. k + 1 ≤ i → StandsApart g t u end i lines' w s r) n k ws ss ks w' s' k' lw ls lk
-          (λ i w s r l e h. apart_alike g t u u end front i k lines lines' (get_or ws i w) (get_or ss i s) (get_or ks i r) inv.made.know alike l in_it e (inv.made.others i w s r l (omega (arith, h))))
+      others = λ i w s r l h. each_set (λ i w s r. k + 1 ≤ i → StandsApart g t u i lines' w s r) n k ws ss ks w' s' k' lw ls lk
+          (λ i w s r l e h. apart_alike g t u u front i k lines lines' (get_or ws i w) (get_or ss i s) (get_or ks i r) inv.made.know alike l in_it e (inv.made.others i w s r l (omega (arith, h))))
           (λ h. absurd (omega (arith, h))) i w s r l h;
       waits = λ i w s r l h. each_set (λ i w s r. k + 1 ≤ i → w.since < w.until → IsStillBy w s r) n k ws ss ks w' s' k' lw ls lk
           (λ i w s r l e h. inv.made.waits i w s r l (omega (arith, h))) (λ h. absurd (omega (arith, h))) i w s r l h;
@@ -245,14 +247,15 @@ loop-k-preserved-in_default c =
       piece_len = c.take_turn.auto.piece ∙ inv.piece_len;
       within = few;
       reach = reach_anew c.args.far g.lookahead u n lines lines' anew inv.reach;
-      loud = listed_alike (t - c.args.far) k lines lines' c.loop-k.loud.taps alike inv.loud;
+      loud = listed_alike (c.args.t - c.args.far) k lines lines' c.loop-k.loud.taps alike inv.loud;
       listing = inv.listing;
+      late = now.listing ∙ inv.late;
       lines = anew_twice u n c.args.lines.now lines lines' inv.lines anew;
       tell = λ i l. elim (cases_eq i k) [
-        | inl own ↦ subst (λ j. TellsUpTo u end (get_or lines' j no_line)) (sym own) (tells_anew g t u end k lines lines' w' s' k' (inv.tell k in_it) now.line now.apart)
+        | inl own ↦ subst (λ j. TellsUpTo u end (get_or lines' j no_line)) (sym own) (tells_anew u u end (get_or lines k no_line) (get_or lines' k no_line) (inv.tell k in_it) now.line)
         | inr differs ↦ subst (λ x. TellsUpTo u end x) (sym (now.others i no_line differs)) (inv.tell i l)
       ];
-      made = passed g t u end front lines' (set ws k w') (set ss k s') (set ks k k') c.args.room.now.rows room'.rows c.args.room.now.captures room'.captures (omega (arith, below, ahead))
+      made = passed g t u front lines' (set ws k w') (set ss k s') (set ks k k') c.args.room.now.rows room'.rows c.args.room.now.captures room'.captures (ahead)
           (k + 1) k2 from (omega (arith, few, all_there)) next (λ i w low high. c.next_due-k-in_default.ensures.later i w low high);
       left = λ e h covers.
           covers_with e n k ws ss ks w' s' k' in_it lw ls lk a_watch ds dk room room' (λ other b. now.left e other h b) (inv.left e h covers);
@@ -263,9 +266,9 @@ loop-k-preserved c =
     let g = c.args.of.now in
     let plan = g.plan.value in
     let k = c.loop-k.k in
-    let t = c.args.t in
+    let t = c.args.from in
     let u = c.args.u in
-    let end = c.args.end in
+    let end = u + 1 + most_ahead in
     let front = (c.args.window + 1) * g.lookahead in
     let n = length g.stations.items in
     let lines = c.loop-k.lines in
@@ -279,7 +282,7 @@ loop-k-preserved c =
     let s' = c.take_turn.new.sender in
     let k' = c.take_turn.new.receiver in
     let ws' = c.lower_all.new.watches in
-    let from = c.in-Some.from in
+    let from = c.in-Some.at in
     let room = c.loop-k.room in
     let room' = c.take_turn.new.room in
     let inv = c.loop-k.invariant in
@@ -290,7 +293,6 @@ loop-k-preserved c =
     let watched = inv.watches in
     let took = inv.captures in
     let len = c.loop-k.auto.senders in
-    let below = c.requires.below in
     let ahead = c.requires.ahead in
     let in_it : k < n = omega (arith, test, many, len) in
     let lw : k < length ws = omega (arith, in_it, watched) in
@@ -298,10 +300,9 @@ loop-k-preserved c =
     let lk : k < length ks = omega (arith, in_it, heard) in
     let lc : k < length room.captures = omega (arith, in_it, took) in
     let anew : AreToldAnew u n lines lines' = anew_one u n k lines lines' in_it c.take_turn.auto.lines now.line now.others in
-    let known : (u ≤ from) × ((a : ℕ) → a < from → is_signal (symbol_on (get_or lines' k no_line) a) ≡ is_signal (symbol_on (get_or lines k no_line) a)) =
-    subst (λ (o : Option ℕ). IfSome o (λ f. (u ≤ f) × ((a : ℕ) → a < f → is_signal (symbol_on (get_or lines' k no_line) a) ≡ is_signal (symbol_on (get_or lines k no_line) a)))) c.in-Some.is now.alike_below in
-    let late : u ≤ from = known.0 in
-    let alike : IsAlikeBelow k from lines lines' = alike_to u n k from lines lines' in_it anew now.others known.1 in
+    let known : from ≡ u = subst (λ (o : Option ℕ). IfSome o (λ f. f ≡ u)) c.in-Some.is now.changed in
+    let late : u ≤ from = omega (arith, known) in
+    let alike : IsAlikeBelow k from lines lines' = alike_to u n k from lines lines' in_it anew now.others (λ a h. now.line.classes a (omega (arith, h, known))) in
     let at = λ (i : ℕ). from + half_bits_back g.lookahead (get_or lines' i no_line).at (get_or lines' k no_line) in
     let size : length ws' ≡ length (set ws k w') = c.lower_all.auto.watches in
     let all : n ≡ length ws' = watched ∙ sym (length-set ws k w') ∙ sym size in
@@ -310,20 +311,20 @@ loop-k-preserved c =
     let own : lowered_watch (at k) w' ≡ w' = lowered_own (at k) w' due in
     let other_captures : (q : ℕ) → q ≢ k → get_or room'.captures q [] ≡ get_or room.captures q [] = λ q e.
     ap (λ (cs : List (List Taken)). get_or cs q []) now.captures ∙ get_or-set_other room.captures k q _ [] e in
-    let next : HaveMade g t u end front (k + 1) lines' ws' (set ss k s') (set ks k k') c.args.room.now.rows room'.rows c.args.room.now.captures room'.captures = record {
+    let next : HaveMade g t u front (k + 1) lines' ws' (set ss k s') (set ks k k') c.args.room.now.rows room'.rows c.args.room.now.captures room'.captures = record {
       know = know_anew g u front lines lines' anew inv.made.know;
       right = λ i l. hears_anew plan (number_on g i) i g.lookahead t u n lines lines' anew (inv.made.right i l);
-      now = λ i l h. below_next k (λ i. i < n → emitted plan (number_on g i) u ≡ symbol_on (get_or lines' i no_line) u)
-          (λ i b l. inv.made.now i l b ∙ ap (λ x. symbol_on x u) (sym (now.others i no_line (λ e. omega (arith, e, b)))))
-          (λ l. now.emits) i h l;
-      done = λ i w s r l h. each_lowered (λ i w s r. i < k + 1 → StandsApart g t (u + 1) end i lines' w s r) n k at ws ws' ss ks w' s' k' lw ls lk low
-          (λ i w s r l e h. apart_lowered g t u (u + 1) end front i k from lines lines' (get_or ws i w) (get_or ss i s) (get_or ks i r) inv.made.know alike late (omega arith) l in_it e (inv.made.done i w s r l (omega (arith, h, e))))
-          (λ h. subst (λ w. StandsApart g t (u + 1) end k lines' w s' k') (sym own) now.apart) i w s r l h;
+      now = λ i l h. below_next k (λ i. i < n → SaysOf plan (number_on g i) u (get_or lines' i no_line))
+          (λ i b l. subst (λ y. SaysOf plan (number_on g i) u y) (sym (now.others i no_line (λ e. omega (arith, e, b)))) (inv.made.now i l b))
+          (λ l. now.says) i h l;
+      done = λ i w s r l h. each_lowered (λ i w s r. i < k + 1 → StandsApart g t (u + 1) i lines' w s r) n k at ws ws' ss ks w' s' k' lw ls lk low
+          (λ i w s r l e h. apart_lowered g t u (u + 1) front i k from lines lines' (get_or ws i w) (get_or ss i s) (get_or ks i r) inv.made.know alike late (omega arith) l in_it e (inv.made.done i w s r l (omega (arith, h, e))))
+          (λ h. subst (λ w. StandsApart g t (u + 1) k lines' w s' k') (sym own) now.apart) i w s r l h;
       still = λ i w s r l h. each_lowered (λ i w s r. i < k + 1 → w.since < w.until → IsStillBy w s r) n k at ws ws' ss ks w' s' k' lw ls lk low
           (λ i w s r l e h later. inv.made.still i w s r l (omega (arith, h, e)) (omega (arith, later)))
           (λ h later. absurd (omega (arith, later, due))) i w s r l h;
-      others = λ i w s r l h. each_lowered (λ i w s r. k + 1 ≤ i → StandsApart g t u end i lines' w s r) n k at ws ws' ss ks w' s' k' lw ls lk low
-          (λ i w s r l e h. apart_lowered g t u u end front i k from lines lines' (get_or ws i w) (get_or ss i s) (get_or ks i r) inv.made.know alike late (omega arith) l in_it e (inv.made.others i w s r l (omega (arith, h))))
+      others = λ i w s r l h. each_lowered (λ i w s r. k + 1 ≤ i → StandsApart g t u i lines' w s r) n k at ws ws' ss ks w' s' k' lw ls lk low
+          (λ i w s r l e h. apart_lowered g t u u front i k from lines lines' (get_or ws i w) (get_or ss i s) (get_or ks i r) inv.made.know alike late (omega arith) l in_it e (inv.made.others i w s r l (omega (arith, h))))
           (λ h. absurd (omega (arith, h))) i w s r l h;
       waits = λ i w s r l h. each_lowered (λ i w s r. k + 1 ≤ i → w.since < w.until → IsStillBy w s r) n k at ws ws' ss ks w' s' k' lw ls lk low
           (λ i w s r l e h later. inv.made.waits i w s r l (omega (arith, h)) (omega (arith, later)))
@@ -349,12 +350,13 @@ loop-k-preserved c =
       reach = reach_anew c.args.far g.lookahead u n lines lines' anew inv.reach;
       loud = subst (λ v. AreIdleButFor v lines' c.find.new.self.taps) c.saturating_sub.ensures c.find.ensures.loud.idle;
       listing = c.find.ensures.room ∙ inv.listing;
+      late = now.listing ∙ inv.late;
       lines = anew_twice u n c.args.lines.now lines lines' inv.lines anew;
       tell = λ i l. elim (cases_eq i k) [
-        | inl own ↦ subst (λ j. TellsUpTo u end (get_or lines' j no_line)) (sym own) (tells_anew g t u end k lines lines' w' s' k' (inv.tell k in_it) now.line now.apart)
+        | inl own ↦ subst (λ j. TellsUpTo u end (get_or lines' j no_line)) (sym own) (tells_anew u u end (get_or lines k no_line) (get_or lines' k no_line) (inv.tell k in_it) now.line)
         | inr differs ↦ subst (λ x. TellsUpTo u end x) (sym (now.others i no_line differs)) (inv.tell i l)
       ];
-      made = passed g t u end front lines' ws' (set ss k s') (set ks k k') c.args.room.now.rows room'.rows c.args.room.now.captures room'.captures (omega (arith, below, ahead))
+      made = passed g t u front lines' ws' (set ss k s') (set ks k k') c.args.room.now.rows room'.rows c.args.room.now.captures room'.captures (ahead)
           (k + 1) k2 from (omega (arith, few, all_there)) next (λ i w low high. c.next_due-k-in-loop-k.ensures.later i w low high);
       left = λ e h covers.
           covers_lowered e n at (set ws k w') ws' (set ss k s') (set ks k k') room' low
@@ -402,10 +404,9 @@ returns-clause-right c = λ i h.
     let test = c.loop-k-test.false in
     let many = inv.senders in
     let len = c.loop-k.auto.senders in
-    let below = c.requires.below in
     let ahead = c.requires.ahead in
-    right_next g.plan.value (number_on g i) i g.lookahead c.args.t c.args.u c.loop-k.lines (inv.made.right i h)
-    (heard_so g c.args.u ((c.args.window + 1) * g.lookahead) i c.loop-k.lines inv.made.know (omega (arith, below, ahead)) h) (inv.made.now i h (omega (arith, h, test, many, len)))
+    right_next g.plan.value (number_on g i) i g.lookahead c.args.from c.args.u c.loop-k.lines (inv.made.right i h)
+    (heard_so g c.args.u ((c.args.window + 1) * g.lookahead) i c.loop-k.lines inv.made.know (ahead) h) (inv.made.now i h (omega (arith, h, test, many, len)))
 
 pub returns-clause-rows : goal.returns-clause-rows
 returns-clause-rows c =

@@ -35,34 +35,31 @@ look_one-requires-clause-tap c = tap_there c.args.of.now c.args.u ((c.args.windo
 pub end_one-requires-clause-right : goal.end_one-requires-clause-right
 end_one-requires-clause-right c =
     let g = c.args.of.now in
-    let below = c.requires.below in
     let ahead = c.requires.ahead in
-    right_on g c.args.t c.args.u ((c.args.window + 1) * g.lookahead) c.args.end c.args.p c.args.lines.now c.look_one.new.watch c.look_one.new.sender c.look_one.new.receiver
-    c.requires.know (omega (arith, below, ahead)) c.requires.station c.look_one.ensures.apart c.if-watch-u.true c.requires.right
+    right_on g c.args.from c.args.u ((c.args.window + 1) * g.lookahead) c.args.p c.args.lines.now c.look_one.new.watch c.look_one.new.sender c.look_one.new.receiver
+    c.requires.know (ahead) c.requires.station c.look_one.ensures.apart c.if-watch-u.true c.requires.right
 
 pub end_one-requires-clause-room : goal.end_one-requires-clause-room
 end_one-requires-clause-room c =
-    let e = c.args.end in
+    let e = c.args.u + 1 in
     let w = c.look_one.new.watch in
     let s = c.look_one.new.sender in
     let k = c.look_one.new.receiver in
-    let below = c.requires.below in
     let at = c.look_one.ensures.since in
-    let left : 1 ≤ e - w.since = omega (arith, below, at) in
-    let all = covers_within (behind_demand e w s k) (behind_demand e c.args.watch.now c.args.sender.now c.args.receiver.now) c.args.room.now (c.look_one.ensures.left e (omega (arith, below))) c.requires.room in
+    let left : 1 ≤ e - w.since = omega (arith, at) in
+    let all = covers_within (behind_demand e w s k) (behind_demand e c.args.watch.now c.args.sender.now c.args.receiver.now) c.args.room.now (c.look_one.ensures.left e (omega arith)) c.requires.room in
     let received = covers_second (sender_demand (e - w.since) s) (receiver_demand (e - w.since) k) c.args.room.now all in
     covers_within (receiver_demand 1 k) (receiver_demand (e - w.since) k) c.args.room.now (receiver_more k 1 (e - w.since) left) received
 
 pub returns-then-watch-u-clause-still : goal.returns-then-watch-u-clause-still
 returns-then-watch-u-clause-still c = λ h. c.end_one.ensures.still
 
-pub returns-then-watch-u-clause-emits : goal.returns-then-watch-u-clause-emits
-returns-then-watch-u-clause-emits c =
+pub returns-then-watch-u-clause-says : goal.returns-then-watch-u-clause-says
+returns-then-watch-u-clause-says c =
     let g = c.args.of.now in
-    let below = c.requires.below in
     let ahead = c.requires.ahead in
-    emits_so g c.args.t c.args.u ((c.args.window + 1) * g.lookahead) c.args.end c.args.p c.args.lines.now c.look_one.new.watch c.look_one.new.sender c.look_one.new.receiver
-    c.requires.know (omega (arith, below, ahead)) c.requires.station c.look_one.ensures.apart c.if-watch-u.true c.requires.right
+    emits_so g c.args.from c.args.u ((c.args.window + 1) * g.lookahead) c.args.p c.args.lines.now c.look_one.new.watch c.look_one.new.sender c.look_one.new.receiver
+    c.requires.know (ahead) c.requires.station c.look_one.ensures.apart c.if-watch-u.true c.requires.right
 
 pub returns-then-watch-u-clause-line : goal.returns-then-watch-u-clause-line
 returns-then-watch-u-clause-line c = (anew_none c.args.u (length c.args.of.now.stations.items) c.args.lines.now).told c.args.p c.requires.station
@@ -72,10 +69,9 @@ returns-then-watch-u-clause-rows c =
     let g = c.args.of.now in
     let u = c.args.u in
     let x = number_on g c.args.p in
-    let below = c.requires.below in
     let ahead = c.requires.ahead in
-    let none = silent_on g c.args.t u ((c.args.window + 1) * g.lookahead) c.args.end c.args.p c.args.lines.now c.look_one.new.watch c.look_one.new.sender c.look_one.new.receiver
-    c.requires.know (omega (arith, below, ahead)) c.requires.station c.look_one.ensures.apart c.if-watch-u.true c.requires.right in
+    let none = silent_on g c.args.from u ((c.args.window + 1) * g.lookahead) c.args.p c.args.lines.now c.look_one.new.watch c.look_one.new.sender c.look_one.new.receiver
+    c.requires.know (ahead) c.requires.station c.look_one.ensures.apart c.if-watch-u.true c.requires.right in
     rows_quiet u x (sent_event g.plan.value x u) c.args.room.now.rows c.end_one.new.room.rows (row_of u x (heard_reception g.plan.value x u).event) none c.end_one.ensures.rows
 
 pub returns-then-watch-u-clause-left : goal.returns-then-watch-u-clause-left
@@ -94,23 +90,27 @@ step_one-requires-clause-due c =
     let not = c.if-watch-u.false in
     omega (arith, from, not)
 
+pub step_one-requires-clause-classes : goal.step_one-requires-clause-classes
+step_one-requires-clause-classes c = λ a below.
+    let len = ap length c.args.of.now.station_numbers in
+    let on = c.requires.station in
+    c.requires.know.classes c.args.p a (omega (arith, on, len)) below
+
 pub step_one-requires-clause-hears : goal.step_one-requires-clause-hears
 step_one-requires-clause-hears c =
     let g = c.args.of.now in
-    let below = c.requires.below in
     let ahead = c.requires.ahead in
-    heard_so g c.args.u ((c.args.window + 1) * g.lookahead) c.args.p c.args.lines.now c.requires.know (omega (arith, below, ahead)) c.requires.station
+    heard_so g c.args.u ((c.args.window + 1) * g.lookahead) c.args.p c.args.lines.now c.requires.know (ahead) c.requires.station
 
 pub step_one-requires-clause-room : goal.step_one-requires-clause-room
 step_one-requires-clause-room c =
-    let e = c.args.end in
+    let e = c.args.u + 1 in
     let w = c.look_one.new.watch in
     let s = c.look_one.new.sender in
     let k = c.look_one.new.receiver in
-    let below = c.requires.below in
     let at = c.look_one.ensures.since in
-    let left : 1 ≤ e - w.since = omega (arith, below, at) in
-    let all = covers_within (behind_demand e w s k) (behind_demand e c.args.watch.now c.args.sender.now c.args.receiver.now) c.args.room.now (c.look_one.ensures.left e (omega (arith, below))) c.requires.room in
+    let left : 1 ≤ e - w.since = omega (arith, at) in
+    let all = covers_within (behind_demand e w s k) (behind_demand e c.args.watch.now c.args.sender.now c.args.receiver.now) c.args.room.now (c.look_one.ensures.left e (omega arith)) c.requires.room in
     covers_within (both_demands (sender_demand 1 s) (receiver_demand 1 k)) (behind_demand e w s k) c.args.room.now (both_more s k 1 (e - w.since) left) all
 
 pub returns-clause-still : goal.returns-clause-still
@@ -122,7 +122,7 @@ returns-clause-still c = λ later.
 pub returns-clause-due : goal.returns-clause-due
 returns-clause-due c =
     let w = c.step_one.new.watch in
-    with_answer (λ f. f ≤ c.args.end) (w.until ≡ w.since) c.step_one.result (c.step_one.ensures.until ∙ sym c.step_one.ensures.since) c.step_one.ensures.early
+    with_answer (λ f. f ≡ c.args.u) (w.until ≡ w.since) c.step_one.result (c.step_one.ensures.until ∙ sym c.step_one.ensures.since) c.step_one.ensures.changed
 
 pub returns-clause-left : goal.returns-clause-left
 returns-clause-left c = λ e other h covers.

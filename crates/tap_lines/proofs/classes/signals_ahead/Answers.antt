@@ -1,7 +1,6 @@
 use Rattle.std.proofs.Common.{◌≡◌, ◌+◌, ◌-◌, inl, inr, ap, ◌∙◌, arith}
 use Rattle.std.proofs.lemmas.Bool.{cases_lt}
-use Rattle.manchester_line.specs.Line.{is_signal}
-use Rattle.tap_lines.specs.TapLines.{heard_by_lines}
+use Rattle.tap_lines.specs.TapLines.{class_by_lines}
 use Rattle.tap_lines.proofs.classes.signals_ahead.Goals as goal
 
 pub loop-steady-preserved : goal.loop-steady-preserved
@@ -18,7 +17,7 @@ loop-steady-preserved c =
         | inl before ↦ inv.signals j before
         | inr behind ↦
             let e : t + j ≡ t + n + (j - n) = omega (arith, behind) in
-            ap (λ u. is_signal (heard_by_lines c.args.lookahead u c.args.lines.now c.args.p)) e
+            ap (λ u. class_by_lines c.args.lookahead u c.args.lines.now c.args.p) e
             ∙ c.one_signal_ahead-more.ensures.signals (j - n) (omega (arith, h, behind))
       ];
     }

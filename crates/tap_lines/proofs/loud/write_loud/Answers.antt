@@ -1,6 +1,6 @@
 use Rattle.std.proofs.Common.{◌≡◌, ◌<◌, length, length-set, get_or, ap, ◌∙◌, arith}
 use Rattle.std.proofs.lemmas.List.{get_or_read}
-use Rattle.tap_lines.specs.TapLines.{no_line, symbol_on}
+use Rattle.tap_lines.specs.TapLines.{no_line, class_on}
 use Rattle.tap_lines.proofs.LoudLists.{listed_loud, listed_all}
 use Rattle.tap_lines.proofs.loud.write_loud.Goals as goal
 
@@ -17,7 +17,7 @@ loop-r-preserved c =
     record {
       len = length-set ns n r ∙ inv.len;
       so_far = listed_loud c.args.u ls ns n r inv.so_far room
-          (λ idle. c.is_quiet_from.ensures.loud c.if-is_quiet_from.false (λ v after. ap (λ l. symbol_on l v) is ∙ idle v after));
+          (λ idle. c.is_quiet_from.ensures.loud c.if-is_quiet_from.false (λ v after. ap (λ l. class_on l v) is ∙ idle v after));
     }
 
 pub returns-clause-loud : goal.returns-clause-loud

@@ -1,8 +1,13 @@
-use Rattle.std.proofs.Common.{◌<◌, ◌-◌, sym, ap, arith, rules}
+use Rattle.std.proofs.Common.{◌≡◌, ◌<◌, ◌-◌, true, sym, ap, ◌∙◌, arith, rules}
 use Rattle.std.proofs.lemmas.Bool.Decides.{nat_tests}
 use Rattle.tap_lines.specs.TapLines.{TapLine}
-use Rattle.tap_lines.proofs.EndsOfSignals.{loud_from}
+use Rattle.tap_lines.proofs.EndsOfSignals.{loud_from, loud_on}
 use Rattle.tap_lines.proofs.line.Line.is_quiet_from.Goals as goal
+
+pub returns-else-not-goes_on-clause-loud : goal.returns-else-not-goes_on-clause-loud
+returns-else-not-goes_on-clause-loud c = λ no.
+    let on : c.goes_on.result ≡ true = search rules in
+    loud_on c.args.self.now c.args.u (sym c.goes_on.ensures ∙ on)
 
 pub returns-then-self-u-clause-loud : goal.returns-then-self-u-clause-loud
 returns-then-self-u-clause-loud c = λ no.

@@ -1,0 +1,176 @@
+-- What came in for the ports is put on their lines, and stations that stand behind are told.
+use Rattle.std.proofs.Common.{◌≡◌, ◌≢◌, ℕ, ◌+◌, ◌-◌, ◌<◌, ◌≤◌, ◌++◌, inl, inr, List, length, length-append, length-set, map, set, get_or, get_or-set_same, refl, sym, subst, ap, ◌∙◌, arith}
+use Rattle.std.proofs.lemmas.Bool.{cases_lt, cases_eq}
+use Rattle.std.proofs.lemmas.List.{get_or-set_other}
+use Rattle.manchester_line.specs.declared.Sym.{Sym}
+use Rattle.manchester_line.specs.declared.Sym.TheVariants.{Idle}
+use Rattle.manchester_line.specs.Line.{is_signal}
+use Rattle.load_plan.specs.declared.plan.Plan.{Plan}
+use Rattle.mac_receive.specs.KeptReceiver.{KeptReception}
+use Rattle.mac_transmit.specs.Sender.{Sender}
+use Rattle.net_parts.specs.Machines.{span}
+use Rattle.net_parts.specs.SegmentParts.{Wiring}
+use Rattle.net_parts.specs.Standing.{arrives}
+use Rattle.net_parts.proofs.LateRows.{if_false}
+use Rattle.net_parts.proofs.RepeaterSteps.{length-span, get_or-span}
+use Rattle.tap_lines.specs.TapLines.{TapLine, no_line, class_on, goes_on, half_bits_back, line_extended, symbol_on}
+use Rattle.tap_lines.proofs.LineClasses.{IsAlikeBelow, class_alike, class_all_alike, class_before, class_within}
+use Rattle.tap_lines.proofs.LinesAhead.{symbol_ahead, symbol_before}
+use Rattle.segment_engine.specs.declared.apart.Watch.{Watch}
+use Rattle.segment_engine.specs.declared.segment.Segment.{Segment}
+use Rattle.segment_engine.specs.KnownLines.{KnowLines}
+use Rattle.segment_engine.specs.StationsApart.{AreToldAnew, IsToldAnew, StandsApart, lowered_watch, number_on}
+use Rattle.segment_engine.proofs.ChangedLines.{lowered, unlowered}
+use Rattle.segment_engine.proofs.StepOne.{unchanged_line}
+
+-- one line, which ended at half bit t
+before_arrived : (t a : ℕ) (l : TapLine) (ss : List Sym) → l.base + length l.symbols ≡ t → a < t → symbol_on (line_extended l ss) a ≡ symbol_on l a
+before_arrived t a l ss end low = elim (cases_lt a l.base) [
+  | inl before ↦ if_false {m = l.base} {n = a} _ _ before ∙ sym (if_false {m = l.base} {n = a} _ _ before)
+  | inr from ↦ symbol_before l ss a from (omega (arith, end, low))
+]
+
+pub line_arrived : (t : ℕ) (l : TapLine) (ss : List Sym) → l.base + length l.symbols ≡ t → length ss ≤ l.room → IsToldAnew t l (line_extended l ss)
+line_arrived t l ss end room = record {
+  place = refl;
+  wait = refl;
+  keeps = refl;
+  begins = refl;
+  size = let sum = length-append l.symbols ss in omega (arith, sum, room);
+  before = λ a low. before_arrived t a l ss end low;
+  classes = λ a low. class_before l ss a (omega (arith, end, low));
+}
+
+module _ (t r : ℕ) (ls : List TapLine) (ss : List Sym) (there : r < length ls) (end : (get_or ls r no_line).base + length (get_or ls r no_line).symbols ≡ t) where
+  abbrev l : TapLine
+  l = get_or ls r no_line
+
+  abbrev ls' : List TapLine
+  ls' = set ls r (line_extended l ss)
+
+  own : get_or ls' r no_line ≡ line_extended l ss
+  own = get_or-set_same ls r (line_extended l ss) no_line there
+
+  pub arrived_anew : length ss ≤ l.room → AreToldAnew t (length ls) ls ls'
+  arrived_anew room = record {
+    many = length-set ls r (line_extended l ss);
+    told = λ q h. elim (cases_eq q r) [
+      | inl same ↦
+          subst (λ j. IsToldAnew t (get_or ls j no_line) (get_or ls' j no_line)) (sym same)
+          (subst (λ y. IsToldAnew t l y) (sym own) (line_arrived t l ss end room))
+      | inr other ↦ subst (λ y. IsToldAnew t (get_or ls q no_line) y) (sym (get_or-set_other ls r q (line_extended l ss) no_line other)) (unchanged_line t (get_or ls q no_line))
+    ];
+    others = λ q h. get_or-set_other ls r q (line_extended l ss) no_line (λ e. omega (arith, e, h, there));
+  }
+
+  alike_with : (from : ℕ) → ((a : ℕ) → a < from → class_on (line_extended l ss) a ≡ class_on l a) → IsAlikeBelow r from ls ls'
+  alike_with from alike = record {
+    many = length-set ls r (line_extended l ss);
+    place = ap (λ (y : TapLine). y.at) own;
+    wait = ap (λ (y : TapLine). y.delay) own;
+    others = λ q d other. get_or-set_other ls r q (line_extended l ss) d other;
+    alike = λ a low. ap (λ y. class_on y a) own ∙ alike a low;
+  }
+
+  -- where the first of its symbols are as it went on, and where all are
+  pub arrived_alike : (k : ℕ) → k ≤ length ss → ((j : ℕ) → j < k → is_signal (get_or ss j Idle) ≡ goes_on l) → IsAlikeBelow r (t + k) ls ls'
+  arrived_alike k few alike = alike_with (t + k) (λ a low. class_alike l ss k a few alike (omega (arith, end, low)))
+
+  pub all_alike : ((j : ℕ) → j < length ss → is_signal (get_or ss j Idle) ≡ goes_on l) → (from : ℕ) → IsAlikeBelow r from ls ls'
+  all_alike alike from = alike_with from (λ a low. class_all_alike l ss a alike)
+
+-- a station, where the line of another tap is alike below half bit f, and where it is alike everywhere
+pub stand_lowered : (of : Segment) (from t f i r : ℕ) (ls ls' : List TapLine) (w : Watch) (s : Sender) (k : KeptReception) → IsAlikeBelow r f ls ls' → t ≤ f → i ≢ r →
+    StandsApart of from t i ls w s k →
+    StandsApart of from t i ls' (lowered_watch (f + half_bits_back of.lookahead (get_or ls i no_line).at (get_or ls r no_line)) w) s k
+stand_lowered of from t f i r ls ls' w s k alike late other is =
+    let until = is.until in
+    let within = is.within in
+    record {
+      behind = lowered of.plan.value (number_on of i) i of.lookahead from r f ls ls' w s k alike other is.behind;
+      since = is.since;
+      until = omega (arith, until, late);
+      within = omega (arith, within);
+      still = is.still;
+    }
+
+pub stand_alike : (of : Segment) (from t i r : ℕ) (ls ls' : List TapLine) (w : Watch) (s : Sender) (k : KeptReception) → ((f : ℕ) → IsAlikeBelow r f ls ls') → i ≢ r →
+    StandsApart of from t i ls w s k → StandsApart of from t i ls' w s k
+stand_alike of from t i r ls ls' w s k alike other is = record {
+  behind = unlowered of.plan.value (number_on of i) i of.lookahead from r ls ls' w s k alike other is.behind;
+  since = is.since;
+  until = is.until;
+  within = is.within;
+  still = is.still;
+}
+
+-- the lines with all that came in
+module _ (plan : Plan) (w : Wiring) (L t m : ℕ) (ls ls' : List TapLine) (know : KnowLines plan w L t t ls) (many : length ls' ≡ length ls)
+    (stations : (r : ℕ) → r < length w.stations → get_or ls' r no_line ≡ get_or ls r no_line)
+    (ends : (p : ℕ) → p < length w.edges → (get_or ls (length w.stations + p) no_line).base + length (get_or ls (length w.stations + p) no_line).symbols ≡ t)
+    (ports : (p : ℕ) → p < length w.edges → get_or ls' (length w.stations + p) no_line
+    ≡ line_extended (get_or ls (length w.stations + p) no_line) (span (arrives plan L (get_or w.edges p 0)) t m)) where
+  abbrev n : ℕ
+  n = length w.stations
+
+  same_of : (f : TapLine → ℕ) → ((l : TapLine) (ss : List Sym) → f (line_extended l ss) ≡ f l) → (r : ℕ) → r < length ls → f (get_or ls' r no_line) ≡ f (get_or ls r no_line)
+  same_of f same r h = elim (cases_lt r n) [
+    | inl station ↦ ap f (stations r station)
+    | inr port ↦
+        let p = r - n in
+        let at : n + p ≡ r = omega (arith, port) in
+        let all = know.many in
+        let in_it : p < length w.edges = omega (arith, h, all, at) in
+        subst (λ j. f (get_or ls' j no_line) ≡ f (get_or ls j no_line)) at
+        (ap f (ports p in_it) ∙ same (get_or ls (n + p) no_line) (span (arrives plan L (get_or w.edges p 0)) t m))
+  ]
+
+  arrival : (p u : ℕ) → p < length w.edges → (get_or ls (n + p) no_line).base ≤ u → u < t + m → symbol_on (get_or ls' (n + p) no_line) u ≡ arrives plan L (get_or w.edges p 0) u
+  arrival p u h low high =
+      let l = get_or ls (n + p) no_line in
+      let f = arrives plan L (get_or w.edges p 0) in
+      let ss = span f t m in
+      let end = ends p h in
+      ap (λ y. symbol_on y u) (ports p h) ∙ elim (cases_lt u t) [
+        | inl before ↦ symbol_before l ss u low (omega (arith, end, before)) ∙ know.arrivals p u h low before
+        | inr after ↦
+            let j = u - t in
+            let at : t + j ≡ u = omega (arith, after) in
+            symbol_ahead l ss u j (omega (arith, end, at)) ∙ get_or-span f t m j Idle (omega (arith, at, high)) ∙ ap f at
+      ]
+
+  pub known_arrived : map (λ (l : TapLine). l.at) ls' ≡ w.positions → KnowLines plan w L t (t + m) ls'
+  known_arrived places =
+      let all = know.many in
+      record {
+        many = many ∙ all;
+        places = places;
+        no_delays = λ r h. ap (λ (l : TapLine). l.delay) (stations r h) ∙ know.no_delays r h;
+        delays = λ p h. ap (λ (l : TapLine). l.delay) (ports p h) ∙ know.delays p h;
+        begins = λ r h.
+            let in_it : r < length ls = omega (arith, h, many) in
+            let base = same_of (λ (l : TapLine). l.base) (λ l ss. refl) r in_it in
+            let back = same_of (λ (l : TapLine). l.backlog) (λ l ss. refl) r in_it in
+            let z = know.begins r in_it in
+            omega (arith, base, back, z);
+        near = λ p r hp hr.
+            let in_it : r < length ls = omega (arith, hr, many) in
+            let delay = same_of (λ (l : TapLine). l.delay) (λ l ss. refl) r in_it in
+            let back = same_of (λ (l : TapLine). l.backlog) (λ l ss. refl) r in_it in
+            let z = know.near p r hp in_it in
+            omega (arith, delay, back, z);
+        emissions = λ r u h low high.
+            let base = ap (λ (l : TapLine). l.base) (stations r h) in
+            ap (λ y. symbol_on y u) (stations r h) ∙ know.emissions r u h (omega (arith, base, low)) high;
+        arrivals = λ p u h low high.
+            let base = ap (λ (l : TapLine). l.base) (ports p h) in
+            arrival p u h (omega (arith, base, low)) high;
+        classes = λ r u h high. subst (λ y. class_on y u ≡ is_signal (symbol_on y u)) (sym (stations r h)) (know.classes r u h high);
+        port_classes = λ p u h high.
+            let f = arrives plan L (get_or w.edges p 0) in
+            let end = ends p h in
+            let size = length-span f t m in
+            let sum = length-append (get_or ls (n + p) no_line).symbols (span f t m) in
+            subst (λ y. class_on y u ≡ is_signal (symbol_on y u)) (sym (ports p h))
+            (class_within (line_extended (get_or ls (n + p) no_line) (span f t m)) u (omega (arith, end, size, sum, high)));
+      }
