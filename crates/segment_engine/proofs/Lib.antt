@@ -32,6 +32,7 @@ pub mod ChangedStations
 pub mod StepAll
 pub mod RunsApart
 pub mod SettledLines
+pub mod PassedStations
 pub mod ArrivedLines
 pub mod FilledParcels
 pub mod RowsApart

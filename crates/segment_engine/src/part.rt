@@ -11,7 +11,7 @@ ghost use Rattle.segment_engine.specs.QuietHalfBits.{ComeInIdle, GoOutIdle, IsQu
 ghost use Rattle.segment_engine.specs.RunningStates.{IsRunningAt};
 ghost use Rattle.segment_engine.specs.StationsApart.{CoversApart};
 
-use crate::apart::{pass, quiet_ahead};
+use crate::quiet::{pass, quiet_ahead};
 use crate::running::Running;
 use crate::segment::Segment;
 use crate::start::start;
