@@ -11,6 +11,7 @@ pub mod KeptParts
 pub mod HandedOut
 pub mod StationsLater
 pub mod QuietStations
+pub mod QuietAhead
 pub mod QuietRoom
 pub mod PiecesAhead
 pub mod QuietHalfBits
@@ -31,6 +32,7 @@ pub mod RowsOfBoth
 pub mod ChangedStations
 pub mod StepAll
 pub mod RunsApart
+pub mod RoomOfLines
 pub mod SettledLines
 pub mod PassedStations
 pub mod ArrivedLines

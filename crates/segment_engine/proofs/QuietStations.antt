@@ -18,7 +18,7 @@ use Rattle.net_parts.specs.Standing.{arrives, captures_at, port_hears, receiver_
 use Rattle.net_parts.specs.Windows.{lookahead}
 use Rattle.net_parts.proofs.LateRows.{if_true, if_false}
 use Rattle.net_parts.proofs.RepeaterSteps.{length-span, get_or-span}
-use Rattle.tap_lines.specs.TapLines.{TapLine, no_line, symbol_on, half_bits_back, heard_of_lines, heard_by_lines, class_back, class_of_lines, class_by_lines, class_on}
+use Rattle.tap_lines.specs.TapLines.{TapLine, no_line, symbol_on, half_bits_back, heard_of_lines, heard_by_lines, class_back, class_of_lines, class_by_lines, class_on, AreIdleFrom}
 use Rattle.tap_lines.proofs.LineClasses.{idle_on, le_true, le_false}
 use Rattle.segment_engine.specs.declared.apart.Watch.{Watch}
 use Rattle.segment_engine.specs.declared.running.Running.{Running}
@@ -84,6 +84,32 @@ pub rest_after : (n : ℕ) (r : Receiving) → r.halves ≡ [] → (receiver_aft
 rest_after zero r h = h
 rest_after (suc n) r h = rest_after n (receiver_step r Idle false).state (idle_halves r)
 
+-- a segment on whose lines nothing is that still reaches a tap
+module _ (of : Segment) (a : Running) (at : GoesOnAt of a.t a) (silent : AreIdleFrom (a.t - a.far) a.lines.items) where
+  pub no_class : (u p : ℕ) → a.t ≤ u → p < length a.lines.items → class_by_lines of.lookahead u a.lines.items p ≡ false
+  no_class u p later h =
+      let ls = a.lines.items in
+      let place = (get_or ls p no_line).at in
+      no_class_of of.lookahead u p place 0 ls (λ i l.
+      let back = half_bits_back of.lookahead place (get_or ls i no_line) in
+      let close = at.reach p i h l in
+      elim (cases_lt u back) [
+        | inl early ↦ le_false {m = back} {n = u} _ _ early
+        | inr past ↦ le_true {m = back} {n = u} _ _ past ∙ silent i (u - back) l (omega (arith, close, later, past))
+      ])
+
+  silence : (u p : ℕ) → a.t ≤ u → p < length a.lines.items → heard_by_lines of.lookahead u a.lines.items p ≡ Idle
+  silence u p later h =
+      let ls = a.lines.items in
+      let place = (get_or ls p no_line).at in
+      silence_of of.lookahead u p place 0 ls (λ i l.
+      let back = half_bits_back of.lookahead place (get_or ls i no_line) in
+      let close = at.reach p i h l in
+      elim (cases_lt u back) [
+        | inl early ↦ if_false {m = back} {n = u} _ _ early
+        | inr past ↦ if_true {m = back} {n = u} _ _ past ∙ idle_on (a.t - a.far) (u - back) (get_or ls i no_line) (λ v c. silent i v l c) (omega (arith, close, later, past))
+      ])
+
 -- a segment whose lines end at its present half bit, and on which nothing happens for m half bits
 module _ (of : Segment) (a : Running) (m : ℕ) (at : GoesOnAt of a.t a) (quiet : IsQuietFor m a) where
   abbrev plan : Plan
@@ -115,29 +141,6 @@ module _ (of : Segment) (a : Running) (m : ℕ) (at : GoesOnAt of a.t a) (quiet 
 
   taps_are : length ls ≡ n + length w.edges
   taps_are = let many = at.lines.many in let numbers = ap length of.station_numbers in omega (arith, many, numbers)
-
-  -- all taps hear Idle
-  no_class : (u p : ℕ) → t ≤ u → p < length ls → class_by_lines L u ls p ≡ false
-  no_class u p later h =
-      let place = (get_or ls p no_line).at in
-      no_class_of L u p place 0 ls (λ i l.
-      let back = half_bits_back L place (get_or ls i no_line) in
-      let close = at.reach p i h l in
-      elim (cases_lt u back) [
-        | inl early ↦ le_false {m = back} {n = u} _ _ early
-        | inr past ↦ le_true {m = back} {n = u} _ _ past ∙ quiet.lines i (u - back) l (omega (arith, close, later, past))
-      ])
-
-  silence : (u p : ℕ) → t ≤ u → p < length ls → heard_by_lines L u ls p ≡ Idle
-  silence u p later h =
-      let place = (get_or ls p no_line).at in
-      silence_of L u p place 0 ls (λ i l.
-      let back = half_bits_back L place (get_or ls i no_line) in
-      let close = at.reach p i h l in
-      elim (cases_lt u back) [
-        | inl early ↦ if_false {m = back} {n = u} _ _ early
-        | inr past ↦ if_true {m = back} {n = u} _ _ past ∙ idle_on (t - a.far) (u - back) (get_or ls i no_line) (λ v c. quiet.lines i v l c) (omega (arith, close, later, past))
-      ])
 
   calm_at : (i : ℕ) (x : Watch) (s : Sender) → i < n → IsCalmFor (t + m - (get_or ws i x).since) (get_or ss i s)
   calm_at i x s h = let many = at.stations.senders in quiet.senders i x s (omega (arith, h, many))
@@ -177,7 +180,7 @@ module _ (of : Segment) (a : Running) (m : ℕ) (at : GoesOnAt of a.t a) (quiet 
         calm = record { number = c.number; calm = c.calm };
         steady = λ u low high. elim (cases_lt u t) [
           | inl before ↦ b.steady u low (omega (arith, before, late)) ∙ carrier_off i x h (omega (arith, low, before))
-          | inr after ↦ no_class u i after (omega (arith, h, taps))
+          | inr after ↦ no_class of a at quiet.lines u i after (omega (arith, h, taps))
         ];
         line = λ j l. idle_on since (since + j) (get_or ls i no_line) (λ v q. b.goes v q ∙ c.not_sending) (omega arith) ∙ sym (emits_idle y j y.phase c.not_sending);
         signal = λ j l. ap is_signal (emits_idle y j y.phase c.not_sending) ∙ sym c.not_sending;
@@ -331,7 +334,7 @@ module _ (of : Segment) (a : Running) (m : ℕ) (at : GoesOnAt of a.t a) (quiet 
       hear_idle i j h l =
           let begun = at.begun in
           let taps = at.stations.taps in
-          (quiet_heard i h).hears (t + j) (omega (arith, begun)) (omega (arith, l)) ∙ silence (t + j) i (omega arith) (omega (arith, h, taps))
+          (quiet_heard i h).hears (t + j) (omega (arith, begun)) (omega (arith, l)) ∙ silence of a at quiet.lines (t + j) i (omega arith) (omega (arith, h, taps))
 
       pub emit_idle : (i j : ℕ) → i < n → j < m → emitted plan (number_on of i) (t + j) ≡ Idle
       emit_idle i j h l =
@@ -369,4 +372,4 @@ module _ (of : Segment) (a : Running) (m : ℕ) (at : GoesOnAt of a.t a) (quiet 
           let known : KnowLines plan w (lookahead plan.layout) u u ls = subst (λ x. KnowLines plan w x u u ls) of.window_length quiet_known in
           ports_from plan of.number u u ls known t (omega arith) at.lines.begins p (t + j) h (omega arith) (omega (arith, l)) (omega (arith, l))
           ∙ ap (λ x. heard_by_lines x (t + j) ls (length w.stations + p)) (sym of.window_length)
-          ∙ silence (t + j) (length w.stations + p) (omega arith) (omega (arith, h, taps, numbers))
+          ∙ silence of a at quiet.lines (t + j) (length w.stations + p) (omega arith) (omega (arith, h, taps, numbers))

@@ -16,7 +16,7 @@ ghost use Rattle.segment_engine.specs.QuietHalfBits.{IsQuietFor};
 ghost use Rattle.segment_engine.specs.RunningStates.{GoesOnAt, IsRunningAt};
 ghost use Rattle.segment_engine.specs.SteadyPieces.{IsCalmAs};
 ghost use Rattle.segment_engine.specs.StationsApart.{StandsBehind, StandsApart, StandAllApart, AreStill, AreToldAnew, EndsAt, IsStillBy, HearsByLines, HearAllByLines, TellsUpTo, CoversApart, behind_demand, heard_reception, most_ahead, number_on};
-ghost use Rattle.tap_lines.specs.TapLines.{IsReachOf, TapLine, class_by_lines, forgotten, heard_by_lines, heard_for, no_line};
+ghost use Rattle.tap_lines.specs.TapLines.{IsReachOf, TapLine, class_by_lines, forgotten, heard_by_lines, heard_for, line_extended, no_line};
 ghost use Rattle.tap_lines.specs.TapLists.{AreIdleButFor, HearsListed};
 ghost use Rattle.window_room.specs.NeededRoom.{Covers, Demand, IsDemandWithin, both_demands, receiver_demand, sender_demand, stations_demand};
 ghost use Rattle.window_room.specs.Rooms.{Room, captures_with};
@@ -334,8 +334,42 @@ pub fn first_due(watches: &[Watch], end: u64) -> u64
     due
 }
 
-/// What came in for the ports in a window is put on their lines. No station goes on beyond the half bit in which it hears
-/// anything else of it than it was said to.
+/// What came in for a port, tap `r`, in the half bits from `t` on is put on its line, which ended there. No station goes on
+/// beyond the half bit in which it hears a signal of it in the place of Idle, or Idle in the place of a signal.
+fn arrive_one(
+    of: &Segment,
+    t: u64,
+    r: usize,
+    symbols: &[Sym],
+    lines: &mut [Line],
+    watches: &mut [Watch],
+)
+    requires tap { r < length lines.old }
+    requires taps { length watches.old ≤ length lines.old }
+    requires ended { (slice_index_or lines.old r no_line).base + length (slice_index_or lines.old r no_line).symbols ≡ t }
+    requires room { length symbols.now ≤ (slice_index_or lines.old r no_line).room }
+    requires in_time { t + length symbols.now < 2 ^ 64 }
+    requires watched { (i : ℕ) (w : Watch) → i < length watches.old → (slice_index_or watches.old i w).until < 2 ^ 64 }
+    ensures line { slice_index_or lines.new r no_line ≡ line_extended (slice_index_or lines.old r no_line) symbols.now }
+    ensures others { (q : ℕ) (l : TapLine) → q ≢ r → slice_index_or lines.new q l ≡ slice_index_or lines.old q l }
+    ensures stands { (from i : ℕ) (w : Watch) (s : Sender) (k : KeptReception) → i < length watches.old → i ≢ r →
+        StandsApart of.now from t i lines.old (slice_index_or watches.old i w) s k →
+        StandsApart of.now from t i lines.new (slice_index_or watches.new i w) s k }
+    ensures since { (i : ℕ) (w : Watch) → i < length watches.old → (slice_index_or watches.new i w).since ≡ (slice_index_or watches.old i w).since }
+    ensures carrier { (i : ℕ) (w : Watch) → i < length watches.old → (slice_index_or watches.new i w).carrier ≡ (slice_index_or watches.old i w).carrier }
+    ensures until { (i : ℕ) (w : Watch) → i < length watches.old → (slice_index_or watches.new i w).until ≤ (slice_index_or watches.old i w).until }
+{
+    let line = &mut lines[r];
+    let same = line.alike_first(symbols);
+    if same == symbols.len() {
+        line.go_on(symbols);
+        return;
+    }
+    line.extend(symbols);
+    lower_all(t + same as u64, of.lookahead, lines, r, watches);
+}
+
+/// What came in for the ports in a window is put on their lines.
 pub fn arrive(of: &Segment, window: u64, state: &mut Running, parcels: &[Parcel])
     requires at { IsRunningAt of.now (window * of.now.lookahead) state.old }
     requires time { state.old.t ≡ window * of.now.lookahead }
@@ -353,21 +387,10 @@ pub fn arrive(of: &Segment, window: u64, state: &mut Running, parcels: &[Parcel]
     let _ = window;
     let t = state.t;
     let from = of.stations.len();
+    let lines: &mut [Line] = &mut state.lines;
+    let watches: &mut [Watch] = &mut state.watches;
     for p in 0..parcels.len() {
-        let symbols = parcels[p].symbols.as_slice();
-        let same = state.lines[from + p].alike_first(symbols);
-        if same == symbols.len() {
-            state.lines[from + p].go_on(symbols);
-        } else {
-            state.lines[from + p].extend(symbols);
-            lower_all(
-                t + same as u64,
-                of.lookahead,
-                &state.lines,
-                from + p,
-                &mut state.watches,
-            );
-        }
+        arrive_one(of, t, from + p, parcels[p].symbols.as_slice(), lines, watches);
     }
 }
 
