@@ -379,7 +379,7 @@ pub fn arrive(of: &Segment, window: u64, state: &mut Running, parcels: &[Parcel]
     ensures at { IsRunningAt of.now ((window + 1) * of.now.lookahead) state.new }
     ensures time { state.new.t ≡ state.old.t }
     ensures from { state.new.from ≡ state.old.from }
-    ensures since { (i : ℕ) (w : Watch) → (slice_index_or state.new.watches.items i w).since ≡ (slice_index_or state.old.watches.items i w).since }
+    ensures since { (i : ℕ) (w : Watch) → i < length of.now.stations.items → (slice_index_or state.new.watches.items i w).since ≡ (slice_index_or state.old.watches.items i w).since }
     ensures senders { state.new.senders ≡ state.old.senders }
     ensures receivers { state.new.receivers ≡ state.old.receivers }
     ensures room { state.new.room ≡ state.old.room }
