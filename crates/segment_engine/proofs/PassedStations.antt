@@ -24,7 +24,7 @@ use Rattle.segment_engine.proofs.QuietStations.{calm_now, rest_now, sender_then,
 use Rattle.segment_engine.proofs.SettledLines.{HaveForgotten, class_was}
 use Rattle.segment_engine.proofs.SteadyCalm.{emits_idle, no_calm}
 
-module _ (of : Segment) (a : Running) (m : ℕ) (at : GoesOnAt of a.t a) (quiet : IsQuietFor m a) (ds : Sender) (dk : KeptReception) where
+module _ (of : Segment) (a : Running) (m front : ℕ) (at : GoesOnAt of front a) (quiet : IsQuietFor m a) (ds : Sender) (dk : KeptReception) where
   abbrev n : ℕ
   n = length of.stations.items
 
@@ -42,7 +42,7 @@ module _ (of : Segment) (a : Running) (m : ℕ) (at : GoesOnAt of a.t a) (quiet 
         let now = since i w in_it in
         let left : m ≡ t + m - (get_or ws i w).since = omega (arith, now) in
         let same : get_or ss i s ≡ sender_at of.plan.value x t = (all.each i w s dk in_it).behind.sender ∙ ap (sender_at of.plan.value x) now in
-        subst (λ j. IsCalmFor j (get_or ss i s)) left (subst (IsCalmFor m) (sym same) (calm_now of a m at quiet ds dk i in_it))
+        subst (λ j. IsCalmFor j (get_or ss i s)) left (subst (IsCalmFor m) (sym same) (calm_now of a m front at quiet ds dk i in_it))
 
     pub rest_settled : AreAtRest ks
     rest_settled = λ i k h.
@@ -52,7 +52,7 @@ module _ (of : Segment) (a : Running) (m : ℕ) (at : GoesOnAt of a.t a) (quiet 
         let none : Watch = record { since = 0; until = 0; carrier = false; told = 0 } in
         let hears : Hears (receiver_at of.plan.value x t) (get_or ks i k) =
         subst (λ u. Hears (receiver_at of.plan.value x u) (get_or ks i k)) (since i none in_it) (all.each i none ds k in_it).behind.receiver in
-        hears.count ∙ ap length (rest_now of a m at quiet ds dk i in_it)
+        hears.count ∙ ap length (rest_now of a m front at quiet ds dk i in_it)
 
   -- several half bits later, where all stood before the present one
   module _ (come : ComeInIdle of.plan.value (wiring of.plan.value.layout of.number).edges t m) (settled : a.from ≡ t)
@@ -102,9 +102,9 @@ module _ (of : Segment) (a : Running) (m : ℕ) (at : GoesOnAt of a.t a) (quiet 
         let goes : (v : ℕ) → u ≤ v → class_on (get_or ls i no_line) v ≡ false = λ v late.
         class_was u a.lines.items ls forgot i v in_it (omega (arith, late)) ∙ b.goes v (omega (arith, late, then)) ∙ off in
         let state : y ≡ sender_at plan x u =
-        states i s ls' ∙ ap (λ z. after_all z (replicate m Idle)) (b.sender ∙ ap (sender_at plan x) then) ∙ sym (sender_then of a m at quiet come ds dk i h) in
+        states i s ls' ∙ ap (λ z. after_all z (replicate m Idle)) (b.sender ∙ ap (sender_at plan x) then) ∙ sym (sender_then of a m front at quiet come ds dk i h) in
         let receiver : Hears (receiver_at plan x u) (get_or ks i k) =
-        subst (λ r. Hears r (get_or ks i k)) (sym (receiver_then of a m at quiet come ds dk i h))
+        subst (λ r. Hears r (get_or ks i k)) (sym (receiver_then of a m front at quiet come ds dk i h))
         (hears i k (receiver_at plan x t) lk (subst (λ v. Hears (receiver_at plan x v) (get_or a.receivers.items i k)) then b.receiver)) in
         record {
           from_start = omega (arith, at_u);

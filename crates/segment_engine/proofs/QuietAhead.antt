@@ -33,7 +33,7 @@ module _ (of : Segment) (a : Running) (at : GoesOnAt of a.t a) (silent : AreIdle
         let one = at.stations.each i w a_sender a_kept h in
         let taps = at.stations.taps in
         let late = until_at i w h in
-        sym (one.behind.steady a.t one.since (omega (arith, late, some))) ∙ no_class of a at silent a.t i (omega arith) (omega (arith, h, taps))
+        sym (one.behind.steady a.t one.since (omega (arith, late, some))) ∙ no_class of a a.t at silent a.t i (omega arith) (omega (arith, h, taps))
 
     not_sending : (i : ℕ) (s : Sender) → i < length of.stations.items → is_sending (get_or a.senders.items i s).phase ≡ false
     not_sending i s h =

@@ -85,7 +85,7 @@ rest_after zero r h = h
 rest_after (suc n) r h = rest_after n (receiver_step r Idle false).state (idle_halves r)
 
 -- a segment on whose lines nothing is that still reaches a tap
-module _ (of : Segment) (a : Running) (at : GoesOnAt of a.t a) (silent : AreIdleFrom (a.t - a.far) a.lines.items) where
+module _ (of : Segment) (a : Running) (front : ℕ) (at : GoesOnAt of front a) (silent : AreIdleFrom (a.t - a.far) a.lines.items) where
   pub no_class : (u p : ℕ) → a.t ≤ u → p < length a.lines.items → class_by_lines of.lookahead u a.lines.items p ≡ false
   no_class u p later h =
       let ls = a.lines.items in
@@ -110,8 +110,8 @@ module _ (of : Segment) (a : Running) (at : GoesOnAt of a.t a) (silent : AreIdle
         | inr past ↦ if_true {m = back} {n = u} _ _ past ∙ idle_on (a.t - a.far) (u - back) (get_or ls i no_line) (λ v c. silent i v l c) (omega (arith, close, later, past))
       ])
 
--- a segment whose lines end at its present half bit, and on which nothing happens for m half bits
-module _ (of : Segment) (a : Running) (m : ℕ) (at : GoesOnAt of a.t a) (quiet : IsQuietFor m a) where
+-- a segment on which nothing happens for m half bits
+module _ (of : Segment) (a : Running) (m front : ℕ) (at : GoesOnAt of front a) (quiet : IsQuietFor m a) where
   abbrev plan : Plan
   plan = of.plan.value
 
@@ -180,7 +180,7 @@ module _ (of : Segment) (a : Running) (m : ℕ) (at : GoesOnAt of a.t a) (quiet 
         calm = record { number = c.number; calm = c.calm };
         steady = λ u low high. elim (cases_lt u t) [
           | inl before ↦ b.steady u low (omega (arith, before, late)) ∙ carrier_off i x h (omega (arith, low, before))
-          | inr after ↦ no_class of a at quiet.lines u i after (omega (arith, h, taps))
+          | inr after ↦ no_class of a front at quiet.lines u i after (omega (arith, h, taps))
         ];
         line = λ j l. idle_on since (since + j) (get_or ls i no_line) (λ v q. b.goes v q ∙ c.not_sending) (omega arith) ∙ sym (emits_idle y j y.phase c.not_sending);
         signal = λ j l. ap is_signal (emits_idle y j y.phase c.not_sending) ∙ sym c.not_sending;
@@ -298,6 +298,7 @@ module _ (of : Segment) (a : Running) (m : ℕ) (at : GoesOnAt of a.t a) (quiet 
     know_ahead =
         let know = at.lines in
         let many = know.many in
+        let upto = at.upto in
         record {
           many = know.many;
           places = know.places;
@@ -307,14 +308,14 @@ module _ (of : Segment) (a : Running) (m : ℕ) (at : GoesOnAt of a.t a) (quiet 
           near = know.near;
           emissions = know.emissions;
           arrivals = λ p v h low high. elim (cases_lt v t) [
-            | inl before ↦ know.arrivals p v h low before
+            | inl before ↦ know.arrivals p v h low (omega (arith, before, upto))
             | inr after ↦
                 let e : t + (v - t) ≡ v = omega (arith, after) in
                 port_idle p v h after ∙ sym (ap (arrives plan L (get_or w.edges p 0)) (sym e) ∙ comes p (v - t) h (omega (arith, e, high)))
           ];
           classes = know.classes;
           port_classes = λ p v h high. elim (cases_lt v t) [
-            | inl before ↦ know.port_classes p v h before
+            | inl before ↦ know.port_classes p v h (omega (arith, before, upto))
             | inr after ↦ quiet.lines (length w.stations + p) v (omega (arith, h, many)) (omega (arith, after)) ∙ sym (ap is_signal (port_idle p v h after))
           ];
         }
@@ -334,7 +335,7 @@ module _ (of : Segment) (a : Running) (m : ℕ) (at : GoesOnAt of a.t a) (quiet 
       hear_idle i j h l =
           let begun = at.begun in
           let taps = at.stations.taps in
-          (quiet_heard i h).hears (t + j) (omega (arith, begun)) (omega (arith, l)) ∙ silence of a at quiet.lines (t + j) i (omega arith) (omega (arith, h, taps))
+          (quiet_heard i h).hears (t + j) (omega (arith, begun)) (omega (arith, l)) ∙ silence of a front at quiet.lines (t + j) i (omega arith) (omega (arith, h, taps))
 
       pub emit_idle : (i j : ℕ) → i < n → j < m → emitted plan (number_on of i) (t + j) ≡ Idle
       emit_idle i j h l =
@@ -372,4 +373,4 @@ module _ (of : Segment) (a : Running) (m : ℕ) (at : GoesOnAt of a.t a) (quiet 
           let known : KnowLines plan w (lookahead plan.layout) u u ls = subst (λ x. KnowLines plan w x u u ls) of.window_length quiet_known in
           ports_from plan of.number u u ls known t (omega arith) at.lines.begins p (t + j) h (omega arith) (omega (arith, l)) (omega (arith, l))
           ∙ ap (λ x. heard_by_lines x (t + j) ls (length w.stations + p)) (sym of.window_length)
-          ∙ silence of a at quiet.lines (t + j) (length w.stations + p) (omega arith) (omega (arith, h, taps, numbers))
+          ∙ silence of a front at quiet.lines (t + j) (length w.stations + p) (omega arith) (omega (arith, h, taps, numbers))

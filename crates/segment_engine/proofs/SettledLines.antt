@@ -18,7 +18,7 @@ use Rattle.segment_engine.specs.declared.apart.Watch.{Watch}
 use Rattle.segment_engine.specs.declared.segment.Segment.{Segment}
 use Rattle.segment_engine.specs.KnownLines.{KnowLines}
 use Rattle.segment_engine.specs.RunningStates.{HaveRoomFrom}
-use Rattle.segment_engine.specs.StationsApart.{StandsBehind, StandAllApart, HearsByLines}
+use Rattle.segment_engine.specs.StationsApart.{StandAllApart, HearAllByLines}
 use Rattle.segment_engine.proofs.AnewLines.{reaches_of}
 use Rattle.segment_engine.proofs.ChangedLines.{same_places}
 
@@ -58,6 +58,14 @@ near_of plan w L t front ls know p r hp hr =
     let way = ap₂ distance (at p hp) (at r hr) in
     let near = know.near p r (omega (arith, hp, size)) hr in
     omega (arith, way, near)
+
+-- below the half bit from which on they hear by the lines there is none
+pub hear_settled : (of : Segment) (t : ℕ) (ls : List TapLine) → HearAllByLines of t t ls
+hear_settled of t ls = λ i h. record {
+  hears = λ a low high. absurd (omega (arith, low, high));
+  classes = λ a low high. absurd (omega (arith, low, high));
+  emits = λ a low high. absurd (omega (arith, low, high));
+}
 
 -- a line that goes on with a signal has a symbol
 some_of : (xs : List Sym) → is_signal (get_or xs (length xs - 1) Idle) ≡ true → 0 < length xs
@@ -216,13 +224,6 @@ module _ (t : ℕ) (ls ls' : List TapLine) (is : HaveForgotten t ls ls') where
                 still = one.still;
               };
         }
-
-    pub hear_settled : (i : ℕ) → i < length of.stations.items → HearsByLines of.plan.value (get_or of.stations.items i 0) i of.lookahead t t ls'
-    hear_settled i h = record {
-      hears = λ a low high. absurd (omega (arith, low, high));
-      classes = λ a low high. absurd (omega (arith, low, high));
-      emits = λ a low high. absurd (omega (arith, low, high));
-    }
 
   pub room_settled : (from L : ℕ) → HaveRoomFrom from L ls → HaveRoomFrom t L ls'
   room_settled from L room =
