@@ -71,9 +71,6 @@ module _ (plan : Plan) (s u front : ℕ) (ls : List TapLine) (know : KnowLines p
   classes_to : (b : ℕ) → u ≤ b → b < front → AreRight b → (r : ℕ) → r < n → class_by_lines L b ls r ≡ is_signal (heard_by_lines L b ls r)
   classes_to b h l right r i = class_known plan s b front ls (know_to b h right) l r i
 
-  pub classes_so_far : u < front → (r : ℕ) → r < n → class_by_lines L u ls r ≡ is_signal (heard_by_lines L u ls r)
-  classes_so_far l r i = class_known plan s u front ls know l r i
-
   -- the same of the half bit that the lines are right below
   pub hears_so_far : u < front → (r : ℕ) → r < n → heard plan (number r) u ≡ heard_by_lines L u ls r
   hears_so_far l r i = hears_to u (omega arith) l (λ r' a h low high. absurd (omega (arith, low, high))) r i

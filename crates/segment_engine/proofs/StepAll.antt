@@ -212,11 +212,6 @@ module _ (of : Segment) where
       let many = know.many in
       omega (arith, h, len, many)
 
-  pub back_later : (u front q p from : ℕ) (ls ls' : List TapLine) → Know u front ls → IsAlikeBelow p from ls ls' → q < n → p < n → q ≢ p →
-      1 ≤ half_bits_back of.lookahead (get_or ls' q no_line).at (get_or ls' p no_line)
-  back_later u front q p from ls ls' know alike hq hp other =
-      subst (λ b. 1 ≤ b) (sym (back_alike of.lookahead p from q ls ls' alike other)) (later_on u front q p ls know hq hp other)
-
   -- another station stands as it stood, where its watch goes no further than it hears the change
   pub apart_lowered : (t u v front q p from : ℕ) (ls ls' : List TapLine) (w : Watch) (s : Sender) (k : KeptReception) → Know u front ls → IsAlikeBelow p from ls ls' → u ≤ from → v ≤ u + 1 →
       q < n → p < n → q ≢ p → StandsApart of t v q ls w s k →

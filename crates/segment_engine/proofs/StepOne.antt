@@ -1,5 +1,5 @@
 -- One half bit of a station that is due: what its line has then and later, and what holds of it before the next.
-use Rattle.std.proofs.Common.{◌≡◌, ℕ, zero, suc, ◌+◌, ◌-◌, ◌<◌, ◌≤◌, ◌⊎◌, Bool, true, false, inl, inr, Option, Some, None, IfSome, IfNone, List, [], ◌∷◌, ◌++◌, length, get_or, refl, sym, ap, ap₂, subst, ◌∙◌, arith}
+use Rattle.std.proofs.Common.{◌≡◌, ℕ, suc, ◌+◌, ◌-◌, ◌<◌, ◌≤◌, ◌⊎◌, Bool, true, false, inl, inr, Option, Some, None, IfNone, List, [], ◌∷◌, ◌++◌, length, get_or, refl, sym, ap, ap₂, subst, ◌∙◌, arith}
 use Rattle.std.proofs.lemmas.Bool.{cases_lt, cases_Bool}
 use Rattle.manchester_line.specs.declared.Sym.{Sym}
 use Rattle.manchester_line.specs.declared.Sym.TheVariants.{Idle}
@@ -50,10 +50,6 @@ no_calm c s = record { number = omega arith; calm = λ hs a l. none_calm s hs l 
 pub if_none_map : (o : Option ℕ) (P Q : Type 0) → (P → Q) → IfNone o P → IfNone o Q
 if_none_map None P Q f h = f h
 if_none_map (Some n) P Q f h = tt
-
-pub if_some_map : (o : Option ℕ) (P Q R : ℕ → Type 0) → ((n : ℕ) → P n → Q n → R n) → IfSome o P → IfSome o Q → IfSome o R
-if_some_map None P Q R f a b = tt
-if_some_map (Some n) P Q R f a b = f n a b
 
 -- phases by the values that were read of them
 pub keeps : (was now : Phase) (s s' : Sender) → was ≡ s.phase → now ≡ s'.phase → (now ≡ was) ⊎ ((is_sending was ≡ false) × (is_sending now ≡ false)) →

@@ -1,6 +1,6 @@
-use Rattle.std.proofs.Common.{◌≡◌, ℕ, ◌+◌, ◌<◌, ◌≤◌, ◌∷◌, [], replicate, length, sym, subst, ap, ◌∙◌, arith}
+use Rattle.std.proofs.Common.{◌≡◌, ℕ, ◌+◌, ◌<◌, ◌≤◌, ◌∷◌, [], replicate, sym, subst, ap, ◌∙◌, arith}
 use Rattle.manchester_line.specs.declared.Sym.TheVariants.{Idle}
-use Rattle.tap_lines.specs.TapLines.{TapLine, line_ended, line_extended}
+use Rattle.tap_lines.specs.TapLines.{TapLine, line_extended}
 use Rattle.segment_engine.specs.SteadyPieces.{sent_ahead}
 use Rattle.segment_engine.specs.StationsApart.{IsAnew}
 use Rattle.segment_engine.proofs.AnewLines.{ended_room, said_room, rests_anew, sends_anew}
