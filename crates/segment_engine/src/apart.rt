@@ -115,6 +115,7 @@ fn bring_one(
     ensures since { watch.new.since ≡ u }
     ensures until { watch.new.until ≡ watch.old.until }
     ensures carrier { watch.new.carrier ≡ watch.old.carrier }
+    ensures still { IsStillBy watch.old sender.old receiver.old → IsStillBy watch.new sender.new receiver.new }
     ensures left { (e : ℕ) → u ≤ e → IsDemandWithin (behind_demand e watch.new sender.new receiver.new) (behind_demand e watch.old sender.old receiver.old) }
     ensures listing { late.new.room ≡ late.old.room }
 {
@@ -153,8 +154,10 @@ fn bring_all(
     requires in_time { u ≤ most_half_bits }
     requires piece { most_ahead ≤ length piece.old }
     requires apart { StandAllApart of.now from u lines.now watches.old senders.old receivers.old }
+    requires still { AreStill of.now watches.old senders.old receivers.old }
     requires right { HearAllByLines of.now from u lines.now }
     ensures apart { StandAllApart of.now from u lines.now watches.new senders.new receivers.new }
+    ensures still { AreStill of.now watches.new senders.new receivers.new }
     ensures since { (i : ℕ) (w : Watch) → i < length of.now.stations.items → (slice_index_or watches.new i w).since ≡ u }
     ensures left { (e : ℕ) (room : Room) → u ≤ e →
         CoversApart e (length of.now.stations.items) watches.old senders.old receivers.old room →
