@@ -10,7 +10,7 @@ use Rattle.mac_transmit.specs.Calm.{AllHeardAs, after_all, calm_of}
 use Rattle.mac_transmit.specs.Emissions.{emission_by}
 use Rattle.mac_transmit.proofs.CalmEmissions.{calm_senders_emit}
 use Rattle.network.specs.Attempts.{sender_at}
-use Rattle.network.specs.Times.{heard, emitted}
+use Rattle.network.specs.Times.{heard}
 use Rattle.net_parts.specs.Windows.{lookahead}
 use Rattle.net_parts.specs.Machines.{span}
 use Rattle.net_parts.specs.SegmentParts.{Wiring, wiring}

@@ -1,4 +1,4 @@
-use Rattle.std.proofs.Common.{◌≡◌, ℕ, suc, ◌+◌, ◌*◌, ◌<◌, ◌≤◌, ◌++◌, true, false, map, length, get_or, refl, sym, subst, ap, ◌∙◌, arith}
+use Rattle.std.proofs.Common.{◌≡◌, ℕ, suc, ◌+◌, ◌*◌, ◌<◌, ◌≤◌, ◌++◌, false, map, length, get_or, refl, sym, subst, ap, ◌∙◌, arith}
 use Rattle.manchester_line.specs.Decoding.{new_decoding}
 use Rattle.mac_receive.specs.KeptReceiver.{KeptReception}
 use Rattle.network.specs.Attempts.{sender_at}

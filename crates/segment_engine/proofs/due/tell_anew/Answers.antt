@@ -1,4 +1,4 @@
-use Rattle.std.proofs.Common.{◌≡◌, ℕ, ◌+◌, ◌<◌, ◌≤◌, ◌∷◌, [], replicate, sym, subst, ap, ◌∙◌, arith}
+use Rattle.std.proofs.Common.{ℕ, ◌+◌, ◌<◌, ◌≤◌, ◌∷◌, [], replicate, sym, subst, ap, ◌∙◌, arith}
 use Rattle.manchester_line.specs.declared.Sym.TheVariants.{Idle}
 use Rattle.tap_lines.specs.TapLines.{TapLine, line_extended}
 use Rattle.segment_engine.specs.SteadyPieces.{sent_ahead}
