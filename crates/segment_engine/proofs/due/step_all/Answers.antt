@@ -11,9 +11,9 @@ use Rattle.segment_engine.specs.StationsApart.{StandsApart, IsStillBy, AreToldAn
 use Rattle.tap_lines.proofs.LineClasses.{IsAlikeBelow}
 use Rattle.tap_lines.proofs.LoudLists.{later_idle}
 use Rattle.segment_engine.proofs.ChangedLines.{hears_anew, listed_alike}
-use Rattle.segment_engine.proofs.ChangedStations.{each_set, covers_one, covers_with}
-use Rattle.segment_engine.proofs.PieceRoom.{below_next}
-use Rattle.segment_engine.proofs.StepAll.{anew_none, anew_one, anew_twice, alike_to, apart_alike, apart_lowered, class_so, covers_lowered, each_lowered, heard_so, know_anew, know_next, lowered_own, reach_anew, right_next, rows_stepped, tap_there, tells_anew}
+use Rattle.segment_engine.proofs.ChangedStations.{below_next, covers_one, covers_with, each_set}
+use Rattle.segment_engine.proofs.RunsApart.{reach_anew, told_again}
+use Rattle.segment_engine.proofs.StepAll.{anew_none, anew_one, alike_to, apart_alike, apart_lowered, class_so, covers_lowered, each_lowered, heard_so, know_anew, know_next, lowered_own, right_next, rows_stepped, tap_there, tells_anew}
 use Rattle.segment_engine.proofs.StepPasses.{HaveMade, event, octets, passed, sent}
 use Rattle.segment_engine.proofs.due.step_all.Goals as goal
 
@@ -250,7 +250,7 @@ loop-k-preserved-in_default c =
       loud = listed_alike (c.args.t - c.args.far) k lines lines' c.loop-k.loud.taps alike inv.loud;
       listing = inv.listing;
       late = now.listing ∙ inv.late;
-      lines = anew_twice u n c.args.lines.now lines lines' inv.lines anew;
+      lines = told_again u u n c.args.lines.now lines lines' (omega arith) inv.lines anew;
       tell = λ i l. elim (cases_eq i k) [
         | inl own ↦ subst (λ j. TellsUpTo u end (get_or lines' j no_line)) (sym own) (tells_anew u u end (get_or lines k no_line) (get_or lines' k no_line) (inv.tell k in_it) now.line)
         | inr differs ↦ subst (λ x. TellsUpTo u end x) (sym (now.others i no_line differs)) (inv.tell i l)
@@ -351,7 +351,7 @@ loop-k-preserved c =
       loud = subst (λ v. AreIdleButFor v lines' c.find.new.self.taps) c.saturating_sub.ensures c.find.ensures.loud.idle;
       listing = c.find.ensures.room ∙ inv.listing;
       late = now.listing ∙ inv.late;
-      lines = anew_twice u n c.args.lines.now lines lines' inv.lines anew;
+      lines = told_again u u n c.args.lines.now lines lines' (omega arith) inv.lines anew;
       tell = λ i l. elim (cases_eq i k) [
         | inl own ↦ subst (λ j. TellsUpTo u end (get_or lines' j no_line)) (sym own) (tells_anew u u end (get_or lines k no_line) (get_or lines' k no_line) (inv.tell k in_it) now.line)
         | inr differs ↦ subst (λ x. TellsUpTo u end x) (sym (now.others i no_line differs)) (inv.tell i l)

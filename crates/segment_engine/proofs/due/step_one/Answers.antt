@@ -6,7 +6,8 @@ use Rattle.net_parts.specs.Standing.{receiver_at}
 use Rattle.tap_lines.specs.TapLines.{TapLine, no_line, class_on, goes_on}
 use Rattle.segment_engine.specs.StationsApart.{IsAnew, IsToldAnew, SaysOf, TellsOn, TellsUpTo, most_ahead, number_on}
 use Rattle.segment_engine.proofs.AnewLines.{reaches_of}
-use Rattle.segment_engine.proofs.StepOne.{StepsOne, alike_anew, captures_one, class_on_now, emits_on, hears_now, if_none_map, keeps, left_one, rows_one, said_now, sends_so, stands_on, tells_on, unchanged_line}
+use Rattle.segment_engine.proofs.StepOne.{StepsOne, alike_anew, captures_one, class_on_now, emits_on, hears_now, if_none_map, keeps, left_one, rows_one, said_now, sends_so, stands_on, tells_on}
+use Rattle.segment_engine.proofs.ChangedLines.{unchanged_line}
 use Rattle.segment_engine.proofs.due.step_one.Goals as goal
 
 pub heard_now-heard-requires-clause-listed : goal.heard_now-heard-requires-clause-listed
