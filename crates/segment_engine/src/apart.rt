@@ -115,6 +115,7 @@ fn bring_one(
     ensures since { watch.new.since ≡ u }
     ensures until { watch.new.until ≡ watch.old.until }
     ensures carrier { watch.new.carrier ≡ watch.old.carrier }
+    ensures still { IsStillBy watch.old sender.old receiver.old → IsStillBy watch.new sender.new receiver.new }
     ensures left { (e : ℕ) → u ≤ e → IsDemandWithin (behind_demand e watch.new sender.new receiver.new) (behind_demand e watch.old sender.old receiver.old) }
     ensures listing { late.new.room ≡ late.old.room }
 {
