@@ -1,4 +1,4 @@
-use Rattle.std.proofs.Common.{◌≡◌, ℕ, ◌+◌, ◌-◌, ◌<◌, ◌≤◌, ◌^◌, List, length, max, get_or, refl, sym, subst, ap, ◌∙◌, arith, rules}
+use Rattle.std.proofs.Common.{◌≡◌, ℕ, ◌+◌, ◌-◌, ◌<◌, ◌≤◌, ◌^◌, false, List, length, get_or, refl, sym, subst, ap, ◌∙◌, arith, rules}
 use Rattle.std.specs.Vec.{with_items}
 use Rattle.std.proofs.lemmas.List.{with_items_is, get_or_default}
 use Rattle.manchester_line.specs.Decoding.{new_decoding}
@@ -7,6 +7,7 @@ use Rattle.net_parts.specs.SegmentParts.{wiring}
 use Rattle.network.specs.Attempts.{sender_at}
 use Rattle.tap_lines.specs.TapLines.{TapLine, forgotten, no_line}
 use Rattle.segment_engine.specs.QuietHalfBits.{IsQuietFor}
+use Rattle.segment_engine.specs.StationsApart.{StandAllApart, most_ahead}
 use Rattle.segment_engine.proofs.PassedStations.{calm_settled, rest_settled}
 use Rattle.segment_engine.proofs.RoomOfLines.{fits_of, keeps_of}
 use Rattle.segment_engine.proofs.SettledLines.{HaveForgotten, end_settled, have_forgotten, hear_settled, idle_settled, known_settled, near_of, reach_settled, room_settled, stand_settled}
@@ -54,6 +55,7 @@ returns-clause-goes c =
     let ss = c.bring_all.new.senders in
     let ks = c.bring_all.new.receivers in
     let upto = at.upto in
+    let apart : StandAllApart g a.from a.t ls ws ss ks = subst (λ xs. StandAllApart g a.from a.t xs ws ss ks) c.deref.ensures.value c.bring_all.ensures.apart in
     let n = ap length c.deref_mut.ensures.value in
     let size : length new ≡ length ls = c.forget_all.auto.lines ∙ n in
     let forgot : HaveForgotten a.t ls new = have_forgotten plan w g.lookahead a.t c.args.front a.from ls new at.lines at.upto at.room size
@@ -67,7 +69,7 @@ returns-clause-goes c =
       begun = omega arith;
       upto = at.upto;
       stations = rw (lines, watches, senders, receivers)
-          (stand_settled a.t ls new forgot g a.from ws ss ks c.bring_all.ensures.apart c.bring_all.ensures.since (near_of plan w g.lookahead a.t c.args.front ls at.lines));
+          (stand_settled a.t ls new forgot g a.from ws ss ks apart c.bring_all.ensures.since (near_of plan w g.lookahead a.t c.args.front ls at.lines));
       still = rw (watches, senders, receivers) c.bring_all.ensures.still;
       lines = rw lines (known_settled a.t ls new forgot plan w g.lookahead c.args.front at.lines);
       ends = rw lines (λ p h.
@@ -83,7 +85,7 @@ returns-clause-goes c =
       reach = rw lines (reach_settled a.t ls new forgot a.far g.lookahead at.reach);
       listing = at.listing ∙ same;
       late = c.bring_all.ensures.listing ∙ at.late ∙ same;
-      piece = ?;
+      piece = rw (with_items_is a.piece c.bring_all.new.piece (search rules)) (let size = c.bring_all.auto.piece ∙ ap length c.deref_mut-piece.ensures.value in let enough = at.piece in omega (arith, size, enough));
     }
 
 pub returns-clause-quiet : goal.returns-clause-quiet
@@ -106,11 +108,12 @@ returns-clause-quiet c = λ m quiet.
     let watches = with_items_is a.watches ws (search rules) in
     let senders = with_items_is a.senders ss (search rules) in
     let receivers = with_items_is a.receivers ks (search rules) in
-    let many = c.bring_all.ensures.apart.senders in
+    let apart : StandAllApart g a.from a.t ls ws ss ks = subst (λ xs. StandAllApart g a.from a.t xs ws ss ks) c.deref.ensures.value c.bring_all.ensures.apart in
+    let many = apart.senders in
     let ds = sender_at plan 0 0 in
     record {
       lines = rw lines (idle_settled a.t ls new forgot (a.t - a.far) (omega arith) quiet.lines);
       idle = rw (watches, senders) (λ i x h early. let now = c.bring_all.ensures.since i x (omega (arith, h, many)) in absurd (omega (arith, now, early)));
-      senders = rw (watches, senders) (calm_settled g a m c.args.front at quiet ds a_kept a.from ls ws ss ks c.bring_all.ensures.apart c.bring_all.ensures.since);
-      receivers = rw receivers (rest_settled g a m c.args.front at quiet ds a_kept a.from ls ws ss ks c.bring_all.ensures.apart c.bring_all.ensures.since);
+      senders = rw (watches, senders) (calm_settled g a m c.args.front at quiet ds a_kept a.from ls ws ss ks apart c.bring_all.ensures.since);
+      receivers = rw receivers (rest_settled g a m c.args.front at quiet ds a_kept a.from ls ws ss ks apart c.bring_all.ensures.since);
     }
