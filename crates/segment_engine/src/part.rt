@@ -11,7 +11,7 @@ ghost use Rattle.segment_engine.specs.QuietHalfBits.{ComeInIdle, GoOutIdle, IsQu
 ghost use Rattle.segment_engine.specs.RunningStates.{IsRunningAt};
 ghost use Rattle.segment_engine.specs.StationsApart.{CoversApart};
 
-use crate::apart::{pass, quiet_ahead};
+use crate::apart::{KEEP, pass, quiet_ahead};
 use crate::running::Running;
 use crate::segment::Segment;
 use crate::start::start;
@@ -227,7 +227,7 @@ impl Part for SegmentPart {
             &mut self.state.room,
             self.segment.stations.len(),
             self.most,
-            self.segment.lookahead + 8_192,
+            self.segment.lookahead + KEEP as u32,
         )?;
         self.reserved = true;
         Ok(())

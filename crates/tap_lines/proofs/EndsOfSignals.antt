@@ -1,14 +1,14 @@
 -- Where the last signal of symbols stands.
-use Rattle.std.proofs.Common.{◌≡◌, ◌≢◌, ℕ, zero, suc, min, ◌+◌, ◌-◌, ◌<◌, ◌≤◌, true, false, ltb, cond, inl, inr, List, [], ◌∷◌, ◌++◌, replicate, take, length, length-take-le, get_or, refl, Option, None, Some, IfSome, length-append, sym, ap, ap₂, ◌∙◌, arith, rules}
+use Rattle.std.proofs.Common.{◌≡◌, ℕ, zero, suc, min, ◌+◌, ◌-◌, ◌<◌, ◌≤◌, true, false, ltb, cond, inl, inr, List, [], ◌∷◌, ◌++◌, replicate, take, length, length-take-le, get_or, refl, length-append, sym, ap, ap₂, ◌∙◌, arith, rules}
 use Rattle.std.proofs.lemmas.List.{append-nil, length-replicate, get_or-take, get_or_past}
 use Rattle.std.proofs.lemmas.Bool.{cases_lt}
 use Rattle.std.proofs.lemmas.Bool.Decides.{nat_tests}
 use Rattle.manchester_line.specs.declared.Sym.{Sym}
 use Rattle.manchester_line.specs.declared.Sym.TheVariants.{Idle, Hi, Lo, Clash}
 use Rattle.manchester_line.specs.Line.{is_signal}
-use Rattle.net_parts.proofs.LateRows.{if_true, if_false}
+use Rattle.net_parts.proofs.LateRows.{if_true}
 use Rattle.tap_lines.specs.Signals.{signals_end, EndsInSignals, class_at}
-use Rattle.tap_lines.specs.TapLines.{TapLine, no_line, symbol_on, class_on, class_back, goes_on, line_cut, AreIdleFrom, IsIdleFrom, IsOnlySource}
+use Rattle.tap_lines.specs.TapLines.{TapLine, symbol_on, class_on, class_back, goes_on, line_cut, IsIdleFrom}
 use Rattle.tap_lines.proofs.ExtendedLines.{unwritten_size}
 use Rattle.tap_lines.proofs.LineClasses.{class_within, class_behind, le_true, lt_true, lt_false}
 use Rattle.tap_lines.proofs.LinesAhead.{idle_tail, cut_written}
@@ -186,12 +186,3 @@ text_cut at delay backlog base items w q k e m within less sum rest =
     ∙ ap (λ i. take i (text ++ replicate q Idle)) (sym n) in
     let room : length items - (e + m) ≡ length items - (w + q) + (length (text ++ replicate q Idle) - (base + k - base)) = omega (arith, all, n, within, less, sum) in
     λ i. record { at = at; delay = delay; backlog = backlog; base = base; symbols = symbols i; room = room i }
-
--- where two lines have signals late, none is the only one
-pub none_only : (u r : ℕ) (ls : List TapLine) (source : Option ℕ) → source ≢ None → IfSome source (λ q. q < r) → IfSome source (λ q. ¬ IsIdleFrom u (get_or ls q no_line)) →
-    r < length ls → ¬ IsIdleFrom u (get_or ls r no_line) → (q : ℕ) → IsOnlySource u ls q → AreIdleFrom u ls
-none_only u r ls None some within loud in_it late q only = absurd (some refl)
-none_only u r ls (Some s) some within loud in_it late q only = absurd (elim (cases_lt q r) [
-  | inl before ↦ late (λ v after. only.others r v in_it (λ e. omega (arith, e, before)) after)
-  | inr behind ↦ loud (λ v after. only.others s v (omega (arith, within, in_it)) (λ e. omega (arith, e, behind, within)) after)
-])

@@ -1,6 +1,6 @@
 -- Lines that are extended and slide.
 use Rattle.std.proofs.Common.{◌≡◌, ℕ, zero, suc, min, ◌+◌, ◌-◌, ◌<◌, ◌≤◌, List, [], ◌∷◌, ◌++◌, replicate, take, drop, length, length-append, length-drop, length-take-le, get_or, sym, ap, ◌∙◌, arith, append_assoc}
-use Rattle.std.proofs.lemmas.List.{append-nil, length-replicate, drop-replicate, same_lists, get_or-take, get_or-drop}
+use Rattle.std.proofs.lemmas.List.{length-replicate, drop-replicate, same_lists, get_or-take, get_or-drop}
 use Rattle.manchester_line.specs.declared.Sym.{Sym}
 use Rattle.manchester_line.specs.declared.Sym.TheVariants.{Idle}
 use Rattle.tap_lines.specs.TapLines.{TapLine, line_extended, dropped_from}
@@ -11,12 +11,6 @@ extended_more l xs ys =
     let symbols = append_assoc l.symbols xs ys in
     let sum = length-append xs ys in
     let room : l.room - length xs - length ys ≡ l.room - length (xs ++ ys) = omega (arith, sum) in
-    λ i. record { at = l.at; delay = l.delay; backlog = l.backlog; base = l.base; symbols = symbols i; room = room i }
-
-pub extended_none : (l : TapLine) → line_extended l [] ≡ l
-extended_none l =
-    let symbols : l.symbols ++ [] ≡ l.symbols = append-nil l.symbols in
-    let room : l.room - 0 ≡ l.room = omega arith in
     λ i. record { at = l.at; delay = l.delay; backlog = l.backlog; base = l.base; symbols = symbols i; room = room i }
 
 -- what is dropped of symbols with Idle behind them

@@ -135,13 +135,6 @@ only_heard L t far u p q ls within hp only late =
     ∙ silent_line L u far p i ls within hp m (λ v after. idle_on (t - far) v (get_or ls i no_line) (λ w behind. only.others i w m other behind) (omega (arith, late, after))))
     ∙ ap (λ n. cond (eqb n p) Idle (earlier (symbol_on (get_or ls q no_line)) u (half_bits_back L at (get_or ls q no_line)))) none
 
--- the same, where it isn't the tap's own
-pub other_heard : (L t far u p q : ℕ) (ls : List TapLine) → IsReachOf far L ls → p < length ls → IsOnlySource (t - far) ls q → t ≤ u → q ≢ p →
-    heard_by_lines L u ls p ≡ earlier (symbol_on (get_or ls q no_line)) u (half_bits_back L (get_or ls p no_line).at (get_or ls q no_line))
-other_heard L t far u p q ls within hp only late differs =
-    only_heard L t far u p q ls within hp only late
-    ∙ ap (λ b. cond b Idle (earlier (symbol_on (get_or ls q no_line)) u (half_bits_back L (get_or ls p no_line).at (get_or ls q no_line)))) (ne_eqb q p differs)
-
 pub own_heard : (L t far u p q : ℕ) (ls : List TapLine) → IsReachOf far L ls → p < length ls → IsOnlySource (t - far) ls q → t ≤ u → q ≡ p →
     heard_by_lines L u ls p ≡ Idle
 own_heard L t far u p q ls within hp only late own = only_heard L t far u p q ls within hp only late ∙ own_line L u p q ls own

@@ -1,16 +1,15 @@
 -- Lines that end at a half bit, or come to one and keep no more than they must.
-use Rattle.std.proofs.Common.{◌≡◌, ℕ, suc, min, max, ◌+◌, ◌-◌, ◌<◌, ◌≤◌, ◌++◌, Bool, true, false, cond, leb, ltb, inl, inr, List, replicate, take, drop, length, length-append, length-drop, length-take-le, get_or, refl, sym, subst, ap, ◌∙◌, arith}
+use Rattle.std.proofs.Common.{◌≡◌, ℕ, min, max, ◌+◌, ◌-◌, ◌<◌, ◌≤◌, Bool, true, false, cond, leb, ltb, inl, inr, replicate, drop, length, length-drop, length-take-le, get_or, refl, sym, subst, ap, ◌∙◌, arith}
 use Rattle.std.proofs.lemmas.Bool.{cases_lt, false≢true}
 use Rattle.std.proofs.lemmas.Bool.Decides.{nat_tests}
 use Rattle.std.proofs.lemmas.List.{length-replicate, get_or-replicate, get_or-take, get_or-drop, get_or_past}
-use Rattle.manchester_line.specs.declared.Sym.{Sym}
 use Rattle.manchester_line.specs.declared.Sym.TheVariants.{Idle}
 use Rattle.manchester_line.specs.Line.{is_signal}
 use Rattle.net_parts.proofs.LateRows.{if_true, if_false}
 use Rattle.tap_lines.specs.TapLines.{TapLine, symbol_on, line_extended, line_cut, dropped_from, passed, line_ended, passed_to, forgotten, goes_on, class_on}
 use Rattle.tap_lines.proofs.ExtendedLines.{unwritten_size}
 use Rattle.tap_lines.proofs.LinesAhead.{idle_tail}
-use Rattle.tap_lines.proofs.LineClasses.{class_within, class_behind, class_off, class_all_alike, symbol_behind}
+use Rattle.tap_lines.proofs.LineClasses.{class_within, class_behind, class_off, class_all_alike}
 
 line_true : {m n : ℕ} (x y : TapLine) → m < n → cond (ltb m n) x y ≡ x
 line_true x y h = grind (arith, nat_tests)
@@ -30,12 +29,6 @@ ended_by u l P longer shorter = elim (cases_lt (l.base + length l.symbols) u) [
   | inl before ↦ subst P (sym (line_true {m = l.base + length l.symbols} {n = u} (line_extended l (replicate (u - (l.base + length l.symbols)) Idle)) (line_cut u l) before)) (longer before)
   | inr behind ↦ subst P (sym (line_false {m = l.base + length l.symbols} {n = u} (line_extended l (replicate (u - (l.base + length l.symbols)) Idle)) (line_cut u l) behind)) (shorter behind)
 ]
-
-pub ended_longer : (u n : ℕ) (l : TapLine) → l.base + length l.symbols < u → n ≡ u - (l.base + length l.symbols) → line_extended l (replicate n Idle) ≡ line_ended u l
-ended_longer u n l before is = ap (λ k. line_extended l (replicate k Idle)) is ∙ sym (line_true {m = l.base + length l.symbols} {n = u} (line_extended l (replicate (u - (l.base + length l.symbols)) Idle)) (line_cut u l) before)
-
-pub ended_shorter : (u : ℕ) (l : TapLine) → u ≤ l.base + length l.symbols → line_cut u l ≡ line_ended u l
-ended_shorter u l behind = sym (line_false {m = l.base + length l.symbols} {n = u} (line_extended l (replicate (u - (l.base + length l.symbols)) Idle)) (line_cut u l) behind)
 
 pub ended_place : (u : ℕ) (l : TapLine) → (line_ended u l).at ≡ l.at
 ended_place u l = ended_by u l (λ k. k.at ≡ l.at) (λ h. refl) (λ h. refl)
@@ -190,12 +183,6 @@ forgotten_by u l P longer shorter = elim (cases_lt (l.base + length l.symbols) u
   | inr behind ↦ subst P (sym (line_false {m = l.base + length l.symbols} {n = u} (passed (u - (l.base + length l.symbols)) l) (dropped_from (u - l.backlog - l.base) l) behind)) (shorter behind)
 ]
 
-pub forgotten_longer : (u n : ℕ) (l : TapLine) → l.base + length l.symbols < u → n ≡ u - (l.base + length l.symbols) → passed n l ≡ forgotten u l
-forgotten_longer u n l before is = ap (λ k. passed k l) is ∙ sym (line_true {m = l.base + length l.symbols} {n = u} (passed (u - (l.base + length l.symbols)) l) (dropped_from (u - l.backlog - l.base) l) before)
-
-pub forgotten_shorter : (u k : ℕ) (l : TapLine) → u ≤ l.base + length l.symbols → k ≡ u - l.backlog - l.base → dropped_from k l ≡ forgotten u l
-forgotten_shorter u k l behind is = ap (λ j. dropped_from j l) is ∙ sym (line_false {m = l.base + length l.symbols} {n = u} (passed (u - (l.base + length l.symbols)) l) (dropped_from (u - l.backlog - l.base) l) behind)
-
 pub forgotten_place : (u : ℕ) (l : TapLine) → (forgotten u l).at ≡ l.at
 forgotten_place u l = forgotten_by u l (λ k. k.at ≡ l.at) (λ h. refl) (λ h. refl)
 
@@ -253,12 +240,6 @@ passed_by u l P longer shorter = elim (cases_lt (l.base + length l.symbols) u) [
   | inl before ↦ subst P (sym (line_true {m = l.base + length l.symbols} {n = u} (passed (u - (l.base + length l.symbols)) l) l before)) (longer before)
   | inr behind ↦ subst P (sym (line_false {m = l.base + length l.symbols} {n = u} (passed (u - (l.base + length l.symbols)) l) l behind)) (shorter behind)
 ]
-
-pub passed_longer : (u n : ℕ) (l : TapLine) → l.base + length l.symbols < u → n ≡ u - (l.base + length l.symbols) → passed n l ≡ passed_to u l
-passed_longer u n l before is = ap (λ k. passed k l) is ∙ sym (line_true {m = l.base + length l.symbols} {n = u} (passed (u - (l.base + length l.symbols)) l) l before)
-
-pub passed_shorter : (u : ℕ) (l : TapLine) → u ≤ l.base + length l.symbols → l ≡ passed_to u l
-passed_shorter u l behind = sym (line_false {m = l.base + length l.symbols} {n = u} (passed (u - (l.base + length l.symbols)) l) l behind)
 
 pub passed_place : (u : ℕ) (l : TapLine) → (passed_to u l).at ≡ l.at
 passed_place u l = passed_by u l (λ k. k.at ≡ l.at) (λ h. refl) (λ h. refl)

@@ -9,8 +9,7 @@ use Rattle.net_parts.specs.Machines.{span}
 use Rattle.net_parts.proofs.LateRows.{if_true}
 use Rattle.net_parts.proofs.RepeaterSteps.{length-span, get_or-span}
 use Rattle.tap_lines.specs.TapLines.{TapLine, no_line, symbol_on, line_extended, line_cut}
-use Rattle.tap_lines.proofs.ExtendedLines.{extended_more}
-use Rattle.tap_lines.proofs.Spans.{take-span, span_more}
+use Rattle.tap_lines.proofs.Spans.{take-span}
 
 -- values that agree
 pub span_alike : {X : Type 0} (f g : ℕ → X) (a b n : ℕ) → ((i : ℕ) → i < n → f (a + i) ≡ g (b + i)) → span f a n ≡ span g b n
@@ -102,18 +101,6 @@ idle_tail [] q i = get_or-idle q i
 idle_tail (x ∷ xs) q zero = refl
 idle_tail (x ∷ xs) q (suc i) = idle_tail xs q i
 
--- a symbol more
-pub room_left : (l l' : TapLine) (xs : List Sym) (j count : ℕ) → l' ≡ line_extended l xs → length xs ≡ j → j < count → count ≤ l.room → 0 < l'.room
-room_left l l' xs j count is size h room =
-    let e = ap (λ (x : TapLine). x.room) is in
-    omega (arith, e, size, h, room)
-
-pub sent_more : (f : ℕ → Sym) (l l' l'' : TapLine) (s : Sym) (j : ℕ) → l' ≡ line_extended l (span f 0 j) → s ≡ f j → l'' ≡ line_extended l' (s ∷ []) → l'' ≡ line_extended l (span f 0 (j + 1))
-sent_more f l l' l'' s j is same more =
-    let place : j ≡ 0 + j = omega arith in
-    more ∙ ap (λ x. line_extended x (s ∷ [])) is ∙ extended_more l (span f 0 j) (s ∷ [])
-    ∙ ap (line_extended l) (ap (λ x. span f 0 j ++ x ∷ []) (same ∙ ap f place) ∙ sym (span_more f 0 j))
-
 -- what stands on a line so many half bits before
 pub back_is : (l : TapLine) (written : List Sym) (q t back j : ℕ) → l.symbols ≡ written ++ replicate q Idle → back ≤ t → l.base ≤ t - back →
     get_or written (t - back - l.base + j) Idle ≡ earlier (symbol_on l) (t + j) back
@@ -150,15 +137,3 @@ cut_size all new a s h len few =
     let rest = length-drop a all in
     let sum = length-append new (drop a all) in
     length-take-le s (new ++ drop a all) (omega (arith, cut, rest, sum, len, few, h))
-
-pub cut_size_twice : (all new taken : List Sym) (a s : ℕ) → a ≤ length all → length new ≡ length (take a all) → s ≤ length (take a all) →
-    length taken ≡ length (take s (new ++ drop a all)) → length (take s (taken ++ drop s (new ++ drop a all))) ≡ s
-cut_size_twice all new taken a s h len few same =
-    let first = cut_size all new a s h len few in
-    let sum = length-append taken (drop s (new ++ drop a all)) in
-    length-take-le s (taken ++ drop s (new ++ drop a all)) (omega (arith, first, sum, same))
-
-pub cut_fits : (all new : List Sym) (a s : ℕ) → length new ≡ length (take a all) → s ≤ length (take a all) → s ≤ length (new ++ drop a all)
-cut_fits all new a s len few =
-    let sum = length-append new (drop a all) in
-    omega (arith, sum, len, few)

@@ -13,21 +13,6 @@ pub record ListedTo (u : ℕ) (ls : List TapLine) (ns : List ℕ) (n r : ℕ) : 
   pub others : (q : ℕ) → q < r → ((i : ℕ) → i < n → get_or ns i 0 ≢ q) → IsIdleFrom u (get_or ls q no_line)
   pub loud : (i : ℕ) → i < n → ¬ IsIdleFrom u (get_or ls (get_or ns i 0) no_line)
 
--- an idle tap more
-pub listed_idle : (u : ℕ) (ls : List TapLine) (ns : List ℕ) (n r : ℕ) → ListedTo u ls ns n r → IsIdleFrom u (get_or ls r no_line) → ListedTo u ls ns n (r + 1)
-listed_idle u ls ns n r so_far idle =
-    let fewer = so_far.few in
-    record {
-      few = omega (arith, fewer);
-      within = λ i h. let z = so_far.within i h in omega (arith, z);
-      rising = so_far.rising;
-      others = λ q h out. elim (cases_lt q r) [
-        | inl before ↦ so_far.others q before out
-        | inr now ↦ let e : r ≡ q = omega (arith, h, now) in subst (λ z. IsIdleFrom u (get_or ls z no_line)) e idle
-      ];
-      loud = so_far.loud;
-    }
-
 -- a loud tap more
 pub listed_loud : (u : ℕ) (ls : List TapLine) (ns : List ℕ) (n r : ℕ) → ListedTo u ls ns n r → n < length ns → ¬ IsIdleFrom u (get_or ls r no_line) →
     ListedTo u ls (set ns n r) (n + 1) (r + 1)
@@ -101,17 +86,6 @@ not_one u ls (x ∷ y ∷ ns) loud many q only =
       | inl before ↦ loud.loud 1 (omega arith) (λ v late. only.others y v second (λ e. omega (arith, e, before)) late)
       | inr behind ↦ loud.loud 0 (omega arith) (λ v late. only.others x v first (λ e. omega (arith, e, behind, less)) late)
     ])
-
--- where just one tap is listed
-pub one_listed : (u q : ℕ) (ls : List TapLine) (ns : List ℕ) → ns ≡ q ∷ [] → AreIdleButFor u ls ns → IsOnlySource u ls q
-one_listed u q ls ns is idle =
-    let alone : AreIdleButFor u ls (q ∷ []) = subst (AreIdleButFor u ls) is idle in
-    record {
-      within = alone.within 0 (omega arith);
-      others = λ r v h other late. alone.others r h (λ i m e.
-          let first : i ≡ 0 = omega (arith, m) in
-          other (sym (ap (λ k. get_or (q ∷ []) k 0) (sym first) ∙ e))) v late;
-    }
 
 -- from a later half bit on
 pub later_idle : (u u' : ℕ) (ls : List TapLine) (ns : List ℕ) → u ≤ u' → AreIdleButFor u ls ns → AreIdleButFor u' ls ns

@@ -129,7 +129,7 @@ impl Line {
         ensures backlog { IfOk result (λ line. line.backlog ≡ backlog) }
         ensures base { IfOk result (λ line. line.base ≡ 0) }
         ensures symbols { IfOk result (λ line. line.symbols ≡ []) }
-        ensures room { IfOk result (λ line. room ≤ line.room) }
+        ensures room { IfOk result (λ line. line.room ≡ room) }
     {
         Ok(Line {
             at,

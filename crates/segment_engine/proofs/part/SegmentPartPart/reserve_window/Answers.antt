@@ -19,7 +19,7 @@ invariant_of-self-2 c =
     let a = x.state in
     let new = c.reserve_stations.new.room in
     let same = c.reserve_stations.ensures.same in
-    let n = g.lookahead + 8192 in
+    let n = g.lookahead + 2048 in
     let near = x.stands.near in
     let stations : c.len.result ≡ length g.stations.items = c.len.ensures in
     record {

@@ -1,4 +1,4 @@
-use Rattle.std.proofs.Common.{◌≡◌, ◌<◌, ◌≤◌, ◌+◌, ◌-◌, min, take, drop, length, length-take-le, get_or, sym, ap, ◌∙◌, arith, rules}
+use Rattle.std.proofs.Common.{◌≡◌, ◌≤◌, ◌+◌, ◌-◌, min, take, drop, length, length-take-le, get_or, sym, ap, ◌∙◌, arith, rules}
 use Rattle.tap_lines.specs.TapLines.{TapLine, dropped_from}
 use Rattle.tap_lines.proofs.ExtendedLines.{dropped_unwritten, unwritten_size, moved_front}
 use Rattle.tap_lines.proofs.line.Line.drop_first.Goals as goal
