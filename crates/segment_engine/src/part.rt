@@ -7,6 +7,7 @@ ghost use Rattle.net_parts.specs.SegmentParts.{wiring};
 ghost use Rattle.net_parts.specs.Standing.{rows_of_devices};
 ghost use Rattle.net_parts.specs.Windows.{lookahead as lookahead_of, time as time_of, windows as windows_of};
 ghost use Rattle.segment_engine.specs.KeptParts.{KeepsSegment};
+ghost use Rattle.segment_engine.specs.OneProof.{one_proof};
 ghost use Rattle.segment_engine.specs.QuietHalfBits.{ComeInIdle, GoOutIdle, IsQuietFor};
 ghost use Rattle.segment_engine.specs.RunningStates.{IsRunningAt};
 ghost use Rattle.segment_engine.specs.StationsApart.{CoversApart};
@@ -37,12 +38,12 @@ pub struct SegmentPart {
     most: u32,
     reserved: bool,
     state: Running,
-    ghost stands: { IsRunningAt segment (window * segment.lookahead) state },
+    ghost stands: { IsRunningAt segment (window * segment.lookahead) state } by { Prim.hlevel one_proof },
     ghost at_time: { state.t ≡ time_of segment.plan.value window },
     ghost octets: { most ≡ most_octets_of (segment.plan.value.layout.format == 2) },
     ghost last: { window ≡ segment.windows → state.from ≡ state.t },
     ghost room: { reserved ≡ true → CoversApart (state.t + segment.lookahead) (length segment.stations.items) state.watches.items state.senders.items state.receivers.items state.room },
-    ghost kept: { KeepsSegment segment state (part_at segment.plan.value segment.number window) },
+    ghost kept: { KeepsSegment segment state (part_at segment.plan.value segment.number window) } by { Prim.hlevel one_proof },
 }
 
 /// Writes the rows of the sendings that are under way at the end `t` of a run.

@@ -33,7 +33,7 @@ returns-clause-at c =
     let ss = c.in_ok-senders.senders.items in
     let ks = c.in_ok-receivers.receivers.items in
     let ws = c.in_ok-watches.watches.items in
-    let many : c.len-stations.result ≡ n = c.len-stations.ensures in
+    let many : c.len-stations.result ≡ n = let m = c.len-stations.ensures in omega (arith, m) in
     let taps : c.len.result ≡ length ls = search rules in
     let know = c.in_ok-lines.ensures.know in
     let size = know.many in

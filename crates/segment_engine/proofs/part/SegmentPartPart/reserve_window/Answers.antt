@@ -21,7 +21,7 @@ invariant_of-self-2 c =
     let same = c.reserve_stations.ensures.same in
     let n = g.lookahead + 2048 in
     let near = x.stands.near in
-    let stations : c.len.result ≡ length g.stations.items = c.len.ensures in
+    let stations : c.len.result ≡ length g.stations.items = let m = c.len.ensures in omega (arith, m) in
     record {
       stands = running_room g (x.window * g.lookahead) a new same.same_rows same.same_captures x.stands;
       at_time = x.at_time;
