@@ -50,4 +50,6 @@ pub mod FirstReceptions
 pub mod PieceRoom
 pub mod SilentLines
 pub mod SilentParts
+pub mod QuietPorts
+pub mod ReservedRoom
 pub mod SendingTexts

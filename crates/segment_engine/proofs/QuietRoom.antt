@@ -18,7 +18,7 @@ first_of a e b h = record {
   fewer_octets = let x = h.fewer_octets in omega (arith, x);
 }
 
-in_a_row : (a b c : Demand) → IsDemandWithin a b → IsDemandWithin b c → IsDemandWithin a c
+pub in_a_row : (a b c : Demand) → IsDemandWithin a b → IsDemandWithin b c → IsDemandWithin a c
 in_a_row a b c h i = record {
   fewer_rows = let x = h.fewer_rows in let y = i.fewer_rows in omega (arith, x, y);
   fewer_frames = let x = h.fewer_frames in let y = i.fewer_frames in omega (arith, x, y);
