@@ -2,8 +2,7 @@
 //! where there are no words, what went wrong and how it is mended, and how much of a run is done.
 #![tactic(auto)]
 
-use command_line::{read_words, tell, tell_no_memory, watched};
-use input_hints::Ended;
+use command_line::{ended_by, read_words, tell, tell_no_memory, watched};
 use log_hints::hints;
 use netsim::{Ending, HELP, World, netsim};
 use outside::{FolderStore, OutSink};
@@ -23,12 +22,7 @@ fn main(rt: HostRuntime) -> ExitCode {
     progress.clear();
     let World { mut store, mut out } = world;
     let failure = store.take_failure().or(out.take_failure());
-    let ended = Ended {
-        help: HELP,
-        words: words.as_slice(),
-        status,
-        said: str::from_utf8(out.said()).unwrap_or(""),
-    };
+    let ended = ended_by(HELP, words.as_slice(), status, &out);
     let lines = hints(&rt, rt.alloc(), &ended, failure.as_ref(), &mut store);
     tell(&rt, &ended, lines);
     ExitCode::from(status)

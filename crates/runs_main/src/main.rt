@@ -2,9 +2,8 @@
 //! what the whole program does, and says the same.
 #![tactic(auto)]
 
-use command_line::{read_words, tell, tell_no_memory, watched};
+use command_line::{ended_by, read_words, tell, tell_no_memory, watched};
 use fault_hints::hints;
-use input_hints::Ended;
 use outside::{FolderStore, OutSink};
 use run_forms::{Ending, HELP, World, run_netsim};
 use std::process::ExitCode;
@@ -26,12 +25,7 @@ fn main(rt: HostRuntime) -> ExitCode {
     progress.clear();
     let World { mut store, mut out } = world;
     let failure = store.take_failure().or(out.take_failure());
-    let ended = Ended {
-        help: HELP,
-        words: words.as_slice(),
-        status,
-        said: str::from_utf8(out.said()).unwrap_or(""),
-    };
+    let ended = ended_by(HELP, words.as_slice(), status, &out);
     let lines = hints(&rt, rt.alloc(), &ended, failure.as_ref(), &mut store);
     tell(&rt, &ended, lines);
     ExitCode::from(status)
