@@ -1,7 +1,23 @@
 //! What is said on standard error of a run that ended.
 
 use input_hints::Ended;
-use lists::OutOfMemory;
+use lists::{OutOfMemory, Text};
+use outside::OutSink;
+
+/// How a run of these words ended, with a front of what it said on standard output.
+pub fn ended_by<'a, R: Print + Drop>(
+    help: &'a str,
+    words: &'a [Text],
+    status: u8,
+    out: &'a OutSink<R>,
+) -> Ended<'a> {
+    Ended {
+        help,
+        words,
+        status,
+        said: str::from_utf8(out.said()).unwrap_or(""),
+    }
+}
 
 /// Says that memory is wanting for anything else.
 pub fn tell_no_memory<R: Eprint>(rt: &R) {

@@ -7,7 +7,7 @@ mod given;
 mod progress;
 mod watch;
 
-pub use end::{tell, tell_no_memory};
+pub use end::{ended_by, tell, tell_no_memory};
 pub use given::read_words;
 pub use progress::Progress;
 pub use watch::watched;

@@ -5,9 +5,9 @@ use outside::Store;
 use std::alloc::Global;
 
 /// How many octets are read at a time, and how many pieces of a file at most.
-const PIECE: usize = 16_384;
+pub const PIECE: usize = 16_384;
 
-const MOST_PIECES: u32 = 16_400;
+pub const MOST_PIECES: u32 = 16_400;
 
 /// A file, or a front of it of some 256 MiB; nothing where it can't be read.
 pub fn read_file<S: Store>(

@@ -17,7 +17,7 @@ mod tomls;
 mod ways;
 
 pub use asked::{Ended, after, are_digits, or_empty, word_at};
-pub use files::read_file;
+pub use files::{MOST_PIECES, PIECE, read_file};
 pub use layouts::{begin, document_of, number_at, tell_layout, tell_unread, text_at};
 pub use message::Message;
 pub use near::{Nearest, take_names, tell_nearest};

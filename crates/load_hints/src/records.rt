@@ -1,12 +1,8 @@
 //! The records of a load, whose heads are read again.
 
 use crate::heads::{is_little, number_in, octet_at};
+use input_hints::{MOST_PIECES, PIECE};
 use outside::Store;
-
-/// How many octets are read at a time, and how many pieces at most of a load of at most 64 MiB.
-const PIECE: usize = 16_384;
-
-const MOST_PIECES: u32 = 16_400;
 
 /// The octets of a record's head, and the most heads that are in a piece.
 const HEAD: usize = 16;

@@ -1,13 +1,9 @@
 //! Fronts of the lines of a file that is read again.
 
+use input_hints::{MOST_PIECES, PIECE};
 use lists::{List, OutOfMemory};
 use outside::Store;
 use std::alloc::Global;
-
-/// How many octets are read at a time, and how many pieces of a file at most.
-const PIECE: usize = 16_384;
-
-const MOST_PIECES: u32 = 16_400;
 
 /// The most octets of a line that are kept: more than are shown, and than a line of a log has.
 const MOST_OF_LINE: usize = 256;

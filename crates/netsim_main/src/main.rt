@@ -2,8 +2,8 @@
 //! where there are no words, what went wrong and how it is mended, and how much of a run is done.
 #![tactic(auto)]
 
-use command_line::{read_words, tell, tell_no_memory, watched};
-use input_hints::Ended;
+use command_line::{ended_by, read_words, tell, tell_no_memory, watched};
+use lists::Text;
 use log_hints::hints;
 use netsim::{Ending, HELP, World, netsim};
 use outside::{FolderStore, OutSink};
@@ -21,15 +21,20 @@ fn main(rt: HostRuntime) -> ExitCode {
     let progress = watched(&rt, &rt.stderr(), words.as_slice());
     let status = netsim(&rt, rt.alloc(), &words, &mut world, &progress);
     progress.clear();
+    tell_end(&rt, words.as_slice(), status, world);
+    ExitCode::from(status)
+}
+
+/// Says on standard error what there is to say of the run of these words.
+fn tell_end<'a>(
+    rt: &'a HostRuntime,
+    words: &[Text],
+    status: u8,
+    world: World<FolderStore<&'a HostRuntime>, OutSink<&'a HostRuntime>>,
+) {
     let World { mut store, mut out } = world;
     let failure = store.take_failure().or(out.take_failure());
-    let ended = Ended {
-        help: HELP,
-        words: words.as_slice(),
-        status,
-        said: str::from_utf8(out.said()).unwrap_or(""),
-    };
-    let lines = hints(&rt, rt.alloc(), &ended, failure.as_ref(), &mut store);
-    tell(&rt, &ended, lines);
-    ExitCode::from(status)
+    let ended = ended_by(HELP, words, status, &out);
+    let lines = hints(rt, rt.alloc(), &ended, failure.as_ref(), &mut store);
+    tell(rt, &ended, lines);
 }

@@ -2,9 +2,9 @@
 //! what the whole program does, and says the same.
 #![tactic(auto)]
 
-use command_line::{read_words, tell, tell_no_memory, watched};
+use command_line::{ended_by, read_words, tell, tell_no_memory, watched};
 use fault_hints::hints;
-use input_hints::Ended;
+use lists::Text;
 use outside::{FolderStore, OutSink};
 use run_forms::{Ending, HELP, World, run_netsim};
 use std::process::ExitCode;
@@ -24,15 +24,20 @@ fn main(rt: HostRuntime) -> ExitCode {
         return ExitCode::from(Ending::Words.status());
     };
     progress.clear();
+    tell_end(&rt, words.as_slice(), status, world);
+    ExitCode::from(status)
+}
+
+/// Says on standard error what there is to say of the run of these words.
+fn tell_end<'a>(
+    rt: &'a HostRuntime,
+    words: &[Text],
+    status: u8,
+    world: World<FolderStore<&'a HostRuntime>, OutSink<&'a HostRuntime>>,
+) {
     let World { mut store, mut out } = world;
     let failure = store.take_failure().or(out.take_failure());
-    let ended = Ended {
-        help: HELP,
-        words: words.as_slice(),
-        status,
-        said: str::from_utf8(out.said()).unwrap_or(""),
-    };
-    let lines = hints(&rt, rt.alloc(), &ended, failure.as_ref(), &mut store);
-    tell(&rt, &ended, lines);
-    ExitCode::from(status)
+    let ended = ended_by(HELP, words, status, &out);
+    let lines = hints(rt, rt.alloc(), &ended, failure.as_ref(), &mut store);
+    tell(rt, &ended, lines);
 }

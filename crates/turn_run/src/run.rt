@@ -68,6 +68,21 @@ fn run_parts<S: PartKind, R: PartKind, G: Gate>(
         parcels.as_mut_slice(),
         hand.as_mut_slice(),
     )?;
+    gather_parts(alloc, plan, segments, repeaters)
+}
+
+/// The outputs of the run of a plan, from its parts, which have made all their windows.
+fn gather_parts<S: PartKind, R: PartKind>(
+    alloc: Global,
+    plan: &Plan,
+    segments: Vec<S>,
+    repeaters: Vec<R>,
+) -> Result<Outputs, OutOfMemory>
+    requires segments { AreAtWindow S.plan S.number S.at plan.now 0 (length plan.now.layout.segments) (windows_of plan.now) segments.items }
+    requires repeaters { AreAtWindow R.plan R.number R.at plan.now (length plan.now.layout.segments) (length plan.now.layout.repeaters) (windows_of plan.now) repeaters.items }
+    ensures rows { IfOk result (λ outputs. outputs.rows ≡ rows plan.now) }
+    ensures captures { IfOk result (λ outputs. outputs.captures ≡ captures plan.now) }
+{
     let mut logs = RowsList::new(alloc);
     let mut of_parts = Vec::new(alloc);
     collect_parts(segments, &mut logs, &mut of_parts)?;
