@@ -21,8 +21,7 @@ use Rattle.segment_engine.specs.declared.apart.Watch.{Watch}
 use Rattle.segment_engine.specs.declared.segment.Segment.{Segment}
 use Rattle.segment_engine.specs.KnownLines.{KnowLines}
 use Rattle.segment_engine.specs.StationsApart.{AreToldAnew, IsToldAnew, StandsApart, lowered_watch, number_on}
-use Rattle.segment_engine.proofs.ChangedLines.{line_anew, lowered, same_places, unlowered}
-use Rattle.segment_engine.proofs.StepOne.{unchanged_line}
+use Rattle.segment_engine.proofs.ChangedLines.{line_anew, lowered, same_places, unchanged_line, unlowered}
 
 -- one line, which ended at half bit t
 before_arrived : (t a : ℕ) (l : TapLine) (ss : List Sym) → l.base + length l.symbols ≡ t → a < t → symbol_on (line_extended l ss) a ≡ symbol_on l a

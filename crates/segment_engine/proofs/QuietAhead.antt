@@ -84,8 +84,12 @@ module _ (of : Segment) (a : Running) (at : GoesOnAt of a.t a) (silent : AreIdle
     receivers = rest;
   }
 
+-- no watch ends before the present half bit
+pub until_now : (of : Segment) (a : Running) → GoesOnAt of a.t a → (i : ℕ) (w : Watch) → i < length a.watches.items → a.t ≤ (get_or a.watches.items i w).until
+until_now of a at i w h = let many = at.stations.watches in (at.stations.each i w (sender_at of.plan.value 0 0) a_kept (omega (arith, h, many))).until
+
 -- where all stand before the present half bit
-module _ (of : Segment) (a : Running) (at : GoesOnAt of a.t a) (settled : a.from ≡ a.t) where
+module _ (of : Segment) (a : Running) (front : ℕ) (at : GoesOnAt of front a) (settled : a.from ≡ a.t) where
   pub times_now : All (λ (s : Sender). s.t ≡ a.t) a.senders.items
   times_now = λ i s h.
       let many = at.stations.senders in
