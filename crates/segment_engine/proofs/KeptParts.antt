@@ -1,5 +1,6 @@
 -- What a segment keeps stands for its part's state.
 use Rattle.std.proofs.Common.{◌≡◌, ℕ, zero, suc, ◌<◌, ◌≤◌, true, false, Bool, cond, eqb, None, List, [], ◌∷◌, ◌++◌, map, length, get_or, refl, sym, subst, ap, ap₂, ◌∙◌, arith}
+use Rattle.std.proofs.Props.{props}
 use Rattle.std.proofs.lemmas.Bool.{false≢true}
 use Rattle.std.proofs.lemmas.Bool.Decides.{nat_tests}
 use Rattle.manchester_line.specs.declared.Sym.{Sym}
@@ -13,15 +14,16 @@ use Rattle.mac_receive.specs.KeptReceiver.{KeptReception, Hears}
 use Rattle.mac_transmit.specs.Sender.{Sender}
 use Rattle.network.specs.Attempts.{sender_at}
 use Rattle.network.specs.Times.{heard, emitted}
-use Rattle.net_parts.specs.Windows.{time, lookahead}
+use Rattle.network.specs.Outputs.{half_bits}
+use Rattle.net_parts.specs.Windows.{lookahead, time, windows}
 use Rattle.net_parts.specs.SegmentParts.{wiring}
 use Rattle.net_parts.specs.Standing.{captures_at, receiver_at, rows_of_devices, segment_at}
 use Rattle.net_parts.specs.OutputsOfParts.{rows_handed_out, captures_handed_out, cut_rows_on}
-use Rattle.net_parts.specs.Parts.{PartState, OfSegment, OfRepeater, is_segment_part, part_of_kind, part_at}
+use Rattle.net_parts.specs.Parts.{PartState, OfSegment, OfRepeater, is_segment_part, part_of_kind, part_at, parts}
 use Rattle.net_parts.proofs.NetworkFacts.{station_facts}
 use Rattle.net_parts.proofs.DeviceSteps.{receiver_next}
 use Rattle.tap_lines.specs.TapLines.{TapLine}
-use Rattle.window_room.specs.Rooms.{Room}
+use Rattle.window_room.specs.Rooms.{Room, KeepsRoom}
 use Rattle.window_room.specs.NeededRoom.{Demand, Covers, IsDemandWithin}
 use Rattle.segment_engine.specs.declared.apart.Watch.{Watch}
 use Rattle.segment_engine.specs.declared.running.Running.{Running}
@@ -30,6 +32,31 @@ use Rattle.segment_engine.specs.KeptParts.{KeepsSegment, is_segment_state, segme
 use Rattle.segment_engine.specs.RunningStates.{IsRunningAt}
 use Rattle.segment_engine.specs.StationsApart.{StandAllApart}
 use Rattle.segment_engine.proofs.Beginnings.{receiver_new}
+
+-- a segment is the same whatever shows its facts
+pub other_proofs : (P : Segment → Type 0) (g : Segment) (a : g.number < length g.plan.value.layout.segments) (b : g.number < parts g.plan.value) (c : g.stations.items ≡ (wiring g.plan.value.layout g.number).stations)
+    (d : g.edges ≡ (wiring g.plan.value.layout g.number).edges) (e : g.lookahead ≡ lookahead g.plan.value.layout) (f : g.half_bits ≡ half_bits g.plan.value) (h : g.windows ≡ windows g.plan.value) → P g →
+    P (record {
+      plan = g.plan; number = g.number; stations = g.stations; edges = g.edges; lookahead = g.lookahead; half_bits = g.half_bits; windows = g.windows;
+      within = a; within_parts = b; station_numbers = c; edge_numbers = d; window_length = e; run_length = f; window_count = h;
+    })
+other_proofs P g a b c d e f h x =
+    let pa : IsProp (g.number < length g.plan.value.layout.segments) = hlevel props in
+    let pb : IsProp (g.number < parts g.plan.value) = hlevel props in
+    let pc : IsProp (g.stations.items ≡ (wiring g.plan.value.layout g.number).stations) = hlevel props in
+    let pd : IsProp (g.edges ≡ (wiring g.plan.value.layout g.number).edges) = hlevel props in
+    let pe : IsProp (g.lookahead ≡ lookahead g.plan.value.layout) = hlevel props in
+    let pf : IsProp (g.half_bits ≡ half_bits g.plan.value) = hlevel props in
+    let ph : IsProp (g.windows ≡ windows g.plan.value) = hlevel props in
+    let same : g ≡ record {
+      plan = g.plan; number = g.number; stations = g.stations; edges = g.edges; lookahead = g.lookahead; half_bits = g.half_bits; windows = g.windows;
+      within = a; within_parts = b; station_numbers = c; edge_numbers = d; window_length = e; run_length = f; window_count = h;
+    } = λ i. record {
+      plan = g.plan; number = g.number; stations = g.stations; edges = g.edges; lookahead = g.lookahead; half_bits = g.half_bits; windows = g.windows;
+      within = pa g.within a i; within_parts = pb g.within_parts b i; station_numbers = pc g.station_numbers c i; edge_numbers = pd g.edge_numbers d i;
+      window_length = pe g.window_length e i; run_length = pf g.run_length f i; window_count = ph g.window_count h i;
+    } in
+    subst P same x
 
 -- the part that stands at a window is a segment
 part_is : (plan : Plan) (s wd t : ℕ) → s < length plan.layout.segments → t ≡ time plan wd → part_at plan s wd ≡ OfSegment (segment_at plan (lookahead plan.layout) (wiring plan.layout s) t)
@@ -103,6 +130,13 @@ receiver_most plan k (suc t) h =
     ap (λ (r : Receiving). r.most) (receiver_next plan (station_facts plan) k t h)
     ∙ most_step (receiver_at plan k t) (heard plan k t) (is_signal (emitted plan k t))
     ∙ receiver_most plan k t h
+
+pub covers_kept : (d : Demand) (old new : Room) → KeepsRoom 0 0 0 old new → Covers d old → Covers d new
+covers_kept d old new k c = record {
+  for_rows = let x = k.keeps_rows in let y = c.for_rows in omega (arith, x, y);
+  for_frames = let x = k.keeps_frames in let y = c.for_frames in omega (arith, x, y);
+  for_octets = let x = k.keeps_octets in let y = c.for_octets in omega (arith, x, y);
+}
 
 pub covers_within : (a b : Demand) (room : Room) → IsDemandWithin a b → Covers b room → Covers a room
 covers_within a b room w c = record {

@@ -1,4 +1,4 @@
-use Rattle.std.proofs.Common.{◌*◌, ◌/◌, ◌≤◌, inl, inr, subst, arith, mul-le-mul_right}
+use Rattle.std.proofs.Common.{◌*◌, ◌/◌, ◌≤◌, inl, inr, subst, ◌∙◌, arith, mul-le-mul_right}
 use Rattle.std.proofs.lemmas.Bool.{cases_lt}
 use Rattle.net_parts.specs.Windows.{lookahead}
 use Rattle.net_parts.proofs.WindowTimes.{some_lead}
@@ -21,7 +21,7 @@ returns-clause-quiet c = λ n some few.
     let L = lookahead x.segment.plan.value.layout in
     let q = c.quiet_ahead.result in
     let lead = some_lead x.segment.plan.value in
-    let most : c.min.result ≤ q / L = ? in
+    let most : c.min.result ≤ q / L = subst (λ l. c.min.result ≤ q / l) (c.from-2.ensures ∙ x.segment.window_length) (least_of_two c.min.result (q / c.from-2.result) c.args.most c.min.ensures) in
     let all : c.min.result * L ≤ q = windows_within c.min.result q L most in
     let these : n * L ≤ c.min.result * L = mul-le-mul_right L few in
     let one : 1 * L ≤ n * L = mul-le-mul_right L (omega (arith, some)) in
@@ -33,7 +33,7 @@ returns-clause-silent c = λ n few come.
     let plan = x.segment.plan.value in
     let L = lookahead plan.layout in
     let q = c.quiet_ahead.result in
-    let most : c.min.result ≤ q / L = ? in
+    let most : c.min.result ≤ q / L = subst (λ l. c.min.result ≤ q / l) (c.from-2.ensures ∙ x.segment.window_length) (least_of_two c.min.result (q / c.from-2.result) c.args.most c.min.ensures) in
     let all : c.min.result * L ≤ q = windows_within c.min.result q L most in
     elim (cases_lt 0 n) [
       | inl some ↦
