@@ -14,15 +14,6 @@ use Rattle.tap_lines.specs.TapLines.{TapLine, line_extended}
 abbrev pub sent_ahead : Sender → ℕ → List Sym
 sent_ahead s n = span (λ j. emission_by s j s.phase) 0 n
 
--- A line with what its station emits in the half bits ahead, at least `least` and at most `most` of them, if nothing
--- happens to its sender: as long as it sends, that is a signal (profile).
-pub record IsToldAhead (s : Sender) (least most : ℕ) (l l' : TapLine) : Type 0 where
-  pub number : ℕ
-  pub enough : least ≤ number
-  pub few : number ≤ most
-  pub line : l' ≡ line_extended l (sent_ahead s number)
-  pub signal : (j : ℕ) → j < least → is_signal (emission_by s j s.phase) ≡ is_sending s.phase
-
 -- Nothing happens at a station's sender in n half bits in which the station hears a signal all the time, or Idle all
 -- the time, as `carrier` says: it goes on with what it does (profile).
 pub record IsCalmAs (n : ℕ) (carrier : Bool) (s : Sender) : Type 0 where
