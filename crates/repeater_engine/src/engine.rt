@@ -1,8 +1,9 @@
 //! A repeater that makes half bits, with its rows.
 ghost use Rattle.std.specs.Fn.{iterate};
-ghost use Rattle.std.specs.Prelude.{◌≡◌, ◌<◌, ◌≤◌, ◌+◌, ◌-◌, ◌^◌, [], All, length, IfOk, OnOk};
+ghost use Rattle.std.specs.Prelude.{◌≡◌, ◌<◌, ◌≤◌, ◌+◌, ◌-◌, ◌^◌, [], All, length, replicate, IfOk, OnOk};
 ghost use Rattle.load_plan.specs.declared.plan.Plan.{Plan};
 ghost use Rattle.mac_parameters.specs.Parameters.{greatest_delay, most_ports};
+ghost use Rattle.manchester_line.specs.declared.Sym.TheVariants.{Idle};
 ghost use Rattle.net_parts.specs.RepeaterParts.{repeater_step};
 ghost use Rattle.net_parts.specs.Standing.{repeater_at};
 ghost use Rattle.repeater_core.specs.Calm.{IsCalm, silent_step};
@@ -45,6 +46,30 @@ pub struct RepeaterEngine {
     emitted: Vec<Sym>,
     decided: Vec<Sym>,
     sent: Vec<Sym>,
+}
+
+/// The symbols that a repeater before half bit 0 has.
+#[derive(Drop)]
+struct Symbols {
+    heard: Vec<Sym>,
+    emitted: Vec<Sym>,
+    decided: Vec<Sym>,
+    sent: Vec<Sym>,
+}
+
+/// Idle at each of so many ports, and in as many half bits as are made at once.
+fn all_idle(alloc: Global, ports: usize) -> Result<Symbols, OutOfMemory>
+    ensures heard { IfOk result (λ s. s.heard.items ≡ replicate ports Idle) }
+    ensures emitted { IfOk result (λ s. s.emitted.items ≡ replicate ports Idle) }
+    ensures decided { IfOk result (λ s. s.decided.items ≡ replicate ports Idle) }
+    ensures sent { IfOk result (λ s. s.sent.items ≡ replicate greatest_delay Idle) }
+{
+    Ok(Symbols {
+        heard: vec![in alloc; Sym::Idle; ports]?,
+        emitted: vec![in alloc; Sym::Idle; ports]?,
+        decided: vec![in alloc; Sym::Idle; ports]?,
+        sent: vec![in alloc; Sym::Idle; MOST_AT_ONCE]?,
+    })
 }
 
 impl Model for RepeaterEngine {
@@ -92,18 +117,19 @@ impl RepeaterEngine {
         ensures device { IfOk result (λ e. e.device ≡ device) }
         ensures state { IfOk result (λ e. e.state ≡ record { t = 0; repeater = new_state ports delay; rows = [] }) }
     {
-        let count = ports as usize;
+        let symbols = all_idle(alloc, ports as usize)?;
+        let log = RowRoom::new(alloc, 0)?;
         Ok(RepeaterEngine {
             t: 0,
             device,
             ports,
             repeater: Repeater::new(alloc, ports, delay)?,
-            log: RowRoom::new(alloc, 0)?,
-            heard: vec![in alloc; Sym::Idle; count]?,
+            log,
+            heard: symbols.heard,
             steady: 0,
-            emitted: vec![in alloc; Sym::Idle; count]?,
-            decided: vec![in alloc; Sym::Idle; count]?,
-            sent: vec![in alloc; Sym::Idle; MOST_AT_ONCE]?,
+            emitted: symbols.emitted,
+            decided: symbols.decided,
+            sent: symbols.sent,
         })
     }
 
