@@ -25,7 +25,7 @@ use crate::due::{lower_all, step_all};
 use crate::quiet::is_sending;
 use crate::running::Running;
 use crate::segment::Segment;
-use crate::steady::put_all;
+use crate::steady::put_first;
 use mac_transmit::Transmitter;
 use manchester_line::Sym;
 use net_parts::Parcel;
@@ -555,9 +555,16 @@ pub fn go_apart(of: &Segment, window: u64, count: u32, state: &mut Running, parc
         of, window, from, t, end, lines, loud, late, far, watches, senders, receivers, piece,
         teller, room,
     );
-    let part = &mut piece[..count as usize];
-    put_all(
-        t, 0, lines, loud, stations, lookahead, far, parcels, part,
+    put_first(
+        t,
+        count as usize,
+        lines,
+        loud,
+        stations,
+        lookahead,
+        far,
+        parcels,
+        piece,
     );
     state.t = end;
 }
