@@ -33,6 +33,7 @@ pub mod ChangedStations
 pub mod StepAll
 pub mod RunsApart
 pub mod RoomOfLines
+pub mod PortsOfRunning
 pub mod SettledLines
 pub mod PassedStations
 pub mod ArrivedLines
