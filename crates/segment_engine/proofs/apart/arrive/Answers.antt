@@ -1,6 +1,6 @@
-use Rattle.std.proofs.Common.{◌≡◌, ◌≢◌, ℕ, ◌+◌, ◌-◌, ◌*◌, ◌<◌, ◌≤◌, ◌^◌, List, map, length, length-map, get_or, sym, subst, ap, ap₂, ◌∙◌, arith, rules}
+use Rattle.std.proofs.Common.{◌≡◌, ◌≢◌, ℕ, ◌+◌, ◌-◌, ◌*◌, ◌<◌, ◌≤◌, ◌^◌, List, map, length, get_or, sym, subst, ap, ap₂, ◌∙◌, arith, rules}
 use Rattle.std.specs.Vec.{with_items}
-use Rattle.std.proofs.lemmas.List.{with_items_is}
+use Rattle.std.proofs.lemmas.List.{length-map, with_items_is}
 use Rattle.manchester_line.specs.declared.Sym.{Sym}
 use Rattle.net_parts.specs.Machines.{span}
 use Rattle.net_parts.specs.SegmentParts.{wiring}
@@ -76,7 +76,7 @@ loop-p-preserved c =
     record {
       came = next_arrived plan w g.lookahead a.t g.lookahead k a.lines.items ls ls' inv.came c.arrive_one.auto.lines own (λ q l e. now.others q l (λ z. e (z ∙ there)));
       watched = new ∙ size;
-      stands = λ i x s r h. now.stands a.from i x s r (omega (arith, h, watched, size)) (λ z. omega (arith, z, h, counted)) (inv.stands i x s r h);
+      stands = λ i x s r h. now.stands a.from i x (get_or a.senders.items i s) (get_or a.receivers.items i r) (omega (arith, h, watched, size)) (λ z. omega (arith, z, h, counted)) (inv.stands i x s r h);
       since = λ i x h. let in_it : i < length c.loop-p.watches = omega (arith, h, new) in now.since i x in_it ∙ inv.since i x in_it;
       carrier = λ i x h. let in_it : i < length c.loop-p.watches = omega (arith, h, new) in now.carrier i x in_it ∙ inv.carrier i x in_it;
       until = λ i x h. let in_it : i < length c.loop-p.watches = omega (arith, h, new) in let y = now.until i x in_it in let z = inv.until i x in_it in omega (arith, y, z);
