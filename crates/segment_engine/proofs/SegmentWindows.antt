@@ -24,6 +24,15 @@ module _ (g : Segment) (wd t : ℕ) (below : wd < g.windows) (at : t ≡ time g.
   pub begins : t ≡ wd * g.lookahead
   begins = at ∙ window_starts plan wd is_window ∙ sym product
 
+  pub early : t < most_half_bits
+  early =
+      let starts = begins in
+      let p = product in
+      let b = window_begins plan wd is_window in
+      let short = (runnable_plan plan).short in
+      let few : half_bits plan ≤ most_half_bits = omega (arith, short) in
+      omega (arith, starts, p, b, few)
+
   module _ (from count now : ℕ) (all : from ≡ g.lookahead) (same : now ≡ t) (least : count ≡ min from (g.half_bits - now)) where
     pub half_bits_are : count ≡ min L (half_bits plan - wd * L)
     half_bits_are =
