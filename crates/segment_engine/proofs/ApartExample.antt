@@ -71,7 +71,7 @@ not_over_a_signal plan x t s k stands = false≢true (sym (stands.steady 4 (omeg
 
 -- its own line has symbols for half bits 0 and 1 alone, and no room
 pub tells : TellsUpTo 2 2 (get_or lines 1 no_line)
-tells = record { begun = omega arith; reaches = omega arith; takes = omega arith }
+tells = record { begun = omega arith; takes = omega arith; fits = omega arith }
 
 pub tells_no_more : ¬ TellsUpTo 2 3 (get_or lines 1 no_line)
 tells_no_more tell = let room : 3 ≤ 2 = tell.takes in absurd (omega (arith, room))

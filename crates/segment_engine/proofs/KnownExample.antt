@@ -8,7 +8,7 @@ use Rattle.mac_parameters.specs.Distances.{distance}
 use Rattle.load_plan.specs.declared.plan.Plan.{Plan}
 use Rattle.network.specs.Times.{emitted}
 use Rattle.net_parts.specs.SegmentParts.{Wiring}
-use Rattle.tap_lines.specs.TapLines.{TapLine, no_line, symbol_on}
+use Rattle.tap_lines.specs.TapLines.{TapLine, class_on, no_line, symbol_on}
 use Rattle.segment_engine.specs.KnownLines.{KnowLines}
 
 abbrev wired : Wiring
@@ -50,6 +50,11 @@ said_first plan idle zero zero h b l = sym idle
 said_first plan idle zero (suc u) h b l = absurd (omega (arith, l))
 said_first plan idle (suc r) u h b l = absurd (omega (arith, h))
 
+no_signals : (r u : ℕ) → r < 1 → u < 1 → class_on (get_or lines r no_line) u ≡ is_signal (symbol_on (get_or lines r no_line) u)
+no_signals zero zero h l = refl
+no_signals zero (suc u) h l = absurd (omega (arith, l))
+no_signals (suc r) u h l = absurd (omega (arith, h))
+
 pub know_idle : (plan : Plan) → emitted plan 0 0 ≡ Idle → KnowLines plan wired 20 1 0 lines
 know_idle plan idle = record {
   many = refl;
@@ -60,6 +65,8 @@ know_idle plan idle = record {
   near = both_near;
   emissions = said_first plan idle;
   arrivals = λ p u h b l. absurd (omega (arith, l));
+  classes = no_signals;
+  port_classes = λ p u h l. absurd (omega (arith, l));
 }
 
 -- of a station that emits a signal they don't say so

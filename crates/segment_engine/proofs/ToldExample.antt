@@ -4,7 +4,7 @@ use Rattle.std.proofs.lemmas.Bool.{false≢true}
 use Rattle.manchester_line.specs.declared.Sym.{Sym}
 use Rattle.manchester_line.specs.declared.Sym.TheVariants.{Idle, Hi, Lo}
 use Rattle.manchester_line.specs.Line.{is_signal}
-use Rattle.tap_lines.specs.TapLines.{TapLine, symbol_on}
+use Rattle.tap_lines.specs.TapLines.{TapLine, class_on, symbol_on}
 use Rattle.segment_engine.specs.StationsApart.{IsToldAnew}
 
 abbrev line_of : List Sym → TapLine
@@ -21,8 +21,13 @@ same_before zero h = refl
 same_before (suc zero) h = refl
 same_before (suc (suc a)) h = absurd (omega (arith, h))
 
+same_classes : (a : ℕ) → a < 2 → class_on anew a ≡ class_on told a
+same_classes zero h = refl
+same_classes (suc zero) h = refl
+same_classes (suc (suc a)) h = absurd (omega (arith, h))
+
 pub from_two : IsToldAnew 2 told anew
-from_two = record { place = refl; wait = refl; keeps = refl; begins = refl; size = refl; before = same_before }
+from_two = record { place = refl; wait = refl; keeps = refl; begins = refl; size = refl; before = same_before; classes = same_classes }
 
 -- but not from half bit 3 on
 pub not_from_three : ¬ IsToldAnew 3 told anew

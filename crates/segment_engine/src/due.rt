@@ -215,9 +215,7 @@ fn take_turn(
         of, from, u, lines, loud, late, p, far, watch, sender, receiver, piece,
     );
     if watch.until > u {
-        end_one(
-            of, from, u, lines, p, watch, sender, receiver, teller, room,
-        );
+        end_one(of, from, u, lines, p, watch, sender, receiver, teller, room);
         return None;
     }
     step_one(
@@ -313,7 +311,8 @@ pub fn step_all(
         let sender = &mut senders[k];
         let receiver = &mut receivers[k];
         let Some(at) = take_turn(
-            of, window, from, u, lines, loud, late, k, far, watch, sender, receiver, teller, room, piece,
+            of, window, from, u, lines, loud, late, k, far, watch, sender, receiver, teller, room,
+            piece,
         ) else {
             k = next_due(watches, k + 1, u);
             continue;
