@@ -1,5 +1,5 @@
 -- A station that stands behind, brought up to a later half bit.
-use Rattle.std.proofs.Common.{◌≡◌, ◌≢◌, ℕ, suc, All, ◌+◌, ◌-◌, ◌<◌, ◌≤◌, Bool, true, false, List, [], ◌∷◌, ◌++◌, None, get_or, replicate, length, refl, sym, subst, ap, ap₂, ◌∙◌, arith}
+use Rattle.std.proofs.Common.{◌≡◌, ◌≢◌, ℕ, zero, suc, All, ◌+◌, ◌-◌, ◌<◌, ◌≤◌, Bool, true, false, List, [], ◌∷◌, ◌++◌, None, get_or, replicate, length, refl, sym, subst, ap, ap₂, ◌∙◌, arith}
 use Rattle.manchester_line.specs.declared.Sym.{Sym}
 use Rattle.std.specs.Prelude.{if◌then◌else◌}
 use Rattle.manchester_line.specs.declared.Sym.TheVariants.{Idle, Hi, Lo, Clash}
@@ -28,6 +28,19 @@ use Rattle.segment_engine.specs.StationsApart.{behind_demand}
 use Rattle.tap_lines.proofs.Spans.{span_more}
 use Rattle.segment_engine.proofs.CalmLater.{calm_on}
 use Rattle.segment_engine.proofs.SendersStep.{sending_left}
+
+-- in half bits in which it hears Idle without sending a receiver has no reception under way
+idle_after : (r : Receiving) (d : Bool) (hs : List Sym) → r.halves ≡ hs → (if d then quiet (record r { deaf = false; halves = [] }) else reception_ended r hs).state.halves ≡ []
+idle_after r true hs e = refl
+idle_after r false [] e = e
+idle_after r false (x ∷ xs) e = refl
+
+pub idle_halves : (r : Receiving) → (receiver_step r Idle false).state.halves ≡ []
+idle_halves r = idle_after r r.deaf r.halves refl
+
+halves_after : (n : ℕ) (r : Receiving) → r.halves ≡ [] → (receiver_after r (replicate n Idle) false).halves ≡ []
+halves_after zero r h = h
+halves_after (suc n) r h = halves_after n (receiver_step r Idle false).state (idle_halves r)
 
 module _ (plan : Plan) (x : ℕ) (station : x < length plan.layout.stations) (p L t u : ℕ) (ls : List TapLine) (w : Watch) (s : Sender) (k : KeptReception)
     (behind : StandsBehind plan x p L t ls w s k) (since : w.since ≤ u) (until : u ≤ w.until) (right : HearsByLines plan x p L t u ls) where
@@ -63,6 +76,27 @@ module _ (plan : Plan) (x : ℕ) (station : x < length plan.layout.stations) (p 
       let in_it : w.since + i < w.told = omega (arith, l, until, told) in
       ap is_signal (right.emits (w.since + i) (omega (arith, from)) (omega (arith, l)) ∙ behind.line i in_it) ∙ behind.signal i in_it
 
+  -- its sender goes on with what it did
+  phase_was : (s' : Sender) → s' ≡ after_all s hs → s'.phase ≡ s.phase
+  phase_was s' sent =
+      let many = size in
+      ap (λ (y : Sender). y.phase) sent ∙ (calm_on hs s w.carrier (w.until - w.since) heard_so (omega (arith, many, until)) behind.calm).0.phase
+
+  -- a receiver at which no reception is under way while Idle is heard goes on so
+  pub still_brought : (s' : Sender) (k' : KeptReception) → s' ≡ after_all s hs →
+      ((r : Receiving) → Hears r k → Hears (receiver_after r hs (is_sending s.phase)) k') → IsStillBy w s k → IsStillBy w s' k'
+  still_brought s' k' sent receives still = λ idle silent.
+      let from = behind.from_start in
+      let off : is_sending s.phase ≡ false = sym (ap is_sending (phase_was s' sent)) ∙ silent in
+      let r = receiver_at plan x w.since in
+      let is : hs ≡ replicate n Idle =
+      idle_piece (λ a. heard_by_lines L a ls p) w.since n (λ j l.
+      sym (right.classes (w.since + j) (omega (arith, from)) (omega (arith, l)))
+      ∙ behind.steady (w.since + j) (omega arith) (omega (arith, l, until))
+      ∙ idle) in
+      (receives r behind.receiver).count
+      ∙ ap length (ap₂ (λ xs b. (receiver_after r xs b).halves) is off ∙ halves_after n r (no_halves r k (still idle off) behind.receiver))
+
   pub brought : (s' : Sender) (k' : KeptReception) (w' : Watch) → w'.since ≡ u → w'.until ≡ w.until → w'.carrier ≡ w.carrier → w'.told ≡ w.told →
       s' ≡ after_all s hs → s'.t ≡ w.since + n → k'.steps ≡ w.since + n →
       ((r : Receiving) → Hears r k → Hears (receiver_after r hs (is_sending s.phase)) k') →
@@ -73,7 +107,7 @@ module _ (plan : Plan) (x : ℕ) (station : x < length plan.layout.stations) (p 
       let left : w.until - w.since - length hs ≡ w.until - u = omega (arith, many, since) in
       let before = calm_on hs s w.carrier (w.until - w.since) heard_so (omega (arith, many, until)) behind.calm in
       let on = before.0 in
-      let phase : s'.phase ≡ s.phase = ap (λ (y : Sender). y.phase) sent ∙ on.phase in
+      let phase = phase_was s' sent in
       let calm : IsCalmAs (w.until - u) w.carrier s' = subst (λ m. IsCalmAs m w.carrier s') left (subst (λ y. IsCalmAs (w.until - w.since - length hs) w.carrier y) (sym sent) before.1) in
       let later_on : (j : ℕ) → w.since + (length hs + j) ≡ u + j = λ j. omega (arith, many, since) in
       let same_emission : (j : ℕ) → emission_by s' j s'.phase ≡ emission_by s (length hs + j) s.phase = λ j. ap (λ (y : Sender). emission_by y j y.phase) sent ∙ on.emits j in
@@ -202,14 +236,6 @@ needs_less e w' w s s' k k' hs sending size sent goes =
     both_within (sender_demand n s') (receiver_demand n k') (sender_demand m s) (receiver_demand m k) sender receiver
 
 -- the half bit in which a reception ends
-idle_after : (r : Receiving) (d : Bool) (hs : List Sym) → r.halves ≡ hs → (if d then quiet (record r { deaf = false; halves = [] }) else reception_ended r hs).state.halves ≡ []
-idle_after r true hs e = refl
-idle_after r false [] e = e
-idle_after r false (x ∷ xs) e = refl
-
-pub idle_halves : (r : Receiving) → (receiver_step r Idle false).state.halves ≡ []
-idle_halves r = idle_after r r.deaf r.halves refl
-
 pub idle_now : (plan : Plan) (x p L t u : ℕ) (ls : List TapLine) (w : Watch) (s : Sender) (k : KeptReception) → StandsBehind plan x p L t ls w s k → u < w.until → EndsAt u w s →
     HearsByLines plan x p L t (u + 1) ls → heard_for L w.since (u + 1 - w.since) ls p ≡ Idle ∷ []
 idle_now plan x p L t u ls w s k behind until ends right =

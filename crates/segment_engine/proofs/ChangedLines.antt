@@ -52,13 +52,13 @@ one_same L t p at q l l' place wait same =
     ∙ ap (λ x. cond (eqb q p) Idle (cond (leb back t) x Idle)) (same (t - back) (omega arith))
 
 -- Lines that differ from half bit u on at most say the same of what is heard below it, and of what they are right below.
-unchanged : (u : ℕ) (l : TapLine) → IsToldAnew u l l
-unchanged u l = record { place = refl; wait = refl; keeps = refl; begins = refl; size = refl; before = λ a h. refl; classes = λ a h. refl }
+pub unchanged_line : (u : ℕ) (l : TapLine) → IsToldAnew u l l
+unchanged_line u l = record { place = refl; wait = refl; keeps = refl; begins = refl; size = refl; before = λ a h. refl; classes = λ a h. refl }
 
 pub line_anew : (u n q : ℕ) (ls ls' : List TapLine) → AreToldAnew u n ls ls' → IsToldAnew u (get_or ls q no_line) (get_or ls' q no_line)
 line_anew u n q ls ls' anew = elim (cases_lt q n) [
   | inl one ↦ anew.told q one
-  | inr other ↦ subst (λ l. IsToldAnew u (get_or ls q no_line) l) (sym (anew.others q other)) (unchanged u (get_or ls q no_line))
+  | inr other ↦ subst (λ l. IsToldAnew u (get_or ls q no_line) l) (sym (anew.others q other)) (unchanged_line u (get_or ls q no_line))
 ]
 
 pub same_places : (ls ls' : List TapLine) → length ls' ≡ length ls → ((i : ℕ) → (get_or ls' i no_line).at ≡ (get_or ls i no_line).at) →

@@ -32,6 +32,13 @@ each_set P n k ws ss ks w' s' k' lw ls lk each one i w s r h = elim (cases_lt i 
     other : i ≢ k → P i (get_or (set ws k w') i w) (get_or (set ss k s') i s) (get_or (set ks k k') i r)
     other e = rw (get_or-set_other ws k i w' w e, get_or-set_other ss k i s' s e, get_or-set_other ks k i k' r e) (each i w s r h e)
 
+-- what holds below k and at k
+pub below_next : (k : ℕ) (P : ℕ → Type 0) → ((q : ℕ) → q < k → P q) → P k → (q : ℕ) → q < k + 1 → P q
+below_next k P before now q h = elim (cases_lt q k) [
+  | inl below ↦ before q below
+  | inr not ↦ let e : k ≡ q = omega (arith, h, not) in subst P e now
+]
+
 -- demands of which one has changed
 record AreSwapped (n k : ℕ) (f g : ℕ → Demand) : Type 0 where
   rows : (first_demands n f).rows + (g k).rows ≡ (first_demands n g).rows + (f k).rows

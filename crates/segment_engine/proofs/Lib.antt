@@ -11,6 +11,7 @@ pub mod KeptParts
 pub mod HandedOut
 pub mod StationsLater
 pub mod QuietStations
+pub mod QuietAhead
 pub mod QuietRoom
 pub mod PiecesAhead
 pub mod QuietHalfBits
@@ -31,7 +32,9 @@ pub mod RowsOfBoth
 pub mod ChangedStations
 pub mod StepAll
 pub mod RunsApart
+pub mod RoomOfLines
 pub mod SettledLines
+pub mod PassedStations
 pub mod ArrivedLines
 pub mod FilledParcels
 pub mod RowsApart
@@ -45,8 +48,6 @@ pub mod KnownExample
 pub mod FirstRows
 pub mod FirstReceptions
 pub mod PieceRoom
-pub mod SilentLines
 pub mod SilentParts
-pub mod QuietPorts
 pub mod ReservedRoom
 pub mod SendingTexts

@@ -10,7 +10,7 @@ use Rattle.mac_transmit.specs.Calm.{AllHeardAs, after_all, calm_of}
 use Rattle.mac_transmit.specs.Emissions.{emission_by}
 use Rattle.mac_transmit.proofs.CalmEmissions.{calm_senders_emit}
 use Rattle.network.specs.Attempts.{sender_at}
-use Rattle.network.specs.Times.{heard, emitted}
+use Rattle.network.specs.Times.{heard}
 use Rattle.net_parts.specs.Windows.{lookahead}
 use Rattle.net_parts.specs.Machines.{span}
 use Rattle.net_parts.specs.SegmentParts.{Wiring, wiring}
@@ -70,9 +70,6 @@ module _ (plan : Plan) (s u front : ℕ) (ls : List TapLine) (know : KnowLines p
   -- and it is a signal where it is one by the lines as they go on
   classes_to : (b : ℕ) → u ≤ b → b < front → AreRight b → (r : ℕ) → r < n → class_by_lines L b ls r ≡ is_signal (heard_by_lines L b ls r)
   classes_to b h l right r i = class_known plan s b front ls (know_to b h right) l r i
-
-  pub classes_so_far : u < front → (r : ℕ) → r < n → class_by_lines L u ls r ≡ is_signal (heard_by_lines L u ls r)
-  classes_so_far l r i = class_known plan s u front ls know l r i
 
   -- the same of the half bit that the lines are right below
   pub hears_so_far : u < front → (r : ℕ) → r < n → heard plan (number r) u ≡ heard_by_lines L u ls r

@@ -1,5 +1,5 @@
 -- What a segment's taps hear by its lines is what they hear in the network.
-use Rattle.std.proofs.Common.{◌≡◌, ℕ, suc, ◌+◌, ◌-◌, ◌<◌, ◌≤◌, cond, eqb, leb, ltb, inl, inr, List, [], ◌∷◌, map, drop, take, length, get_or, refl, sym, subst, ap, ap₂, ◌∙◌, arith}
+use Rattle.std.proofs.Common.{◌≡◌, ℕ, suc, ◌+◌, ◌-◌, ◌<◌, ◌≤◌, cond, eqb, leb, ltb, inl, inr, List, [], ◌∷◌, map, length, get_or, refl, sym, subst, ap, ap₂, ◌∙◌, arith}
 use Rattle.std.proofs.lemmas.List.{get_or-map, length-map}
 use Rattle.std.proofs.lemmas.Bool.{cases_lt}
 use Rattle.std.proofs.lemmas.Bool.Decides.{nat_tests}
@@ -10,18 +10,15 @@ use Rattle.mac_parameters.specs.Distances.{distance}
 use Rattle.cable_segment.specs.Bus.{heard_among, heard_at}
 use Rattle.load_plan.specs.declared.plan.Plan.{Plan}
 use Rattle.network.specs.Times.{heard, emitted, earlier}
-use Rattle.net_parts.specs.Machines.{span}
 use Rattle.net_parts.specs.SegmentParts.{Wiring, wiring}
 use Rattle.net_parts.specs.Standing.{arrives, port_hears}
 use Rattle.net_parts.specs.CalmPieces.{told_by_lines}
 use Rattle.net_parts.specs.PartLaws.{IsLead}
 use Rattle.net_parts.proofs.NetworkFacts.{StationFacts}
-use Rattle.net_parts.proofs.LateRows.{if_true, if_false, span_of}
+use Rattle.net_parts.proofs.LateRows.{if_true, if_false}
 use Rattle.net_parts.proofs.SegmentHearing.{station_hears, port_hears_so}
-use Rattle.tap_lines.specs.TapLines.{TapLine, no_line, symbol_on, half_bits_back, heard_of_lines, heard_by_lines, IsReachOf}
+use Rattle.tap_lines.specs.TapLines.{TapLine, no_line, symbol_on, half_bits_back, heard_of_lines, heard_by_lines}
 use Rattle.segment_engine.specs.KnownLines.{KnowLines}
-use Rattle.segment_engine.specs.PartStates.{AreLinesAt}
-use Rattle.tap_lines.proofs.Spans.{take-span, drop-span}
 
 test_true : {X : Type 0} (a b : ℕ) (x y : X) → a < b → cond (ltb a b) x y ≡ x
 test_true a b x y h = grind (arith, nat_tests)
@@ -47,32 +44,6 @@ mixed_alike L t p at q told (l ∷ ls) same =
     ap₂ mix_of
     (ap (λ s. cond (eqb q p) Idle s) (same 0 q (omega arith) (omega arith)))
     (mixed_alike L t p at (q + 1) told ls (λ i r h e. same (suc i) r (omega arith) (omega (arith, e))))
-
--- lines of the same taps reach as far
-line_place : (plan : Plan) (w : Wiring) (L t front : ℕ) (ls : List TapLine) → AreLinesAt plan w L t front ls → (i : ℕ) → i < length ls → (get_or ls i no_line).at ≡ get_or w.positions i 0
-line_place plan w L t front ls are i h = sym (get_or-map (λ (l : TapLine). l.at) ls i no_line 0 h) ∙ ap (λ xs. get_or xs i 0) are.places
-
-line_delay : (plan : Plan) (w : Wiring) (L t front t' front' : ℕ) (ls ls' : List TapLine) → AreLinesAt plan w L t front ls → AreLinesAt plan w L t' front' ls' → (i : ℕ) → i < length ls → (get_or ls' i no_line).delay ≡ (get_or ls i no_line).delay
-line_delay plan w L t front t' front' ls ls' are are' i h = elim (cases_lt i (length w.stations)) [
-  | inl station ↦ are'.no_delays i station ∙ sym (are.no_delays i station)
-  | inr port ↦
-      let p = i - length w.stations in
-      let same : length w.stations + p ≡ i = omega arith in
-      let many = are.many in
-      let in_it : p < length w.edges = omega (arith, h, many) in
-      subst (λ k. (get_or ls' k no_line).delay ≡ (get_or ls k no_line).delay) same (are'.delays p in_it ∙ sym (are.delays p in_it))
-]
-
-pub same_reach : (plan : Plan) (w : Wiring) (L t front t' front' far : ℕ) (ls ls' : List TapLine) → AreLinesAt plan w L t front ls → AreLinesAt plan w L t' front' ls' → IsReachOf far L ls → IsReachOf far L ls'
-same_reach plan w L t front t' front' far ls ls' are are' within = λ p r hp hr.
-    let many = are.many in
-    let many' = are'.many in
-    let lp : p < length ls = omega (arith, hp, many, many') in
-    let lr : r < length ls = omega (arith, hr, many, many') in
-    let a = line_place plan w L t' front' ls' are' p hp ∙ sym (line_place plan w L t front ls are p lp) in
-    let b = line_place plan w L t' front' ls' are' r hr ∙ sym (line_place plan w L t front ls are r lr) in
-    let d = line_delay plan w L t front t' front' ls ls' are are' r lr in
-    subst (λ x. x ≤ far) (sym (ap₂ (λ x y. x + y - L) (ap₂ distance a b) d)) (within p r lp lr)
 
 -- what a line says of so many half bits before
 said_before : (f : ℕ → Sym) (l : TapLine) (t back end : ℕ) → l.base ≤ t - l.backlog → ((u : ℕ) → l.base ≤ u → u < end → symbol_on l u ≡ f u) → back ≤ l.backlog → (back ≤ t → t - back < end) → earlier (symbol_on l) t back ≡ earlier f t back
@@ -154,24 +125,7 @@ module _ (plan : Plan) (facts : StationFacts plan) (L s t front : ℕ) (lead : I
       ∙ ap (λ xs. heard_among told p at 0 xs) are.places
       ∙ ap (λ x. heard_among told p x 0 w.positions) (place_at p h)
 
-  pub stations_by_lines : take n (span (heard_by_lines L t ls) 0 (length ls)) ≡ map (λ k. heard plan k t) w.stations
-  stations_by_lines =
-      let many = are.many in
-      take-span (heard_by_lines L t ls) 0 (length ls) n (omega (arith, many))
-      ∙ span_of (heard_by_lines L t ls) (λ k. heard plan k t) 0 w.stations (λ r m h e.
-      by_bus m (omega (arith, many, h, e)) ∙ station_hears plan facts L s t lead told stations_told ports_told r m h (omega (arith, e)))
-
-  pub ports_by_lines : drop n (span (heard_by_lines L t ls) 0 (length ls)) ≡ map (λ e. port_hears plan e t) w.edges
-  ports_by_lines =
-      let many = are.many in
-      let first : 0 + n ≡ n = omega arith in
-      let rest : length ls - n ≡ length w.edges = omega (arith, many) in
-      drop-span (heard_by_lines L t ls) 0 (length ls) n (omega (arith, many))
-      ∙ ap₂ (λ a b. span (heard_by_lines L t ls) a b) first rest
-      ∙ span_of (heard_by_lines L t ls) (λ e. port_hears plan e t) n w.edges (λ p m h e.
-      by_bus m (omega (arith, many, h, e)) ∙ port_hears_so plan facts L s t lead told stations_told ports_told p m h e)
-
-  -- and each of them
+  -- that is what each station, and each port, hears
   pub station_by_lines : (r : ℕ) → r < n → heard plan (get_or w.stations r 0) t ≡ heard_by_lines L t ls r
   station_by_lines r h =
       let many = are.many in

@@ -1,135 +1,376 @@
--- A segment on which nothing happens stands in the network several half bits later.
-use Rattle.std.proofs.Common.{◌≡◌, ℕ, ◌+◌, ◌-◌, ◌*◌, ◌<◌, ◌≤◌, All, false, List, [], ◌∷◌, ◌++◌, map, length, replicate, get_or, None, sym, subst, ap, ap₂, ◌∙◌, arith, append_assoc}
-use Rattle.std.proofs.lemmas.List.{get_or-map, length-map, same_lists, replicate_more, length-replicate}
+-- Where nothing happens on a segment, all taps hear Idle, and all stations stand in the network several half bits later.
+use Rattle.std.proofs.Common.{◌≡◌, ℕ, zero, suc, ◌+◌, ◌-◌, ◌<◌, ◌≤◌, ◌||◌, Bool, true, false, cond, eqb, inl, inr, Option, Some, None, List, [], ◌∷◌, map, length, replicate, get_or, refl, sym, subst, ap, ap₂, ◌∙◌, arith}
+use Rattle.std.proofs.lemmas.Bool.{cases_lt, false≢true}
+use Rattle.std.proofs.lemmas.List.{get_or-map, length-map}
+use Rattle.manchester_line.specs.declared.Sym.{Sym}
 use Rattle.manchester_line.specs.declared.Sym.TheVariants.{Idle}
-use Rattle.manchester_line.specs.Line.{is_signal}
-use Rattle.manchester_line.specs.Decoding.{new_decoding}
-use Rattle.collision_log.specs.declared.row.Row.{Row}
+use Rattle.manchester_line.specs.Line.{is_signal, mix_of}
 use Rattle.load_plan.specs.declared.plan.Plan.{Plan}
-use Rattle.mac_transmit.specs.Sender.{Sender, sender_step}
-use Rattle.mac_transmit.specs.Calm.{after_all}
-use Rattle.mac_receive.specs.Receiver.{Receiving, receiver_step, receiver_after, receiver_bodies}
-use Rattle.mac_receive.specs.KeptReceiver.{KeptReception, Hears}
-use Rattle.network.specs.declared.outputs.Taken.{Taken}
+use Rattle.mac_receive.specs.KeptReceiver.{KeptReception}
+use Rattle.mac_receive.specs.Receiver.{Receiving, receiver_step, receiver_after}
+use Rattle.mac_transmit.specs.Sender.{Sender, is_sending}
+use Rattle.mac_transmit.specs.Calm.{AllHeardAs, after_all, calm_of, change_in, up_to_most}
 use Rattle.network.specs.Attempts.{sender_at}
-use Rattle.network.specs.Times.{heard, emitted}
-use Rattle.net_parts.specs.Windows.{lookahead}
+use Rattle.network.specs.Times.{heard, emitted, earlier}
 use Rattle.net_parts.specs.Machines.{span}
 use Rattle.net_parts.specs.SegmentParts.{Wiring, wiring}
-use Rattle.net_parts.specs.Standing.{arrives, port_hears, receiver_at}
-use Rattle.net_parts.specs.declared.parcel.Parcel.{Parcel}
-use Rattle.net_parts.proofs.LateRows.{map_alike}
-use Rattle.tap_lines.specs.TapLines.{TapLine, no_line, line_extended, IsReachOf, AreIdleFrom}
-use Rattle.segment_engine.specs.PartStates.{AreLinesAt, AreStationsAt, half_filled}
-use Rattle.segment_engine.specs.QuietHalfBits.{IsCalmFor, AreAtRest}
-use Rattle.segment_engine.proofs.HalfBits.{lines_later}
-use Rattle.segment_engine.proofs.KeptParts.{hear_each, receiver_stands, receivers_many, senders_many}
-use Rattle.tap_lines.proofs.Spans.{span_two}
-use Rattle.segment_engine.proofs.StationsLater.{receiver_runs, station, no_bodies, no_halves, last_still, rows_stay, captures_stay}
-use Rattle.segment_engine.proofs.QuietHalfBits.{all_emit, all_hear, ports_hear_idle, arrive_idle, hears_all, senders_later, no_sending, span_same}
+use Rattle.net_parts.specs.Standing.{arrives, captures_at, port_hears, receiver_at, rows_of_devices}
+use Rattle.net_parts.specs.Windows.{lookahead}
+use Rattle.net_parts.proofs.LateRows.{if_true, if_false}
+use Rattle.net_parts.proofs.RepeaterSteps.{length-span, get_or-span}
+use Rattle.tap_lines.specs.TapLines.{TapLine, no_line, symbol_on, half_bits_back, heard_of_lines, heard_by_lines, class_back, class_of_lines, class_by_lines, class_on, AreIdleFrom}
+use Rattle.tap_lines.proofs.LineClasses.{idle_on, le_true, le_false}
+use Rattle.segment_engine.specs.declared.apart.Watch.{Watch}
+use Rattle.segment_engine.specs.declared.running.Running.{Running}
+use Rattle.segment_engine.specs.declared.segment.Segment.{Segment}
+use Rattle.segment_engine.specs.KnownLines.{KnowLines}
+use Rattle.segment_engine.specs.QuietHalfBits.{ComeInIdle, GoOutIdle, IsCalmFor, IsQuietFor}
+use Rattle.segment_engine.specs.RunningStates.{GoesOnAt}
+use Rattle.segment_engine.specs.SteadyPieces.{IsCalmAs}
+use Rattle.segment_engine.specs.StationsApart.{StandsBehind, StandsApart, StandAllApart, AreStill, HearAllByLines, most_ahead, number_on}
+use Rattle.segment_engine.proofs.BehindStations.{idle_halves}
+use Rattle.segment_engine.proofs.CalmLater.{calm_on}
+use Rattle.segment_engine.proofs.LinesApart.{ports_from}
+use Rattle.segment_engine.proofs.RowsApart.{captures_same, captures_stay, rows_same, there}
+use Rattle.segment_engine.proofs.RunsApart.{all_hear, all_known}
+use Rattle.segment_engine.proofs.StationsLater.{no_halves, receiver_runs, sender_runs}
+use Rattle.segment_engine.proofs.SteadyCalm.{emits_idle}
+use Rattle.segment_engine.proofs.SteadyReceivers.{idle_piece, span_same}
 
-module _ (plan : Plan) (s t front far m : ℕ) (ls : List TapLine) (ss : List Sender) (ks : List KeptReception) (rows : List Row) (caps : List (List Taken))
-    (reaches : IsReachOf far (lookahead plan.layout) ls) (are : AreLinesAt plan (wiring plan.layout s) (lookahead plan.layout) t front ls) (stand : AreStationsAt plan (wiring plan.layout s).stations t ss ks rows caps)
-    (ahead : t + m ≤ front) (silent : AreIdleFrom (t - far) ls) (calm : All (IsCalmFor m) ss) (rest : AreAtRest ks) where
+abbrev a_watch : Watch
+a_watch = record { since = 0; until = 0; carrier = false; told = 0 }
+
+few_at_most : (o : Option ℕ) → up_to_most o ≤ 4096
+few_at_most None = omega arith
+few_at_most (Some n) = omega arith
+
+-- quiet for fewer half bits
+pub calm_for_fewer : (m n : ℕ) (s : Sender) → n ≤ m → IsCalmFor m s → IsCalmFor n s
+calm_for_fewer m n s h c = record {
+  not_sending = c.not_sending;
+  number = let x = c.number in omega (arith, x, h);
+  calm = λ hs a l. c.calm hs a (omega (arith, l, h));
+}
+
+pub quiet_for_fewer : (m n : ℕ) (a : Running) → n ≤ m → IsQuietFor m a → IsQuietFor n a
+quiet_for_fewer m n a h q = record {
+  lines = q.lines;
+  idle = q.idle;
+  senders = λ i w s l. calm_for_fewer (a.t + m - (get_or a.watches.items i w).since) (a.t + n - (get_or a.watches.items i w).since) (get_or a.senders.items i s) (omega (arith, h)) (q.senders i w s l);
+  receivers = q.receivers;
+}
+
+-- lines on which nothing is let hear Idle
+neither : (b : Bool) → cond b false false ≡ false
+neither true = refl
+neither false = refl
+
+either_idle : (b : Bool) → cond b Idle Idle ≡ Idle
+either_idle true = refl
+either_idle false = refl
+
+no_class_of : (L u p at q : ℕ) (xs : List TapLine) → ((i : ℕ) → i < length xs → class_back (get_or xs i no_line) u (half_bits_back L at (get_or xs i no_line)) ≡ false) → class_of_lines L u p at q xs ≡ false
+no_class_of L u p at q [] h = refl
+no_class_of L u p at q (l ∷ xs) h =
+    ap₂ (λ (b c : Bool). b || c) (ap (λ x. cond (eqb q p) false x) (h 0 (omega arith)) ∙ neither (eqb q p)) (no_class_of L u p at (q + 1) xs (λ i m. h (suc i) (omega (arith, m))))
+
+silence_of : (L u p at q : ℕ) (xs : List TapLine) → ((i : ℕ) → i < length xs → earlier (symbol_on (get_or xs i no_line)) u (half_bits_back L at (get_or xs i no_line)) ≡ Idle) → heard_of_lines L u p at q xs ≡ Idle
+silence_of L u p at q [] h = refl
+silence_of L u p at q (l ∷ xs) h =
+    ap₂ mix_of (ap (λ x. cond (eqb q p) Idle x) (h 0 (omega arith)) ∙ either_idle (eqb q p)) (silence_of L u p at (q + 1) xs (λ i m. h (suc i) (omega (arith, m))))
+
+-- a receiver at rest that hears Idle stays so
+pub rest_after : (n : ℕ) (r : Receiving) → r.halves ≡ [] → (receiver_after r (replicate n Idle) false).halves ≡ []
+rest_after zero r h = h
+rest_after (suc n) r h = rest_after n (receiver_step r Idle false).state (idle_halves r)
+
+-- a segment on whose lines nothing is that still reaches a tap
+module _ (of : Segment) (a : Running) (front : ℕ) (at : GoesOnAt of front a) (silent : AreIdleFrom (a.t - a.far) a.lines.items) where
+  pub no_class : (u p : ℕ) → a.t ≤ u → p < length a.lines.items → class_by_lines of.lookahead u a.lines.items p ≡ false
+  no_class u p later h =
+      let ls = a.lines.items in
+      let place = (get_or ls p no_line).at in
+      no_class_of of.lookahead u p place 0 ls (λ i l.
+      let back = half_bits_back of.lookahead place (get_or ls i no_line) in
+      let close = at.reach p i h l in
+      elim (cases_lt u back) [
+        | inl early ↦ le_false {m = back} {n = u} _ _ early
+        | inr past ↦ le_true {m = back} {n = u} _ _ past ∙ silent i (u - back) l (omega (arith, close, later, past))
+      ])
+
+  silence : (u p : ℕ) → a.t ≤ u → p < length a.lines.items → heard_by_lines of.lookahead u a.lines.items p ≡ Idle
+  silence u p later h =
+      let ls = a.lines.items in
+      let place = (get_or ls p no_line).at in
+      silence_of of.lookahead u p place 0 ls (λ i l.
+      let back = half_bits_back of.lookahead place (get_or ls i no_line) in
+      let close = at.reach p i h l in
+      elim (cases_lt u back) [
+        | inl early ↦ if_false {m = back} {n = u} _ _ early
+        | inr past ↦ if_true {m = back} {n = u} _ _ past ∙ idle_on (a.t - a.far) (u - back) (get_or ls i no_line) (λ v c. silent i v l c) (omega (arith, close, later, past))
+      ])
+
+-- a segment on which nothing happens for m half bits
+module _ (of : Segment) (a : Running) (m front : ℕ) (at : GoesOnAt of front a) (quiet : IsQuietFor m a) where
+  abbrev plan : Plan
+  plan = of.plan.value
+
   abbrev w : Wiring
-  w = wiring plan.layout s
+  w = wiring plan.layout of.number
 
   abbrev L : ℕ
-  L = lookahead plan.layout
+  L = of.lookahead
 
   abbrev n : ℕ
-  n = length w.stations
+  n = length of.stations.items
 
-  abbrev number : ℕ → ℕ
-  number r = get_or w.stations r 0
+  abbrev t : ℕ
+  t = a.t
 
-  rs_many : length ks ≡ n
-  rs_many = receivers_many stand
+  abbrev ls : List TapLine
+  ls = a.lines.items
 
-  hears_at : (r : ℕ) (d : KeptReception) → r < n → Hears (receiver_at plan (number r) t) (get_or ks r d)
-  hears_at r d h = receiver_stands stand r d (omega (arith, h, rs_many))
+  abbrev ws : List Watch
+  ws = a.watches.items
 
-  receivers_later : (r j : ℕ) → r < n → j ≤ m → receiver_at plan (number r) (t + j) ≡ receiver_after (receiver_at plan (number r) t) (replicate j Idle) false
-  receivers_later r j h l =
-      receiver_runs plan (number r) (station plan s r h) false j t (λ i c. ap is_signal (all_emit plan s t front far m ls ss reaches are ahead silent stand.senders calm r i h (omega (arith, c, l))))
-      ∙ ap (λ hs. receiver_after (receiver_at plan (number r) t) hs false) (hears_all plan s t front far m ls ss reaches are ahead silent stand.senders calm r j h l)
+  abbrev ss : List Sender
+  ss = a.senders.items
 
-  a_kept : KeptReception
-  a_kept = record { lose = 0; most = 0; deaf = false; halves = 0; decoder = new_decoding; steps = 0 }
+  abbrev ks : List KeptReception
+  ks = a.receivers.items
 
-  no_reception : (r j : ℕ) → r < n → j < m →
-      (receiver_step (receiver_at plan (number r) (t + j)) (heard plan (number r) (t + j)) (is_signal (emitted plan (number r) (t + j)))).event ≡ None
-  no_reception r j h l =
-      let k = number r in
-      let r0 = receiver_at plan k t in
-      let still : receiver_bodies r0 (replicate j Idle ++ Idle ∷ []) false ≡ [] =
-      ap (λ hs. receiver_bodies r0 hs false) (replicate_more j Idle)
-      ∙ no_bodies (j + 1) r0 (no_halves r0 (get_or ks r a_kept) (rest r a_kept (omega (arith, h, rs_many))) (hears_at r a_kept h)) in
-      ap (λ x. (receiver_step x (heard plan k (t + j)) (is_signal (emitted plan k (t + j)))).event) (receivers_later r j h (omega (arith, l)))
-      ∙ ap₂ (λ x y. (receiver_step (receiver_after r0 (replicate j Idle) false) x (is_signal y)).event)
-      (all_hear plan s t front far m ls ss reaches are ahead silent stand.senders calm r j h l) (all_emit plan s t front far m ls ss reaches are ahead silent stand.senders calm r j h l)
-      ∙ last_still r0 (replicate j Idle) Idle false still
+  taps_are : length ls ≡ n + length w.edges
+  taps_are = let many = at.lines.many in let numbers = ap length of.station_numbers in omega (arith, many, numbers)
 
-  no_events : (r j : ℕ) → r < n → j < m → ((sender_step (sender_at plan (number r) (t + j)) (heard plan (number r) (t + j))).event ≡ None)
-      × ((receiver_step (receiver_at plan (number r) (t + j)) (heard plan (number r) (t + j)) (is_signal (emitted plan (number r) (t + j)))).event ≡ None)
-  no_events r j h l = (no_sending plan s t front far m ls ss reaches are ahead silent stand.senders calm r j h l, no_reception r j h l)
+  calm_at : (i : ℕ) (x : Watch) (s : Sender) → i < n → IsCalmFor (t + m - (get_or ws i x).since) (get_or ss i s)
+  calm_at i x s h = let many = at.stations.senders in quiet.senders i x s (omega (arith, h, many))
 
-  pub quiet_stations : (ss' : List Sender) (ks' : List KeptReception) → length ss' ≡ length ss → length ks' ≡ length ks →
-      ((i : ℕ) (d : Sender) → i < length ss' → get_or ss' i d ≡ after_all (get_or ss i d) (replicate m Idle)) →
-      ((i : ℕ) (d : KeptReception) (r : Receiving) → i < length ks' → Hears r (get_or ks i d) → Hears (receiver_after r (replicate m Idle) false) (get_or ks' i d)) →
-      All (λ x. x.t ≡ t + m) ss' → All (λ x. x.steps ≡ t + m) ks' → AreStationsAt plan w.stations (t + m) ss' ks' rows caps
-  quiet_stations ss' ks' ss_len ks_len states hear times steps =
-      let f = λ (k : ℕ). sender_at plan k (t + m) in
-      let ss_many = senders_many stand in
+  carrier_off : (i : ℕ) (x : Watch) → i < n → (get_or ws i x).since < t → (get_or ws i x).carrier ≡ false
+  carrier_off i x h early = let many = at.stations.senders in quiet.idle i x (omega (arith, h, many)) early
+
+  -- no station is due before their end, by watches that go so far
+  abbrev calm_watch : Watch → Watch
+  calm_watch x = record x { until = t + m; carrier = false; told = t + m }
+
+  abbrev calm_watches : List Watch
+  calm_watches = map calm_watch ws
+
+  watch_is : (i : ℕ) (x : Watch) → i < n → get_or calm_watches i x ≡ calm_watch (get_or ws i x)
+  watch_is i x h = let many = at.stations.watches in get_or-map calm_watch ws i x x (omega (arith, h, many))
+
+  calm_behind : (i : ℕ) (x : Watch) (s : Sender) (k : KeptReception) → i < n →
+      StandsBehind plan (number_on of i) i L a.from ls (calm_watch (get_or ws i x)) (get_or ss i s) (get_or ks i k)
+  calm_behind i x s k h =
+      let one = at.stations.each i x s k h in
+      let b = one.behind in
+      let c = calm_at i x s h in
+      let taps = at.stations.taps in
+      let early = one.since in
+      let late = one.until in
+      let since = (get_or ws i x).since in
+      let y = get_or ss i s in
       record {
-        senders = same_lists ss' (map f w.stations) (ss_len ∙ ss_many ∙ sym (length-map w.stations f)) (λ i d h.
-            let in_it : i < n = omega (arith, h, ss_len, ss_many) in
-            states i d h
-            ∙ ap (λ xs. after_all (get_or xs i d) (replicate m Idle)) stand.senders
-            ∙ ap (λ x. after_all x (replicate m Idle)) (get_or-map (λ k. sender_at plan k t) w.stations i 0 d in_it)
-            ∙ sym (senders_later plan s t front far m ls ss reaches are ahead silent stand.senders calm i m in_it (omega arith))
-            ∙ sym (get_or-map f w.stations i 0 d in_it));
-        receivers = hear_each (λ k. receiver_at plan k (t + m)) w.stations ks' (ks_len ∙ rs_many) (λ i d h.
-            let in_it : i < n = omega (arith, h, ks_len, rs_many) in
-            subst (λ x. Hears x (get_or ks' i d)) (sym (receivers_later i m in_it (omega arith))) (hear i d (receiver_at plan (number i) t) h (hears_at i d in_it)));
-        times = times;
-        steps = steps;
-        logged = stand.logged ∙ sym (rows_stay plan s t m no_events);
-        kept = stand.kept ∙ sym (captures_stay plan s t m no_events);
+        from_start = b.from_start;
+        ordered = omega (arith, early);
+        within = omega arith;
+        sender = b.sender;
+        receiver = b.receiver;
+        time = b.time;
+        steps = b.steps;
+        calm = record { number = c.number; calm = c.calm };
+        steady = λ u low high. elim (cases_lt u t) [
+          | inl before ↦ b.steady u low (omega (arith, before, late)) ∙ carrier_off i x h (omega (arith, low, before))
+          | inr after ↦ no_class of a front at quiet.lines u i after (omega (arith, h, taps))
+        ];
+        line = λ j l. idle_on since (since + j) (get_or ls i no_line) (λ v q. b.goes v q ∙ c.not_sending) (omega arith) ∙ sym (emits_idle y j y.phase c.not_sending);
+        signal = λ j l. ap is_signal (emits_idle y j y.phase c.not_sending) ∙ sym c.not_sending;
+        goes = b.goes;
+        lasts = λ yes. absurd (false≢true (sym c.not_sending ∙ yes));
       }
 
-  pub quiet_lines : (ls' : List TapLine) → length ls' ≡ length ls → ((r : ℕ) → r < n → m ≤ (get_or ls r no_line).room) →
-      ((r : ℕ) → r < n → get_or ls' r no_line ≡ line_extended (get_or ls r no_line) (replicate m Idle)) →
-      ((r : ℕ) → n ≤ r → get_or ls' r no_line ≡ get_or ls r no_line) → AreLinesAt plan w L (t + m) front ls'
-  quiet_lines ls' len room told others =
-      lines_later plan w L t m front ls ls' (λ r. replicate m Idle) are
-      (λ r h. sym (span_same (emitted plan (number r)) t m Idle (λ i l. all_emit plan s t front far m ls ss reaches are ahead silent stand.senders calm r i h l))) len room told others
+  stand_calm : StandAllApart of a.from t ls calm_watches ss ks
+  stand_calm =
+      let st = at.stations in
+      let size = length-map ws calm_watch in
+      record {
+        senders = st.senders;
+        receivers = st.receivers;
+        watches = st.watches ∙ sym size;
+        taps = st.taps;
+        each = λ i x s k h.
+            let one = st.each i x s k h in
+            let c = calm_at i x s h in
+            let heard = st.receivers in
+            let number = c.number in
+            let few = few_at_most (change_in (get_or ss i s) false) in
+            let early = one.since in
+            subst (λ y. StandsApart of a.from t i ls y (get_or ss i s) (get_or ks i k)) (sym (watch_is i x h)) (record {
+              behind = calm_behind i x s k h;
+              since = one.since;
+              until = omega arith;
+              within = omega (arith, number, few, early);
+              still = λ b e q. quiet.receivers i k (omega (arith, h, heard));
+            });
+      }
 
-  pub quiet_room : (ls' : List TapLine) → length ls' ≡ length ls → ((r : ℕ) → r < n → m ≤ (get_or ls r no_line).room) →
-      ((r : ℕ) → r < n → get_or ls' r no_line ≡ line_extended (get_or ls r no_line) (replicate m Idle)) →
-      (i r : ℕ) → r < n → i + m ≤ (get_or ls r no_line).room → i ≤ (get_or ls' r no_line).room
-  quiet_room ls' len room told i r h enough =
-      let size = length-replicate m Idle in
-      subst (λ (x : TapLine). i ≤ x.room) (sym (told r h)) (let l = (get_or ls r no_line).room in let e : i ≤ l - length (replicate m Idle) = omega (arith, enough, size) in e)
+  still_calm : AreStill of calm_watches ss ks
+  still_calm i x s k h below e q = let heard = at.stations.receivers in quiet.receivers i k (omega (arith, h, heard))
 
-  -- the parcels have that already
-  pub quiet_parcels : (wd k : ℕ) → t ≡ wd * L + k → front ≡ wd * L + L → map (half_filled plan L wd (k + m)) w.edges ≡ map (half_filled plan L wd k) w.edges
-  quiet_parcels wd k at ends =
-      map_alike (half_filled plan L wd (k + m)) (half_filled plan L wd k) w.edges (λ p h.
-      let e = get_or w.edges p 0 in
-      let a = port_hears plan e in
-      let b = arrives plan L e in
-      let u = wd * L in
-      let left : L - k ≡ m + (L - (k + m)) = omega (arith, at, ends, ahead) in
-      let place : u + k ≡ t = omega (arith, at) in
-      let next : u + k + m ≡ u + (k + m) = omega arith in
-      let rest = span b (u + (k + m)) (L - (k + m)) in
-      let heard_so : span a (u + k) m ≡ replicate m Idle = span_same a (u + k) m Idle (λ i l. (let z : u + k + i ≡ t + i = omega (arith, at) in ap a z) ∙ ports_hear_idle plan s t front far m ls ss reaches are ahead silent stand.senders calm p i h l) in
-      let came_so : span b (u + k) m ≡ replicate m Idle = span_same b (u + k) m Idle (λ i l. (let z : u + k + i ≡ t + i = omega (arith, at) in ap b z) ∙ arrive_idle plan s t front far m ls ss reaches are ahead silent stand.senders calm p i h l) in
-      let symbols : span a u (k + m) ++ rest ≡ span a u k ++ span b (u + k) (L - k) =
-      ap (λ xs. xs ++ rest) (span_two a u k m)
-      ∙ append_assoc (span a u k) (span a (u + k) m) rest
-      ∙ ap (λ xs. span a u k ++ (xs ++ rest)) (heard_so ∙ sym came_so)
-      ∙ ap (λ z. span a u k ++ (span b (u + k) m ++ span b z (L - (k + m)))) (sym next)
-      ∙ ap (λ xs. span a u k ++ xs) (sym (ap (span b (u + k)) left ∙ span_two b (u + k) m (L - (k + m)))) in
-      ap (λ ys. let q : Parcel = record { edge = e; window = wd; to_repeater = false; symbols = ys; spoiled = false } in q) symbols)
+  -- each station now
+  module _ (ds : Sender) (dk : KeptReception) (i : ℕ) (h : i < n) where
+    abbrev since : ℕ
+    since = (get_or ws i a_watch).since
+
+    abbrev k : ℕ
+    k = t - since
+
+    abbrev was : StandsBehind plan (number_on of i) i L a.from ls (calm_watch (get_or ws i a_watch)) (get_or ss i ds) (get_or ks i dk)
+    was = calm_behind i a_watch ds dk h
+
+    so_far : since + k ≡ t
+    so_far = let early = (at.stations.each i a_watch ds dk h).since in omega (arith, early)
+
+    heard_idle : (j : ℕ) → j < k → is_signal (heard plan (number_on of i) (since + j)) ≡ false
+    heard_idle j l =
+        let right = at.hears i h in
+        let from = was.from_start in
+        let e = so_far in
+        ap is_signal (right.hears (since + j) (omega (arith, from)) (omega (arith, l, e)))
+        ∙ sym (right.classes (since + j) (omega (arith, from)) (omega (arith, l, e)))
+        ∙ was.steady (since + j) (omega arith) (omega (arith, l, e))
+
+    emits_nothing : (j : ℕ) → j < k → is_signal (emitted plan (number_on of i) (since + j)) ≡ false
+    emits_nothing j l =
+        let right = at.hears i h in
+        let from = was.from_start in
+        let e = so_far in
+        ap is_signal (right.emits (since + j) (omega (arith, from)) (omega (arith, l, e)) ∙ was.line j (omega (arith, l, e)))
+        ∙ was.signal j (omega (arith, l, e))
+        ∙ (calm_at i a_watch ds h).not_sending
+
+    -- its sender is calm for m half bits
+    pub calm_now : IsCalmFor m (sender_at plan (number_on of i) t)
+    calm_now =
+        let x = number_on of i in
+        let s = get_or ss i ds in
+        let hs = span (heard plan x) since k in
+        let size = length-span (heard plan x) since k in
+        let e = so_far in
+        let all : AllHeardAs false hs = λ j d l.
+        let in_it : j < k = omega (arith, l, size) in
+        ap is_signal (get_or-span (heard plan x) since k j d in_it) ∙ heard_idle j in_it in
+        let later : sender_at plan x t ≡ after_all s hs = ap (sender_at plan x) (sym e) ∙ sender_runs plan x (there of t ls ds dk i h) k since ∙ ap (λ y. after_all y hs) (sym was.sender) in
+        let on = calm_on hs s false (t + m - since) all (omega (arith, size, e)) was.calm in
+        let left : t + m - since - length hs ≡ m = omega (arith, size, e) in
+        let calm : IsCalmAs m false (after_all s hs) = subst (λ j. IsCalmAs j false (after_all s hs)) left on.1 in
+        subst (IsCalmFor m) (sym later) (record {
+          not_sending = ap is_sending on.0.phase ∙ (calm_at i a_watch ds h).not_sending;
+          number = calm.number;
+          calm = calm.calm;
+        })
+
+    -- and its receiver at rest
+    pub rest_now : (receiver_at plan (number_on of i) t).halves ≡ []
+    rest_now =
+        let x = number_on of i in
+        let r = receiver_at plan x since in
+        let heard_many = at.stations.receivers in
+        let none = no_halves r (get_or ks i dk) (quiet.receivers i dk (omega (arith, h, heard_many))) was.receiver in
+        let later : receiver_at plan x t ≡ receiver_after r (replicate k Idle) false =
+        ap (receiver_at plan x) (sym so_far) ∙ receiver_runs plan x (there of t ls ds dk i h) false k since emits_nothing ∙ ap (λ hs. receiver_after r hs false) (idle_piece (heard plan x) since k heard_idle) in
+        ap (λ (y : Receiving). y.halves) later ∙ rest_after k r none
+
+  -- where Idle comes in, too
+  module _ (come : ComeInIdle plan w.edges t m) where
+    abbrev u : ℕ
+    u = t + m
+
+    comes : (p j : ℕ) → p < length w.edges → j < m → arrives plan L (get_or w.edges p 0) (t + j) ≡ Idle
+    comes p j h l = ap (λ x. arrives plan x (get_or w.edges p 0) (t + j)) of.window_length ∙ come p j h l
+
+    port_idle : (p v : ℕ) → p < length w.edges → t ≤ v → symbol_on (get_or ls (length w.stations + p) no_line) v ≡ Idle
+    port_idle p v h late =
+        let many = at.lines.many in
+        let q = length w.stations + p in
+        idle_on (t - a.far) v (get_or ls q no_line) (λ x c. quiet.lines q x (omega (arith, h, many)) c) (omega (arith, late))
+
+    know_ahead : KnowLines plan w L t u ls
+    know_ahead =
+        let know = at.lines in
+        let many = know.many in
+        let upto = at.upto in
+        record {
+          many = know.many;
+          places = know.places;
+          no_delays = know.no_delays;
+          delays = know.delays;
+          begins = know.begins;
+          near = know.near;
+          emissions = know.emissions;
+          arrivals = λ p v h low high. elim (cases_lt v t) [
+            | inl before ↦ know.arrivals p v h low (omega (arith, before, upto))
+            | inr after ↦
+                let e : t + (v - t) ≡ v = omega (arith, after) in
+                port_idle p v h after ∙ sym (ap (arrives plan L (get_or w.edges p 0)) (sym e) ∙ comes p (v - t) h (omega (arith, e, high)))
+          ];
+          classes = know.classes;
+          port_classes = λ p v h high. elim (cases_lt v t) [
+            | inl before ↦ know.port_classes p v h (omega (arith, before, upto))
+            | inr after ↦ quiet.lines (length w.stations + p) v (omega (arith, h, many)) (omega (arith, after)) ∙ sym (ap is_signal (port_idle p v h after))
+          ];
+        }
+
+    later_until : (i : ℕ) (x : Watch) → i < n → u ≤ (get_or calm_watches i x).until
+    later_until i x h = let e = ap (λ (y : Watch). y.until) (watch_is i x h) in omega (arith, e)
+
+    module _ (ds : Sender) (dk : KeptReception) where
+      -- the lines are right below their end
+      pub quiet_known : KnowLines plan w L u u ls
+      quiet_known = all_known of a.from t ls calm_watches ss ks ds dk stand_calm u (omega arith) later_until u know_ahead at.begun (omega arith) at.hears
+
+      quiet_heard : HearAllByLines of a.from u ls
+      quiet_heard = all_hear of a.from t ls calm_watches ss ks ds dk stand_calm u (omega arith) later_until u know_ahead at.begun (omega arith) at.hears
+
+      pub hear_idle : (i j : ℕ) → i < n → j < m → heard plan (number_on of i) (t + j) ≡ Idle
+      hear_idle i j h l =
+          let begun = at.begun in
+          let taps = at.stations.taps in
+          (quiet_heard i h).hears (t + j) (omega (arith, begun)) (omega (arith, l)) ∙ silence of a front at quiet.lines (t + j) i (omega arith) (omega (arith, h, taps))
+
+      pub emit_idle : (i j : ℕ) → i < n → j < m → emitted plan (number_on of i) (t + j) ≡ Idle
+      emit_idle i j h l =
+          let begun = at.begun in
+          let one = at.stations.each i a_watch ds dk h in
+          let early = one.since in
+          let since = (get_or ws i a_watch).since in
+          (quiet_heard i h).emits (t + j) (omega (arith, begun)) (omega (arith, l))
+          ∙ idle_on since (t + j) (get_or ls i no_line) (λ v q. one.behind.goes v q ∙ (calm_at i a_watch ds h).not_sending) (omega (arith, early))
+
+      -- the sender and the receiver of each station then
+      pub sender_then : (i : ℕ) → i < n → sender_at plan (number_on of i) u ≡ after_all (sender_at plan (number_on of i) t) (replicate m Idle)
+      sender_then i h =
+          let x = number_on of i in
+          sender_runs plan x (there of t ls ds dk i h) m t ∙ ap (after_all (sender_at plan x t)) (span_same (heard plan x) t m Idle (λ j l. hear_idle i j h l))
+
+      pub receiver_then : (i : ℕ) → i < n → receiver_at plan (number_on of i) u ≡ receiver_after (receiver_at plan (number_on of i) t) (replicate m Idle) false
+      receiver_then i h =
+          let x = number_on of i in
+          receiver_runs plan x (there of t ls ds dk i h) false m t (λ j l. ap is_signal (emit_idle i j h l))
+          ∙ ap (λ hs. receiver_after (receiver_at plan x t) hs false) (span_same (heard plan x) t m Idle (λ j l. hear_idle i j h l))
+
+      -- nothing is logged and captured
+      pub quiet_rows : rows_of_devices plan of.stations.items u ≡ rows_of_devices plan of.stations.items t
+      quiet_rows = rows_same of a.from ls ds dk t u (omega arith) calm_watches ss ks stand_calm still_calm later_until quiet_heard
+
+      pub quiet_captures : map (λ x. captures_at plan x u) of.stations.items ≡ map (λ x. captures_at plan x t) of.stations.items
+      quiet_captures = captures_stay of a.from ls ds dk u t (λ i h. captures_same of a.from ls ds dk t u (omega arith) calm_watches ss ks stand_calm still_calm later_until quiet_heard i h)
+
+      -- the ports hear Idle, which goes out
+      pub ports_hear_nothing : GoOutIdle plan w.edges t m
+      ports_hear_nothing p j h l =
+          let numbers = ap length of.station_numbers in
+          let taps = taps_are in
+          let known : KnowLines plan w (lookahead plan.layout) u u ls = subst (λ x. KnowLines plan w x u u ls) of.window_length quiet_known in
+          ports_from plan of.number u u ls known t (omega arith) at.lines.begins p (t + j) h (omega arith) (omega (arith, l)) (omega (arith, l))
+          ∙ ap (λ x. heard_by_lines x (t + j) ls (length w.stations + p)) (sym of.window_length)
+          ∙ silence of a front at quiet.lines (t + j) (length w.stations + p) (omega arith) (omega (arith, h, taps, numbers))

@@ -1,23 +1,28 @@
 -- The rows of a half bit in which stations are due.
-use Rattle.std.proofs.Common.{◌≡◌, ℕ, zero, suc, ◌+◌, List, [], ◌∷◌, ◌++◌, map, length, get_or, Option, refl, sym, subst, ap, ap₂, ◌∙◌, arith, append_assoc}
+use Rattle.std.proofs.Common.{◌≡◌, ℕ, zero, suc, ◌+◌, List, [], ◌∷◌, ◌++◌, map, length, get_or, Option, None, ◌<◌, refl, sym, subst, ap, ap₂, ◌∙◌, arith, append_assoc}
 use Rattle.std.proofs.lemmas.List.{append-nil}
+use Rattle.manchester_line.specs.declared.Sym.{Sym}
 use Rattle.manchester_line.specs.Line.{is_signal}
 use Rattle.collision_log.specs.declared.row.Body.{Body}
 use Rattle.load_plan.specs.declared.plan.Plan.{Plan}
-use Rattle.mac_receive.specs.Receiver.{Reception, receiver_step}
-use Rattle.mac_transmit.specs.Sender.{SendOutcome, sender_step}
+use Rattle.mac_receive.specs.Receiver.{Receiving, Reception, receiver_step}
+use Rattle.mac_transmit.specs.Sender.{Sender, SendOutcome, sender_step}
 use Rattle.network.specs.Attempts.{sender_at}
 use Rattle.network.specs.Net.{sendings, receptions}
 use Rattle.network.specs.Rows.{row_of}
 use Rattle.network.specs.Times.{heard, emitted}
-use Rattle.net_parts.specs.SegmentParts.{rows_on, wiring}
-use Rattle.net_parts.specs.Standing.{receiver_at, rows_of_devices}
+use Rattle.net_parts.specs.Windows.{lookahead}
+use Rattle.net_parts.specs.SegmentParts.{SegmentState, Wiring, rows_on, segment_step, stations_hear_on, wiring}
+use Rattle.net_parts.specs.Standing.{arrives, receiver_at, rows_of_devices, segment_at}
+use Rattle.net_parts.proofs.NetworkFacts.{station_facts}
+use Rattle.net_parts.proofs.LookaheadLeads.{leads}
+use Rattle.net_parts.proofs.SegmentHearing.{stations_hear}
+use Rattle.net_parts.proofs.SegmentSteps.{segments_go_on}
 use Rattle.net_parts.proofs.DeviceSteps.{sendings_of, receptions_of}
 use Rattle.net_parts.proofs.LateRows.{map-map}
 use Rattle.segment_engine.specs.declared.segment.Segment.{Segment}
-use Rattle.segment_engine.specs.StationPasses.{receptions_by}
+use Rattle.segment_engine.specs.StationPasses.{receptions_by, rows_heard}
 use Rattle.segment_engine.specs.StationsApart.{heard_reception, number_on, rows_of_both, sent_event}
-use Rattle.segment_engine.proofs.HalfBits as half_bits
 
 -- the rows of one station more in front
 both_more : (t k : ℕ) (ks : List ℕ) (f g : ℕ → Option Body) (n : ℕ) →
@@ -40,29 +45,74 @@ rows_both t (k ∷ ks) f g =
     ap (λ xs. (row_of t k (f k) ++ row_of t k (g k)) ++ xs) (rows_both t ks f g)
     ∙ sym (both_more t k ks (λ i. f (get_or (k ∷ ks) i 0)) (λ i. g (get_or (k ∷ ks) i 0)) (length ks))
 
+-- no rows where nothing happens at any station
+pub rows_of_nothing : (t : ℕ) (ks : List ℕ) (f g : ℕ → Option Body) (n : ℕ) → ((i : ℕ) → i < n → (f i ≡ None) × (g i ≡ None)) → rows_of_both t ks f g n ≡ []
+rows_of_nothing t ks f g zero h = refl
+rows_of_nothing t ks f g (suc n) h =
+    let k = get_or ks n 0 in
+    let last = h n (omega arith) in
+    ap (λ xs. (xs ++ row_of t k (f n)) ++ row_of t k (g n)) (rows_of_nothing t ks f g n (λ i l. h i (omega (arith, l))))
+    ∙ ap₂ (λ a b. row_of t k a ++ row_of t k b) last.0 last.1
+
+first_row : List (List Sym) → List Sym
+first_row [] = []
+first_row (r ∷ rs) = r
+
 module _ (plan : Plan) (s u : ℕ) where
+  abbrev L : ℕ
+  L = lookahead plan.layout
+
+  abbrev w : Wiring
+  w = wiring plan.layout s
+
   abbrev ks : List ℕ
-  ks = (wiring plan.layout s).stations
+  ks = w.stations
+
+  abbrev hs : List Sym
+  hs = map (λ k. heard plan k u) ks
+
+  abbrev ss : List Sender
+  ss = map (λ k. sender_at plan k u) ks
+
+  abbrev rs : List Receiving
+  rs = map (λ k. receiver_at plan k u) ks
+
+  abbrev now : SegmentState
+  now = segment_at plan L w u
+
+  abbrev comes : List Sym
+  comes = map (λ e. arrives plan L e u) w.edges
+
+  truth : segment_step w L comes now ≡ segment_at plan L w (suc u)
+  truth = (segments_go_on plan s u).0
+
+  heard_so : hs ≡ stations_hear_on w L comes now
+  heard_so = sym (stations_hear plan (station_facts plan) L s u (leads plan.layout))
+
+  -- what the stations do by what they hear
+  emissions : map (λ (o : SendOutcome). o.emitted) (sendings hs ss) ≡ map (λ k. emitted plan k u) ks
+  unfolding first_row
+  emissions = ap (λ a. map (λ (o : SendOutcome). o.emitted) (sendings a ss)) heard_so ∙ ap (λ (x : SegmentState). first_row x.own) truth
+
+  rows_heard_now : rows_of_devices plan ks u ++ rows_heard u ks hs ss rs ≡ rows_of_devices plan ks (suc u)
+  rows_heard_now = ap (λ a. rows_of_devices plan ks u ++ rows_heard u ks a ss rs) heard_so ∙ ap (λ (x : SegmentState). x.rows) truth
 
   sent : ℕ → Option Body
-  sent k = (sender_step (sender_at plan k u) (heard plan k u)).event
+  sent k = sent_event plan k u
 
   received : ℕ → Option Body
-  received k = (receiver_step (receiver_at plan k u) (heard plan k u) (is_signal (emitted plan k u))).event
+  received k = (heard_reception plan k u).event
 
-  rows_by : rows_of_devices plan ks (suc u) ≡ rows_of_devices plan ks u ++ rows_of_both u ks (λ i. sent_event plan (get_or ks i 0) u) (λ i. (heard_reception plan (get_or ks i 0) u).event) (length ks)
+  pub rows_by : rows_of_devices plan ks (suc u) ≡ rows_of_devices plan ks u ++ rows_of_both u ks (λ i. sent_event plan (get_or ks i 0) u) (λ i. (heard_reception plan (get_or ks i 0) u).event) (length ks)
   unfolding sent received
   rows_by =
-      let hs = map (λ k. heard plan k u) ks in
-      let ss = map (λ k. sender_at plan k u) ks in
-      let rs = map (λ k. receiver_at plan k u) ks in
       let sends : map (λ (o : SendOutcome). o.event) (sendings hs ss) ≡ map sent ks =
       ap (map (λ (o : SendOutcome). o.event)) (sendings_of (λ k. heard plan k u) (λ k. sender_at plan k u) ks) ∙ map-map (λ (o : SendOutcome). o.event) (λ k. sender_step (sender_at plan k u) (heard plan k u)) ks in
       let receives : map (λ (r : Reception). r.event) (receptions_by hs ss rs) ≡ map received ks =
-      ap (λ xs. map (λ (r : Reception). r.event) (receptions hs xs rs)) (half_bits.emissions_next plan s u hs ss refl refl)
+      ap (λ xs. map (λ (r : Reception). r.event) (receptions hs xs rs)) emissions
       ∙ ap (map (λ (r : Reception). r.event)) (receptions_of (λ k. heard plan k u) (λ k. emitted plan k u) (λ k. receiver_at plan k u) ks)
       ∙ map-map (λ (r : Reception). r.event) (λ k. receiver_step (receiver_at plan k u) (heard plan k u) (is_signal (emitted plan k u))) ks in
-      sym (half_bits.rows_next plan s u hs ss refl refl)
+      sym rows_heard_now
       ∙ ap₂ (λ a b. rows_of_devices plan ks u ++ rows_on u ks a b) sends receives
       ∙ ap (λ xs. rows_of_devices plan ks u ++ xs) (rows_both u ks sent received)
 

@@ -1,5 +1,5 @@
 -- Stations that go on one by one, from a half bit to the next in which one of them is due.
-use Rattle.std.proofs.Common.{◌≡◌, ℕ, zero, suc, ◌+◌, ◌-◌, ◌<◌, ◌≤◌, false, List, length, get_or, refl, sym, subst, ap, ap₂, ◌∙◌, arith}
+use Rattle.std.proofs.Common.{◌≡◌, ℕ, zero, suc, ◌+◌, ◌-◌, ◌<◌, ◌≤◌, false, List, length, get_or, sym, subst, ap, ap₂, ◌∙◌, arith}
 use Rattle.mac_parameters.specs.Distances.{distance}
 use Rattle.load_plan.specs.declared.plan.Plan.{Plan}
 use Rattle.mac_receive.specs.KeptReceiver.{KeptReception}
@@ -13,7 +13,7 @@ use Rattle.segment_engine.specs.KnownLines.{KnowLines}
 use Rattle.segment_engine.specs.StationsApart.{StandsBehind, StandAllApart, AreStill, HearsByLines, HearAllByLines, AreToldAnew, TellsUpTo, CoversApart, behind_demand, first_demands}
 use Rattle.segment_engine.proofs.KeptParts.{covers_within}
 use Rattle.segment_engine.proofs.QuietRoom.{both_within}
-use Rattle.segment_engine.proofs.StepAll.{both_more}
+use Rattle.segment_engine.proofs.StepAll.{both_more, tells_anew}
 use Rattle.window_room.specs.NeededRoom.{Demand, IsDemandWithin}
 use Rattle.window_room.specs.Rooms.{Room}
 use Rattle.segment_engine.proofs.ChangedLines.{line_anew}
@@ -22,14 +22,7 @@ use Rattle.segment_engine.proofs.LinesApart.{know_below, hears_below}
 abbrev a_watch : Watch
 a_watch = record { since = 0; until = 0; carrier = false; told = 0 }
 
--- lines that are told anew not at all, and twice
-pub not_told : (u n : ℕ) (ls : List TapLine) → AreToldAnew u n ls ls
-not_told u n ls = record {
-  many = refl;
-  told = λ r h. record { place = refl; wait = refl; keeps = refl; begins = refl; size = refl; before = λ a l. refl; classes = λ a l. refl };
-  others = λ r h. refl;
-}
-
+-- lines that are told anew twice
 pub told_again : (u v n : ℕ) (ls ls' ls'' : List TapLine) → u ≤ v → AreToldAnew u n ls ls' → AreToldAnew v n ls' ls'' → AreToldAnew u n ls ls''
 told_again u v n ls ls' ls'' later first last = record {
   many = last.many ∙ first.many;
@@ -63,18 +56,9 @@ reach_anew far L u n ls ls' anew reach = λ p r hp hr.
 pub all_tell : (n a u v end : ℕ) (old new : List TapLine) → AreToldAnew a n old new → ((r : ℕ) → r < n → TellsUpTo u end (get_or old r no_line)) → u ≤ v →
     (r : ℕ) → r < n → TellsUpTo v end (get_or new r no_line)
 all_tell n a u v end old new anew tell after r h =
-    let is = anew.told r h in
-    let was = tell r h in
-    let begins = is.begins in
-    let size = is.size in
-    let begun = was.begun in
-    let takes = was.takes in
-    let fits = was.fits in
-    record {
-      begun = omega (arith, begins, begun, after);
-      takes = omega (arith, begins, size, takes);
-      fits = omega (arith, begins, size, fits);
-    }
+    let is = tells_anew a u end (get_or old r no_line) (get_or new r no_line) (tell r h) (anew.told r h) in
+    let begun = is.begun in
+    record { begun = omega (arith, begun, after); takes = is.takes; fits = is.fits }
 
 pub tells_sooner : (u a b : ℕ) (l : TapLine) → a ≤ b → TellsUpTo u b l → TellsUpTo u a l
 tells_sooner u a b l h is = record { begun = is.begun; takes = let x = is.takes in omega (arith, x, h); fits = is.fits }

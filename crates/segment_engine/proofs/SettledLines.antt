@@ -1,5 +1,7 @@
 -- Lines that have forgotten what they needn't keep, where all stations stand before the same half bit.
-use Rattle.std.proofs.Common.{◌≡◌, ℕ, ◌+◌, ◌-◌, ◌*◌, ◌<◌, ◌≤◌, true, inl, inr, List, [], ◌∷◌, map, max, length, get_or, sym, ap, ◌∙◌, arith}
+use Rattle.std.proofs.Common.{◌≡◌, ℕ, ◌+◌, ◌-◌, ◌*◌, ◌<◌, ◌≤◌, true, inl, inr, List, [], ◌∷◌, map, max, length, get_or, sym, subst, ap, ap₂, ◌∙◌, arith}
+use Rattle.std.proofs.lemmas.List.{get_or-map, get_or_past, length-map}
+use Rattle.mac_parameters.specs.Distances.{distance}
 use Rattle.std.proofs.lemmas.Bool.{cases_lt}
 use Rattle.manchester_line.specs.declared.Sym.{Sym}
 use Rattle.manchester_line.specs.declared.Sym.TheVariants.{Idle}
@@ -8,14 +10,15 @@ use Rattle.load_plan.specs.declared.plan.Plan.{Plan}
 use Rattle.mac_receive.specs.KeptReceiver.{KeptReception}
 use Rattle.mac_transmit.specs.Sender.{Sender}
 use Rattle.net_parts.specs.SegmentParts.{Wiring}
-use Rattle.tap_lines.specs.TapLines.{TapLine, no_line, class_on, class_by_lines, forgotten, half_bits_back, symbol_on}
+use Rattle.net_parts.proofs.LateRows.{if_false}
+use Rattle.tap_lines.specs.TapLines.{TapLine, no_line, AreIdleFrom, IsReachOf, class_on, class_by_lines, forgotten, half_bits_back, symbol_on}
 use Rattle.tap_lines.proofs.KeptLines.{forgotten_backlog, forgotten_base, forgotten_class, forgotten_delay, forgotten_end, forgotten_place, forgotten_size, forgotten_symbol}
 use Rattle.tap_lines.proofs.LineClasses.{class_same, class_within}
 use Rattle.segment_engine.specs.declared.apart.Watch.{Watch}
 use Rattle.segment_engine.specs.declared.segment.Segment.{Segment}
 use Rattle.segment_engine.specs.KnownLines.{KnowLines}
 use Rattle.segment_engine.specs.RunningStates.{HaveRoomFrom}
-use Rattle.segment_engine.specs.StationsApart.{StandsBehind, StandAllApart, HearsByLines}
+use Rattle.segment_engine.specs.StationsApart.{StandAllApart, HearAllByLines}
 use Rattle.segment_engine.proofs.AnewLines.{reaches_of}
 use Rattle.segment_engine.proofs.ChangedLines.{same_places}
 
@@ -26,6 +29,43 @@ pub record HaveForgotten (t : ℕ) (ls ls' : List TapLine) : Type 0 where
   pub others : (r : ℕ) → length ls ≤ r → get_or ls' r no_line ≡ get_or ls r no_line
   pub last : (r : ℕ) → r < length ls → 1 ≤ (get_or ls r no_line).backlog
   pub right : (r a : ℕ) → r < length ls → a < t → class_on (get_or ls r no_line) a ≡ is_signal (symbol_on (get_or ls r no_line) a)
+
+-- they have, where all come to half bit t
+pub have_forgotten : (plan : Plan) (w : Wiring) (L t front from : ℕ) (ls ls' : List TapLine) → KnowLines plan w L t front ls → t ≤ front → HaveRoomFrom from L ls → length ls' ≡ length ls →
+    ((r : ℕ) (d : TapLine) → r < length ls' → get_or ls' r d ≡ forgotten t (get_or ls r d)) → HaveForgotten t ls ls'
+have_forgotten plan w L t front from ls ls' know upto room many each = record {
+  many = many;
+  each = λ r h. each r no_line (omega (arith, h, many));
+  others = λ r h. get_or_past ls' r no_line (omega (arith, h, many)) ∙ sym (get_or_past ls r no_line h);
+  last = room.last;
+  right = λ r a h low. elim (cases_lt r (length w.stations)) [
+    | inl station ↦ know.classes r a station low
+    | inr port ↦
+        let p = r - length w.stations in
+        let there : length w.stations + p ≡ r = omega (arith, port) in
+        let all = know.many in
+        subst (λ j. class_on (get_or ls j no_line) a ≡ is_signal (symbol_on (get_or ls j no_line) a)) there
+        (know.port_classes p a (omega (arith, h, all, there)) (omega (arith, low, upto)))
+  ];
+}
+
+-- a line keeps what reaches any tap
+pub near_of : (plan : Plan) (w : Wiring) (L t front : ℕ) (ls : List TapLine) → KnowLines plan w L t front ls →
+    (p r : ℕ) → p < length ls → r < length ls → half_bits_back L (get_or ls p no_line).at (get_or ls r no_line) ≤ (get_or ls r no_line).backlog
+near_of plan w L t front ls know p r hp hr =
+    let at = λ (i : ℕ) (h : i < length ls). sym (get_or-map (λ (l : TapLine). l.at) ls i no_line 0 h) ∙ ap (λ xs. get_or xs i 0) know.places in
+    let size = sym (length-map ls (λ (l : TapLine). l.at)) ∙ ap length know.places in
+    let way = ap₂ distance (at p hp) (at r hr) in
+    let near = know.near p r (omega (arith, hp, size)) hr in
+    omega (arith, way, near)
+
+-- below the half bit from which on they hear by the lines there is none
+pub hear_settled : (of : Segment) (t : ℕ) (ls : List TapLine) → HearAllByLines of t t ls
+hear_settled of t ls = λ i h. record {
+  hears = λ a low high. absurd (omega (arith, low, high));
+  classes = λ a low high. absurd (omega (arith, low, high));
+  emits = λ a low high. absurd (omega (arith, low, high));
+}
 
 -- a line that goes on with a signal has a symbol
 some_of : (xs : List Sym) → is_signal (get_or xs (length xs - 1) Idle) ≡ true → 0 < length xs
@@ -113,6 +153,30 @@ module _ (t : ℕ) (ls ls' : List TapLine) (is : HaveForgotten t ls ls') where
             ];
       }
 
+  -- they are as idle, reach as far, and end at half bit t or later
+  pub idle_settled : (u : ℕ) → u ≤ t → AreIdleFrom u ls → AreIdleFrom u ls'
+  idle_settled u early idle = λ r v h late.
+      let size = is.many in
+      let in_it : r < length ls = omega (arith, h, size) in
+      let base = base_was r in_it in
+      elim (cases_lt v (t - (get_or ls r no_line).backlog)) [
+        | inl gone ↦
+            class_below r v in_it (omega (arith, gone))
+            ∙ ap is_signal (if_false {m = (get_or ls' r no_line).base} {n = v} _ _ (omega (arith, gone, base)))
+        | inr kept ↦ class_was r v in_it kept ∙ idle r v in_it late
+      ]
+
+  pub reach_settled : (far L : ℕ) → IsReachOf far L ls → IsReachOf far L ls'
+  reach_settled far L reach = λ p r hp hr.
+      let size = is.many in
+      let near = reach p r (omega (arith, hp, size)) (omega (arith, hr, size)) in
+      let places = ap₂ distance (place_was p) (place_was r) in
+      let delay = delay_was r in
+      omega (arith, places, delay, near)
+
+  pub end_settled : (r : ℕ) → r < length ls → (get_or ls' r no_line).base + length (get_or ls' r no_line).symbols ≡ max ((get_or ls r no_line).base + length (get_or ls r no_line).symbols) t
+  end_settled r h = ap (λ (x : TapLine). x.base + length x.symbols) (is.each r h) ∙ forgotten_end t (get_or ls r no_line)
+
   -- all stations stand before half bit t
   module _ (of : Segment) (from : ℕ) (ws : List Watch) (ss : List Sender) (ks : List KeptReception) (all : StandAllApart of from t ls ws ss ks)
       (since : (i : ℕ) (w : Watch) → i < length of.stations.items → (get_or ws i w).since ≡ t)
@@ -160,13 +224,6 @@ module _ (t : ℕ) (ls ls' : List TapLine) (is : HaveForgotten t ls ls') where
                 still = one.still;
               };
         }
-
-    pub hear_settled : (i : ℕ) → i < length of.stations.items → HearsByLines of.plan.value (get_or of.stations.items i 0) i of.lookahead t t ls'
-    hear_settled i h = record {
-      hears = λ a low high. absurd (omega (arith, low, high));
-      classes = λ a low high. absurd (omega (arith, low, high));
-      emits = λ a low high. absurd (omega (arith, low, high));
-    }
 
   pub room_settled : (from L : ℕ) → HaveRoomFrom from L ls → HaveRoomFrom t L ls'
   room_settled from L room =

@@ -1,33 +1,33 @@
 -- Stations several half bits later, where none of them writes a row.
-use Rattle.std.proofs.Common.{◌≡◌, ℕ, zero, suc, ◌+◌, ◌<◌, ◌≤◌, Bool, true, false, List, [], ◌∷◌, ◌++◌, map, length, replicate, get_or, Option, Some, None, refl, sym, ap, ap₂, ◌∙◌, arith}
+use Rattle.std.proofs.Common.{◌≡◌, ℕ, zero, suc, ◌+◌, ◌<◌, ◌≤◌, Bool, true, false, List, [], ◌∷◌, ◌++◌, length, replicate, get_or, Option, Some, None, refl, sym, ap, ap₂, ◌∙◌, arith}
 use Rattle.std.specs.Prelude.{if◌then◌else◌}
 use Rattle.std.proofs.lemmas.List.{append-nil}
 use Rattle.manchester_line.specs.declared.Sym.{Sym}
 use Rattle.manchester_line.specs.declared.Sym.TheVariants.{Idle}
 use Rattle.manchester_line.specs.Line.{is_signal}
 use Rattle.collision_log.specs.declared.row.Body.{Body}
+use Rattle.collision_log.specs.declared.row.Row.{Row}
 use Rattle.load_plan.specs.declared.plan.Plan.{Plan}
-use Rattle.mac_transmit.specs.Sender.{Sender, SendOutcome, sender_step}
+use Rattle.mac_transmit.specs.Sender.{Sender, sender_step}
 use Rattle.mac_transmit.specs.Calm.{after_all, AreCalm}
 use Rattle.mac_receive.specs.KeptReceiver.{KeptReception, Hears}
-use Rattle.mac_receive.specs.Receiver.{Receiving, Reception, quiet, reception_ended, receiver_step, receiver_after, receiver_bodies, with_event}
+use Rattle.mac_receive.specs.Receiver.{Receiving, quiet, reception_ended, receiver_step, receiver_after, receiver_bodies, with_event}
+use Rattle.network.specs.declared.outputs.Taken.{Taken}
 use Rattle.network.specs.Attempts.{sender_at}
 use Rattle.network.specs.Captures.{taken_by}
-use Rattle.network.specs.Net.{sendings, receptions}
+use Rattle.network.specs.Rows.{row_of}
 use Rattle.network.specs.Times.{heard, emitted}
 use Rattle.net_parts.specs.Windows.{lookahead}
 use Rattle.net_parts.specs.Machines.{span}
-use Rattle.net_parts.specs.SegmentParts.{Wiring, wiring, rows_on}
+use Rattle.net_parts.specs.SegmentParts.{Wiring, wiring}
 use Rattle.net_parts.specs.Standing.{receiver_at, captures_at, rows_of_devices}
 use Rattle.net_parts.proofs.NetworkFacts.{station_facts}
 use Rattle.net_parts.proofs.LookaheadLeads.{leads}
-use Rattle.net_parts.proofs.LateRows.{map-map, map_alike}
-use Rattle.net_parts.proofs.DeviceSteps.{sendings_of, receptions_of, receiver_next, capture_next}
+use Rattle.net_parts.proofs.DeviceSteps.{receiver_next, capture_next}
 use Rattle.net_parts.proofs.SegmentSteps.{below}
-use Rattle.segment_engine.specs.StationPasses.{receptions_by}
-use Rattle.segment_engine.specs.FirstReceptions.{rows_of_first}
-use Rattle.segment_engine.proofs.FirstRows.{rows_received, rows_none}
-use Rattle.segment_engine.proofs.HalfBits.{rows_next, emissions_next}
+use Rattle.window_room.specs.Rooms.{captures_with}
+use Rattle.segment_engine.specs.StationsApart.{heard_reception, sent_event}
+use Rattle.segment_engine.proofs.RowsOfBoth.{rows_by, rows_of_nothing}
 
 -- a sender calm over half bits gives no event in the last of them
 pub last_calm : (s : Sender) (hs : List Sym) (h : Sym) → AreCalm s (hs ++ h ∷ []) → (sender_step (after_all s hs) h).event ≡ None
@@ -69,6 +69,18 @@ no_halves r k rest h = nothing r.halves (sym h.count ∙ rest)
 no_capture : (t : ℕ) (e : Option Body) (os : List ℕ) → e ≡ None → taken_by t e os ≡ []
 no_capture t e os is = ap (λ x. taken_by t x os) is
 
+-- nothing is logged or captured where there is no event
+pub same_rows : (t device : ℕ) (e : Option Body) (rows : List Row) → e ≡ None → rows ≡ rows ++ row_of t device e
+same_rows t device e rows is = sym (ap (λ x. rows ++ row_of t device x) is ∙ append-nil rows)
+
+with_nothing : (k : ℕ) (cs : List (List Taken)) → k < length cs → captures_with k [] cs ≡ cs
+with_nothing k [] l = absurd (omega (arith, l))
+with_nothing zero (c ∷ cs) l = ap (λ x. x ∷ cs) (append-nil c)
+with_nothing (suc k) (c ∷ cs) l = ap (λ x. c ∷ x) (with_nothing k cs (omega (arith, l)))
+
+pub same_captures : (t k : ℕ) (e : Option Body) (os : List ℕ) (cs : List (List Taken)) → k < length cs → e ≡ None → cs ≡ captures_with k (taken_by t e os) cs
+same_captures t k e os cs l is = sym (ap (λ x. captures_with k (taken_by t x os) cs) is ∙ with_nothing k cs l)
+
 module _ (plan : Plan) (k : ℕ) (station : k < length plan.layout.stations) where
   -- a sender after several half bits
   pub sender_runs : (j t : ℕ) → sender_at plan k (t + j) ≡ after_all (sender_at plan k t) (span (heard plan k) t j)
@@ -94,46 +106,22 @@ module _ (plan : Plan) (s : ℕ) where
   abbrev ks : List ℕ
   ks = w.stations
 
-  sent : ℕ → ℕ → Option Body
-  sent u k = (sender_step (sender_at plan k u) (heard plan k u)).event
-
-  received : ℕ → ℕ → Option Body
-  received u k = (receiver_step (receiver_at plan k u) (heard plan k u) (is_signal (emitted plan k u))).event
-
   pub station : (r : ℕ) → r < length ks → get_or ks r 0 < length plan.layout.stations
   station r h = below plan (station_facts plan) (lookahead plan.layout) s 0 (leads plan.layout) r h
 
-  -- a half bit in which nothing happens at the senders
-  pub row_later : (u : ℕ) → ((r : ℕ) → r < length ks → (sender_step (sender_at plan (get_or ks r 0) u) (heard plan (get_or ks r 0) u)).event ≡ None) →
-      rows_of_devices plan ks (suc u) ≡ rows_of_devices plan ks u ++ rows_of_first u ks (λ i. (receiver_step (receiver_at plan (get_or ks i 0) u) (heard plan (get_or ks i 0) u) (is_signal (emitted plan (get_or ks i 0) u))).event) (length ks)
-  unfolding sent received
-  row_later u none =
-      let hs = map (λ k. heard plan k u) ks in
-      let ss = map (λ k. sender_at plan k u) ks in
-      let rs = map (λ k. receiver_at plan k u) ks in
-      let sends : map (λ (o : SendOutcome). o.event) (sendings hs ss) ≡ map (sent u) ks =
-      ap (map (λ (o : SendOutcome). o.event)) (sendings_of (λ k. heard plan k u) (λ k. sender_at plan k u) ks) ∙ map-map (λ (o : SendOutcome). o.event) (λ k. sender_step (sender_at plan k u) (heard plan k u)) ks in
-      let receives : map (λ (r : Reception). r.event) (receptions_by hs ss rs) ≡ map (received u) ks =
-      ap (λ xs. map (λ (r : Reception). r.event) (receptions hs xs rs)) (emissions_next plan s u hs ss refl refl)
-      ∙ ap (map (λ (r : Reception). r.event)) (receptions_of (λ k. heard plan k u) (λ k. emitted plan k u) (λ k. receiver_at plan k u) ks)
-      ∙ map-map (λ (r : Reception). r.event) (λ k. receiver_step (receiver_at plan k u) (heard plan k u) (is_signal (emitted plan k u))) ks in
-      sym (rows_next plan s u hs ss refl refl)
-      ∙ ap₂ (λ a b. rows_of_devices plan ks u ++ rows_on u ks a b) sends receives
-      ∙ ap (λ xs. rows_of_devices plan ks u ++ xs) (rows_received u ks (sent u) (received u) none)
-
-  -- and one in which nothing happens at all
-  quiet_row : (u : ℕ) → ((r : ℕ) → r < length ks → (sent u (get_or ks r 0) ≡ None) × (received u (get_or ks r 0) ≡ None)) → rows_of_devices plan ks (suc u) ≡ rows_of_devices plan ks u
-  unfolding sent received
+  -- a half bit in which nothing happens
+  quiet_row : (u : ℕ) → ((r : ℕ) → r < length ks → (sent_event plan (get_or ks r 0) u ≡ None) × ((heard_reception plan (get_or ks r 0) u).event ≡ None)) →
+      rows_of_devices plan ks (suc u) ≡ rows_of_devices plan ks u
   quiet_row u none =
-      row_later u (λ r h. (none r h).0)
-      ∙ ap (λ xs. rows_of_devices plan ks u ++ xs) (rows_none u ks (λ i. received u (get_or ks i 0)) (length ks) (λ r h. (none r h).1))
+      rows_by plan s u
+      ∙ ap (λ xs. rows_of_devices plan ks u ++ xs)
+      (rows_of_nothing u ks (λ i. sent_event plan (get_or ks i 0) u) (λ i. (heard_reception plan (get_or ks i 0) u).event) (length ks) none)
       ∙ append-nil (rows_of_devices plan ks u)
 
   module _ (t m : ℕ)
       (none : (r j : ℕ) → r < length ks → j < m → ((sender_step (sender_at plan (get_or ks r 0) (t + j)) (heard plan (get_or ks r 0) (t + j))).event ≡ None)
       × ((receiver_step (receiver_at plan (get_or ks r 0) (t + j)) (heard plan (get_or ks r 0) (t + j)) (is_signal (emitted plan (get_or ks r 0) (t + j)))).event ≡ None)) where
     rows_to : (j : ℕ) → j ≤ m → rows_of_devices plan ks (t + j) ≡ rows_of_devices plan ks t
-    unfolding sent received
     rows_to zero h = let e : t + 0 ≡ t = omega arith in ap (rows_of_devices plan ks) e
     rows_to (suc j) h =
         let e : t + suc j ≡ suc (t + j) = omega arith in
@@ -154,6 +142,3 @@ module _ (plan : Plan) (s : ℕ) where
         ∙ ap (λ xs. captures_at plan k u ++ xs) (no_capture u one.event one.octets (none r j l (omega arith)).1)
         ∙ append-nil (captures_at plan k u)
         ∙ captures_to r j l (omega arith)
-
-    pub captures_stay : map (λ k. captures_at plan k (t + m)) ks ≡ map (λ k. captures_at plan k t) ks
-    captures_stay = map_alike (λ k. captures_at plan k (t + m)) (λ k. captures_at plan k t) ks (λ r h. captures_to r m h (omega arith))

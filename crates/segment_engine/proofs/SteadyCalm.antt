@@ -1,5 +1,5 @@
 -- Stations to which nothing happens for several half bits, and what their lines tell ahead.
-use Rattle.std.proofs.Common.{◌≡◌, ℕ, ◌+◌, ◌-◌, ◌<◌, ◌≤◌, Bool, false, List, [], ◌∷◌, length, replicate, refl, sym, subst, ap, ap₂, ◌∙◌, arith}
+use Rattle.std.proofs.Common.{◌≡◌, ℕ, ◌+◌, ◌-◌, ◌≤◌, Bool, false, List, [], ◌∷◌, length, replicate, refl, sym, subst, ap, ap₂, ◌∙◌, arith}
 use Rattle.std.specs.Prelude.{◌↔◌, Option}
 use Rattle.manchester_line.specs.declared.Sym.{Sym}
 use Rattle.manchester_line.specs.declared.Sym.TheVariants.{Idle}

@@ -14,7 +14,7 @@ use Rattle.network.specs.Rows.{row_of}
 use Rattle.network.specs.Times.{heard, emitted}
 use Rattle.net_parts.specs.Windows.{lookahead}
 use Rattle.net_parts.specs.SegmentParts.{wiring}
-use Rattle.tap_lines.specs.TapLines.{IsReachOf, TapLine, no_line, class_by_lines, class_on, half_bits_back, heard_by_lines, symbol_on}
+use Rattle.tap_lines.specs.TapLines.{TapLine, no_line, class_by_lines, class_on, half_bits_back, heard_by_lines, symbol_on}
 use Rattle.window_room.specs.NeededRoom.{Covers, IsDemandWithin, both_demands, receiver_demand, sender_demand}
 use Rattle.window_room.specs.Rooms.{Room}
 use Rattle.tap_lines.proofs.LineClasses.{IsAlikeBelow}
@@ -23,7 +23,7 @@ use Rattle.segment_engine.specs.declared.segment.Segment.{Segment}
 use Rattle.segment_engine.specs.KnownLines.{KnowLines}
 use Rattle.segment_engine.specs.StationsApart.{StandsBehind, StandsApart, HearsByLines, IsStillBy, IsToldAnew, AreToldAnew, SaysOf, TellsUpTo, CoversApart, behind_demand, heard_reception, lowered_watch, number_on, rows_of_both, sent_event}
 use Rattle.segment_engine.proofs.BehindStations.{no_reception, no_sending}
-use Rattle.segment_engine.proofs.ChangedLines.{class_known, known_anew, line_anew, reaches_later, lowered, unlowered}
+use Rattle.segment_engine.proofs.ChangedLines.{class_known, known_anew, lowered, reaches_later, unchanged_line, unlowered}
 use Rattle.segment_engine.proofs.ChangedStations.{demands_alike, each_set}
 use Rattle.segment_engine.proofs.LinesApart.{hears_so_far, emits_one}
 use Rattle.segment_engine.proofs.QuietRoom.{both_within}
@@ -31,11 +31,8 @@ use Rattle.segment_engine.proofs.StationsLater.{station}
 use Rattle.segment_engine.proofs.WindowParcels.{receiver_more}
 
 -- lines of which one is told anew
-still_told : (u : ℕ) (l : TapLine) → IsToldAnew u l l
-still_told u l = record { place = refl; wait = refl; keeps = refl; begins = refl; size = refl; before = λ a h. refl; classes = λ a h. refl }
-
 pub anew_none : (u n : ℕ) (ls : List TapLine) → AreToldAnew u n ls ls
-anew_none u n ls = record { many = refl; told = λ r h. still_told u (get_or ls r no_line); others = λ r h. refl }
+anew_none u n ls = record { many = refl; told = λ r h. unchanged_line u (get_or ls r no_line); others = λ r h. refl }
 
 pub anew_one : (u n p : ℕ) (ls ls' : List TapLine) → p < n → length ls' ≡ length ls → IsToldAnew u (get_or ls p no_line) (get_or ls' p no_line) →
     ((r : ℕ) (d : TapLine) → r ≢ p → get_or ls' r d ≡ get_or ls r d) → AreToldAnew u n ls ls'
@@ -43,27 +40,10 @@ anew_one u n p ls ls' few many told others = record {
   many = many;
   told = λ r h. elim (cases_eq r p) [
     | inl own ↦ subst (λ j. IsToldAnew u (get_or ls j no_line) (get_or ls' j no_line)) (sym own) told
-    | inr differs ↦ subst (λ l. IsToldAnew u (get_or ls r no_line) l) (sym (others r no_line differs)) (still_told u (get_or ls r no_line))
+    | inr differs ↦ subst (λ l. IsToldAnew u (get_or ls r no_line) l) (sym (others r no_line differs)) (unchanged_line u (get_or ls r no_line))
   ];
   others = λ r h. others r no_line (λ e. omega (arith, e, h, few));
 }
-
-pub anew_twice : (u n : ℕ) (ls ls' ls'' : List TapLine) → AreToldAnew u n ls ls' → AreToldAnew u n ls' ls'' → AreToldAnew u n ls ls''
-anew_twice u n ls ls' ls'' a b = record {
-  many = b.many ∙ a.many;
-  told = λ r h.
-      let x = a.told r h in
-      let y = b.told r h in
-      record { place = y.place ∙ x.place; wait = y.wait ∙ x.wait; keeps = y.keeps ∙ x.keeps; begins = y.begins ∙ x.begins; size = y.size ∙ x.size; before = λ i l. y.before i l ∙ x.before i l; classes = λ i l. y.classes i l ∙ x.classes i l };
-  others = λ r h. b.others r h ∙ a.others r h;
-}
-
-pub reach_anew : (far L u n : ℕ) (ls ls' : List TapLine) → AreToldAnew u n ls ls' → IsReachOf far L ls → IsReachOf far L ls'
-reach_anew far L u n ls ls' anew within = λ p r hp hr.
-    let many = anew.many in
-    let a = line_anew u n p ls ls' anew in
-    let b = line_anew u n r ls ls' anew in
-    subst (λ x. x ≤ far) (sym (ap₂ (λ x y. x + y - L) (ap₂ distance a.place b.place) b.wait)) (within p r (omega (arith, hp, many)) (omega (arith, hr, many)))
 
 pub alike_to : (u n p from : ℕ) (ls ls' : List TapLine) → p < n → AreToldAnew u n ls ls' → ((r : ℕ) (d : TapLine) → r ≢ p → get_or ls' r d ≡ get_or ls r d) →
     ((a : ℕ) → a < from → class_on (get_or ls' p no_line) a ≡ class_on (get_or ls p no_line) a) → IsAlikeBelow p from ls ls'
@@ -211,11 +191,6 @@ module _ (of : Segment) where
       let len = ap length of.station_numbers in
       let many = know.many in
       omega (arith, h, len, many)
-
-  pub back_later : (u front q p from : ℕ) (ls ls' : List TapLine) → Know u front ls → IsAlikeBelow p from ls ls' → q < n → p < n → q ≢ p →
-      1 ≤ half_bits_back of.lookahead (get_or ls' q no_line).at (get_or ls' p no_line)
-  back_later u front q p from ls ls' know alike hq hp other =
-      subst (λ b. 1 ≤ b) (sym (back_alike of.lookahead p from q ls ls' alike other)) (later_on u front q p ls know hq hp other)
 
   -- another station stands as it stood, where its watch goes no further than it hears the change
   pub apart_lowered : (t u v front q p from : ℕ) (ls ls' : List TapLine) (w : Watch) (s : Sender) (k : KeptReception) → Know u front ls → IsAlikeBelow p from ls ls' → u ≤ from → v ≤ u + 1 →

@@ -1,17 +1,14 @@
 -- One half bit of a station that is due: what its line has then and later, and what holds of it before the next.
-use Rattle.std.proofs.Common.{◌≡◌, ℕ, zero, suc, ◌+◌, ◌-◌, ◌<◌, ◌≤◌, ◌⊎◌, Bool, true, false, inl, inr, Option, Some, None, IfSome, IfNone, List, [], ◌∷◌, ◌++◌, length, get_or, refl, sym, ap, ap₂, subst, ◌∙◌, arith}
+use Rattle.std.proofs.Common.{◌≡◌, ℕ, suc, ◌+◌, ◌-◌, ◌<◌, ◌⊎◌, Bool, true, false, inl, inr, Option, Some, None, IfNone, List, ◌++◌, length, get_or, sym, ap, ap₂, subst, ◌∙◌, arith}
 use Rattle.std.proofs.lemmas.Bool.{cases_lt, cases_Bool}
 use Rattle.manchester_line.specs.declared.Sym.{Sym}
-use Rattle.manchester_line.specs.declared.Sym.TheVariants.{Idle}
 use Rattle.manchester_line.specs.Line.{is_signal}
 use Rattle.collision_log.specs.declared.row.Row.{Row}
 use Rattle.load_plan.specs.declared.plan.Plan.{Plan}
 use Rattle.mac_receive.specs.KeptReceiver.{KeptReception, Hears}
 use Rattle.mac_receive.specs.Receiver.{Receiving, receiver_step}
 use Rattle.mac_transmit.specs.declared.phase.Phase.{Phase}
-use Rattle.mac_transmit.specs.declared.phase.Phase.TheVariants.{Rest, Waiting, Sending, Backoff}
 use Rattle.mac_transmit.specs.Sender.{Sender, sender_step, is_sending}
-use Rattle.mac_transmit.specs.Calm.{AreCalm}
 use Rattle.mac_transmit.specs.Emissions.{IsSendingFor, emission_by}
 use Rattle.network.specs.declared.outputs.Taken.{Taken}
 use Rattle.network.specs.Attempts.{sender_at}
@@ -27,33 +24,15 @@ use Rattle.window_room.specs.Rooms.{Room, captures_with}
 use Rattle.segment_engine.specs.declared.apart.Watch.{Watch}
 use Rattle.segment_engine.specs.declared.segment.Segment.{Segment}
 use Rattle.segment_engine.specs.SteadyPieces.{IsCalmAs}
-use Rattle.segment_engine.specs.StationsApart.{StandsBehind, StandsApart, IsAnew, IsToldAnew, TellsOn, behind_demand, heard_reception, number_on, sent_event}
+use Rattle.segment_engine.specs.StationsApart.{StandsBehind, StandsApart, IsAnew, TellsOn, behind_demand, heard_reception, number_on, sent_event}
+use Rattle.segment_engine.proofs.SteadyCalm.{emits_idle, no_calm}
 use Rattle.segment_engine.proofs.SendersStep.{same_sending, same_emits, same_lasts, silent_emits}
 use Rattle.segment_engine.proofs.SignalSenders.{station_sends}
 use Rattle.segment_engine.proofs.StationsLater.{station}
 
--- a sender that doesn't send emits Idle
-silent_emission : (s : Sender) (j : ℕ) (p : Phase) → is_sending p ≡ false → emission_by s j p ≡ Idle
-silent_emission s j Rest e = refl
-silent_emission s j Waiting e = refl
-silent_emission s j (Sending start hit) e = absurd (cc)
-silent_emission s j (Backoff until) e = refl
-
--- a watch of no half bit
-none_calm : (s : Sender) (hs : List Sym) → length hs ≤ 0 → AreCalm s hs
-none_calm s [] h = tt
-none_calm s (x ∷ hs) h = absurd (omega (arith, h))
-
-no_calm : (c : Bool) (s : Sender) → IsCalmAs 0 c s
-no_calm c s = record { number = omega arith; calm = λ hs a l. none_calm s hs l }
-
 pub if_none_map : (o : Option ℕ) (P Q : Type 0) → (P → Q) → IfNone o P → IfNone o Q
 if_none_map None P Q f h = f h
 if_none_map (Some n) P Q f h = tt
-
-pub if_some_map : (o : Option ℕ) (P Q R : ℕ → Type 0) → ((n : ℕ) → P n → Q n → R n) → IfSome o P → IfSome o Q → IfSome o R
-if_some_map None P Q R f a b = tt
-if_some_map (Some n) P Q R f a b = f n a b
 
 -- phases by the values that were read of them
 pub keeps : (was now : Phase) (s s' : Sender) → was ≡ s.phase → now ≡ s'.phase → (now ≡ was) ⊎ ((is_sending was ≡ false) × (is_sending now ≡ false)) →
@@ -62,10 +41,6 @@ keeps was now s s' a b h = elim h [
   | inl same ↦ inl (sym b ∙ same ∙ a)
   | inr silent ↦ inr (sym (ap is_sending a) ∙ silent.0, sym (ap is_sending b) ∙ silent.1)
 ]
-
--- a line that isn't told anew
-pub unchanged_line : (u : ℕ) (l : TapLine) → IsToldAnew u l l
-unchanged_line u l = record { place = refl; wait = refl; keeps = refl; begins = refl; size = refl; before = λ a h. refl; classes = λ a h. refl }
 
 module _ (plan : Plan) (x p L t u : ℕ) (ls : List TapLine) (w : Watch) (s s' : Sender) (k : KeptReception) (h : Sym)
     (behind : StandsBehind plan x p L t ls w s k) (since : w.since ≡ u) (sent : s' ≡ (sender_step s h).state) where
@@ -121,8 +96,8 @@ module _ (plan : Plan) (x p L t u : ℕ) (ls : List TapLine) (w : Watch) (s s' :
   tells_silent : u < w.told → is_sending s.phase ≡ false → is_sending s'.phase ≡ false → TellsOn u w.told l s'
   tells_silent told off then = record {
     from = omega (arith, told);
-    line = λ j high. line_at (suc j) (u + 1 + j) (omega arith) high ∙ silent_emission s (suc j) s.phase off ∙ sym (silent_emission s' j s'.phase then);
-    signal = λ j high. ap is_signal (silent_emission s' j s'.phase then) ∙ sym then;
+    line = λ j high. line_at (suc j) (u + 1 + j) (omega arith) high ∙ emits_idle s (suc j) s.phase off ∙ sym (emits_idle s' j s'.phase then);
+    signal = λ j high. ap is_signal (emits_idle s' j s'.phase then) ∙ sym then;
     goes = λ a late. behind.goes a (omega (arith, since, late)) ∙ off ∙ sym then;
     lasts = λ still. absurd (let no : true ≡ false = sym still ∙ then in cc);
   }
@@ -138,7 +113,7 @@ module _ (plan : Plan) (x p L t u : ℕ) (ls : List TapLine) (w : Watch) (s s' :
       let has = line_at 0 u (omega arith) told in
       elim (cases_Bool (is_sending s.phase)) [
         | inl on ↦ same_emits s h (w.told - (u + 1)) (left told on) ∙ sym has
-        | inr off ↦ silent_emits s h (silent_then (silent_same off kept)) ∙ sym (has ∙ silent_emission s 0 s.phase off)
+        | inr off ↦ silent_emits s h (silent_then (silent_same off kept)) ∙ sym (has ∙ emits_idle s 0 s.phase off)
       ]
 
   -- its class in half bit u, where it isn't told anew

@@ -1,5 +1,5 @@
 -- A half bit of stations of which some are due: those that go on beyond it are passed.
-use Rattle.std.proofs.Common.{◌≡◌, ℕ, zero, suc, ◌+◌, ◌-◌, ◌*◌, ◌<◌, ◌≤◌, ◌++◌, false, inl, inr, None, Option, List, [], length, get_or, sym, subst, ap, ◌∙◌, arith}
+use Rattle.std.proofs.Common.{◌≡◌, ℕ, zero, suc, ◌+◌, ◌-◌, ◌<◌, ◌≤◌, ◌++◌, false, inl, inr, None, Option, List, [], length, get_or, sym, subst, ap, ◌∙◌, arith}
 use Rattle.std.proofs.lemmas.Bool.{cases_lt}
 use Rattle.std.proofs.lemmas.List.{append-nil}
 use Rattle.collision_log.specs.declared.row.Body.{Body}
@@ -17,8 +17,8 @@ use Rattle.segment_engine.specs.declared.apart.Watch.{Watch}
 use Rattle.segment_engine.specs.declared.segment.Segment.{Segment}
 use Rattle.segment_engine.specs.KnownLines.{KnowLines}
 use Rattle.segment_engine.specs.StationsApart.{StandsApart, IsStillBy, HearAllByLines, SaysOf, heard_reception, number_on, rows_of_both, sent_event}
-use Rattle.segment_engine.proofs.FirstReceptions.{same_rows}
-use Rattle.segment_engine.proofs.PieceRoom.{below_next}
+use Rattle.segment_engine.proofs.ChangedStations.{below_next}
+use Rattle.segment_engine.proofs.StationsLater.{same_rows}
 use Rattle.segment_engine.proofs.StepAll.{emits_so, gone_on, nothing_on, rows_silent, silent_on}
 
 abbrev a_watch : Watch

@@ -1,5 +1,5 @@
 -- The parcels of a window, and the room that it needs.
-use Rattle.std.proofs.Common.{◌≡◌, ℕ, ◌+◌, ◌-◌, ◌*◌, ◌<◌, ◌≤◌, min, true, false, List, [], ◌∷◌, ◌++◌, map, take, length, refl, ap, ap₂, ◌∙◌, arith}
+use Rattle.std.proofs.Common.{◌≡◌, ℕ, ◌+◌, ◌-◌, ◌*◌, ◌<◌, ◌≤◌, min, true, false, List, [], ◌∷◌, ◌++◌, map, take, length, get_or, refl, sym, subst, ap, ap₂, ◌∙◌, arith}
 use Rattle.std.proofs.lemmas.List.{take-append-le, take_all}
 use Rattle.std.proofs.lemmas.Bool.Decides.{nat_tests}
 use Rattle.load_plan.specs.declared.plan.Plan.{Plan}
@@ -16,9 +16,12 @@ use Rattle.net_parts.specs.Parcels.{true_symbols, true_parcel, arrived, refilled
 use Rattle.net_parts.proofs.LateRows.{map-map}
 use Rattle.net_parts.proofs.RepeaterSteps.{length-span}
 use Rattle.net_parts.proofs.WindowTimes.{some_lead, begins_in_run}
-use Rattle.window_room.specs.NeededRoom.{Covers, IsDemandWithin, sender_demand, receiver_demand, stations_demand}
+use Rattle.window_room.specs.NeededRoom.{Covers, IsDemandWithin, both_demands, sender_demand, receiver_demand, stations_demand}
 use Rattle.window_room.specs.Rooms.{Room}
+use Rattle.segment_engine.specs.declared.apart.Watch.{Watch}
 use Rattle.segment_engine.specs.PartStates.{half_filled, turned_to_repeater}
+use Rattle.segment_engine.specs.StationsApart.{CoversApart, behind_demand}
+use Rattle.segment_engine.proofs.ChangedStations.{demands_alike}
 
 module _ (plan : Plan) (wd : ℕ) (some : wd < windows plan) where
   abbrev L : ℕ
@@ -82,6 +85,17 @@ sender_more s m n h = record { fewer_rows = omega (arith, h); fewer_frames = ome
 pub receiver_more : (k : KeptReception) (m n : ℕ) → m ≤ n → IsDemandWithin (receiver_demand m k) (receiver_demand n k)
 receiver_more k m n h = record { fewer_rows = omega (arith, h); fewer_frames = omega (arith, h); fewer_octets = omega (arith, h) }
 
+-- stations that stand before the same half bits need the same room
+pub covers_since : (e n : ℕ) (ws ws' : List Watch) (ss : List Sender) (ks : List KeptReception) (room : Room) →
+    ((i : ℕ) (w : Watch) → i < n → (get_or ws' i w).since ≡ (get_or ws i w).since) → CoversApart e n ws ss ks room → CoversApart e n ws' ss ks room
+covers_since e n ws ws' ss ks room same c = λ w s k.
+    let f = λ (i : ℕ). behind_demand e (get_or ws i w) (get_or ss i s) (get_or ks i k) in
+    let g = λ (i : ℕ). behind_demand e (get_or ws' i w) (get_or ss i s) (get_or ks i k) in
+    subst (λ d. Covers d room)
+    (demands_alike n f g (λ i h. ap (λ x. both_demands (sender_demand (e - x) (get_or ss i s)) (receiver_demand (e - x) (get_or ks i k))) (sym (same i w h))))
+    (c w s k)
+
+-- (goes with PieceRoom)
 stations_more : (ss : List Sender) (ks : List KeptReception) (m n : ℕ) → m ≤ n → IsDemandWithin (stations_demand m ss ks) (stations_demand n ss ks)
 stations_more [] ks m n h = record { fewer_rows = omega arith; fewer_frames = omega arith; fewer_octets = omega arith }
 stations_more (s ∷ ss) [] m n h = record { fewer_rows = omega arith; fewer_frames = omega arith; fewer_octets = omega arith }

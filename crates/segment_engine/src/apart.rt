@@ -12,11 +12,11 @@ ghost use Rattle.net_parts.specs.SegmentParts.{wiring};
 ghost use Rattle.net_parts.specs.Standing.{captures_at, rows_of_devices};
 ghost use Rattle.segment_engine.specs.KnownLines.{KnowLines};
 ghost use Rattle.segment_engine.specs.PartStates.{half_filled};
-ghost use Rattle.segment_engine.specs.QuietHalfBits.{ComeInIdle, IsQuietFor};
+ghost use Rattle.segment_engine.specs.QuietHalfBits.{IsQuietFor};
 ghost use Rattle.segment_engine.specs.RunningStates.{GoesOnAt, IsRunningAt};
 ghost use Rattle.segment_engine.specs.SteadyPieces.{IsCalmAs};
 ghost use Rattle.segment_engine.specs.StationsApart.{StandsBehind, StandsApart, StandAllApart, AreStill, AreToldAnew, EndsAt, IsStillBy, HearsByLines, HearAllByLines, TellsUpTo, CoversApart, behind_demand, heard_reception, most_ahead, number_on};
-ghost use Rattle.tap_lines.specs.TapLines.{IsReachOf, class_by_lines, heard_by_lines, heard_for, no_line};
+ghost use Rattle.tap_lines.specs.TapLines.{IsReachOf, TapLine, class_by_lines, forgotten, heard_by_lines, heard_for, line_extended, no_line};
 ghost use Rattle.tap_lines.specs.TapLists.{AreIdleButFor, HearsListed};
 ghost use Rattle.window_room.specs.NeededRoom.{Covers, Demand, IsDemandWithin, both_demands, receiver_demand, sender_demand, stations_demand};
 ghost use Rattle.window_room.specs.Rooms.{Room, captures_with};
@@ -115,6 +115,7 @@ fn bring_one(
     ensures since { watch.new.since ≡ u }
     ensures until { watch.new.until ≡ watch.old.until }
     ensures carrier { watch.new.carrier ≡ watch.old.carrier }
+    ensures still { IsStillBy watch.old sender.old receiver.old → IsStillBy watch.new sender.new receiver.new }
     ensures left { (e : ℕ) → u ≤ e → IsDemandWithin (behind_demand e watch.new sender.new receiver.new) (behind_demand e watch.old sender.old receiver.old) }
     ensures listing { late.new.room ≡ late.old.room }
 {
@@ -153,8 +154,10 @@ fn bring_all(
     requires in_time { u ≤ most_half_bits }
     requires piece { most_ahead ≤ length piece.old }
     requires apart { StandAllApart of.now from u lines.now watches.old senders.old receivers.old }
+    requires still { AreStill of.now watches.old senders.old receivers.old }
     requires right { HearAllByLines of.now from u lines.now }
     ensures apart { StandAllApart of.now from u lines.now watches.new senders.new receivers.new }
+    ensures still { AreStill of.now watches.new senders.new receivers.new }
     ensures since { (i : ℕ) (w : Watch) → i < length of.now.stations.items → (slice_index_or watches.new i w).since ≡ u }
     ensures left { (e : ℕ) (room : Room) → u ≤ e →
         CoversApart e (length of.now.stations.items) watches.old senders.old receivers.old room →
@@ -320,7 +323,7 @@ pub fn end_one(
 }
 
 /// The first half bit in which a station is due, at most `end`.
-fn first_due(watches: &[Watch], end: u64) -> u64
+pub fn first_due(watches: &[Watch], end: u64) -> u64
     ensures within { result ≤ end }
     ensures first { (i : ℕ) (w : Watch) → i < length watches.now → result ≤ (slice_index_or watches.now i w).until }
     ensures due { (u : ℕ) → u ≤ end → ((i : ℕ) (w : Watch) → i < length watches.now → u ≤ (slice_index_or watches.now i w).until) → u ≤ result }
@@ -332,8 +335,42 @@ fn first_due(watches: &[Watch], end: u64) -> u64
     due
 }
 
-/// What came in for the ports in a window is put on their lines. No station goes on beyond the half bit in which it hears
-/// anything else of it than it was said to.
+/// What came in for a port, tap `r`, in the half bits from `t` on is put on its line, which ended there. No station goes on
+/// beyond the half bit in which it hears a signal of it in the place of Idle, or Idle in the place of a signal.
+fn arrive_one(
+    of: &Segment,
+    t: u64,
+    r: usize,
+    symbols: &[Sym],
+    lines: &mut [Line],
+    watches: &mut [Watch],
+)
+    requires tap { r < length lines.old }
+    requires taps { length watches.old ≤ length lines.old }
+    requires ended { (slice_index_or lines.old r no_line).base + length (slice_index_or lines.old r no_line).symbols ≡ t }
+    requires room { length symbols.now ≤ (slice_index_or lines.old r no_line).room }
+    requires in_time { t + length symbols.now < 2 ^ 64 }
+    requires watched { (i : ℕ) (w : Watch) → i < length watches.old → (slice_index_or watches.old i w).until < 2 ^ 64 }
+    ensures line { slice_index_or lines.new r no_line ≡ line_extended (slice_index_or lines.old r no_line) symbols.now }
+    ensures others { (q : ℕ) (l : TapLine) → q ≢ r → slice_index_or lines.new q l ≡ slice_index_or lines.old q l }
+    ensures stands { (from i : ℕ) (w : Watch) (s : Sender) (k : KeptReception) → i < length watches.old → i ≢ r →
+        StandsApart of.now from t i lines.old (slice_index_or watches.old i w) s k →
+        StandsApart of.now from t i lines.new (slice_index_or watches.new i w) s k }
+    ensures since { (i : ℕ) (w : Watch) → i < length watches.old → (slice_index_or watches.new i w).since ≡ (slice_index_or watches.old i w).since }
+    ensures carrier { (i : ℕ) (w : Watch) → i < length watches.old → (slice_index_or watches.new i w).carrier ≡ (slice_index_or watches.old i w).carrier }
+    ensures until { (i : ℕ) (w : Watch) → i < length watches.old → (slice_index_or watches.new i w).until ≤ (slice_index_or watches.old i w).until }
+{
+    let line = &mut lines[r];
+    let same = line.alike_first(symbols);
+    if same == symbols.len() {
+        line.go_on(symbols);
+        return;
+    }
+    line.extend(symbols);
+    lower_all(t + same as u64, of.lookahead, lines, r, watches);
+}
+
+/// What came in for the ports in a window is put on their lines.
 pub fn arrive(of: &Segment, window: u64, state: &mut Running, parcels: &[Parcel])
     requires at { IsRunningAt of.now (window * of.now.lookahead) state.old }
     requires time { state.old.t ≡ window * of.now.lookahead }
@@ -343,7 +380,7 @@ pub fn arrive(of: &Segment, window: u64, state: &mut Running, parcels: &[Parcel]
     ensures at { IsRunningAt of.now ((window + 1) * of.now.lookahead) state.new }
     ensures time { state.new.t ≡ state.old.t }
     ensures from { state.new.from ≡ state.old.from }
-    ensures since { (i : ℕ) (w : Watch) → (slice_index_or state.new.watches.items i w).since ≡ (slice_index_or state.old.watches.items i w).since }
+    ensures since { (i : ℕ) (w : Watch) → i < length of.now.stations.items → (slice_index_or state.new.watches.items i w).since ≡ (slice_index_or state.old.watches.items i w).since }
     ensures senders { state.new.senders ≡ state.old.senders }
     ensures receivers { state.new.receivers ≡ state.old.receivers }
     ensures room { state.new.room ≡ state.old.room }
@@ -351,76 +388,10 @@ pub fn arrive(of: &Segment, window: u64, state: &mut Running, parcels: &[Parcel]
     let _ = window;
     let t = state.t;
     let from = of.stations.len();
+    let lines: &mut [Line] = &mut state.lines;
+    let watches: &mut [Watch] = &mut state.watches;
     for p in 0..parcels.len() {
-        let symbols = parcels[p].symbols.as_slice();
-        let same = state.lines[from + p].alike_first(symbols);
-        if same == symbols.len() {
-            state.lines[from + p].go_on(symbols);
-        } else {
-            state.lines[from + p].extend(symbols);
-            lower_all(
-                t + same as u64,
-                of.lookahead,
-                &state.lines,
-                from + p,
-                &mut state.watches,
-            );
-        }
-    }
-}
-
-/// For how many half bits from its present one on nothing happens.
-pub fn quiet_ahead(of: &Segment, state: &Running, most: u64) -> u64
-    requires goes { GoesOnAt of.now state.now.t state.now }
-    requires in_time { state.now.t < most_half_bits }
-    requires few { most ≤ most_ahead }
-    ensures within { result ≤ most }
-    ensures quiet { (n : ℕ) → 0 < n → n ≤ result → IsQuietFor n state.now }
-{
-    let _ = of;
-    let t = state.t;
-    if !are_idle_from(&state.lines, t.saturating_sub(state.far)) {
-        return 0;
-    }
-    if state.from != t {
-        return first_due(&state.watches, t + most) - t;
-    }
-    let mut calm = most;
-    for k in 0..state.senders.len() {
-        if is_sending(&state.senders[k]) || state.receivers[k].is_receiving() {
-            return 0;
-        }
-        calm = calm.min(state.senders[k].calm(t, false));
-    }
-    calm
-}
-
-/// So many half bits in which nothing happens and nothing but Idle comes in.
-pub fn pass(of: &Segment, count: u64, state: &mut Running)
-    requires at { IsRunningAt of.now state.old.t state.old }
-    requires in_time { state.old.t + count ≤ most_half_bits }
-    requires quiet { IsQuietFor count state.old }
-    requires silent { ComeInIdle of.now.plan.value (wiring of.now.plan.value.layout of.now.number).edges state.old.t count }
-    ensures at { IsRunningAt of.now state.new.t state.new }
-    ensures time { state.new.t ≡ state.old.t + count }
-    ensures from { state.new.from ≡ state.new.t }
-    ensures room { state.new.room ≡ state.old.room }
-{
-    if state.from != state.t {
-        settle(of, state.t, state);
-    }
-    let t = state.t + count;
-    for k in 0..state.senders.len() {
-        state.senders[k].leap(state.t, count, false);
-        state.receivers[k].leap_quiet(count);
-        state.watches[k].since = t;
-        state.watches[k].until = t;
-        state.watches[k].carrier = false;
-    }
-    state.t = t;
-    state.from = t;
-    for line in state.lines.iter_mut() {
-        line.pass_to(t);
+        arrive_one(of, t, from + p, parcels[p].symbols.as_slice(), lines, watches);
     }
 }
 
@@ -442,22 +413,35 @@ pub fn settle_if_due(of: &Segment, front: u64, last: bool, state: &mut Running)
     }
 }
 
-/// All stations go on up to the present half bit, and what their lines needn't keep is forgotten.
-fn settle(of: &Segment, front: u64, state: &mut Running)
+/// The lines have come to half bit `t`, and forget what is further back than they must keep.
+pub fn forget_all(t: u64, lines: &mut [Line])
+    requires in_time { (r : ℕ) (d : TapLine) → r < length lines.old →
+        (slice_index_or lines.old r d).base + length (slice_index_or lines.old r d).symbols < 2 ^ 64 }
+    requires keeps { (r : ℕ) (d : TapLine) → r < length lines.old →
+        (slice_index_or lines.old r d).backlog ≤ length (slice_index_or lines.old r d).symbols + (slice_index_or lines.old r d).room }
+    ensures { (r : ℕ) (d : TapLine) → r < length lines.new → slice_index_or lines.new r d ≡ forgotten t (slice_index_or lines.old r d) }
+{
+    for line in lines.iter_mut() {
+        line.forget(t);
+    }
+}
+
+/// All stations go on up to the present half bit, if they stand behind, and what their lines needn't keep is forgotten.
+pub fn settle(of: &Segment, front: u64, state: &mut Running)
     requires goes { GoesOnAt of.now front state.old }
     requires in_time { state.old.t ≤ most_half_bits }
     ensures goes { GoesOnAt of.now front state.new }
     ensures time { state.new.t ≡ state.old.t }
     ensures from { state.new.from ≡ state.new.t }
-    ensures since { (i : ℕ) (w : Watch) → i < length of.now.stations.items → (slice_index_or state.new.watches.items i w).since ≡ state.new.t }
     ensures room { state.new.room ≡ state.old.room }
-    ensures left { (e : ℕ) → state.old.t ≤ e →
-        CoversApart e (length of.now.stations.items) state.old.watches.items state.old.senders.items state.old.receivers.items state.old.room →
-        CoversApart e (length of.now.stations.items) state.new.watches.items state.new.senders.items state.new.receivers.items state.new.room }
+    ensures quiet { (n : ℕ) → IsQuietFor n state.old → IsQuietFor n state.new }
 {
     let _ = front;
     let t = state.t;
     let from = state.from;
+    if from == t {
+        return;
+    }
     let far = state.far;
     let watches: &mut [Watch] = &mut state.watches;
     let senders: &mut [Transmitter] = &mut state.senders;
@@ -466,9 +450,7 @@ fn settle(of: &Segment, front: u64, state: &mut Running)
     bring_all(
         of, from, t, &state.lines, &mut state.late, far, watches, senders, receivers, piece,
     );
-    for line in state.lines.iter_mut() {
-        line.forget(t);
-    }
+    forget_all(t, &mut state.lines);
     state.from = t;
 }
 

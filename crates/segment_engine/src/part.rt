@@ -12,7 +12,8 @@ ghost use Rattle.segment_engine.specs.QuietHalfBits.{ComeInIdle, GoOutIdle, IsQu
 ghost use Rattle.segment_engine.specs.RunningStates.{IsRunningAt};
 ghost use Rattle.segment_engine.specs.StationsApart.{CoversApart};
 
-use crate::apart::{KEEP, pass, quiet_ahead};
+use crate::apart::KEEP;
+use crate::quiet::{pass, quiet_ahead};
 use crate::running::Running;
 use crate::segment::Segment;
 use crate::start::start;

@@ -1,6 +1,7 @@
 use Rattle.std.proofs.Common.{◌≡◌, ◌<◌, length, ◌∙◌, false, arith}
 use Rattle.segment_engine.specs.declared.apart.Watch.{Watch}
-use Rattle.segment_engine.proofs.ChangedStations.{stand_set, below_set, covers_less}
+use Rattle.segment_engine.specs.StationsApart.{IsStillBy}
+use Rattle.segment_engine.proofs.ChangedStations.{below_set, covers_less, each_set, stand_set}
 use Rattle.segment_engine.proofs.apart.bring_all.Goals as goal
 
 abbrev a_watch : Watch
@@ -36,6 +37,11 @@ loop-k-preserved c =
             within = omega (arith, kept, within, early, at);
             still = λ h. absurd (omega (arith, h, at));
           });
+      still = λ i w s r h. each_set (λ i w s r. w.since < w.until → IsStillBy w s r) (length c.args.of.now.stations.items) k c.loop-k.watches c.loop-k.senders c.loop-k.receivers
+          w' c.bring_one.new.sender c.bring_one.new.receiver lw ls lk
+          (λ i w s r h e. inv.still i w s r h)
+          (λ on. now.still (inv.still k a_watch c.index-senders-k.result c.index-receivers-k.result in_it (omega (arith, on, at, kept, early))))
+          i w s r h;
       since = below_set (λ (w : Watch). w.since ≡ c.args.u) k c.loop-k.watches w' lw (λ i w h. inv.since i w h) at;
       piece_len = c.bring_one.auto.piece ∙ inv.piece_len;
       listing = now.listing ∙ inv.listing;

@@ -21,10 +21,9 @@ use Rattle.window_room.specs.NeededRoom.{Covers, IsDemandWithin, both_demands, r
 use Rattle.segment_engine.specs.StationsApart.{StandsBehind, EndsAt, HearsByLines, IsStillBy, number_on, heard_reception}
 use Rattle.segment_engine.proofs.BehindStations.{brought, heard_so, no_reception, idle_now, idle_halves}
 use Rattle.segment_engine.proofs.ChangedStations.{regroup, regroup_less}
-use Rattle.segment_engine.proofs.FirstReceptions.{same_rows, same_captures}
 use Rattle.segment_engine.proofs.QuietRoom.{sender_needs}
 use Rattle.segment_engine.proofs.SteadyReceivers.{all_idle}
-use Rattle.segment_engine.proofs.StationsLater.{station}
+use Rattle.segment_engine.proofs.StationsLater.{same_captures, same_rows, station}
 use Rattle.segment_engine.proofs.apart.end_one.Goals as goal
 
 -- what its receiver makes of the half bit in which a reception ends

@@ -1,4 +1,4 @@
-use Rattle.std.proofs.Common.{◌≡◌, ◌≢◌, ℕ, ◌-◌, All, true, false, List, length, sym, subst, ◌∙◌, rules}
+use Rattle.std.proofs.Common.{◌≡◌, ◌≢◌, ℕ, ◌-◌, All, true, false, List, length, sym, subst, ◌∙◌, arith, rules}
 use Rattle.manchester_line.specs.declared.Sym.{Sym}
 use Rattle.manchester_line.specs.declared.Sym.TheVariants.{Idle}
 use Rattle.mac_receive.specs.KeptReceiver.{Hears}
@@ -14,14 +14,16 @@ piece_of-requires-clause-source c =
     c.only.ensures.only (c.args.t - c.args.far) c.args.lines.now
     (subst (λ v. AreIdleButFor v c.args.lines.now c.find.new.self.taps) c.saturating_sub.ensures c.find.ensures.loud.idle)
 
-pub hear_listed-requires-clause-listed : goal.hear_listed-requires-clause-listed
-hear_listed-requires-clause-listed c =
+pub hear_listed-requires : goal.hear_listed-requires
+hear_listed-requires c =
     let last = c.requires.in_time in
     record {
-      tap = c.requires.tap;
-      reach = c.requires.reach;
-      loud = subst (λ v. AreIdleButFor v c.args.lines.now c.find.new.self.taps) c.saturating_sub.ensures c.find.ensures.loud.idle;
-      in_time = omega (arith, last);
+      listed = record {
+        tap = c.requires.tap;
+        reach = c.requires.reach;
+        loud = subst (λ v. AreIdleButFor v c.args.lines.now c.find.new.self.taps) c.saturating_sub.ensures c.find.ensures.loud.idle;
+        in_time = omega (arith, last);
+      };
     }
 
 pub take-requires-clause-signal : goal.take-requires-clause-signal

@@ -1,4 +1,4 @@
-use Rattle.std.proofs.Common.{◌≡◌, ℕ, suc, ◌+◌, ◌*◌, ◌<◌, ◌≤◌, ◌++◌, true, false, map, length, get_or, refl, sym, subst, ap, ◌∙◌, arith, rules}
+use Rattle.std.proofs.Common.{◌≡◌, ℕ, suc, ◌+◌, ◌*◌, ◌<◌, ◌≤◌, ◌++◌, false, map, length, get_or, refl, sym, subst, ap, ◌∙◌, arith}
 use Rattle.manchester_line.specs.Decoding.{new_decoding}
 use Rattle.mac_receive.specs.KeptReceiver.{KeptReception}
 use Rattle.network.specs.Attempts.{sender_at}
@@ -10,7 +10,8 @@ use Rattle.segment_engine.specs.KnownLines.{KnowLines}
 use Rattle.segment_engine.specs.StationsApart.{StandAllApart, HearAllByLines, most_ahead, number_on, heard_reception, rows_of_both, sent_event}
 use Rattle.segment_engine.proofs.RowsOfBoth.{rows_next}
 use Rattle.segment_engine.proofs.RowsApart.{rows_same, captures_same, captures_stay, kept_later}
-use Rattle.segment_engine.proofs.RunsApart.{not_told, told_again, reach_anew, all_stand, all_tell, all_known, all_hear, covers_sooner, tells_sooner}
+use Rattle.segment_engine.proofs.RunsApart.{told_again, reach_anew, all_stand, all_tell, all_known, all_hear, covers_sooner, tells_sooner}
+use Rattle.segment_engine.proofs.StepAll.{anew_none}
 use Rattle.segment_engine.proofs.apart.run_apart.Goals as goal
 
 abbrev a_kept : KeptReception
@@ -152,12 +153,12 @@ loop-u-init c =
       loud = c.requires.loud;
       listing = refl;
       late = refl;
-      lines = not_told t n ls;
+      lines = anew_none t n ls;
       apart = all_stand g from t ls ws ss ks ds dk all v later first still;
       still = still;
       know = all_known g from t ls ws ss ks ds dk all v later first front c.requires.know begun ends c.requires.right;
       right = right;
-      tell = all_tell n t t v (c.args.end + most_ahead) ls ls (not_told t n ls) c.requires.tell later;
+      tell = all_tell n t t v (c.args.end + most_ahead) ls ls (anew_none t n ls) c.requires.tell later;
       piece_len = refl;
       logged = c.requires.logged ∙ sym (rows_same g from ls ds dk t v later ws ss ks all still first right);
       kept =

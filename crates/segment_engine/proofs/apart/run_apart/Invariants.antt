@@ -3,7 +3,6 @@ use Rattle.net_parts.specs.SegmentParts.{wiring}
 use Rattle.net_parts.specs.Standing.{captures_at, rows_of_devices}
 use Rattle.tap_lines.specs.TapLines.{IsReachOf, no_line}
 use Rattle.tap_lines.specs.TapLists.{AreIdleButFor}
-use Rattle.segment_engine.specs.declared.apart.Watch.{Watch}
 use Rattle.segment_engine.specs.KnownLines.{KnowLines}
 use Rattle.segment_engine.specs.StationsApart.{StandAllApart, AreStill, HearAllByLines, AreToldAnew, TellsUpTo, CoversApart, most_ahead}
 use Rattle.segment_engine.proofs.apart.run_apart.Given as goal

@@ -1,24 +1,19 @@
-use Rattle.std.proofs.Common.{◌≡◌, ◌≢◌, ℕ, ◌+◌, ◌-◌, ◌*◌, ◌^◌, ◌<◌, ◌≤◌, ◌++◌, false, inl, inr, refl, None, Option, List, [], length, set, get_or, get_or-set_same, length-set, sym, subst, ap, ◌∙◌, arith}
+use Rattle.std.proofs.Common.{◌≡◌, ◌≢◌, ℕ, ◌+◌, ◌-◌, ◌*◌, ◌^◌, ◌<◌, ◌≤◌, ◌++◌, false, inl, inr, refl, Option, List, [], length, set, get_or, get_or-set_same, length-set, sym, subst, ap, ◌∙◌, arith}
 use Rattle.std.proofs.lemmas.Bool.{cases_eq, cases_lt}
-use Rattle.std.proofs.lemmas.List.{append-nil, get_or-set_other, get_or_default}
+use Rattle.std.proofs.lemmas.List.{append-nil, get_or-set_other}
 use Rattle.std.specs.Prelude.{IfNone, IfSome}
-use Rattle.collision_log.specs.declared.row.Body.{Body}
-use Rattle.manchester_line.specs.Decoding.{new_decoding}
 use Rattle.network.specs.declared.outputs.Taken.{Taken}
-use Rattle.mac_receive.specs.KeptReceiver.{KeptReception}
-use Rattle.network.specs.Attempts.{sender_at}
 use Rattle.network.specs.Captures.{taken_by}
 use Rattle.tap_lines.specs.TapLists.{AreIdleButFor}
 use Rattle.tap_lines.specs.TapLines.{no_line, half_bits_back, class_on}
 use Rattle.segment_engine.specs.declared.apart.Watch.{Watch}
-use Rattle.segment_engine.specs.declared.segment.Segment.{Segment}
-use Rattle.segment_engine.specs.StationsApart.{StandsApart, IsStillBy, AreToldAnew, SaysOf, TellsUpTo, behind_demand, heard_reception, lowered_watch, most_ahead, number_on, rows_of_both, sent_event}
+use Rattle.segment_engine.specs.StationsApart.{StandsApart, IsStillBy, AreToldAnew, SaysOf, TellsUpTo, behind_demand, lowered_watch, most_ahead, number_on, rows_of_both}
 use Rattle.tap_lines.proofs.LineClasses.{IsAlikeBelow}
+use Rattle.tap_lines.proofs.LoudLists.{later_idle}
 use Rattle.segment_engine.proofs.ChangedLines.{hears_anew, listed_alike}
-use Rattle.segment_engine.proofs.ChangedStations.{each_set, covers_one, covers_with}
-use Rattle.segment_engine.proofs.FirstReceptions.{same_rows}
-use Rattle.segment_engine.proofs.PieceRoom.{below_next}
-use Rattle.segment_engine.proofs.StepAll.{anew_none, anew_one, anew_twice, alike_to, apart_alike, apart_lowered, class_so, covers_lowered, each_lowered, emits_so, gone_on, heard_so, know_anew, know_next, lowered_own, nothing_on, reach_anew, right_next, rows_silent, rows_stepped, silent_on, tap_there, tells_anew}
+use Rattle.segment_engine.proofs.ChangedStations.{below_next, covers_one, covers_with, each_set}
+use Rattle.segment_engine.proofs.RunsApart.{reach_anew, told_again}
+use Rattle.segment_engine.proofs.StepAll.{anew_none, anew_one, alike_to, apart_alike, apart_lowered, class_so, covers_lowered, each_lowered, heard_so, know_anew, know_next, lowered_own, right_next, rows_stepped, tap_there, tells_anew}
 use Rattle.segment_engine.proofs.StepPasses.{HaveMade, event, octets, passed, sent}
 use Rattle.segment_engine.proofs.due.step_all.Goals as goal
 
@@ -60,7 +55,7 @@ loop-k-init c =
       lines = anew_none u (length g.stations.items) c.args.lines.now;
       tell = c.requires.tell;
       made = passed g c.args.from u front c.args.lines.now c.args.watches.now c.args.senders.now c.args.receivers.now c.args.room.now.rows c.args.room.now.rows c.args.room.now.captures c.args.room.now.captures
-          (ahead) 0 c.next_due-k.result (omega arith) (omega (arith, within, watched)) first (λ i w low high. c.next_due-k.ensures.later i w low high);
+          ahead 0 c.next_due-k.result (omega arith) (omega (arith, within, watched)) first (λ i w low high. c.next_due-k.ensures.later i w low high);
       left = λ e h covers. covers;
     }
 
@@ -72,6 +67,11 @@ take_turn-requires-clause-apart c =
     let many = inv.senders in
     let len = c.loop-k.auto.senders in
     inv.made.others c.loop-k.k a_watch c.index-senders-k.result c.index-receivers-k.result (omega (arith, test, many, len)) (omega arith)
+
+pub take_turn-requires-clause-loud : goal.take_turn-requires-clause-loud
+take_turn-requires-clause-loud c =
+    let after = c.requires.after in
+    later_idle (c.args.t - c.args.far) (c.args.u - c.args.far) c.loop-k.lines c.loop-k.loud.taps (omega (arith, after)) c.loop-k.invariant.loud
 
 pub take_turn-requires-clause-right : goal.take_turn-requires-clause-right
 take_turn-requires-clause-right c =
@@ -250,12 +250,12 @@ loop-k-preserved-in_default c =
       loud = listed_alike (c.args.t - c.args.far) k lines lines' c.loop-k.loud.taps alike inv.loud;
       listing = inv.listing;
       late = now.listing ∙ inv.late;
-      lines = anew_twice u n c.args.lines.now lines lines' inv.lines anew;
+      lines = told_again u u n c.args.lines.now lines lines' (omega arith) inv.lines anew;
       tell = λ i l. elim (cases_eq i k) [
         | inl own ↦ subst (λ j. TellsUpTo u end (get_or lines' j no_line)) (sym own) (tells_anew u u end (get_or lines k no_line) (get_or lines' k no_line) (inv.tell k in_it) now.line)
         | inr differs ↦ subst (λ x. TellsUpTo u end x) (sym (now.others i no_line differs)) (inv.tell i l)
       ];
-      made = passed g t u front lines' (set ws k w') (set ss k s') (set ks k k') c.args.room.now.rows room'.rows c.args.room.now.captures room'.captures (ahead)
+      made = passed g t u front lines' (set ws k w') (set ss k s') (set ks k k') c.args.room.now.rows room'.rows c.args.room.now.captures room'.captures ahead
           (k + 1) k2 from (omega (arith, few, all_there)) next (λ i w low high. c.next_due-k-in_default.ensures.later i w low high);
       left = λ e h covers.
           covers_with e n k ws ss ks w' s' k' in_it lw ls lk a_watch ds dk room room' (λ other b. now.left e other h b) (inv.left e h covers);
@@ -351,12 +351,12 @@ loop-k-preserved c =
       loud = subst (λ v. AreIdleButFor v lines' c.find.new.self.taps) c.saturating_sub.ensures c.find.ensures.loud.idle;
       listing = c.find.ensures.room ∙ inv.listing;
       late = now.listing ∙ inv.late;
-      lines = anew_twice u n c.args.lines.now lines lines' inv.lines anew;
+      lines = told_again u u n c.args.lines.now lines lines' (omega arith) inv.lines anew;
       tell = λ i l. elim (cases_eq i k) [
         | inl own ↦ subst (λ j. TellsUpTo u end (get_or lines' j no_line)) (sym own) (tells_anew u u end (get_or lines k no_line) (get_or lines' k no_line) (inv.tell k in_it) now.line)
         | inr differs ↦ subst (λ x. TellsUpTo u end x) (sym (now.others i no_line differs)) (inv.tell i l)
       ];
-      made = passed g t u front lines' ws' (set ss k s') (set ks k k') c.args.room.now.rows room'.rows c.args.room.now.captures room'.captures (ahead)
+      made = passed g t u front lines' ws' (set ss k s') (set ks k k') c.args.room.now.rows room'.rows c.args.room.now.captures room'.captures ahead
           (k + 1) k2 from (omega (arith, few, all_there)) next (λ i w low high. c.next_due-k-in-loop-k.ensures.later i w low high);
       left = λ e h covers.
           covers_lowered e n at (set ws k w') ws' (set ss k s') (set ks k k') room' low
@@ -406,7 +406,9 @@ returns-clause-right c = λ i h.
     let len = c.loop-k.auto.senders in
     let ahead = c.requires.ahead in
     right_next g.plan.value (number_on g i) i g.lookahead c.args.from c.args.u c.loop-k.lines (inv.made.right i h)
-    (heard_so g c.args.u ((c.args.window + 1) * g.lookahead) i c.loop-k.lines inv.made.know (ahead) h) (inv.made.now i h (omega (arith, h, test, many, len)))
+    (heard_so g c.args.u ((c.args.window + 1) * g.lookahead) i c.loop-k.lines inv.made.know ahead h)
+    (class_so g c.args.u ((c.args.window + 1) * g.lookahead) i c.loop-k.lines inv.made.know ahead h)
+    (inv.made.now i h (omega (arith, h, test, many, len))).emits
 
 pub returns-clause-rows : goal.returns-clause-rows
 returns-clause-rows c =

@@ -1,12 +1,13 @@
-use Rattle.std.proofs.Common.{◌≡◌, ℕ, ◌+◌, ◌-◌, ◌<◌, ◌≤◌, ◌⊎◌, true, false, length, get_or, set, get_or-set_same, refl, sym, subst, ap, ◌∙◌, arith}
+use Rattle.std.proofs.Common.{◌≡◌, ℕ, ◌+◌, ◌<◌, ◌≤◌, ◌⊎◌, true, false, length, get_or, set, get_or-set_same, refl, sym, subst, ap, ◌∙◌, arith}
 use Rattle.std.proofs.lemmas.List.{get_or_default, get_or-set_other}
 use Rattle.manchester_line.specs.Line.{is_signal}
 use Rattle.mac_transmit.specs.Sender.{sender_step, is_sending}
 use Rattle.net_parts.specs.Standing.{receiver_at}
-use Rattle.tap_lines.specs.TapLines.{TapLine, no_line, class_on, goes_on, symbol_on}
+use Rattle.tap_lines.specs.TapLines.{TapLine, no_line, class_on, goes_on}
 use Rattle.segment_engine.specs.StationsApart.{IsAnew, IsToldAnew, SaysOf, TellsOn, TellsUpTo, most_ahead, number_on}
 use Rattle.segment_engine.proofs.AnewLines.{reaches_of}
-use Rattle.segment_engine.proofs.StepOne.{StepsOne, alike_anew, captures_one, class_on_now, emits_on, hears_now, if_none_map, keeps, left_one, rows_one, said_now, sends_so, stands_on, tells_on, unchanged_line}
+use Rattle.segment_engine.proofs.StepOne.{StepsOne, alike_anew, captures_one, class_on_now, emits_on, hears_now, if_none_map, keeps, left_one, rows_one, said_now, sends_so, stands_on, tells_on}
+use Rattle.segment_engine.proofs.ChangedLines.{unchanged_line}
 use Rattle.segment_engine.proofs.due.step_one.Goals as goal
 
 pub heard_now-heard-requires-clause-listed : goal.heard_now-heard-requires-clause-listed

@@ -1,6 +1,6 @@
-use Rattle.std.proofs.Common.{◌≡◌, ℕ, ◌+◌, ◌<◌, ◌≤◌, ◌∷◌, [], replicate, length, sym, subst, ap, ◌∙◌, arith}
+use Rattle.std.proofs.Common.{ℕ, ◌+◌, ◌<◌, ◌≤◌, ◌∷◌, [], replicate, sym, subst, ap, ◌∙◌, arith}
 use Rattle.manchester_line.specs.declared.Sym.TheVariants.{Idle}
-use Rattle.tap_lines.specs.TapLines.{TapLine, line_ended, line_extended}
+use Rattle.tap_lines.specs.TapLines.{TapLine, line_extended}
 use Rattle.segment_engine.specs.SteadyPieces.{sent_ahead}
 use Rattle.segment_engine.specs.StationsApart.{IsAnew}
 use Rattle.segment_engine.proofs.AnewLines.{ended_room, said_room, rests_anew, sends_anew}
@@ -51,6 +51,7 @@ returns c =
     let takes = c.requires.line.takes in
     let within = c.go_on_ahead.ensures.within in
     let few = c.min-most.ensures in
-    subst (λ y. IsAnew u (u + 1 + n) e l y s)
+    subst (λ m. IsAnew u (u + 1 + m) e l c.go_on_ahead.new.line s) (sym c.from.ensures)
+    (subst (λ y. IsAnew u (u + 1 + n) e l y s)
     (sym (c.go_on_ahead.ensures.line ∙ ap (λ y. line_extended y (sent_ahead s n)) (c.push.ensures ∙ ap (λ y. line_extended y (e ∷ [])) c.set_end.ensures)))
-    (sends_anew u n e l s c.requires.line.begun (omega (arith, takes, within, few)) c.requires.reaches c.requires.class c.go_on_ahead.ensures.signal c.go_on_ahead.ensures.lasts)
+    (sends_anew u n e l s c.requires.line.begun (omega (arith, takes, within, few)) c.requires.reaches c.requires.class c.go_on_ahead.ensures.signal c.go_on_ahead.ensures.lasts))

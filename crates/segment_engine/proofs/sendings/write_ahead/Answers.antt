@@ -1,4 +1,4 @@
-use Rattle.std.proofs.Common.{◌≡◌, ℕ, ◌+◌, ◌-◌, ◌<◌, ◌≤◌, false, Option, None, List, length, min, sym, subst, ap, arith, rules}
+use Rattle.std.proofs.Common.{◌≡◌, ℕ, ◌+◌, ◌-◌, ◌<◌, false, None, List, length, min, subst, ap, arith, rules}
 use Rattle.std.proofs.lemmas.List.{get_or_past}
 use Rattle.manchester_line.specs.Line.{is_signal, line}
 use Rattle.manchester_line.specs.declared.Sym.TheVariants.{Idle}
