@@ -1,14 +1,13 @@
 -- Stations to which nothing happens need no more room after several half bits than before them.
-use Rattle.std.proofs.Common.{◌≡◌, ℕ, suc, ◌+◌, ◌<◌, Bool, false, List, [], ◌∷◌, length, get_or, subst, sym, ap₂, arith}
+use Rattle.std.proofs.Common.{◌≡◌, ℕ, suc, ◌+◌, Bool, List, [], ◌∷◌, length, subst, sym, ap₂, arith}
 use Rattle.manchester_line.specs.declared.Sym.{Sym}
 use Rattle.mac_transmit.specs.Sender.{Sender, sender_step}
 use Rattle.mac_transmit.specs.Calm.{after_all}
 use Rattle.mac_receive.specs.Receiver.{Receiving, receiver_step, receiver_after}
 use Rattle.mac_receive.specs.KeptReceiver.{KeptReception, Hears}
-use Rattle.window_room.specs.NeededRoom.{Demand, Covers, IsDemandWithin, both_demands, event_demand, row_demand, sender_demand, receiver_demand, reception_demand, stations_demand}
-use Rattle.window_room.specs.Rooms.{Room}
+use Rattle.window_room.specs.NeededRoom.{Demand, IsDemandWithin, both_demands, event_demand, row_demand, sender_demand, receiver_demand, reception_demand}
 use Rattle.window_room.proofs.PaidRoom.{paid, sendings_paid}
-use Rattle.segment_engine.proofs.KeptParts.{covers_within, most_step}
+use Rattle.segment_engine.proofs.KeptParts.{most_step}
 
 -- demands in a row
 first_of : (a e b : Demand) → IsDemandWithin (both_demands a e) b → IsDemandWithin a b

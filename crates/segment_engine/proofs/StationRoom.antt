@@ -1,12 +1,11 @@
 -- The room that stations need, half bit by half bit.
-use Rattle.std.proofs.Common.{◌≡◌, ℕ, suc, ◌+◌, ◌<◌, ◌≤◌, Option, List, [], ◌∷◌, ◌++◌, length, take, drop, set, get_or, sym, subst, ap, ◌∙◌, arith, drop-cons, length-take-le}
-use Rattle.std.proofs.lemmas.List.{take_more_set, drop-set-lt, drop_all, take_all}
+use Rattle.std.proofs.Common.{◌≡◌, ℕ, suc, Option, sym, subst, arith}
 use Rattle.manchester_line.specs.declared.Sym.{Sym}
 use Rattle.collision_log.specs.declared.row.Body.{Body}
 use Rattle.mac_transmit.specs.Sender.{Sender, sender_step}
 use Rattle.mac_receive.specs.KeptReceiver.{KeptReception}
 use Rattle.window_room.specs.Rooms.{Room, KeepsRoom}
-use Rattle.window_room.specs.NeededRoom.{Demand, Covers, IsDemandWithin, both_demands, row_demand, sender_demand, receiver_demand, stations_demand}
+use Rattle.window_room.specs.NeededRoom.{Demand, Covers, IsDemandWithin, both_demands, row_demand, sender_demand, receiver_demand}
 use Rattle.window_room.proofs.PaidRoom.{sendings_paid}
 
 within : (a e b d : Demand) (room : Room) → IsDemandWithin (both_demands a e) b → Covers (both_demands b d) room → Covers e room
