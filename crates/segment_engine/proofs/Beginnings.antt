@@ -1,36 +1,42 @@
 -- A segment stands in the network before half bit 0.
-use Rattle.std.proofs.Common.{◌≡◌, ℕ, zero, suc, ◌+◌, ◌-◌, ◌<◌, ◌≤◌, All, cond, ltb, eqb, List, [], ◌∷◌, ◌++◌, map, replicate, take, length, get_or, refl, sym, subst, ap, ap₂, ◌∙◌, arith}
-use Rattle.std.proofs.lemmas.List.{get_or-map, length-map, take_more, map-append}
+use Rattle.std.proofs.Common.{◌≡◌, ℕ, zero, suc, ◌+◌, ◌-◌, ◌<◌, ◌≤◌, All, true, false, cond, ltb, eqb, List, [], ◌∷◌, ◌++◌, map, replicate, take, length, get_or, refl, sym, subst, ap, ap₂, ◌∙◌, arith}
+use Rattle.std.proofs.lemmas.List.{get_or-map, get_or-replicate, length-map, length-replicate, take_more, map-append}
 use Rattle.std.proofs.lemmas.Grind.{same_number_lists, get_or_default_zero}
 use Rattle.std.proofs.lemmas.Bool.Decides.{nat_tests}
-use Rattle.manchester_line.specs.declared.Sym.{Sym}
+use Rattle.manchester_line.specs.declared.Sym.TheVariants.{Idle}
+use Rattle.manchester_line.specs.Line.{is_signal}
+use Rattle.mac_parameters.specs.Distances.{distance}
 use Rattle.mac_parameters.specs.Parameters.{most_octets}
 use Rattle.layout.specs.declared.lines.StationLine.{StationLine}
 use Rattle.layout.specs.Taps.{tap_of, taps_of}
 use Rattle.load_plan.specs.declared.plan.Plan.{Plan}
-use Rattle.mac_transmit.specs.Sender.{Sender}
+use Rattle.mac_transmit.specs.Sender.{Sender, is_sending}
 use Rattle.mac_receive.specs.Receiver.{Receiving, new_receiving}
 use Rattle.mac_receive.specs.KeptReceiver.{KeptReception, Hears}
 use Rattle.network.specs.declared.outputs.Taken.{Taken}
 use Rattle.network.specs.Attempts.{sender_at}
 use Rattle.network.specs.Net.{new_receiver}
-use Rattle.network.specs.Times.{emitted, port_delays}
+use Rattle.network.specs.Times.{port_delays}
 use Rattle.network.proofs.StationAttempts.{first_sender, station_runs}
 use Rattle.network.proofs.TapsOnSegments.{length-numbers}
 use Rattle.kept_devices.specs.KeptReceivers.{AllHear}
-use Rattle.kept_devices.proofs.Receivers.{AllHear-more}
+use Rattle.kept_devices.proofs.Receivers.{AllHear-more, AllHear-at, length-AllHear}
 use Rattle.net_parts.specs.Windows.{lookahead, edge_ports}
-use Rattle.net_parts.specs.Machines.{span}
 use Rattle.net_parts.specs.SegmentParts.{Wiring, wiring}
-use Rattle.net_parts.specs.Standing.{arrives, receiver_at, captures_at}
+use Rattle.net_parts.specs.Standing.{receiver_at, captures_at}
 use Rattle.net_parts.proofs.NetworkFacts.{station_facts}
 use Rattle.net_parts.proofs.LookaheadLeads.{leads}
 use Rattle.net_parts.proofs.SegmentSteps.{below}
 use Rattle.net_parts.proofs.StationNumbers.{numbered, length-both}
-use Rattle.tap_lines.specs.TapLines.{TapLine, no_line}
-use Rattle.mac_parameters.specs.Distances.{distance}
-use Rattle.segment_engine.specs.NewLines.{IsNewLine, AreNewLines, new_delay}
-use Rattle.segment_engine.specs.PartStates.{IsLineOf, AreLinesAt, AreStationsAt}
+use Rattle.tap_lines.specs.TapLines.{TapLine, no_line, goes_on}
+use Rattle.tap_lines.proofs.LineClasses.{class_behind, symbol_behind}
+use Rattle.segment_engine.specs.declared.apart.Watch.{Watch}
+use Rattle.segment_engine.specs.declared.segment.Segment.{Segment}
+use Rattle.segment_engine.specs.KnownLines.{KnowLines}
+use Rattle.segment_engine.specs.NewLines.{AreEmptyLines, IsNewLine, AreNewLines, new_delay, new_watch}
+use Rattle.segment_engine.specs.RunningStates.{HaveRoomFrom}
+use Rattle.segment_engine.specs.StationsApart.{AreStill, HearAllByLines, StandAllApart, StandsApart, StandsBehind}
+use Rattle.segment_engine.proofs.SteadyCalm.{emits_idle, idle_class, no_calm}
 
 -- the first sender of a station
 pub sender_new : (plan : Plan) (k : ℕ) → k < length plan.layout.stations → sender_at plan k 0 ≡ first_sender plan k
@@ -56,31 +62,18 @@ nothing_at [] k = refl
 nothing_at (x ∷ xs) zero = refl
 nothing_at (x ∷ xs) (suc k) = nothing_at xs k
 
-no_captures : (plan : Plan) (ks : List ℕ) → replicate (length ks) [] ≡ map (λ k. captures_at plan k 0) ks
+pub no_captures : (plan : Plan) (ks : List ℕ) → replicate (length ks) [] ≡ map (λ k. captures_at plan k 0) ks
 no_captures plan [] = refl
 no_captures plan (k ∷ ks) = ap₂ ◌∷◌ (sym (nothing_at plan.layout.stations k)) (no_captures plan ks)
 
-empty_line : (f : ℕ → Sym) (place wait away L : ℕ) (l : TapLine) → IsNewLine place wait away L l → IsLineOf f 0 0 l
-empty_line f place wait away L l is =
-    let first = is.from_first in
-    let none : 0 - l.base ≡ 0 = omega arith in
-    record {
-      begins = omega (arith, first);
-      ahead = omega (arith, first);
-      holds = is.empty ∙ sym (ap (span f l.base) none);
-    }
-
 module _ (plan : Plan) (s : ℕ) where
-  abbrev L : ℕ
-  L = lookahead plan.layout
-
   abbrev w : Wiring
   w = wiring plan.layout s
 
   pub stations_within : All (λ k. k < length plan.layout.stations) w.stations
   stations_within = λ i d h.
       let zero_too = get_or_default_zero w.stations i d h in
-      let b = below plan (station_facts plan) L s 0 (leads plan.layout) i h in
+      let b = below plan (station_facts plan) (lookahead plan.layout) s 0 (leads plan.layout) i h in
       omega (arith, zero_too, b)
 
   pub edges_within : All (λ e. e < length (port_delays plan.layout)) w.edges
@@ -96,55 +89,151 @@ module _ (plan : Plan) (s : ℕ) where
   taps_many =
       sym (length-numbers s 0 (taps_of plan.layout)) ∙ length-both s 0 (map tap_of plan.layout.stations) (edge_ports plan.layout)
 
-  pub stations_begin : (ss : List Sender) (rs : List KeptReception) (caps : List (List Taken)) → ss ≡ map (λ k. sender_at plan k 0) w.stations → AllHear (map (λ k. receiver_at plan k 0) w.stations) rs → All (λ r. r.steps ≡ 0) rs →
-      caps ≡ replicate (length w.stations) [] → AreStationsAt plan w.stations 0 ss rs [] caps
-  stations_begin ss rs caps senders receivers steps none = record {
-    senders = senders;
-    receivers = receivers;
-    times = subst (All (λ (x : Sender). x.t ≡ 0)) (sym senders) (λ i d h.
-        let size = length-map w.stations (λ k. sender_at plan k 0) in
-        let in_it : i < length w.stations = omega (arith, h, size) in
-        ap (λ (x : Sender). x.t) (get_or-map (λ k. sender_at plan k 0) w.stations i 0 d in_it ∙ sender_new plan (get_or w.stations i 0) (stations_within i 0 in_it)));
-    steps = steps;
-    logged = refl;
-    kept = none ∙ no_captures plan w.stations;
+  -- the lines before half bit 0
+  module _ (L : ℕ) (ls : List TapLine) (n : ℕ) (es ds places : List ℕ) (n_is : n ≡ length w.stations) (es_is : es ≡ w.edges) (ds_is : ds ≡ port_delays plan.layout)
+      (places_is : places ≡ w.positions) (are : AreNewLines places n L es ds ls) where
+    count : length ls ≡ length w.positions
+    count = are.count ∙ ap length places_is
+
+    many : length ls ≡ length w.stations + length w.edges
+    many = count ∙ taps_many
+
+    line : (r : ℕ) → r < length ls → IsNewLine (get_or places r 0) (new_delay n L es ds r) are.away L (get_or ls r no_line)
+    line r h = are.each r no_line h
+
+    is_station : (r m x : ℕ) → r < m → cond (ltb r m) L x ≡ L
+    is_station r m x h = grind (arith, nat_tests)
+
+    is_port : (r m x : ℕ) → m ≤ r → cond (ltb r m) L x ≡ x
+    is_port r m x h = grind (arith, nat_tests)
+
+    pub lines_known : KnowLines plan w L 0 0 ls
+    lines_known =
+        let at_size = length-map ls (λ (l : TapLine). l.at) in
+        let size = many in
+        record {
+          many = many;
+          places = same_number_lists (map (λ (l : TapLine). l.at) ls) w.positions (at_size ∙ count) (λ k h.
+              get_or-map (λ (l : TapLine). l.at) ls k no_line 0 (omega (arith, h, at_size))
+              ∙ (line k (omega (arith, h, at_size))).at_place
+              ∙ ap (λ xs. get_or xs k 0) places_is);
+          no_delays = λ r h. (line r (omega (arith, h, size))).with_delay ∙ is_station r n _ (omega (arith, h, n_is));
+          delays = λ p h.
+              let place : length w.stations + p - n ≡ p = omega (arith, n_is) in
+              (line (length w.stations + p) (omega (arith, h, size))).with_delay
+              ∙ is_port (length w.stations + p) n _ (omega (arith, n_is))
+              ∙ ap₂ (λ xs ys. get_or xs (get_or ys (length w.stations + p - n) 0) 0) ds_is es_is
+              ∙ ap (λ i. get_or (port_delays plan.layout) (get_or w.edges i 0) 0) place
+              ∙ sym (get_or-map (λ j. get_or (port_delays plan.layout) j 0) w.edges p 0 0 h);
+          begins = λ r h. let first = (line r h).from_first in omega (arith, first);
+          near = λ p r hp hr.
+              let keeps = (line r hr).keeps in
+              let wait = (line r hr).with_delay in
+              let same = are.count in
+              let few = are.within p r (subst (λ (xs : List ℕ). p < length xs) (sym places_is) hp) (omega (arith, hr, same)) in
+              let few_so : distance (get_or w.positions p 0) (get_or w.positions r 0) ≤ are.away =
+              subst (λ (xs : List ℕ). distance (get_or xs p 0) (get_or xs r 0) ≤ are.away) places_is few in
+              omega (arith, keeps, wait, few_so);
+          emissions = λ r u h low high. absurd (omega (arith, high));
+          arrivals = λ p u h low high. absurd (omega (arith, high));
+          classes = λ r u h high. absurd (omega (arith, high));
+          port_classes = λ p u h high. absurd (omega (arith, high));
+        }
+
+    pub lines_empty : AreEmptyLines ls
+    lines_empty = record { from_first = λ r h. (line r h).from_first; empty = λ r h. (line r h).empty }
+
+    pub lines_roomy : HaveRoomFrom 0 L ls
+    lines_roomy = record {
+      last = λ r h. let keeps = (line r h).keeps in omega (arith, keeps);
+      keep = λ r h. omega arith;
+      size = λ r h. let none = ap length (line r h).empty in let roomy = (line r h).roomy in omega (arith, none, roomy);
+      fits = λ r h. let none = ap length (line r h).empty in let few = (line r h).fits in omega (arith, none, few);
+    }
+
+-- a station before half bit 0, whose line is empty
+resting : (plan : Plan) (k : ℕ) → k < length plan.layout.stations → is_sending (sender_at plan k 0).phase ≡ false
+resting plan k h = ap (λ (s : Sender). is_sending s.phase) (sender_new plan k h)
+
+pub stands_new : (plan : Plan) (x p L : ℕ) (ls : List TapLine) (s : Sender) (k : KeptReception) → x < length plan.layout.stations → p < length ls → AreEmptyLines ls →
+    s ≡ sender_at plan x 0 → Hears (receiver_at plan x 0) k → k.steps ≡ 0 → StandsBehind plan x p L 0 ls new_watch s k
+stands_new plan x p L ls s k station there empty sender receiver steps =
+    let l = get_or ls p no_line in
+    let first = empty.from_first p there in
+    let none = empty.empty p there in
+    let size = ap length none in
+    let rests : is_sending s.phase ≡ false = ap (λ (y : Sender). is_sending y.phase) sender ∙ resting plan x station in
+    let off : goes_on l ≡ false = ap (λ xs. is_signal (get_or xs (length xs - 1) Idle)) none in
+    record {
+      from_start = omega arith;
+      ordered = omega arith;
+      within = omega arith;
+      sender = sender;
+      receiver = receiver;
+      time = ap (λ (y : Sender). y.t) (sender ∙ sender_new plan x station);
+      steps = steps;
+      calm = no_calm false s;
+      steady = λ a low high. absurd (omega (arith, low, high));
+      line = λ j h. symbol_behind l (0 + j) (omega (arith, first, size)) ∙ sym (emits_idle s j s.phase rests);
+      signal = λ j h. idle_class s j rests;
+      goes = λ a h. class_behind l a (omega (arith, first, size)) ∙ off ∙ sym rests;
+      lasts = λ sending. absurd (let no : true ≡ false = sym sending ∙ rests in cc);
+    }
+
+-- a station of a segment is one of the plan
+pub is_station_of : (of : Segment) (i : ℕ) → i < length of.stations.items → get_or of.stations.items i 0 < length of.plan.value.layout.stations
+is_station_of of i h = subst (All (λ k. k < length of.plan.value.layout.stations)) (sym of.station_numbers) (stations_within of.plan.value of.number) i 0 h
+
+-- all stations of a segment before half bit 0
+module _ (of : Segment) (ls : List TapLine) (ss : List Sender) (ks : List KeptReception) (senders : ss ≡ map (λ k. sender_at of.plan.value k 0) of.stations.items)
+    (receivers : AllHear (map (λ k. receiver_at of.plan.value k 0) of.stations.items) ks) (steps : All (λ r. r.steps ≡ 0) ks) (empty : AreEmptyLines ls) (taps : length of.stations.items ≤ length ls) where
+  abbrev plan : Plan
+  plan = of.plan.value
+
+  abbrev n : ℕ
+  n = length of.stations.items
+
+  receivers_many : length ks ≡ n
+  receivers_many = sym (length-AllHear (map (λ k. receiver_at plan k 0) of.stations.items) ks receivers) ∙ length-map of.stations.items (λ k. receiver_at plan k 0)
+
+  stands_one : (i : ℕ) (w : Watch) (s : Sender) (k : KeptReception) → i < n → StandsApart of 0 0 i ls (get_or (replicate n new_watch) i w) (get_or ss i s) (get_or ks i k)
+  stands_one i w s k h =
+      let size = receivers_many in
+      let f = λ (j : ℕ). receiver_at plan j 0 in
+      let r = f 0 in
+      let number = get_or of.stations.items i 0 in
+      let in_it : i < length ks = omega (arith, h, size) in
+      let sender_is : get_or ss i s ≡ sender_at plan number 0 = ap (λ xs. get_or xs i s) senders ∙ get_or-map (λ j. sender_at plan j 0) of.stations.items i 0 s h in
+      let hears : Hears (receiver_at plan number 0) (get_or ks i k) =
+      subst (λ (y : Receiving). Hears y (get_or ks i k)) (get_or-map f of.stations.items i 0 r h) (AllHear-at (map f of.stations.items) ks i r k receivers in_it) in
+      let new : StandsApart of 0 0 i ls new_watch (get_or ss i s) (get_or ks i k) = record {
+        behind = stands_new plan number i of.lookahead ls (get_or ss i s) (get_or ks i k) (is_station_of of i h) (omega (arith, h, taps)) empty sender_is hears (steps i k in_it);
+        since = omega arith;
+        until = omega arith;
+        within = omega arith;
+        still = λ before. absurd (omega (arith, before));
+      } in
+      subst (λ v. StandsApart of 0 0 i ls v (get_or ss i s) (get_or ks i k)) (sym (get_or-replicate n i new_watch w h)) new
+
+  pub stand_new : StandAllApart of 0 0 ls (replicate n new_watch) ss ks
+  stand_new = record {
+    senders = ap length senders ∙ length-map of.stations.items (λ k. sender_at plan k 0);
+    receivers = receivers_many;
+    watches = sym (length-replicate n new_watch);
+    taps = taps;
+    each = stands_one;
   }
 
-  pub lines_new : (ls : List TapLine) (n : ℕ) (es ds places : List ℕ) → n ≡ length w.stations → es ≡ w.edges → ds ≡ port_delays plan.layout → places ≡ w.positions → AreNewLines places n L es ds ls → AreLinesAt plan w L 0 0 ls
-  lines_new ls n es ds places n_is es_is ds_is places_is are =
-      let count : length ls ≡ length w.positions = are.count ∙ ap length places_is in
-      let many : length ls ≡ length w.stations + length w.edges = count ∙ taps_many in
-      let at_size = length-map ls (λ (l : TapLine). l.at) in
-      let line : (r : ℕ) → r < length ls → IsNewLine (get_or places r 0) (new_delay n L es ds r) are.away L (get_or ls r no_line) = λ r h. are.each r no_line h in
-      record {
-        many = many;
-        places = same_number_lists (map (λ (l : TapLine). l.at) ls) w.positions (at_size ∙ count) (λ k h.
-            get_or-map (λ (l : TapLine). l.at) ls k no_line 0 (omega (arith, h, at_size))
-            ∙ (line k (omega (arith, h, at_size))).at_place
-            ∙ ap (λ xs. get_or xs k 0) places_is);
-        no_delays = λ r h.
-            (line r (omega (arith, h, many))).with_delay ∙ is_station r n _ (omega (arith, h, n_is));
-        delays = λ p h.
-            let place : length w.stations + p - n ≡ p = omega (arith, n_is) in
-            (line (length w.stations + p) (omega (arith, h, many))).with_delay
-            ∙ is_port (length w.stations + p) n _ (omega (arith, n_is))
-            ∙ ap₂ (λ xs ys. get_or xs (get_or ys (length w.stations + p - n) 0) 0) ds_is es_is
-            ∙ ap (λ i. get_or (port_delays plan.layout) (get_or w.edges i 0) 0) place
-            ∙ sym (get_or-map (λ j. get_or (port_delays plan.layout) j 0) w.edges p 0 0 h);
-        emissions = λ r h. empty_line (emitted plan (get_or w.stations r 0)) _ _ _ _ (get_or ls r no_line) (line r (omega (arith, h, many)));
-        arrivals = λ p h. empty_line (arrives plan L (get_or w.edges p 0)) _ _ _ _ (get_or ls (length w.stations + p) no_line) (line (length w.stations + p) (omega (arith, h, many)));
-        size = λ r h. let room = (line r h).roomy in omega (arith, room);
-        near = λ p r hp hr.
-            let keeps = (line r hr).keeps in
-            let wait = (line r hr).with_delay in
-            let few = are.within p r (subst (λ (xs : List ℕ). p < length xs) (sym places_is) hp) (omega (arith, hr, are.count)) in
-            let few_so : distance (get_or w.positions p 0) (get_or w.positions r 0) ≤ are.away =
-            subst (λ (xs : List ℕ). distance (get_or xs p 0) (get_or xs r 0) ≤ are.away) places_is few in
-            omega (arith, keeps, wait, few_so);
-      }
-    where
-      is_station : (r m : ℕ) (x : ℕ) → r < m → cond (ltb r m) L x ≡ L
-      is_station r m x h = grind (arith, nat_tests)
+  pub still_new : AreStill of (replicate n new_watch) ss ks
+  still_new i w s k h due =
+      let is : get_or (replicate n new_watch) i w ≡ new_watch = get_or-replicate n i new_watch w h in
+      let since = ap (λ (v : Watch). v.since) is in
+      let until = ap (λ (v : Watch). v.until) is in
+      absurd (omega (arith, due, since, until))
 
-      is_port : (r m : ℕ) (x : ℕ) → m ≤ r → cond (ltb r m) L x ≡ x
-      is_port r m x h = grind (arith, nat_tests)
+  pub hear_new : HearAllByLines of 0 0 ls
+  hear_new i h = record {
+    hears = λ a low high. absurd (omega (arith, high));
+    classes = λ a low high. absurd (omega (arith, high));
+    emits = λ a low high. absurd (omega (arith, high));
+  }

@@ -1,6 +1,6 @@
 -- What a segment keeps stands for its part's state.
-use Rattle.std.proofs.Common.{◌≡◌, ℕ, zero, suc, ◌<◌, All, Bool, true, false, cond, eqb, None, List, [], ◌∷◌, ◌++◌, map, length, get_or, refl, sym, subst, ap, ◌∙◌, arith}
-use Rattle.std.proofs.lemmas.List.{get_or-map, length-map}
+use Rattle.std.proofs.Common.{◌≡◌, ℕ, zero, suc, ◌<◌, true, false, Bool, cond, eqb, None, List, [], ◌∷◌, ◌++◌, map, length, get_or, refl, sym, subst, ap, ap₂, ◌∙◌, arith}
+use Rattle.std.proofs.Props.{props}
 use Rattle.std.proofs.lemmas.Bool.{false≢true}
 use Rattle.std.proofs.lemmas.Bool.Decides.{nat_tests}
 use Rattle.manchester_line.specs.declared.Sym.{Sym}
@@ -9,28 +9,53 @@ use Rattle.manchester_line.specs.Line.{is_signal}
 use Rattle.mac_parameters.specs.Parameters.{most_octets}
 use Rattle.layout.specs.declared.lines.StationLine.{StationLine}
 use Rattle.load_plan.specs.declared.plan.Plan.{Plan}
-use Rattle.mac_receive.specs.Receiver.{Receiving, Reception, new_receiving, receiver_step, quiet, reception_ended, extended}
-use Rattle.mac_receive.specs.KeptReceiver.{KeptReception, Hears, IsReceiver}
-use Rattle.collision_log.specs.declared.row.Row.{Row}
-use Rattle.network.specs.declared.outputs.Taken.{Taken}
+use Rattle.mac_receive.specs.Receiver.{Receiving, Reception, receiver_step, quiet, reception_ended, extended}
+use Rattle.mac_receive.specs.KeptReceiver.{KeptReception}
+use Rattle.mac_transmit.specs.Sender.{Sender}
 use Rattle.network.specs.Attempts.{sender_at}
 use Rattle.network.specs.Times.{heard, emitted}
-use Rattle.kept_devices.specs.KeptReceivers.{AllHear}
-use Rattle.kept_devices.proofs.Receivers.{length-AllHear, AllHear-at}
-use Rattle.net_parts.specs.Windows.{time, lookahead}
+use Rattle.network.specs.Outputs.{half_bits}
+use Rattle.net_parts.specs.Windows.{lookahead, time, windows}
 use Rattle.net_parts.specs.SegmentParts.{wiring}
-use Rattle.net_parts.specs.Standing.{receiver_at, segment_at}
+use Rattle.net_parts.specs.Standing.{captures_at, receiver_at, rows_of_devices, segment_at}
 use Rattle.net_parts.specs.OutputsOfParts.{rows_handed_out, captures_handed_out, cut_rows_on}
-use Rattle.net_parts.specs.Parts.{PartState, OfSegment, OfRepeater, is_segment_part, part_of_kind, part_at}
+use Rattle.net_parts.specs.Parts.{PartState, OfSegment, OfRepeater, is_segment_part, part_of_kind, part_at, parts}
 use Rattle.net_parts.proofs.NetworkFacts.{station_facts}
 use Rattle.net_parts.proofs.DeviceSteps.{receiver_next}
+use Rattle.tap_lines.specs.TapLines.{TapLine}
 use Rattle.window_room.specs.Rooms.{Room, KeepsRoom}
-use Rattle.window_room.specs.NeededRoom.{Demand, Covers, IsDemandWithin, stations_demand, demand_times, station_demand}
-use Rattle.window_room.proofs.PaidRoom.{any_stations}
-use Rattle.mac_transmit.specs.Sender.{Sender}
-use Rattle.segment_engine.specs.PartStates.{AreStationsAt}
-use Rattle.segment_engine.specs.KeptParts.{is_segment_state, segment_state}
-use Rattle.segment_engine.proofs.Beginnings.{receiver_new, stations_within}
+use Rattle.window_room.specs.NeededRoom.{Demand, Covers, IsDemandWithin}
+use Rattle.segment_engine.specs.declared.apart.Watch.{Watch}
+use Rattle.segment_engine.specs.declared.running.Running.{Running}
+use Rattle.segment_engine.specs.declared.segment.Segment.{Segment}
+use Rattle.segment_engine.specs.KeptParts.{KeepsSegment, is_segment_state, segment_state}
+use Rattle.segment_engine.specs.RunningStates.{IsRunningAt}
+use Rattle.segment_engine.specs.StationsApart.{StandAllApart}
+use Rattle.segment_engine.proofs.Beginnings.{receiver_new}
+
+-- a segment is the same whatever shows its facts
+pub other_proofs : (P : Segment → Type 0) (g : Segment) (a : g.number < length g.plan.value.layout.segments) (b : g.number < parts g.plan.value) (c : g.stations.items ≡ (wiring g.plan.value.layout g.number).stations)
+    (d : g.edges ≡ (wiring g.plan.value.layout g.number).edges) (e : g.lookahead ≡ lookahead g.plan.value.layout) (f : g.half_bits ≡ half_bits g.plan.value) (h : g.windows ≡ windows g.plan.value) → P g →
+    P (record g { within = a; within_parts = b; station_numbers = c; edge_numbers = d; window_length = e; run_length = f; window_count = h })
+other_proofs P g a b c d e f h x =
+    let pa : IsProp (g.number < length g.plan.value.layout.segments) = hlevel props in
+    let pb : IsProp (g.number < parts g.plan.value) = hlevel props in
+    let pc : IsProp (g.stations.items ≡ (wiring g.plan.value.layout g.number).stations) = hlevel props in
+    let pd : IsProp (g.edges ≡ (wiring g.plan.value.layout g.number).edges) = hlevel props in
+    let pe : IsProp (g.lookahead ≡ lookahead g.plan.value.layout) = hlevel props in
+    let pf : IsProp (g.half_bits ≡ half_bits g.plan.value) = hlevel props in
+    let ph : IsProp (g.windows ≡ windows g.plan.value) = hlevel props in
+    let same : g ≡ record g { within = a; within_parts = b; station_numbers = c; edge_numbers = d; window_length = e; run_length = f; window_count = h } =
+    λ i. record g {
+      within = pa g.within a i;
+      within_parts = pb g.within_parts b i;
+      station_numbers = pc g.station_numbers c i;
+      edge_numbers = pd g.edge_numbers d i;
+      window_length = pe g.window_length e i;
+      run_length = pf g.run_length f i;
+      window_count = ph g.window_count h i;
+    } in
+    subst P same x
 
 -- the part that stands at a window is a segment
 part_is : (plan : Plan) (s wd t : ℕ) → s < length plan.layout.segments → t ≡ time plan wd → part_at plan s wd ≡ OfSegment (segment_at plan (lookahead plan.layout) (wiring plan.layout s) t)
@@ -39,30 +64,36 @@ part_is plan s wd t below at =
     let is : is_segment_part plan s ≡ true = grind (arith, nat_tests) in
     ap (λ b. part_of_kind plan b s (time plan wd)) is ∙ ap (λ u. OfSegment (segment_at plan (lookahead plan.layout) (wiring plan.layout s) u)) (sym at)
 
--- receivers one by one, and all of them
-pub hear_each : (f : ℕ → Receiving) (ks : List ℕ) (rs : List KeptReception) → length rs ≡ length ks → ((i : ℕ) (d : KeptReception) → i < length rs → Hears (f (get_or ks i 0)) (get_or rs i d)) → AllHear (map f ks) rs
-hear_each f [] [] l h = tt
-hear_each f [] (r ∷ rs) l h = absurd (omega (arith, l))
-hear_each f (k ∷ ks) [] l h = absurd (omega (arith, l))
-hear_each f (k ∷ ks) (r ∷ rs) l h = (h 0 r (omega arith), hear_each f ks rs (omega (arith, l)) (λ i d m. h (suc i) d (omega (arith, m))))
+pub kept_of : (of : Segment) (wd front : ℕ) (a : Running) → a.t ≡ time of.plan.value wd → IsRunningAt of front a → KeepsSegment of a (part_at of.plan.value of.number wd)
+kept_of of wd front a at is =
+    let plan = of.plan.value in
+    let numbers = of.station_numbers in
+    subst (KeepsSegment of a) (sym (part_is plan of.number wd a.t of.within at)) (record {
+      kind = refl;
+      time = refl;
+      behind = is.goes.stations;
+      senders = ap (map (λ k. sender_at plan k a.t)) (sym numbers);
+      receivers = ap (map (λ k. receiver_at plan k a.t)) (sym numbers);
+      rows = is.goes.logged ∙ ap (λ ks. rows_of_devices plan ks a.t) numbers;
+      captures = is.goes.kept ∙ ap (map (λ k. captures_at plan k a.t)) numbers;
+    })
 
--- stations that stand in the network, one by one
-pub senders_many : {plan : Plan} {ks : List ℕ} {t : ℕ} {ss : List Sender} {rs : List KeptReception} {rows : List Row} {captures : List (List Taken)} → AreStationsAt plan ks t ss rs rows captures → length ss ≡ length ks
-senders_many {plan = plan} {ks = ks} {t = t} stand = ap length stand.senders ∙ length-map ks (λ k. sender_at plan k t)
+-- where all stations stand before the present half bit, their senders are those of the network
+each_is : (f : ℕ → Sender) (ks : List ℕ) (ss : List Sender) → length ss ≡ length ks → ((i : ℕ) (d : Sender) → i < length ks → get_or ss i d ≡ f (get_or ks i 0)) → ss ≡ map f ks
+each_is f [] [] many each = refl
+each_is f [] (s ∷ ss) many each = absurd (omega (arith, many))
+each_is f (k ∷ ks) [] many each = absurd (omega (arith, many))
+each_is f (k ∷ ks) (s ∷ ss) many each = ap₂ ◌∷◌ (each 0 s (omega arith)) (each_is f ks ss (omega (arith, many)) (λ i d h. each (suc i) d (omega (arith, h))))
 
-pub receivers_many : {plan : Plan} {ks : List ℕ} {t : ℕ} {ss : List Sender} {rs : List KeptReception} {rows : List Row} {captures : List (List Taken)} → AreStationsAt plan ks t ss rs rows captures → length rs ≡ length ks
-receivers_many {plan = plan} {ks = ks} {t = t} {rs = rs} stand = sym (length-AllHear (map (λ k. receiver_at plan k t) ks) rs stand.receivers) ∙ length-map ks (λ k. receiver_at plan k t)
-
-pub receiver_stands : {plan : Plan} {ks : List ℕ} {t : ℕ} {ss : List Sender} {rs : List KeptReception} {rows : List Row} {captures : List (List Taken)} → AreStationsAt plan ks t ss rs rows captures →
-    (i : ℕ) (d : KeptReception) → i < length rs → Hears (receiver_at plan (get_or ks i 0) t) (get_or rs i d)
-receiver_stands {plan = plan} {ks = ks} {t = t} {rs = rs} stand i d h =
-    let f = λ (k : ℕ). receiver_at plan k t in
-    let r = f (get_or ks i 0) in
-    let many = receivers_many stand in
-    subst (λ (x : Receiving). Hears x (get_or rs i d)) (get_or-map f ks i 0 r (omega (arith, h, many))) (AllHear-at (map f ks) rs i r d stand.receivers h)
-
-pub all_receivers : {plan : Plan} {ks : List ℕ} {t : ℕ} {ss : List Sender} {rs : List KeptReception} {rows : List Row} {captures : List (List Taken)} → AreStationsAt plan ks t ss rs rows captures → All IsReceiver rs
-all_receivers {plan = plan} {ks = ks} {t = t} stand = λ i d h. (receiver_at plan (get_or ks i 0) t, receiver_stands stand i d h)
+pub senders_now : (of : Segment) (from t : ℕ) (ls : List TapLine) (ws : List Watch) (ss : List Sender) (ks : List KeptReception) (w : Watch) (k : KeptReception) → from ≡ t → StandAllApart of from t ls ws ss ks →
+    ss ≡ map (λ j. sender_at of.plan.value j t) of.stations.items
+senders_now of from t ls ws ss ks w k same all =
+    each_is (λ j. sender_at of.plan.value j t) of.stations.items ss all.senders (λ i d h.
+    let one = all.each i w d k h in
+    let early = one.since in
+    let late = one.behind.from_start in
+    let now : (get_or ws i w).since ≡ t = omega (arith, early, late, same) in
+    one.behind.sender ∙ ap (sender_at of.plan.value (get_or of.stations.items i 0)) now)
 
 -- what such a part hands out
 pub handed_rows : (plan : Plan) (u : ℕ) (p : PartState) → is_segment_state p ≡ true → (segment_state p).rows ++ cut_rows_on (segment_state p).t (wiring plan.layout u).stations (segment_state p).senders ≡ rows_handed_out plan u p
@@ -92,24 +123,12 @@ most_step r Hi false = most_if r.deaf (quiet r) (extended r Hi) r.most refl refl
 most_step r Lo false = most_if r.deaf (quiet r) (extended r Lo) r.most refl refl
 most_step r Clash false = most_if r.deaf (quiet r) (extended r Clash) r.most refl refl
 
-receiver_most : (plan : Plan) (k t : ℕ) → k < length plan.layout.stations → (receiver_at plan k t).most ≡ most_octets (eqb plan.layout.format 2)
+pub receiver_most : (plan : Plan) (k t : ℕ) → k < length plan.layout.stations → (receiver_at plan k t).most ≡ most_octets (eqb plan.layout.format 2)
 receiver_most plan k zero h = ap (λ (r : Receiving). r.most) (receiver_new plan k no_station h)
 receiver_most plan k (suc t) h =
     ap (λ (r : Receiving). r.most) (receiver_next plan (station_facts plan) k t h)
     ∙ most_step (receiver_at plan k t) (heard plan k t) (is_signal (emitted plan k t))
     ∙ receiver_most plan k t h
-
-pub all_most : (plan : Plan) (s t : ℕ) (rs : List KeptReception) → AllHear (map (λ k. receiver_at plan k t) (wiring plan.layout s).stations) rs → All (λ k. k.most ≡ most_octets (eqb plan.layout.format 2)) rs
-all_most plan s t rs hear = λ i d h.
-    let ks = (wiring plan.layout s).stations in
-    let f = λ (k : ℕ). receiver_at plan k t in
-    let many = length-AllHear (map f ks) rs hear in
-    let size = length-map ks f in
-    let in_it : i < length ks = omega (arith, h, many, size) in
-    let dr : Receiving = new_receiving 0 0 in
-    (AllHear-at (map f ks) rs i dr d hear h).same_most
-    ∙ ap (λ (r : Receiving). r.most) (get_or-map f ks i 0 dr in_it)
-    ∙ receiver_most plan (get_or ks i 0) t (stations_within plan s i 0 in_it)
 
 pub covers_kept : (d : Demand) (old new : Room) → KeepsRoom 0 0 0 old new → Covers d old → Covers d new
 covers_kept d old new k c = record {
@@ -124,9 +143,3 @@ covers_within a b room w c = record {
   for_frames = let x = w.fewer_frames in let y = c.for_frames in omega (arith, x, y);
   for_octets = let x = w.fewer_octets in let y = c.for_octets in omega (arith, x, y);
 }
-
--- room that was reserved is enough
-pub room_reserved : (ss : List Sender) (ks : List KeptReception) (m n most : ℕ) (room : Room) → All (λ k. k.most ≡ most) ks → m ≡ length ks → Covers (demand_times m (station_demand most n)) room → Covers (stations_demand n ss ks) room
-room_reserved ss ks m n most room all is c =
-    covers_within (stations_demand n ss ks) (demand_times (length ks) (station_demand most n)) room (any_stations ss ks n most all)
-    (subst (λ x. Covers (demand_times x (station_demand most n)) room) is c)

@@ -49,6 +49,6 @@ pub mod KnownExample
 pub mod FirstRows
 pub mod FirstReceptions
 pub mod PieceRoom
-pub mod SilentLines
 pub mod SilentParts
+pub mod ReservedRoom
 pub mod SendingTexts

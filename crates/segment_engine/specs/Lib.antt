@@ -1,4 +1,5 @@
 pub mod NewLines
+pub mod OneProof
 pub mod StationPasses
 pub mod PartStates
 pub mod KnownLines

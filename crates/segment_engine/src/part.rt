@@ -7,10 +7,12 @@ ghost use Rattle.net_parts.specs.SegmentParts.{wiring};
 ghost use Rattle.net_parts.specs.Standing.{rows_of_devices};
 ghost use Rattle.net_parts.specs.Windows.{lookahead as lookahead_of, time as time_of, windows as windows_of};
 ghost use Rattle.segment_engine.specs.KeptParts.{KeepsSegment};
+ghost use Rattle.segment_engine.specs.OneProof.{one_proof};
 ghost use Rattle.segment_engine.specs.QuietHalfBits.{ComeInIdle, GoOutIdle, IsQuietFor};
 ghost use Rattle.segment_engine.specs.RunningStates.{IsRunningAt};
 ghost use Rattle.segment_engine.specs.StationsApart.{CoversApart};
 
+use crate::apart::KEEP;
 use crate::quiet::{pass, quiet_ahead};
 use crate::running::Running;
 use crate::segment::Segment;
@@ -37,12 +39,12 @@ pub struct SegmentPart {
     most: u32,
     reserved: bool,
     state: Running,
-    ghost stands: { IsRunningAt segment (window * segment.lookahead) state },
+    ghost stands: { IsRunningAt segment (window * segment.lookahead) state } by { Prim.hlevel one_proof },
     ghost at_time: { state.t ≡ time_of segment.plan.value window },
     ghost octets: { most ≡ most_octets_of (segment.plan.value.layout.format == 2) },
     ghost last: { window ≡ segment.windows → state.from ≡ state.t },
     ghost room: { reserved ≡ true → CoversApart (state.t + segment.lookahead) (length segment.stations.items) state.watches.items state.senders.items state.receivers.items state.room },
-    ghost kept: { KeepsSegment segment state (part_at segment.plan.value segment.number window) },
+    ghost kept: { KeepsSegment segment state (part_at segment.plan.value segment.number window) } by { Prim.hlevel one_proof },
 }
 
 /// Writes the rows of the sendings that are under way at the end `t` of a run.
@@ -135,7 +137,8 @@ impl SegmentPart {
             GoOutIdle self.now.segment.plan.value (edges_of_part self.now.segment.plan.value self.now.segment.number)
             (self.now.window * lookahead_of self.now.segment.plan.value.layout) n }
     {
-        let quiet = quiet_ahead(&self.segment, &self.state, u64::from(MOST_AT_ONCE)) / u64::from(self.segment.lookahead);
+        let quiet = quiet_ahead(&self.segment, &self.state, u64::from(MOST_AT_ONCE))
+            / u64::from(self.segment.lookahead);
         quiet.min(most)
     }
 
@@ -227,7 +230,7 @@ impl Part for SegmentPart {
             &mut self.state.room,
             self.segment.stations.len(),
             self.most,
-            self.segment.lookahead + 8_192,
+            self.segment.lookahead + KEEP as u32,
         )?;
         self.reserved = true;
         Ok(())

@@ -1,13 +1,13 @@
 //! A segment before half bit 0.
-ghost use Rattle.std.specs.Prelude.{◌≡◌, ◌<◌, ◌≤◌, ◌+◌, ◌*◌, All, length, map, IfOk};
+ghost use Rattle.std.specs.Prelude.{◌≡◌, ◌<◌, ◌≤◌, ◌+◌, All, length, map, replicate, IfOk};
 ghost use Rattle.network.specs.Attempts.{sender_at};
 ghost use Rattle.net_parts.specs.SegmentParts.{wiring};
 ghost use Rattle.net_parts.specs.Standing.{receiver_at};
-ghost use Rattle.net_parts.specs.Windows.{lookahead as lookahead_of};
 ghost use Rattle.kept_devices.specs.KeptReceivers.{AllHear};
-ghost use Rattle.segment_engine.specs.NewLines.{AreNewLines, AreWithin, new_delay};
-ghost use Rattle.segment_engine.specs.PartStates.{AreLinesAt};
-ghost use Rattle.segment_engine.specs.RunningStates.{IsRunningAt};
+ghost use Rattle.segment_engine.specs.KnownLines.{KnowLines};
+ghost use Rattle.segment_engine.specs.NewLines.{AreEmptyLines, AreNewLines, AreWithin, new_delay, new_watch};
+ghost use Rattle.segment_engine.specs.RunningStates.{HaveRoomFrom, IsRunningAt};
+ghost use Rattle.segment_engine.specs.StationsApart.{most_ahead};
 
 use crate::apart::{AHEAD, KEEP, Watch};
 use crate::running::Running;
@@ -23,9 +23,6 @@ use reception_laws::{LateReceiver, Teller};
 use std::alloc::Global;
 use tap_lines::{Line, LoudTaps, farthest};
 use window_room::RowRoom;
-
-/// How many more symbols a line has room for than it must, so that it slides seldom.
-const SPARE_ROOM: usize = 256;
 
 /// The symbols that a segment keeps, and which of its lines may sound.
 #[derive(Drop)]
@@ -118,7 +115,7 @@ fn lines_of(
         let delay = delay_of(r, stations, lookahead, edges, delays);
         let far = (width + u64::from(delay)).saturating_sub(u64::from(lookahead));
         let backlog = far.max(1) as usize;
-        let room = 2 * backlog + 2 * lookahead as usize + SPARE_ROOM + (KEEP + 2 * AHEAD) as usize;
+        let room = 2 * backlog + 2 * lookahead as usize + (KEEP + 2 * AHEAD) as usize;
         lines.push(Line::new(alloc, places[r], delay, backlog, room)?)?;
     }
     Ok(lines)
@@ -127,8 +124,10 @@ fn lines_of(
 /// The lines of a segment's taps before half bit 0.
 fn first_lines(alloc: Global, of: &Segment, plan: &Plan) -> Result<Vec<Line>, OutOfMemory>
     requires { of.now.plan.value ≡ plan.now }
-    ensures { IfOk result (λ lines.
-        AreLinesAt plan.now (wiring plan.now.layout of.now.number) (lookahead_of plan.now.layout) 0 0 lines.items) }
+    ensures know { IfOk result (λ lines.
+        KnowLines of.now.plan.value (wiring of.now.plan.value.layout of.now.number) of.now.lookahead 0 0 lines.items) }
+    ensures empty { IfOk result (λ lines. AreEmptyLines lines.items) }
+    ensures room { IfOk result (λ lines. HaveRoomFrom 0 of.now.lookahead lines.items) }
 {
     let taps = taps_of(alloc, &plan.layout)?;
     let places = places_on(alloc, &taps, of.number as usize)?;
@@ -146,20 +145,24 @@ fn all_idle(
     lookahead: u32,
 ) -> Result<Silence, OutOfMemory>
     ensures loud { IfOk result (λ silence. silence.loud.room ≡ taps) }
+    ensures late { IfOk result (λ silence. silence.late.room ≡ taps) }
     ensures heard { IfOk result (λ silence. length silence.heard.items ≡ taps) }
     ensures emitted { IfOk result (λ silence. length silence.emitted.items ≡ stations) }
+    ensures piece { IfOk result (λ silence. most_ahead + lookahead ≤ length silence.piece.items) }
 {
     Ok(Silence {
         loud: LoudTaps::new(alloc, taps)?,
         late: LoudTaps::new(alloc, taps)?,
         heard: vec![in alloc; Sym::Idle; taps]?,
         emitted: vec![in alloc; Sym::Idle; stations]?,
-        piece: vec![in alloc; Sym::Idle; 2 * lookahead as usize + (KEEP + 2 * AHEAD) as usize]?,
+        piece: vec![in alloc; Sym::Idle; AHEAD as usize + lookahead as usize]?,
     })
 }
 
-/// A watch for each of so many stations.
-fn watches_of(alloc: Global, stations: usize) -> Result<Vec<Watch>, OutOfMemory> {
+/// The watches of so many stations before half bit 0.
+fn watches_of(alloc: Global, stations: usize) -> Result<Vec<Watch>, OutOfMemory>
+    ensures { IfOk result (λ watches. watches.items ≡ replicate stations new_watch) }
+{
     let watch = Watch {
         since: 0,
         until: 0,

@@ -1,15 +1,15 @@
-use Rattle.std.proofs.Common.{◌≡◌, ◌<◌, ℕ, List, [], All, map, replicate, length, sym, subst, ap, ◌∙◌, arith, rules}
+use Rattle.std.proofs.Common.{◌≡◌, ◌+◌, ◌<◌, ◌≤◌, ℕ, List, [], All, map, replicate, length, sym, subst, ap, ◌∙◌, arith, rules}
 use Rattle.load_plan.specs.declared.plan.Plan.{Plan}
-use Rattle.collision_log.specs.declared.row.Row.{Row}
 use Rattle.network.specs.Attempts.{sender_at}
 use Rattle.kept_devices.specs.KeptReceivers.{AllHear}
 use Rattle.net_parts.specs.Standing.{receiver_at}
-use Rattle.segment_engine.specs.PartStates.{AreStationsAt}
-use Rattle.net_parts.specs.Windows.{lookahead}
 use Rattle.net_parts.specs.SegmentParts.{wiring}
 use Rattle.tap_lines.specs.TapLines.{TapLine, IsReachOf}
+use Rattle.segment_engine.specs.declared.apart.Watch.{Watch}
 use Rattle.segment_engine.specs.declared.segment.Segment.{Segment}
-use Rattle.segment_engine.proofs.Beginnings.{stations_within, stations_begin}
+use Rattle.segment_engine.specs.NewLines.{new_watch}
+use Rattle.segment_engine.specs.StationsApart.{AreStill, StandAllApart}
+use Rattle.segment_engine.proofs.Beginnings.{stations_within, stand_new, still_new, hear_new, no_captures}
 use Rattle.segment_engine.proofs.start.start.Goals as goal
 
 -- the numbers of the segment's stations are those of stations of the plan
@@ -25,27 +25,48 @@ receivers_of-requires c = all_stations c.args.of.now c.args.plan.now c.deref-2.r
 
 pub returns-clause-at : goal.returns-clause-at
 returns-clause-at c =
-    let plan = c.args.plan.now in
-    let s = c.args.of.now.number in
-    let w = wiring plan.layout s in
-    let numbers = c.args.of.now.station_numbers ∙ ap (λ (p : Plan). (wiring p.layout s).stations) c.requires in
-    let stations_a : c.deref.result.now ≡ w.stations = c.deref.ensures.value ∙ numbers in
-    let stations_b : c.deref-2.result.now ≡ w.stations = c.deref-2.ensures.value ∙ numbers in
-    let long : c.args.of.now.lookahead ≡ lookahead plan.layout = c.args.of.now.window_length ∙ ap (λ (p : Plan). lookahead p.layout) c.requires in
-    let sized = ap length numbers in
-    let count : c.len-stations.result ≡ length w.stations = let n = c.len-stations.ensures in omega (arith, n, sized) in
-    let taps : c.len.result ≡ length c.in_ok-lines.lines.items = search rules in
+    let of = c.args.of.now in
+    let n = length of.stations.items in
+    let ls = c.in_ok-lines.lines.items in
+    let ss = c.in_ok-senders.senders.items in
+    let ks = c.in_ok-receivers.receivers.items in
+    let ws = c.in_ok-watches.watches.items in
+    let many : c.len-stations.result ≡ n = let m = c.len-stations.ensures in omega (arith, m) in
+    let taps : c.len.result ≡ length ls = search rules in
+    let know = c.in_ok-lines.ensures.know in
+    let size = know.many in
+    let numbers = ap length of.station_numbers in
+    let enough : n ≤ length ls = omega (arith, size, numbers) in
+    let senders : ss ≡ map (λ k. sender_at of.plan.value k 0) of.stations.items =
+    subst (λ (p : Plan). ss ≡ map (λ k. sender_at p k 0) of.stations.items) (sym c.requires)
+    (c.in_ok-senders.ensures ∙ ap (map (λ k. sender_at c.args.plan.now k 0)) c.deref.ensures.value) in
+    let receivers : AllHear (map (λ k. receiver_at of.plan.value k 0) of.stations.items) ks =
+    subst (λ (p : Plan). AllHear (map (λ k. receiver_at p k 0) of.stations.items) ks) (sym c.requires)
+    (subst (λ xs. AllHear (map (λ k. receiver_at c.args.plan.now k 0) xs) ks) c.deref-2.ensures.value c.in_ok-receivers.ensures.receivers) in
+    let steps = c.in_ok-receivers.ensures.steps in
+    let empty = c.in_ok-lines.ensures.empty in
+    let watches : replicate n new_watch ≡ ws = sym (c.in_ok-watches.ensures ∙ ap (λ m. replicate m new_watch) many) in
     let room = c.in_ok-room.ensures in
-    let P : List Row → Type 0 = λ rows. AreStationsAt plan w.stations 0 c.in_ok-senders.senders.items c.in_ok-receivers.receivers.items rows c.in_ok-room.room.captures in
     record {
-      stations = subst P (sym room.rows) (stations_begin plan s c.in_ok-senders.senders.items c.in_ok-receivers.receivers.items c.in_ok-room.room.captures
-          (c.in_ok-senders.ensures ∙ ap (map (λ k. sender_at plan k 0)) stations_a)
-          (subst (λ ks. AllHear (map (λ k. receiver_at plan k 0) ks) c.in_ok-receivers.receivers.items) stations_b c.in_ok-receivers.ensures.receivers)
-          c.in_ok-receivers.ensures.steps
-          (room.captures ∙ ap (λ n. replicate n []) count));
-      lines = c.in_ok-lines.ensures;
-      reach = subst (λ (xs : List TapLine). IsReachOf c.farthest.result (lookahead plan.layout) xs) c.deref-3.ensures.value (subst (λ n. IsReachOf c.farthest.result n c.deref-3.result.now) long c.farthest.ensures);
-      hearing = c.in_ok-silence.ensures.heard ∙ taps;
-      listing = c.in_ok-silence.ensures.loud ∙ taps;
-      emitting = c.in_ok-silence.ensures.emitted ∙ count;
+      goes = record {
+        begun = omega arith;
+        upto = omega arith;
+        stations = subst (λ (xs : List Watch). StandAllApart of 0 0 ls xs ss ks) watches (stand_new of ls ss ks senders receivers steps empty enough);
+        still = subst (λ (xs : List Watch). AreStill of xs ss ks) watches (still_new of ls ss ks senders receivers steps empty enough);
+        lines = know;
+        ends = λ p h.
+            let there : n + p < length ls = omega (arith, h, size, numbers) in
+            let first = empty.from_first (n + p) there in
+            let none = ap length (empty.empty (n + p) there) in
+            omega (arith, first, none);
+        hears = hear_new of ls ss ks senders receivers steps empty enough;
+        logged = room.rows;
+        kept = room.captures ∙ ap (λ m. replicate m []) many ∙ no_captures of.plan.value of.stations.items;
+        room = c.in_ok-lines.ensures.room;
+        reach = subst (λ (xs : List TapLine). IsReachOf c.farthest.result of.lookahead xs) c.deref-3.ensures.value c.farthest.ensures;
+        listing = c.in_ok-silence.ensures.loud ∙ taps;
+        late = c.in_ok-silence.ensures.late ∙ taps;
+        piece = c.in_ok-silence.ensures.piece;
+      };
+      near = omega arith;
     }

@@ -3,10 +3,10 @@ use Rattle.std.proofs.lemmas.Bool.{false≢true}
 use Rattle.mac_parameters.specs.Parameters.{most_half_bits}
 use Rattle.net_parts.specs.Windows.{lookahead, time}
 use Rattle.net_parts.specs.SegmentParts.{wiring}
-use Rattle.segment_engine.specs.QuietHalfBits.{ComeInIdle}
+use Rattle.segment_engine.specs.QuietHalfBits.{ComeInIdle, IsQuietFor}
 use Rattle.segment_engine.specs.RunningStates.{IsRunningAt}
 use Rattle.segment_engine.proofs.HandedOut.{few_windows}
-use Rattle.segment_engine.proofs.KeptParts.{kept_of, standing_of}
+use Rattle.segment_engine.proofs.KeptParts.{kept_of}
 use Rattle.segment_engine.proofs.SilentParts.{starts, running_now, come_now, ends, ends_early}
 use Rattle.segment_engine.proofs.part.SegmentPart.pass_windows.Goals as goal
 
@@ -14,7 +14,7 @@ pub pass-requires-clause-at : goal.pass-requires-clause-at
 pass-requires-clause-at c =
     let x = c.args.self.now in
     let last = c.requires.within in
-    running_now x.segment.plan.value x.segment.number x.window x.segment.lookahead x.state x.segment.window_length x.stands x.at_time (omega (arith, last))
+    running_now x.segment x.window x.state x.stands x.at_time (omega (arith, last))
 
 pub pass-requires-clause-in_time : goal.pass-requires-clause-in_time
 pass-requires-clause-in_time c =
@@ -22,7 +22,13 @@ pass-requires-clause-in_time c =
     let last = c.requires.within in
     let long : c.from.result ≡ lookahead x.segment.plan.value.layout = c.from.ensures ∙ x.segment.window_length in
     subst (λ l. x.state.t + c.args.count * l ≤ most_half_bits) (sym long)
-    (ends_early x.segment.plan.value x.segment.number x.window x.segment.lookahead x.state x.segment.window_length x.stands x.at_time (omega (arith, last)) c.args.count last)
+    (ends_early x.segment x.window x.state x.stands x.at_time (omega (arith, last)) c.args.count last)
+
+pub pass-requires-clause-quiet : goal.pass-requires-clause-quiet
+pass-requires-clause-quiet c =
+    let x = c.args.self.now in
+    let long : c.from.result ≡ lookahead x.segment.plan.value.layout = c.from.ensures ∙ x.segment.window_length in
+    subst (λ l. IsQuietFor (c.args.count * l) x.state) (sym long) c.requires.quiet
 
 pub pass-requires-clause-silent : goal.pass-requires-clause-silent
 pass-requires-clause-silent c =
@@ -31,7 +37,7 @@ pass-requires-clause-silent c =
     let plan = x.segment.plan.value in
     let long : c.from.result ≡ lookahead plan.layout = c.from.ensures ∙ x.segment.window_length in
     subst (λ l. ComeInIdle plan (wiring plan.layout x.segment.number).edges x.state.t (c.args.count * l)) (sym long)
-    (come_now plan x.segment.number x.window x.segment.lookahead x.state x.segment.window_length x.stands x.at_time (omega (arith, last)) x.segment.within (c.args.count * lookahead plan.layout) c.requires.silent)
+    (come_now x.segment x.window x.state x.stands x.at_time (omega (arith, last)) (c.args.count * lookahead plan.layout) c.requires.silent)
 
 pub overflow_add-self : goal.overflow_add-self
 overflow_add-self c =
@@ -46,17 +52,19 @@ invariant_of-self c =
     let wd = x.window in
     let n = c.args.count in
     let last = c.requires.within in
+    let windows = g.window_count in
     let state = c.pass.new.state in
-    let first : x.state.t ≡ wd * lookahead plan.layout = starts plan g.number wd g.lookahead x.state g.window_length x.stands x.at_time (omega (arith, last)) in
+    let first : x.state.t ≡ wd * lookahead plan.layout = starts g wd x.state x.stands x.at_time (omega (arith, last)) in
     let both : wd * g.lookahead + n * g.lookahead ≡ (wd + n) * g.lookahead = omega arith in
-    let front : x.state.t + n * c.from.result ≡ (wd + n) * g.lookahead = ap₂ ◌+◌ (first ∙ ap (λ l. wd * l) (sym g.window_length)) (ap (λ l. n * l) c.from.ensures) ∙ both in
+    let front : state.t ≡ (wd + n) * g.lookahead = c.pass.ensures.time ∙ ap₂ ◌+◌ (first ∙ ap (λ l. wd * l) (sym g.window_length)) (ap (λ l. n * l) c.from.ensures) ∙ both in
     let time_is : state.t ≡ time plan (wd + n) =
-    c.pass.ensures.time ∙ ap (λ l. x.state.t + n * l) (c.from.ensures ∙ g.window_length) ∙ ends plan g.number wd g.lookahead x.state g.window_length x.stands x.at_time (omega (arith, last)) n last in
-    let at : IsRunningAt plan g.number ((wd + n) * g.lookahead) state = subst (λ f. IsRunningAt plan g.number f state) front c.pass.ensures.at in
+    c.pass.ensures.time ∙ ap (λ l. x.state.t + n * l) (c.from.ensures ∙ g.window_length) ∙ ends g wd x.state x.stands x.at_time (omega (arith, last)) n last in
+    let at : IsRunningAt g ((wd + n) * g.lookahead) state = subst (λ f. IsRunningAt g f state) front c.pass.ensures.at in
     record {
-      stands = standing_of plan g.number ((wd + n) * g.lookahead) state at;
+      stands = at;
       at_time = time_is;
       octets = x.octets;
+      last = λ h. c.pass.ensures.from;
       room = λ h. absurd (false≢true h);
-      kept = kept_of plan g.number (wd + n) ((wd + n) * g.lookahead) state g.within time_is at;
+      kept = kept_of g (wd + n) ((wd + n) * g.lookahead) state time_is at;
     }
