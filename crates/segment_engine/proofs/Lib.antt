@@ -1,9 +1,5 @@
-pub mod HeldLines
 pub mod LinesHear
 pub mod StationRoom
-pub mod StationsStep
-pub mod HalfBits
-pub mod WindowLines
 pub mod WindowParcels
 pub mod SegmentWindows
 pub mod Beginnings
@@ -13,10 +9,6 @@ pub mod StationsLater
 pub mod QuietStations
 pub mod QuietAhead
 pub mod QuietRoom
-pub mod PiecesAhead
-pub mod QuietHalfBits
-pub mod SteadyHalfBits
-pub mod SteadyStations
 pub mod SteadyReceivers
 pub mod SteadyCalm
 pub mod CalmLater
@@ -39,16 +31,11 @@ pub mod PassedStations
 pub mod ArrivedLines
 pub mod FilledParcels
 pub mod RowsApart
-pub mod GoneApart
 pub mod NearExample
-pub mod TakenExample
 pub mod ApartExample
 pub mod ToldExample
 pub mod RowsExample
 pub mod KnownExample
-pub mod FirstRows
-pub mod FirstReceptions
-pub mod PieceRoom
 pub mod SilentParts
 pub mod ReservedRoom
 pub mod SendingTexts

@@ -8,4 +8,3 @@ pub mod KeptParts
 pub mod QuietHalfBits
 pub mod SteadyPieces
 pub mod StationsApart
-pub mod FirstReceptions

@@ -1,27 +1,16 @@
 -- Several half bits of a segment in which each of its stations hears a signal all the time, or Idle all the time, and
--- goes on with what it does (profile). Half bits and taps count from 0.
-use Rattle.std.specs.Prelude.{ℕ, ◌≡◌, ◌+◌, ◌<◌, ◌≤◌, Bool, List, ◌++◌, take, drop, length}
+-- goes on with what it does (profile). Half bits count from 0.
+use Rattle.std.specs.Prelude.{ℕ, ◌+◌, ◌≤◌, Bool, List, ◌++◌, take, drop, length}
 use Rattle.manchester_line.specs.declared.Sym.{Sym}
-use Rattle.manchester_line.specs.Line.{is_signal}
-use Rattle.mac_transmit.specs.Sender.{Sender, is_sending}
+use Rattle.mac_transmit.specs.Sender.{Sender}
 use Rattle.mac_transmit.specs.Calm.{AllHeardAs, AreCalm, calm_of}
 use Rattle.mac_transmit.specs.Emissions.{emission_by}
 use Rattle.net_parts.specs.declared.parcel.Parcel.{Parcel}
 use Rattle.net_parts.specs.Machines.{span}
-use Rattle.tap_lines.specs.TapLines.{TapLine, line_extended}
 
 -- What a sender emits in the n half bits from now on, if nothing happens to it until then (4.2.8).
 abbrev pub sent_ahead : Sender → ℕ → List Sym
 sent_ahead s n = span (λ j. emission_by s j s.phase) 0 n
-
--- A line with what its station emits in the half bits ahead, at least `least` and at most `most` of them, if nothing
--- happens to its sender: as long as it sends, that is a signal (profile).
-pub record IsToldAhead (s : Sender) (least most : ℕ) (l l' : TapLine) : Type 0 where
-  pub number : ℕ
-  pub enough : least ≤ number
-  pub few : number ≤ most
-  pub line : l' ≡ line_extended l (sent_ahead s number)
-  pub signal : (j : ℕ) → j < least → is_signal (emission_by s j s.phase) ≡ is_sending s.phase
 
 -- Nothing happens at a station's sender in n half bits in which the station hears a signal all the time, or Idle all
 -- the time, as `carrier` says: it goes on with what it does (profile).
