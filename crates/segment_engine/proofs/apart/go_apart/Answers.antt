@@ -1,14 +1,14 @@
-use Rattle.std.proofs.Common.{◌≡◌, ℕ, ◌+◌, ◌-◌, ◌*◌, ◌<◌, ◌≤◌, List, map, length, get_or, sym, subst, ap, ap₂, ◌∙◌, arith, rules}
+use Rattle.std.proofs.Common.{◌≡◌, ℕ, ◌+◌, ◌-◌, ◌*◌, ◌<◌, ◌≤◌, map, length, get_or, sym, subst, ap, ap₂, ◌∙◌, arith, rules}
 use Rattle.std.specs.Vec.{with_items}
 use Rattle.std.proofs.lemmas.List.{with_items_is}
 use Rattle.net_parts.specs.Windows.{lookahead}
-use Rattle.net_parts.specs.SegmentParts.{Wiring, wiring}
+use Rattle.net_parts.specs.SegmentParts.{wiring}
 use Rattle.net_parts.specs.declared.parcel.Parcel.{Parcel}
 use Rattle.tap_lines.specs.TapLines.{TapLine, no_line, heard_for}
 use Rattle.segment_engine.specs.KnownLines.{KnowLines}
 use Rattle.segment_engine.specs.PartStates.{half_filled}
 use Rattle.segment_engine.specs.SteadyPieces.{with_piece_at}
-use Rattle.segment_engine.specs.StationsApart.{AreToldAnew, StandAllApart, most_ahead}
+use Rattle.segment_engine.specs.StationsApart.{AreToldAnew}
 use Rattle.segment_engine.proofs.ChangedLines.{line_anew}
 use Rattle.segment_engine.proofs.FilledParcels.{parcels_after, parcels_long_for}
 use Rattle.segment_engine.proofs.RoomOfLines.{room_anew, tells_of}

@@ -1,16 +1,14 @@
-use Rattle.std.proofs.Common.{◌≡◌, ℕ, ◌+◌, ◌-◌, ◌<◌, ◌≤◌, ◌^◌, All, false, List, length, replicate, get_or, refl, sym, subst, ap, ◌∙◌, arith, rules}
+use Rattle.std.proofs.Common.{◌≡◌, ◌+◌, ◌<◌, ◌≤◌, ◌^◌, All, false, List, length, replicate, get_or, sym, subst, ap, ◌∙◌, arith, rules}
 use Rattle.std.specs.Vec.{with_items}
 use Rattle.std.proofs.lemmas.List.{with_items_is, get_or_default}
 use Rattle.manchester_line.specs.Decoding.{new_decoding}
 use Rattle.manchester_line.specs.declared.Sym.TheVariants.{Idle}
 use Rattle.mac_receive.specs.KeptReceiver.{KeptReception, Hears}
-use Rattle.mac_receive.specs.Receiver.{Receiving, receiver_after}
 use Rattle.mac_transmit.specs.Sender.{Sender}
 use Rattle.mac_transmit.specs.Calm.{after_all}
 use Rattle.network.specs.Attempts.{sender_at}
 use Rattle.net_parts.specs.SegmentParts.{wiring}
 use Rattle.tap_lines.specs.TapLines.{TapLine, forgotten, no_line}
-use Rattle.segment_engine.specs.declared.apart.Watch.{Watch}
 use Rattle.segment_engine.specs.KnownLines.{KnowLines}
 use Rattle.segment_engine.specs.QuietHalfBits.{AreAtRest, ComeInIdle, IsCalmFor, IsQuietFor}
 use Rattle.segment_engine.proofs.PassedStations.{stand_passed}

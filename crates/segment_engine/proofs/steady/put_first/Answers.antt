@@ -1,4 +1,4 @@
-use Rattle.std.proofs.Common.{◌≡◌, ◌+◌, ◌<◌, ◌≤◌, ◌^◌, take, length, length-take-le, get_or, ap, ◌∙◌, arith}
+use Rattle.std.proofs.Common.{◌+◌, length-take-le, get_or, ap, ◌∙◌, arith}
 use Rattle.tap_lines.specs.TapLines.{heard_for}
 use Rattle.segment_engine.specs.SteadyPieces.{with_piece_at}
 use Rattle.segment_engine.proofs.steady.put_first.Goals as goal

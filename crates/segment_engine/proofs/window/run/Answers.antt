@@ -1,11 +1,10 @@
-use Rattle.std.proofs.Common.{◌≡◌, ℕ, ◌+◌, ◌-◌, ◌*◌, ◌<◌, ◌≤◌, List, map, length, refl, sym, subst, ap, ap₂, ◌∙◌, arith}
+use Rattle.std.proofs.Common.{◌≡◌, ◌+◌, ◌*◌, List, map, length, refl, sym, subst, ap, ap₂, ◌∙◌, arith}
 use Rattle.mac_receive.specs.KeptReceiver.{KeptReception}
 use Rattle.mac_transmit.specs.Sender.{Sender}
 use Rattle.net_parts.specs.declared.parcel.Parcel.{Parcel}
 use Rattle.net_parts.specs.SegmentParts.{wiring}
 use Rattle.window_room.specs.Rooms.{Room}
 use Rattle.segment_engine.specs.PartStates.{half_filled, turned_to_repeater}
-use Rattle.segment_engine.specs.RunningStates.{GoesOnAt, IsRunningAt}
 use Rattle.segment_engine.specs.StationsApart.{CoversApart}
 use Rattle.segment_engine.proofs.RunsApart.{covers_sooner}
 use Rattle.segment_engine.proofs.SegmentWindows.{is_window, begins, early, half_bits_are, within_window, within_run}
