@@ -30,7 +30,7 @@ before_arrived t a l ss end low = elim (cases_lt a l.base) [
   | inr from ↦ symbol_before l ss a from (omega (arith, end, low))
 ]
 
-pub line_arrived : (t : ℕ) (l : TapLine) (ss : List Sym) → l.base + length l.symbols ≡ t → length ss ≤ l.room → IsToldAnew t l (line_extended l ss)
+line_arrived : (t : ℕ) (l : TapLine) (ss : List Sym) → l.base + length l.symbols ≡ t → length ss ≤ l.room → IsToldAnew t l (line_extended l ss)
 line_arrived t l ss end room = record {
   place = refl;
   wait = refl;
@@ -99,9 +99,6 @@ pub record HaveArrived (plan : Plan) (w : Wiring) (L t m k : ℕ) (ls ls' : List
   pub done : (p : ℕ) → p < k → p < length w.edges → get_or ls' (length w.stations + p) no_line
       ≡ line_extended (get_or ls (length w.stations + p) no_line) (span (arrives plan L (get_or w.edges p 0)) t m)
   pub left : (p : ℕ) → k ≤ p → get_or ls' (length w.stations + p) no_line ≡ get_or ls (length w.stations + p) no_line
-
-pub none_arrived : (plan : Plan) (w : Wiring) (L t m : ℕ) (ls : List TapLine) → HaveArrived plan w L t m 0 ls ls
-none_arrived plan w L t m ls = record { many = refl; stations = λ r h. refl; done = λ p h l. absurd (omega (arith, h)); left = λ p h. refl }
 
 pub next_arrived : (plan : Plan) (w : Wiring) (L t m k : ℕ) (ls ls' ls'' : List TapLine) → HaveArrived plan w L t m k ls ls' → length ls'' ≡ length ls' →
     get_or ls'' (length w.stations + k) no_line ≡ line_extended (get_or ls' (length w.stations + k) no_line) (span (arrives plan L (get_or w.edges k 0)) t m) →

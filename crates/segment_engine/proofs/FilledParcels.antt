@@ -22,7 +22,7 @@ drop_two [] ys m = let e : 0 + m ≡ m = omega arith in ap (λ k. drop k ys) e
 drop_two (x ∷ xs) ys m = (let e : suc (length xs) + m ≡ suc (length xs + m) = omega arith in ap (λ k. drop k (x ∷ (xs ++ ys))) e) ∙ drop_two xs ys m
 
 -- the symbols of a parcel with a piece more
-pub filled_piece : (a b : ℕ → Sym) (u k m L : ℕ) (xs : List Sym) → k + m ≤ L → xs ≡ span a (u + k) m →
+filled_piece : (a b : ℕ → Sym) (u k m L : ℕ) (xs : List Sym) → k + m ≤ L → xs ≡ span a (u + k) m →
     let before = span a u k ++ span b (u + k) (L - k) in
     take k before ++ (xs ++ drop (k + length xs) before) ≡ span a u (k + m) ++ span b (u + (k + m)) (L - (k + m))
 filled_piece a b u k m L xs fits is =

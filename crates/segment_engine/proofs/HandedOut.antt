@@ -10,7 +10,7 @@ use Rattle.network.proofs.RunnablePlans.{runnable_plan}
 use Rattle.net_parts.specs.Windows.{lookahead, windows}
 use Rattle.net_parts.specs.SegmentParts.{wiring}
 use Rattle.net_parts.specs.OutputsOfParts.{rows_handed_out, captures_handed_out, cut_rows_on, rows_of_part, captures_of_part}
-use Rattle.net_parts.specs.Parts.{parts, part_at}
+use Rattle.net_parts.specs.Parts.{part_at}
 use Rattle.net_parts.proofs.RowsHandedOut.{parts_hand_out}
 use Rattle.window_room.specs.Rooms.{Room}
 use Rattle.segment_engine.specs.declared.running.Running.{Running}

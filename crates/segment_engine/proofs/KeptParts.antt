@@ -1,5 +1,5 @@
 -- What a segment keeps stands for its part's state.
-use Rattle.std.proofs.Common.{◌≡◌, ℕ, zero, suc, ◌<◌, ◌≤◌, true, false, Bool, cond, eqb, None, List, [], ◌∷◌, ◌++◌, map, length, get_or, refl, sym, subst, ap, ap₂, ◌∙◌, arith}
+use Rattle.std.proofs.Common.{◌≡◌, ℕ, zero, suc, ◌<◌, true, false, Bool, cond, eqb, None, List, [], ◌∷◌, ◌++◌, map, length, get_or, refl, sym, subst, ap, ap₂, ◌∙◌, arith}
 use Rattle.std.proofs.Props.{props}
 use Rattle.std.proofs.lemmas.Bool.{false≢true}
 use Rattle.std.proofs.lemmas.Bool.Decides.{nat_tests}
@@ -10,7 +10,7 @@ use Rattle.mac_parameters.specs.Parameters.{most_octets}
 use Rattle.layout.specs.declared.lines.StationLine.{StationLine}
 use Rattle.load_plan.specs.declared.plan.Plan.{Plan}
 use Rattle.mac_receive.specs.Receiver.{Receiving, Reception, receiver_step, quiet, reception_ended, extended}
-use Rattle.mac_receive.specs.KeptReceiver.{KeptReception, Hears}
+use Rattle.mac_receive.specs.KeptReceiver.{KeptReception}
 use Rattle.mac_transmit.specs.Sender.{Sender}
 use Rattle.network.specs.Attempts.{sender_at}
 use Rattle.network.specs.Times.{heard, emitted}
@@ -36,10 +36,7 @@ use Rattle.segment_engine.proofs.Beginnings.{receiver_new}
 -- a segment is the same whatever shows its facts
 pub other_proofs : (P : Segment → Type 0) (g : Segment) (a : g.number < length g.plan.value.layout.segments) (b : g.number < parts g.plan.value) (c : g.stations.items ≡ (wiring g.plan.value.layout g.number).stations)
     (d : g.edges ≡ (wiring g.plan.value.layout g.number).edges) (e : g.lookahead ≡ lookahead g.plan.value.layout) (f : g.half_bits ≡ half_bits g.plan.value) (h : g.windows ≡ windows g.plan.value) → P g →
-    P (record {
-      plan = g.plan; number = g.number; stations = g.stations; edges = g.edges; lookahead = g.lookahead; half_bits = g.half_bits; windows = g.windows;
-      within = a; within_parts = b; station_numbers = c; edge_numbers = d; window_length = e; run_length = f; window_count = h;
-    })
+    P (record g { within = a; within_parts = b; station_numbers = c; edge_numbers = d; window_length = e; run_length = f; window_count = h })
 other_proofs P g a b c d e f h x =
     let pa : IsProp (g.number < length g.plan.value.layout.segments) = hlevel props in
     let pb : IsProp (g.number < parts g.plan.value) = hlevel props in
@@ -48,13 +45,15 @@ other_proofs P g a b c d e f h x =
     let pe : IsProp (g.lookahead ≡ lookahead g.plan.value.layout) = hlevel props in
     let pf : IsProp (g.half_bits ≡ half_bits g.plan.value) = hlevel props in
     let ph : IsProp (g.windows ≡ windows g.plan.value) = hlevel props in
-    let same : g ≡ record {
-      plan = g.plan; number = g.number; stations = g.stations; edges = g.edges; lookahead = g.lookahead; half_bits = g.half_bits; windows = g.windows;
-      within = a; within_parts = b; station_numbers = c; edge_numbers = d; window_length = e; run_length = f; window_count = h;
-    } = λ i. record {
-      plan = g.plan; number = g.number; stations = g.stations; edges = g.edges; lookahead = g.lookahead; half_bits = g.half_bits; windows = g.windows;
-      within = pa g.within a i; within_parts = pb g.within_parts b i; station_numbers = pc g.station_numbers c i; edge_numbers = pd g.edge_numbers d i;
-      window_length = pe g.window_length e i; run_length = pf g.run_length f i; window_count = ph g.window_count h i;
+    let same : g ≡ record g { within = a; within_parts = b; station_numbers = c; edge_numbers = d; window_length = e; run_length = f; window_count = h } =
+    λ i. record g {
+      within = pa g.within a i;
+      within_parts = pb g.within_parts b i;
+      station_numbers = pc g.station_numbers c i;
+      edge_numbers = pd g.edge_numbers d i;
+      window_length = pe g.window_length e i;
+      run_length = pf g.run_length f i;
+      window_count = ph g.window_count h i;
     } in
     subst P same x
 

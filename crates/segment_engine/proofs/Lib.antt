@@ -25,6 +25,7 @@ pub mod ChangedStations
 pub mod StepAll
 pub mod RunsApart
 pub mod RoomOfLines
+pub mod PortsOfRunning
 pub mod SettledLines
 pub mod PassedStations
 pub mod ArrivedLines
@@ -36,6 +37,5 @@ pub mod ToldExample
 pub mod RowsExample
 pub mod KnownExample
 pub mod SilentParts
-pub mod QuietPorts
 pub mod ReservedRoom
 pub mod SendingTexts

@@ -1,14 +1,13 @@
 -- Stations to which nothing happens need no more room after several half bits than before them.
-use Rattle.std.proofs.Common.{◌≡◌, ℕ, suc, ◌+◌, ◌<◌, Bool, false, List, [], ◌∷◌, length, get_or, subst, sym, ap₂, arith}
+use Rattle.std.proofs.Common.{◌≡◌, ℕ, suc, ◌+◌, Bool, List, [], ◌∷◌, length, subst, sym, ap₂, arith}
 use Rattle.manchester_line.specs.declared.Sym.{Sym}
 use Rattle.mac_transmit.specs.Sender.{Sender, sender_step}
 use Rattle.mac_transmit.specs.Calm.{after_all}
 use Rattle.mac_receive.specs.Receiver.{Receiving, receiver_step, receiver_after}
 use Rattle.mac_receive.specs.KeptReceiver.{KeptReception, Hears}
-use Rattle.window_room.specs.NeededRoom.{Demand, Covers, IsDemandWithin, both_demands, event_demand, row_demand, sender_demand, receiver_demand, reception_demand, stations_demand}
-use Rattle.window_room.specs.Rooms.{Room}
+use Rattle.window_room.specs.NeededRoom.{Demand, IsDemandWithin, both_demands, event_demand, row_demand, sender_demand, receiver_demand, reception_demand}
 use Rattle.window_room.proofs.PaidRoom.{paid, sendings_paid}
-use Rattle.segment_engine.proofs.KeptParts.{covers_within, most_step}
+use Rattle.segment_engine.proofs.KeptParts.{most_step}
 
 -- demands in a row
 first_of : (a e b : Demand) → IsDemandWithin (both_demands a e) b → IsDemandWithin a b
@@ -73,34 +72,3 @@ pub record GoesOn (hs : List Sym) (sending : Bool) (k k' : KeptReception) : Type
 pub kept_needs : (hs : List Sym) (sending : Bool) (k k' : KeptReception) (n : ℕ) → GoesOn hs sending k k' → IsDemandWithin (receiver_demand n k') (receiver_demand (n + length hs) k)
 kept_needs hs sending k k' n g =
     rw (needs_kept (receiver_after g.receiver hs sending) k' n g.after, needs_kept g.receiver k (n + length hs) g.before) (receiver_needs hs g.receiver sending n)
-
-no_needs : (n m : ℕ) → IsDemandWithin (stations_demand n [] []) (stations_demand m [] [])
-no_needs n m = record { fewer_rows = omega arith; fewer_frames = omega arith; fewer_octets = omega arith }
-
--- all stations
-stations_need : (hs : List Sym) (n : ℕ) (ss ss' : List Sender) (ks ks' : List KeptReception) → length ss' ≡ length ss → length ks' ≡ length ks → length ss ≡ length ks →
-    ((i : ℕ) (d : Sender) → i < length ss' → get_or ss' i d ≡ after_all (get_or ss i d) hs) →
-    ((i : ℕ) (d : KeptReception) → i < length ks' → GoesOn hs false (get_or ks i d) (get_or ks' i d)) →
-    IsDemandWithin (stations_demand n ss' ks') (stations_demand (n + length hs) ss ks)
-stations_need hs n [] [] [] [] a b e f g = no_needs n (n + length hs)
-stations_need hs n [] [] [] (k' ∷ ks') a b e f g = absurd (omega (arith, b))
-stations_need hs n [] [] (k ∷ ks) ks' a b e f g = absurd (omega (arith, e))
-stations_need hs n [] (s' ∷ ss') ks ks' a b e f g = absurd (omega (arith, a))
-stations_need hs n (s ∷ ss) [] ks ks' a b e f g = absurd (omega (arith, a))
-stations_need hs n (s ∷ ss) (s' ∷ ss') [] ks' a b e f g = absurd (omega (arith, e))
-stations_need hs n (s ∷ ss) (s' ∷ ss') (k ∷ ks) [] a b e f g = absurd (omega (arith, b))
-stations_need hs n (s ∷ ss) (s' ∷ ss') (k ∷ ks) (k' ∷ ks') a b e f g =
-    let m = n + length hs in
-    let of_sender : IsDemandWithin (sender_demand n s') (sender_demand m s) = subst (λ x. IsDemandWithin (sender_demand n x) (sender_demand m s)) (sym (f 0 s (omega arith))) (sender_needs hs s n) in
-    let of_receiver : IsDemandWithin (receiver_demand n k') (receiver_demand m k) = kept_needs hs false k k' n (g 0 k (omega arith)) in
-    let rest = stations_need hs n ss ss' ks ks' (omega (arith, a)) (omega (arith, b)) (omega (arith, e)) (λ i d h. f (suc i) d (omega (arith, h))) (λ i d h. g (suc i) d (omega (arith, h))) in
-    both_within (both_demands (sender_demand n s') (receiver_demand n k')) (stations_demand n ss' ks') (both_demands (sender_demand m s) (receiver_demand m k)) (stations_demand m ss ks)
-    (both_within (sender_demand n s') (receiver_demand n k') (sender_demand m s) (receiver_demand m k) of_sender of_receiver) rest
-
-pub room_later : (m n : ℕ) (hs : List Sym) (ss ss' : List Sender) (ks ks' : List KeptReception) (room : Room) → length hs ≡ m → length ss' ≡ length ss → length ks' ≡ length ks → length ss ≡ length ks →
-    ((i : ℕ) (d : Sender) → i < length ss' → get_or ss' i d ≡ after_all (get_or ss i d) hs) →
-    ((i : ℕ) (d : KeptReception) → i < length ks' → GoesOn hs false (get_or ks i d) (get_or ks' i d)) →
-    Covers (stations_demand (n + m) ss ks) room → Covers (stations_demand n ss' ks') room
-room_later m n hs ss ss' ks ks' room size a b e f g c =
-    covers_within (stations_demand n ss' ks') (stations_demand (n + length hs) ss ks) room (stations_need hs n ss ss' ks ks' a b e f g)
-    (subst (λ x. Covers (stations_demand (n + x) ss ks) room) (sym size) c)

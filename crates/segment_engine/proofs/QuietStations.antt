@@ -1,25 +1,26 @@
 -- Where nothing happens on a segment, all taps hear Idle, and all stations stand in the network several half bits later.
-use Rattle.std.proofs.Common.{◌≡◌, ℕ, zero, suc, ◌+◌, ◌-◌, ◌<◌, ◌≤◌, ◌||◌, Bool, true, false, cond, eqb, inl, inr, Option, Some, None, List, [], ◌∷◌, map, length, replicate, get_or, refl, sym, subst, ap, ap₂, ◌∙◌, arith}
+use Rattle.std.proofs.Common.{◌≡◌, ℕ, zero, suc, ◌+◌, ◌-◌, ◌<◌, ◌≤◌, false, inl, inr, Option, Some, None, List, [], ◌∷◌, map, length, replicate, get_or, refl, sym, subst, ap, ◌∙◌, arith}
 use Rattle.std.proofs.lemmas.Bool.{cases_lt, false≢true}
 use Rattle.std.proofs.lemmas.List.{get_or-map, length-map}
 use Rattle.manchester_line.specs.declared.Sym.{Sym}
 use Rattle.manchester_line.specs.declared.Sym.TheVariants.{Idle}
-use Rattle.manchester_line.specs.Line.{is_signal, mix_of}
+use Rattle.manchester_line.specs.Line.{is_signal}
 use Rattle.load_plan.specs.declared.plan.Plan.{Plan}
 use Rattle.mac_receive.specs.KeptReceiver.{KeptReception}
 use Rattle.mac_receive.specs.Receiver.{Receiving, receiver_step, receiver_after}
 use Rattle.mac_transmit.specs.Sender.{Sender, is_sending}
 use Rattle.mac_transmit.specs.Calm.{AllHeardAs, after_all, calm_of, change_in, up_to_most}
 use Rattle.network.specs.Attempts.{sender_at}
-use Rattle.network.specs.Times.{heard, emitted, earlier}
+use Rattle.network.specs.Times.{heard, emitted}
 use Rattle.net_parts.specs.Machines.{span}
 use Rattle.net_parts.specs.SegmentParts.{Wiring, wiring}
 use Rattle.net_parts.specs.Standing.{arrives, captures_at, port_hears, receiver_at, rows_of_devices}
 use Rattle.net_parts.specs.Windows.{lookahead}
-use Rattle.net_parts.proofs.LateRows.{if_true, if_false}
 use Rattle.net_parts.proofs.RepeaterSteps.{length-span, get_or-span}
-use Rattle.tap_lines.specs.TapLines.{TapLine, no_line, symbol_on, half_bits_back, heard_of_lines, heard_by_lines, class_back, class_of_lines, class_by_lines, class_on, AreIdleFrom}
-use Rattle.tap_lines.proofs.LineClasses.{idle_on, le_true, le_false}
+use Rattle.tap_lines.specs.TapLines.{TapLine, no_line, symbol_on, heard_by_lines, class_by_lines, AreIdleFrom}
+use Rattle.tap_lines.proofs.HeardClasses.{own_class}
+use Rattle.tap_lines.proofs.HeardLines.{own_heard}
+use Rattle.tap_lines.proofs.LineClasses.{idle_on}
 use Rattle.segment_engine.specs.declared.apart.Watch.{Watch}
 use Rattle.segment_engine.specs.declared.running.Running.{Running}
 use Rattle.segment_engine.specs.declared.segment.Segment.{Segment}
@@ -45,7 +46,7 @@ few_at_most None = omega arith
 few_at_most (Some n) = omega arith
 
 -- quiet for fewer half bits
-pub calm_for_fewer : (m n : ℕ) (s : Sender) → n ≤ m → IsCalmFor m s → IsCalmFor n s
+calm_for_fewer : (m n : ℕ) (s : Sender) → n ≤ m → IsCalmFor m s → IsCalmFor n s
 calm_for_fewer m n s h c = record {
   not_sending = c.not_sending;
   number = let x = c.number in omega (arith, x, h);
@@ -60,27 +61,8 @@ quiet_for_fewer m n a h q = record {
   receivers = q.receivers;
 }
 
--- lines on which nothing is let hear Idle
-neither : (b : Bool) → cond b false false ≡ false
-neither true = refl
-neither false = refl
-
-either_idle : (b : Bool) → cond b Idle Idle ≡ Idle
-either_idle true = refl
-either_idle false = refl
-
-no_class_of : (L u p at q : ℕ) (xs : List TapLine) → ((i : ℕ) → i < length xs → class_back (get_or xs i no_line) u (half_bits_back L at (get_or xs i no_line)) ≡ false) → class_of_lines L u p at q xs ≡ false
-no_class_of L u p at q [] h = refl
-no_class_of L u p at q (l ∷ xs) h =
-    ap₂ (λ (b c : Bool). b || c) (ap (λ x. cond (eqb q p) false x) (h 0 (omega arith)) ∙ neither (eqb q p)) (no_class_of L u p at (q + 1) xs (λ i m. h (suc i) (omega (arith, m))))
-
-silence_of : (L u p at q : ℕ) (xs : List TapLine) → ((i : ℕ) → i < length xs → earlier (symbol_on (get_or xs i no_line)) u (half_bits_back L at (get_or xs i no_line)) ≡ Idle) → heard_of_lines L u p at q xs ≡ Idle
-silence_of L u p at q [] h = refl
-silence_of L u p at q (l ∷ xs) h =
-    ap₂ mix_of (ap (λ x. cond (eqb q p) Idle x) (h 0 (omega arith)) ∙ either_idle (eqb q p)) (silence_of L u p at (q + 1) xs (λ i m. h (suc i) (omega (arith, m))))
-
 -- a receiver at rest that hears Idle stays so
-pub rest_after : (n : ℕ) (r : Receiving) → r.halves ≡ [] → (receiver_after r (replicate n Idle) false).halves ≡ []
+rest_after : (n : ℕ) (r : Receiving) → r.halves ≡ [] → (receiver_after r (replicate n Idle) false).halves ≡ []
 rest_after zero r h = h
 rest_after (suc n) r h = rest_after n (receiver_step r Idle false).state (idle_halves r)
 
@@ -88,27 +70,11 @@ rest_after (suc n) r h = rest_after n (receiver_step r Idle false).state (idle_h
 module _ (of : Segment) (a : Running) (front : ℕ) (at : GoesOnAt of front a) (silent : AreIdleFrom (a.t - a.far) a.lines.items) where
   pub no_class : (u p : ℕ) → a.t ≤ u → p < length a.lines.items → class_by_lines of.lookahead u a.lines.items p ≡ false
   no_class u p later h =
-      let ls = a.lines.items in
-      let place = (get_or ls p no_line).at in
-      no_class_of of.lookahead u p place 0 ls (λ i l.
-      let back = half_bits_back of.lookahead place (get_or ls i no_line) in
-      let close = at.reach p i h l in
-      elim (cases_lt u back) [
-        | inl early ↦ le_false {m = back} {n = u} _ _ early
-        | inr past ↦ le_true {m = back} {n = u} _ _ past ∙ silent i (u - back) l (omega (arith, close, later, past))
-      ])
+      own_class of.lookahead a.t a.far u p p a.lines.items at.reach h (record { within = h; others = λ r v l other late. silent r v l late }) later refl
 
   silence : (u p : ℕ) → a.t ≤ u → p < length a.lines.items → heard_by_lines of.lookahead u a.lines.items p ≡ Idle
   silence u p later h =
-      let ls = a.lines.items in
-      let place = (get_or ls p no_line).at in
-      silence_of of.lookahead u p place 0 ls (λ i l.
-      let back = half_bits_back of.lookahead place (get_or ls i no_line) in
-      let close = at.reach p i h l in
-      elim (cases_lt u back) [
-        | inl early ↦ if_false {m = back} {n = u} _ _ early
-        | inr past ↦ if_true {m = back} {n = u} _ _ past ∙ idle_on (a.t - a.far) (u - back) (get_or ls i no_line) (λ v c. silent i v l c) (omega (arith, close, later, past))
-      ])
+      own_heard of.lookahead a.t a.far u p p a.lines.items at.reach h (record { within = h; others = λ r v l other late. silent r v l late }) later refl
 
 -- a segment on which nothing happens for m half bits
 module _ (of : Segment) (a : Running) (m front : ℕ) (at : GoesOnAt of front a) (quiet : IsQuietFor m a) where
@@ -331,13 +297,13 @@ module _ (of : Segment) (a : Running) (m front : ℕ) (at : GoesOnAt of front a)
       quiet_heard : HearAllByLines of a.from u ls
       quiet_heard = all_hear of a.from t ls calm_watches ss ks ds dk stand_calm u (omega arith) later_until u know_ahead at.begun (omega arith) at.hears
 
-      pub hear_idle : (i j : ℕ) → i < n → j < m → heard plan (number_on of i) (t + j) ≡ Idle
+      hear_idle : (i j : ℕ) → i < n → j < m → heard plan (number_on of i) (t + j) ≡ Idle
       hear_idle i j h l =
           let begun = at.begun in
           let taps = at.stations.taps in
           (quiet_heard i h).hears (t + j) (omega (arith, begun)) (omega (arith, l)) ∙ silence of a front at quiet.lines (t + j) i (omega arith) (omega (arith, h, taps))
 
-      pub emit_idle : (i j : ℕ) → i < n → j < m → emitted plan (number_on of i) (t + j) ≡ Idle
+      emit_idle : (i j : ℕ) → i < n → j < m → emitted plan (number_on of i) (t + j) ≡ Idle
       emit_idle i j h l =
           let begun = at.begun in
           let one = at.stations.each i a_watch ds dk h in

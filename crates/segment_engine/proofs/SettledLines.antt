@@ -73,29 +73,29 @@ some_of [] e = absurd (cc)
 some_of (x ∷ xs) e = omega arith
 
 module _ (t : ℕ) (ls ls' : List TapLine) (is : HaveForgotten t ls ls') where
-  pub place_was : (r : ℕ) → (get_or ls' r no_line).at ≡ (get_or ls r no_line).at
+  place_was : (r : ℕ) → (get_or ls' r no_line).at ≡ (get_or ls r no_line).at
   place_was r = elim (cases_lt r (length ls)) [
     | inl one ↦ ap (λ (x : TapLine). x.at) (is.each r one) ∙ forgotten_place t (get_or ls r no_line)
     | inr other ↦ ap (λ (x : TapLine). x.at) (is.others r other)
   ]
 
-  pub delay_was : (r : ℕ) → (get_or ls' r no_line).delay ≡ (get_or ls r no_line).delay
+  delay_was : (r : ℕ) → (get_or ls' r no_line).delay ≡ (get_or ls r no_line).delay
   delay_was r = elim (cases_lt r (length ls)) [
     | inl one ↦ ap (λ (x : TapLine). x.delay) (is.each r one) ∙ forgotten_delay t (get_or ls r no_line)
     | inr other ↦ ap (λ (x : TapLine). x.delay) (is.others r other)
   ]
 
-  pub backlog_was : (r : ℕ) → (get_or ls' r no_line).backlog ≡ (get_or ls r no_line).backlog
+  backlog_was : (r : ℕ) → (get_or ls' r no_line).backlog ≡ (get_or ls r no_line).backlog
   backlog_was r = elim (cases_lt r (length ls)) [
     | inl one ↦ ap (λ (x : TapLine). x.backlog) (is.each r one) ∙ forgotten_backlog t (get_or ls r no_line)
     | inr other ↦ ap (λ (x : TapLine). x.backlog) (is.others r other)
   ]
 
-  pub base_was : (r : ℕ) → r < length ls → (get_or ls' r no_line).base ≡ max (get_or ls r no_line).base (t - (get_or ls r no_line).backlog)
+  base_was : (r : ℕ) → r < length ls → (get_or ls' r no_line).base ≡ max (get_or ls r no_line).base (t - (get_or ls r no_line).backlog)
   base_was r h = ap (λ (x : TapLine). x.base) (is.each r h) ∙ forgotten_base t (get_or ls r no_line)
 
   -- what it keeps, and below half bit t
-  pub symbol_was : (r a : ℕ) → r < length ls → t - (get_or ls r no_line).backlog ≤ a → symbol_on (get_or ls' r no_line) a ≡ symbol_on (get_or ls r no_line) a
+  symbol_was : (r a : ℕ) → r < length ls → t - (get_or ls r no_line).backlog ≤ a → symbol_on (get_or ls' r no_line) a ≡ symbol_on (get_or ls r no_line) a
   symbol_was r a h near = ap (λ x. symbol_on x a) (is.each r h) ∙ forgotten_symbol t a (get_or ls r no_line) near
 
   pub class_was : (r a : ℕ) → r < length ls → t - (get_or ls r no_line).backlog ≤ a → class_on (get_or ls' r no_line) a ≡ class_on (get_or ls r no_line) a

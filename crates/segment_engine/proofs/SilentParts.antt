@@ -1,8 +1,11 @@
 -- A segment that stands at a window, and the windows after it in which nothing happens.
-use Rattle.std.proofs.Common.{◌≡◌, ℕ, true, ◌+◌, ◌*◌, ◌/◌, ◌<◌, ◌≤◌, min, sym, subst, ap, ◌∙◌, arith, mul-le-mul_right}
+use Rattle.std.proofs.Common.{◌≡◌, ℕ, false, true, ◌+◌, ◌*◌, ◌/◌, ◌<◌, ◌≤◌, min, sym, subst, ap, ◌∙◌, arith, mul-le-mul_right}
 use Rattle.std.proofs.lemmas.Bool.Decides.{nat_tests}
 use Rattle.std.proofs.lemmas.Nat.{div-add-mod'}
+use Rattle.manchester_line.specs.Decoding.{new_decoding}
 use Rattle.mac_parameters.specs.Parameters.{most_half_bits}
+use Rattle.mac_receive.specs.KeptReceiver.{KeptReception}
+use Rattle.network.specs.Attempts.{sender_at}
 use Rattle.load_plan.specs.declared.plan.Plan.{Plan}
 use Rattle.network.proofs.RunnablePlans.{runnable_plan}
 use Rattle.net_parts.specs.Parts.{is_segment_part, edges_of_part, edges_of_kind}
@@ -12,7 +15,7 @@ use Rattle.segment_engine.specs.declared.running.Running.{Running}
 use Rattle.segment_engine.specs.declared.segment.Segment.{Segment}
 use Rattle.segment_engine.specs.QuietHalfBits.{IsQuietFor, ComeInIdle, GoOutIdle}
 use Rattle.segment_engine.specs.RunningStates.{GoesOnAt, IsRunningAt}
-use Rattle.segment_engine.proofs.QuietPorts.{ports_hear_idle}
+use Rattle.segment_engine.proofs.QuietStations.{ports_hear_nothing}
 use Rattle.segment_engine.proofs.WindowParcels.{window_begins, window_starts}
 
 -- windows of quiet have no more half bits than it lasts
@@ -24,6 +27,10 @@ windows_within n c L few =
 
 pub least_of_two : (r d m : ℕ) → r ≡ min d m → r ≤ d
 least_of_two r d m is = omega (arith, is)
+
+-- what stands for a receiver that there isn't
+no_receiver : KeptReception
+no_receiver = record { lose = 0; most = 0; deaf = false; halves = 0; decoder = new_decoding; steps = 0 }
 
 module _ (of : Segment) (wd : ℕ) (a : Running) (stands : IsRunningAt of (wd * of.lookahead) a) (at : a.t ≡ time of.plan.value wd) (below : wd < windows of.plan.value) where
   abbrev plan : Plan
@@ -56,7 +63,7 @@ module _ (of : Segment) (wd : ℕ) (a : Running) (stands : IsRunningAt of (wd * 
 
   pub part_hears : (n : ℕ) → IsQuietFor n a → ComeInIdle plan (edges_of_part plan of.number) (wd * L) n → GoOutIdle plan (edges_of_part plan of.number) (wd * L) n
   part_hears n quiet come =
-      subst (λ es. GoOutIdle plan es (wd * L) n) (sym edges_are) (subst (λ t. GoOutIdle plan (wiring plan.layout of.number).edges t n) starts (ports_hear_idle of a n goes_now quiet (come_now n come)))
+      subst (λ es. GoOutIdle plan es (wd * L) n) (sym edges_are) (subst (λ t. GoOutIdle plan (wiring plan.layout of.number).edges t n) starts (ports_hear_nothing of a n a.t goes_now quiet (come_now n come) (sender_at plan 0 0) no_receiver))
 
   -- and the windows that pass
   module _ (count : ℕ) (last : wd + count < windows plan) where

@@ -1,12 +1,11 @@
 -- The room that stations need, half bit by half bit.
-use Rattle.std.proofs.Common.{◌≡◌, ℕ, suc, ◌+◌, ◌<◌, ◌≤◌, Option, List, [], ◌∷◌, ◌++◌, length, take, drop, set, get_or, sym, subst, ap, ◌∙◌, arith, drop-cons, length-take-le}
-use Rattle.std.proofs.lemmas.List.{take_more_set, drop-set-lt, drop_all, take_all}
+use Rattle.std.proofs.Common.{◌≡◌, ℕ, suc, Option, sym, subst, arith}
 use Rattle.manchester_line.specs.declared.Sym.{Sym}
 use Rattle.collision_log.specs.declared.row.Body.{Body}
 use Rattle.mac_transmit.specs.Sender.{Sender, sender_step}
 use Rattle.mac_receive.specs.KeptReceiver.{KeptReception}
 use Rattle.window_room.specs.Rooms.{Room, KeepsRoom}
-use Rattle.window_room.specs.NeededRoom.{Demand, Covers, IsDemandWithin, both_demands, row_demand, sender_demand, receiver_demand, stations_demand}
+use Rattle.window_room.specs.NeededRoom.{Demand, Covers, IsDemandWithin, both_demands, row_demand, sender_demand, receiver_demand}
 use Rattle.window_room.proofs.PaidRoom.{sendings_paid}
 
 within : (a e b d : Demand) (room : Room) → IsDemandWithin (both_demands a e) b → Covers (both_demands b d) room → Covers e room
@@ -81,72 +80,6 @@ station_left n other s s' h k k' e old mid new state is keeps received c =
     let four = received n (both_demands other (sender_demand n sent)) three in
     subst P (sym state) (to_right other (sender_demand n sent) (receiver_demand n k') new four)
 
--- over several stations
+-- demands that are the same in each of the three
 pub same_demand : {a b c d e f : ℕ} → a ≡ d → b ≡ e → c ≡ f → ◌≡◌ {A = Demand} (record { rows = a; frames = b; octets = c }) (record { rows = d; frames = e; octets = f })
 same_demand x y z = λ i. record { rows = x i; frames = y i; octets = z i }
-
-demand_snoc : (n : ℕ) (ss : List Sender) (ks : List KeptReception) (s : Sender) (k : KeptReception) → length ss ≡ length ks →
-    stations_demand n (ss ++ s ∷ []) (ks ++ k ∷ []) ≡ both_demands (stations_demand n ss ks) (both_demands (sender_demand n s) (receiver_demand n k))
-demand_snoc n [] [] s k l = same_demand (omega arith) (omega arith) (omega arith)
-demand_snoc n [] (y ∷ ks) s k l = absurd (omega (arith, l))
-demand_snoc n (x ∷ ss) [] s k l = absurd (omega (arith, l))
-demand_snoc n (x ∷ ss) (y ∷ ks) s k l =
-    ap (both_demands (both_demands (sender_demand n x) (receiver_demand n y))) (demand_snoc n ss ks s k (omega (arith, l)))
-    ∙ same_demand (omega arith) (omega arith) (omega arith)
-
--- what is left for the stations below k, after half bit t, and for the others, before it
-abbrev pub IsRoomLeft : ℕ → ℕ → List Sender → List KeptReception → Room → Type 0
-IsRoomLeft k n ss ks room = Covers (both_demands (stations_demand n (take k ss) (take k ks)) (stations_demand (suc n) (drop k ss) (drop k ks))) room
-
--- the station at place k needs so much
-pub room_for_next : (k n : ℕ) (ss : List Sender) (ks : List KeptReception) (ds : Sender) (dk : KeptReception) (room : Room) → k < length ss → k < length ks → IsRoomLeft k n ss ks room →
-    Covers (both_demands (both_demands (stations_demand n (take k ss) (take k ks)) (stations_demand (suc n) (drop (k + 1) ss) (drop (k + 1) ks))) (both_demands (sender_demand (suc n) (get_or ss k ds)) (receiver_demand (suc n) (get_or ks k dk)))) room
-room_for_next k n ss ks ds dk room ls lk c =
-    let one : suc k ≡ k + 1 = omega arith in
-    let a = drop-cons ss k ds ls ∙ ap (λ m. get_or ss k ds ∷ drop m ss) one in
-    let b = drop-cons ks k dk lk ∙ ap (λ m. get_or ks k dk ∷ drop m ks) one in
-    let front = stations_demand n (take k ss) (take k ks) in
-    let P : List Sender → Type 0 = λ xs. Covers (both_demands front (stations_demand (suc n) xs (drop k ks))) room in
-    let Q : List KeptReception → Type 0 = λ ys. Covers (both_demands front (stations_demand (suc n) (get_or ss k ds ∷ drop (k + 1) ss) ys)) room in
-    let h = subst Q b (subst P a c) in
-    record {
-      for_rows = let y = h.for_rows in omega (arith, y);
-      for_frames = let y = h.for_frames in omega (arith, y);
-      for_octets = let y = h.for_octets in omega (arith, y);
-    }
-
-pub room_for_one : (k : ℕ) (ss : List Sender) (ks : List KeptReception) (ds : Sender) (dk : KeptReception) (room : Room) → k < length ss → k < length ks → IsRoomLeft k 0 ss ks room →
-    Covers (both_demands (sender_demand 1 (get_or ss k ds)) (receiver_demand 1 (get_or ks k dk))) room
-room_for_one k ss ks ds dk room ls lk c =
-    second (both_demands (stations_demand 0 (take k ss) (take k ks)) (stations_demand 1 (drop (k + 1) ss) (drop (k + 1) ks))) (both_demands (sender_demand 1 (get_or ss k ds)) (receiver_demand 1 (get_or ks k dk))) room
-    (room_for_next k 0 ss ks ds dk room ls lk c)
-
--- what is left behind the last station
-pub room_at_end : (k n : ℕ) (ss : List Sender) (ks : List KeptReception) (room : Room) → length ss ≤ k → length ks ≤ k → IsRoomLeft k n ss ks room → Covers (stations_demand n ss ks) room
-room_at_end k n ss ks room ls lk c =
-    let none : stations_demand (suc n) (drop k ss) (drop k ks) ≡ record { rows = 0; frames = 0; octets = 0 } = ap (λ xs. stations_demand (suc n) xs (drop k ks)) (drop_all k ss ls) in
-    let P : Demand → Type 0 = λ d. Covers (both_demands (stations_demand n (take k ss) (take k ks)) d) room in
-    let h = subst P none c in
-    let all : Covers (stations_demand n (take k ss) (take k ks)) room = record {
-      for_rows = let y = h.for_rows in omega (arith, y);
-      for_frames = let y = h.for_frames in omega (arith, y);
-      for_octets = let y = h.for_octets in omega (arith, y);
-    } in
-    let Q : List Sender → Type 0 = λ xs. Covers (stations_demand n xs (take k ks)) room in
-    let R : List KeptReception → Type 0 = λ ys. Covers (stations_demand n ss ys) room in
-    subst R (take_all k ks lk) (subst Q (take_all k ss ls) all)
-
-pub room_after_next : (k n : ℕ) (ss : List Sender) (ks : List KeptReception) (s : Sender) (r : KeptReception) (room : Room) → k < length ss → length ss ≡ length ks →
-    Covers (both_demands (both_demands (stations_demand n (take k ss) (take k ks)) (stations_demand (suc n) (drop (k + 1) ss) (drop (k + 1) ks))) (both_demands (sender_demand n s) (receiver_demand n r))) room →
-    IsRoomLeft (k + 1) n (set ss k s) (set ks k r) room
-room_after_next k n ss ks s r room ls same c =
-    let fronts : length (take k ss) ≡ length (take k ks) = length-take-le k ss (omega (arith, ls)) ∙ sym (length-take-le k ks (omega (arith, ls, same))) in
-    let rest = stations_demand (suc n) (drop (k + 1) ss) (drop (k + 1) ks) in
-    let snoc = demand_snoc n (take k ss) (take k ks) s r fronts in
-    let P : Demand → Type 0 = λ d. Covers (both_demands d rest) room in
-    let h : Covers (both_demands (both_demands (stations_demand n (take k ss) (take k ks)) (both_demands (sender_demand n s) (receiver_demand n r))) rest) room = record {
-      for_rows = let y = c.for_rows in omega (arith, y);
-      for_frames = let y = c.for_frames in omega (arith, y);
-      for_octets = let y = c.for_octets in omega (arith, y);
-    } in
-    rw (take_more_set ss k s ls, take_more_set ks k r (omega (arith, ls, same)), drop-set-lt (k + 1) ss k s (omega arith), drop-set-lt (k + 1) ks k r (omega arith)) (subst P (sym snoc) h)

@@ -16,7 +16,7 @@ use Rattle.net_parts.specs.Parcels.{true_symbols, true_parcel, arrived, refilled
 use Rattle.net_parts.proofs.LateRows.{map-map}
 use Rattle.net_parts.proofs.RepeaterSteps.{length-span}
 use Rattle.net_parts.proofs.WindowTimes.{some_lead, begins_in_run}
-use Rattle.window_room.specs.NeededRoom.{Covers, IsDemandWithin, both_demands, sender_demand, receiver_demand, stations_demand}
+use Rattle.window_room.specs.NeededRoom.{Covers, IsDemandWithin, both_demands, sender_demand, receiver_demand}
 use Rattle.window_room.specs.Rooms.{Room}
 use Rattle.segment_engine.specs.declared.apart.Watch.{Watch}
 use Rattle.segment_engine.specs.PartStates.{half_filled, turned_to_repeater}
@@ -38,9 +38,6 @@ module _ (plan : Plan) (wd : ℕ) (some : wd < windows plan) where
 
   pub window_starts : time plan wd ≡ wd * L
   window_starts = let b = window_begins in omega (arith, b)
-
-  pub window_ends : wd * L + min L (H - wd * L) ≡ time plan (wd + 1)
-  window_ends = let b = window_begins in let more : (wd + 1) * L ≡ wd * L + L = omega arith in omega (arith, b, more)
 
   came : (e : ℕ) → true_parcel plan false wd e ≡ half_filled plan L wd 0 e
   unfolding true_symbols
@@ -79,9 +76,6 @@ module _ (plan : Plan) (wd : ℕ) (some : wd < windows plan) where
         ∙ map_all (λ e. turned_to_repeater (min L (H - wd * L)) (half_filled plan L wd (min L (H - wd * L)) e)) (true_parcel plan true wd) (wiring plan.layout s).edges goes)
 
 -- more half bits need more room
-sender_more : (s : Sender) (m n : ℕ) → m ≤ n → IsDemandWithin (sender_demand m s) (sender_demand n s)
-sender_more s m n h = record { fewer_rows = omega (arith, h); fewer_frames = omega arith; fewer_octets = omega arith }
-
 pub receiver_more : (k : KeptReception) (m n : ℕ) → m ≤ n → IsDemandWithin (receiver_demand m k) (receiver_demand n k)
 receiver_more k m n h = record { fewer_rows = omega (arith, h); fewer_frames = omega (arith, h); fewer_octets = omega (arith, h) }
 
@@ -94,26 +88,3 @@ covers_since e n ws ws' ss ks room same c = λ w s k.
     subst (λ d. Covers d room)
     (demands_alike n f g (λ i h. ap (λ x. both_demands (sender_demand (e - x) (get_or ss i s)) (receiver_demand (e - x) (get_or ks i k))) (sym (same i w h))))
     (c w s k)
-
--- (goes with PieceRoom)
-stations_more : (ss : List Sender) (ks : List KeptReception) (m n : ℕ) → m ≤ n → IsDemandWithin (stations_demand m ss ks) (stations_demand n ss ks)
-stations_more [] ks m n h = record { fewer_rows = omega arith; fewer_frames = omega arith; fewer_octets = omega arith }
-stations_more (s ∷ ss) [] m n h = record { fewer_rows = omega arith; fewer_frames = omega arith; fewer_octets = omega arith }
-stations_more (s ∷ ss) (k ∷ ks) m n h =
-    let a = sender_more s m n h in
-    let b = receiver_more k m n h in
-    let c = stations_more ss ks m n h in
-    record {
-      fewer_rows = let x = a.fewer_rows in let y = b.fewer_rows in let z = c.fewer_rows in omega (arith, x, y, z);
-      fewer_frames = let x = a.fewer_frames in let y = b.fewer_frames in let z = c.fewer_frames in omega (arith, x, y, z);
-      fewer_octets = let x = a.fewer_octets in let y = b.fewer_octets in let z = c.fewer_octets in omega (arith, x, y, z);
-    }
-
-pub covers_fewer : (ss : List Sender) (ks : List KeptReception) (m n : ℕ) (room : Room) → m ≤ n → Covers (stations_demand n ss ks) room → Covers (stations_demand m ss ks) room
-covers_fewer ss ks m n room h c =
-    let d = stations_more ss ks m n h in
-    record {
-      for_rows = let x = d.fewer_rows in let y = c.for_rows in omega (arith, x, y);
-      for_frames = let x = d.fewer_frames in let y = c.for_frames in omega (arith, x, y);
-      for_octets = let x = d.fewer_octets in let y = c.for_octets in omega (arith, x, y);
-    }

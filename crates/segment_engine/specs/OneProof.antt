@@ -1,5 +1,5 @@
 -- Facts by cases and by recursion of which there is one proof at most, so that a struct may keep them (profile).
-use Rattle.std.specs.Prelude.{ℕ, Option, List, [], ◌∷◌}
+use Rattle.std.specs.Prelude.{ℕ, List, [], ◌∷◌}
 use Rattle.std.specs.Coded.{×_prop, Unit-prop, le_prop}
 use Rattle.std.proofs.Props.{props}
 use Rattle.manchester_line.specs.declared.Sym.{Sym}

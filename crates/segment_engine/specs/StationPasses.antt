@@ -4,8 +4,6 @@ use Rattle.manchester_line.specs.declared.Sym.{Sym}
 use Rattle.collision_log.specs.declared.row.Row.{Row}
 use Rattle.mac_transmit.specs.Sender.{Sender}
 use Rattle.mac_receive.specs.Receiver.{Receiving, Reception}
-use Rattle.network.specs.declared.outputs.Taken.{Taken}
-use Rattle.network.specs.Captures.{captured}
 use Rattle.network.specs.Net.{sendings, receptions}
 use Rattle.net_parts.specs.SegmentParts.{rows_on}
 
@@ -17,9 +15,3 @@ receptions_by hs ss rs = receptions hs (map (λ o. o.emitted) (sendings hs ss)) 
 abbrev pub rows_heard : ℕ → List ℕ → List Sym → List Sender → List Receiving → List Row
 rows_heard t ks hs ss rs =
     rows_on t ks (map (λ o. o.event) (sendings hs ss)) (map (λ r. r.event) (receptions_by hs ss rs))
-
--- What the stations captured after half bit t in which they hear these symbols, where these are their captures before
--- it (profile).
-abbrev pub captures_heard : ℕ → List Sym → List Sender → List Receiving → List (List Taken) → List (List Taken)
-captures_heard t hs ss rs cs =
-    captured t (map (λ r. r.event) (receptions_by hs ss rs)) (map (λ r. r.octets) (receptions_by hs ss rs)) cs

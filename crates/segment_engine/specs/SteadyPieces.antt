@@ -1,14 +1,12 @@
 -- Several half bits of a segment in which each of its stations hears a signal all the time, or Idle all the time, and
--- goes on with what it does (profile). Half bits and taps count from 0.
-use Rattle.std.specs.Prelude.{ℕ, ◌≡◌, ◌+◌, ◌<◌, ◌≤◌, Bool, List, ◌++◌, take, drop, length}
+-- goes on with what it does (profile). Half bits count from 0.
+use Rattle.std.specs.Prelude.{ℕ, ◌+◌, ◌≤◌, Bool, List, ◌++◌, take, drop, length}
 use Rattle.manchester_line.specs.declared.Sym.{Sym}
-use Rattle.manchester_line.specs.Line.{is_signal}
-use Rattle.mac_transmit.specs.Sender.{Sender, is_sending}
+use Rattle.mac_transmit.specs.Sender.{Sender}
 use Rattle.mac_transmit.specs.Calm.{AllHeardAs, AreCalm, calm_of}
 use Rattle.mac_transmit.specs.Emissions.{emission_by}
 use Rattle.net_parts.specs.declared.parcel.Parcel.{Parcel}
 use Rattle.net_parts.specs.Machines.{span}
-use Rattle.tap_lines.specs.TapLines.{TapLine, line_extended}
 
 -- What a sender emits in the n half bits from now on, if nothing happens to it until then (4.2.8).
 abbrev pub sent_ahead : Sender → ℕ → List Sym

@@ -25,7 +25,7 @@ use crate::due::{lower_all, step_all};
 use crate::quiet::is_sending;
 use crate::running::Running;
 use crate::segment::Segment;
-use crate::steady::put_all;
+use crate::steady::put_first;
 use mac_transmit::Transmitter;
 use manchester_line::Sym;
 use net_parts::Parcel;
@@ -391,7 +391,14 @@ pub fn arrive(of: &Segment, window: u64, state: &mut Running, parcels: &[Parcel]
     let lines: &mut [Line] = &mut state.lines;
     let watches: &mut [Watch] = &mut state.watches;
     for p in 0..parcels.len() {
-        arrive_one(of, t, from + p, parcels[p].symbols.as_slice(), lines, watches);
+        arrive_one(
+            of,
+            t,
+            from + p,
+            parcels[p].symbols.as_slice(),
+            lines,
+            watches,
+        );
     }
 }
 
@@ -408,7 +415,10 @@ pub fn settle_if_due(of: &Segment, front: u64, last: bool, state: &mut Running)
     ensures room { state.new.room ≡ state.old.room }
 {
     let behind = state.t - state.from;
-    if last || behind > KEEP || (behind >= SOME && are_idle_from(&state.lines, state.t.saturating_sub(state.far))) {
+    if last
+        || behind > KEEP
+        || (behind >= SOME && are_idle_from(&state.lines, state.t.saturating_sub(state.far)))
+    {
         settle(of, front, state);
     }
 }
@@ -448,7 +458,16 @@ pub fn settle(of: &Segment, front: u64, state: &mut Running)
     let receivers: &mut [LateReceiver] = &mut state.receivers;
     let piece: &mut [Sym] = &mut state.piece;
     bring_all(
-        of, from, t, &state.lines, &mut state.late, far, watches, senders, receivers, piece,
+        of,
+        from,
+        t,
+        &state.lines,
+        &mut state.late,
+        far,
+        watches,
+        senders,
+        receivers,
+        piece,
     );
     forget_all(t, &mut state.lines);
     state.from = t;
@@ -555,9 +574,16 @@ pub fn go_apart(of: &Segment, window: u64, count: u32, state: &mut Running, parc
         of, window, from, t, end, lines, loud, late, far, watches, senders, receivers, piece,
         teller, room,
     );
-    let part = &mut piece[..count as usize];
-    put_all(
-        t, 0, lines, loud, stations, lookahead, far, parcels, part,
+    put_first(
+        t,
+        count as usize,
+        lines,
+        loud,
+        stations,
+        lookahead,
+        far,
+        parcels,
+        piece,
     );
     state.t = end;
 }

@@ -137,7 +137,8 @@ impl SegmentPart {
             GoOutIdle self.now.segment.plan.value (edges_of_part self.now.segment.plan.value self.now.segment.number)
             (self.now.window * lookahead_of self.now.segment.plan.value.layout) n }
     {
-        let quiet = quiet_ahead(&self.segment, &self.state, u64::from(MOST_AT_ONCE)) / u64::from(self.segment.lookahead);
+        let quiet = quiet_ahead(&self.segment, &self.state, u64::from(MOST_AT_ONCE))
+            / u64::from(self.segment.lookahead);
         quiet.min(most)
     }
 

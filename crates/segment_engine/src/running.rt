@@ -27,4 +27,3 @@ pub struct Running {
     pub piece: Vec<Sym>,
     pub room: RowRoom,
 }
-

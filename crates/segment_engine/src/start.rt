@@ -24,9 +24,6 @@ use std::alloc::Global;
 use tap_lines::{Line, LoudTaps, farthest};
 use window_room::RowRoom;
 
-/// How many more symbols a line has room for than it must, so that it slides seldom.
-const SPARE_ROOM: usize = 256;
-
 /// The symbols that a segment keeps, and which of its lines may sound.
 #[derive(Drop)]
 struct Silence {
@@ -118,7 +115,7 @@ fn lines_of(
         let delay = delay_of(r, stations, lookahead, edges, delays);
         let far = (width + u64::from(delay)).saturating_sub(u64::from(lookahead));
         let backlog = far.max(1) as usize;
-        let room = 2 * backlog + 2 * lookahead as usize + SPARE_ROOM + (KEEP + 2 * AHEAD) as usize;
+        let room = 2 * backlog + 2 * lookahead as usize + (KEEP + 2 * AHEAD) as usize;
         lines.push(Line::new(alloc, places[r], delay, backlog, room)?)?;
     }
     Ok(lines)
@@ -158,7 +155,7 @@ fn all_idle(
         late: LoudTaps::new(alloc, taps)?,
         heard: vec![in alloc; Sym::Idle; taps]?,
         emitted: vec![in alloc; Sym::Idle; stations]?,
-        piece: vec![in alloc; Sym::Idle; 2 * lookahead as usize + (KEEP + 2 * AHEAD) as usize]?,
+        piece: vec![in alloc; Sym::Idle; AHEAD as usize + lookahead as usize]?,
     })
 }
 

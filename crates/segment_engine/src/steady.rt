@@ -41,3 +41,28 @@ pub fn put_all(
     }
 }
 
+/// What the ports hear in so many half bits from `t` on, the first of a window, takes the place of what came in for them.
+/// Their taps come behind so many others.
+pub fn put_first(
+    t: u64,
+    count: usize,
+    lines: &[Line],
+    loud: &LoudTaps,
+    from: usize,
+    lookahead: u32,
+    far: u64,
+    parcels: &mut [Parcel],
+    piece: &mut [Sym],
+)
+    requires many { from + length parcels.old ≤ length lines.now }
+    requires reach { IsReachOf far lookahead lines.now }
+    requires loud { AreIdleButFor (t - far) lines.now loud.now.taps }
+    requires in_time { t + count < 2 ^ 64 }
+    requires long { All (λ p. count ≤ length p.symbols) parcels.old }
+    requires piece { count ≤ length piece.old }
+    ensures { (p : ℕ) (d : Parcel) → p < length parcels.new → slice_index_or parcels.new p d
+        ≡ with_piece_at 0 (heard_for lookahead t count lines.now (from + p)) (slice_index_or parcels.old p d) }
+{
+    let part = &mut piece[..count];
+    put_all(t, 0, lines, loud, from, lookahead, far, parcels, part);
+}

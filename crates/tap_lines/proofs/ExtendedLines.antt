@@ -1,17 +1,9 @@
 -- Lines that are extended and slide.
-use Rattle.std.proofs.Common.{◌≡◌, ℕ, zero, suc, min, ◌+◌, ◌-◌, ◌<◌, ◌≤◌, List, [], ◌∷◌, ◌++◌, replicate, take, drop, length, length-append, length-drop, length-take-le, get_or, sym, ap, ◌∙◌, arith, append_assoc}
+use Rattle.std.proofs.Common.{◌≡◌, ℕ, zero, suc, min, ◌+◌, ◌-◌, ◌<◌, ◌≤◌, List, [], ◌∷◌, ◌++◌, replicate, take, drop, length, length-append, length-drop, length-take-le, get_or, sym, ap, ◌∙◌, arith}
 use Rattle.std.proofs.lemmas.List.{length-replicate, drop-replicate, same_lists, get_or-take, get_or-drop}
 use Rattle.manchester_line.specs.declared.Sym.{Sym}
 use Rattle.manchester_line.specs.declared.Sym.TheVariants.{Idle}
-use Rattle.tap_lines.specs.TapLines.{TapLine, line_extended, dropped_from}
-
--- a line that is extended twice
-pub extended_more : (l : TapLine) (xs ys : List Sym) → line_extended (line_extended l xs) ys ≡ line_extended l (xs ++ ys)
-extended_more l xs ys =
-    let symbols = append_assoc l.symbols xs ys in
-    let sum = length-append xs ys in
-    let room : l.room - length xs - length ys ≡ l.room - length (xs ++ ys) = omega (arith, sum) in
-    λ i. record { at = l.at; delay = l.delay; backlog = l.backlog; base = l.base; symbols = symbols i; room = room i }
+use Rattle.tap_lines.specs.TapLines.{TapLine, dropped_from}
 
 -- what is dropped of symbols with Idle behind them
 drop_both : (k : ℕ) (xs ys : List Sym) → drop k (xs ++ ys) ≡ drop k xs ++ drop (k - length xs) ys

@@ -6,7 +6,7 @@ use Rattle.std.proofs.lemmas.List.{length-replicate, get_or-replicate, get_or-ta
 use Rattle.manchester_line.specs.declared.Sym.TheVariants.{Idle}
 use Rattle.manchester_line.specs.Line.{is_signal}
 use Rattle.net_parts.proofs.LateRows.{if_true, if_false}
-use Rattle.tap_lines.specs.TapLines.{TapLine, symbol_on, line_extended, line_cut, dropped_from, passed, line_ended, passed_to, forgotten, goes_on, class_on}
+use Rattle.tap_lines.specs.TapLines.{TapLine, symbol_on, line_extended, line_cut, dropped_from, passed, line_ended, forgotten, goes_on, class_on}
 use Rattle.tap_lines.proofs.ExtendedLines.{unwritten_size}
 use Rattle.tap_lines.proofs.LinesAhead.{idle_tail}
 use Rattle.tap_lines.proofs.LineClasses.{class_within, class_behind, class_off, class_all_alike}
@@ -231,50 +231,3 @@ forgotten_class u a l near on last = forgotten_by u l (λ k. class_on k a ≡ cl
           ∙ drop_goes k l (λ yes. let z = last yes in let some = some_on l yes in omega (arith, z, some))
           ∙ sym (class_behind l a behind)
     ])
-
--- a line that has come to a half bit
-pub passed_by : (u : ℕ) (l : TapLine) (P : TapLine → Type 0) →
-    (l.base + length l.symbols < u → P (passed (u - (l.base + length l.symbols)) l)) →
-    (u ≤ l.base + length l.symbols → P l) → P (passed_to u l)
-passed_by u l P longer shorter = elim (cases_lt (l.base + length l.symbols) u) [
-  | inl before ↦ subst P (sym (line_true {m = l.base + length l.symbols} {n = u} (passed (u - (l.base + length l.symbols)) l) l before)) (longer before)
-  | inr behind ↦ subst P (sym (line_false {m = l.base + length l.symbols} {n = u} (passed (u - (l.base + length l.symbols)) l) l behind)) (shorter behind)
-]
-
-pub passed_place : (u : ℕ) (l : TapLine) → (passed_to u l).at ≡ l.at
-passed_place u l = passed_by u l (λ k. k.at ≡ l.at) (λ h. refl) (λ h. refl)
-
-pub passed_delay : (u : ℕ) (l : TapLine) → (passed_to u l).delay ≡ l.delay
-passed_delay u l = passed_by u l (λ k. k.delay ≡ l.delay) (λ h. refl) (λ h. refl)
-
-pub passed_backlog : (u : ℕ) (l : TapLine) → (passed_to u l).backlog ≡ l.backlog
-passed_backlog u l = passed_by u l (λ k. k.backlog ≡ l.backlog) (λ h. refl) (λ h. refl)
-
-pub passed_base : (u : ℕ) (l : TapLine) → (passed_to u l).base ≤ max l.base (u - l.backlog)
-passed_base u l = passed_by u l (λ k. k.base ≤ max l.base (u - l.backlog))
-    (λ h. let base = pass_base (u - (l.base + length l.symbols)) l in omega (arith, base, h))
-    (λ h. omega arith)
-
-pub passed_end : (u : ℕ) (l : TapLine) → (passed_to u l).base + length (passed_to u l).symbols ≡ max (l.base + length l.symbols) u
-passed_end u l = passed_by u l (λ k. k.base + length k.symbols ≡ max (l.base + length l.symbols) u)
-    (λ h. let end = pass_end (u - (l.base + length l.symbols)) l in omega (arith, end, h))
-    (λ h. omega (arith, h))
-
-pub passed_size : (u : ℕ) (l : TapLine) → l.backlog ≤ length l.symbols + l.room →
-    length (passed_to u l).symbols + (passed_to u l).room ≡ length l.symbols + l.room
-passed_size u l room = passed_by u l (λ k. length k.symbols + k.room ≡ length l.symbols + l.room)
-    (λ h. pass_room (u - (l.base + length l.symbols)) l room)
-    (λ h. refl)
-
-pub passed_symbol : (u a : ℕ) (l : TapLine) → u - l.backlog ≤ a → symbol_on (passed_to u l) a ≡ symbol_on l a
-passed_symbol u a l near = passed_by u l (λ k. symbol_on k a ≡ symbol_on l a)
-    (λ h. pass_symbol (u - (l.base + length l.symbols)) a l (omega (arith, near, h)))
-    (λ h. refl)
-
-pub passed_class : (u a : ℕ) (l : TapLine) → u - l.backlog ≤ a → (goes_on l ≡ true → u ≤ l.base + length l.symbols) →
-    class_on (passed_to u l) a ≡ class_on l a
-passed_class u a l near on = passed_by u l (λ k. class_on k a ≡ class_on l a)
-    (λ h.
-    let off : goes_on l ≡ false = is_off (goes_on l) (λ yes. let z = on yes in omega (arith, z, h)) in
-    pass_class (u - (l.base + length l.symbols)) a l (omega (arith, h)) off (omega (arith, near, h)))
-    (λ h. refl)

@@ -1,15 +1,14 @@
 -- Where signals are on lines that go on as they end, and what taps hear by them.
 use Rattle.std.proofs.Common.{◌≡◌, ◌≢◌, ℕ, suc, ◌+◌, ◌-◌, ◌<◌, ◌≤◌, ◌||◌, ◌++◌, Bool, true, false, cond, eqb, leb, ltb, inl, inr, List, [], ◌∷◌, length, length-append, get_or, refl, sym, subst, ap, ap₂, ◌∙◌, arith}
-use Rattle.std.proofs.lemmas.Bool.{cases_lt, cases_eq, ne_eqb, eq-eqb, false≢true}
+use Rattle.std.proofs.lemmas.Bool.{cases_lt, cases_eq, eq-eqb, false≢true}
 use Rattle.std.proofs.lemmas.Bool.Decides.{nat_tests}
 use Rattle.std.proofs.lemmas.List.{append-nil, get_or_past}
 use Rattle.mac_parameters.specs.Distances.{distance}
 use Rattle.manchester_line.specs.declared.Sym.{Sym}
 use Rattle.manchester_line.specs.declared.Sym.TheVariants.{Idle, Hi, Lo, Clash}
-use Rattle.manchester_line.specs.Line.{mix_of, is_signal}
-use Rattle.network.specs.Times.{earlier}
+use Rattle.manchester_line.specs.Line.{is_signal}
 use Rattle.net_parts.proofs.LateRows.{if_true, if_false}
-use Rattle.tap_lines.specs.TapLines.{TapLine, no_line, symbol_on, half_bits_back, line_extended, goes_on, class_on, class_back, class_of_lines, class_by_lines, heard_of_lines, heard_by_lines, IsIdleFrom}
+use Rattle.tap_lines.specs.TapLines.{TapLine, no_line, symbol_on, half_bits_back, line_extended, goes_on, class_on, class_back, class_of_lines, class_by_lines, IsIdleFrom}
 use Rattle.tap_lines.proofs.LinesAhead.{get_second, symbol_before, symbol_ahead}
 
 pub le_true : {m n : ℕ} (x y : Bool) → m ≤ n → cond (leb m n) x y ≡ x
@@ -104,64 +103,6 @@ class_all_alike l ss a alike = elim (cases_lt a (l.base + length l.symbols + len
 abbrev class_of_one : ℕ → ℕ → ℕ → ℕ → ℕ → TapLine → Bool
 class_of_one L t p at q l = cond (eqb q p) false (class_back l t (half_bits_back L at l))
 
-abbrev heard_of_one : ℕ → ℕ → ℕ → ℕ → ℕ → TapLine → Sym
-heard_of_one L t p at q l = cond (eqb q p) Idle (earlier (symbol_on l) t (half_bits_back L at l))
-
-mix_class : (a b : Sym) → is_signal (mix_of a b) ≡ is_signal a || is_signal b
-mix_class Idle b = refl
-mix_class Hi Idle = refl
-mix_class Hi Hi = refl
-mix_class Hi Lo = refl
-mix_class Hi Clash = refl
-mix_class Lo Idle = refl
-mix_class Lo Hi = refl
-mix_class Lo Lo = refl
-mix_class Lo Clash = refl
-mix_class Clash Idle = refl
-mix_class Clash Hi = refl
-mix_class Clash Lo = refl
-mix_class Clash Clash = refl
-
-heard_lines : (L t p at q : ℕ) (ls : List TapLine) →
-    ((i r : ℕ) → i < length ls → r ≡ q + i → class_of_one L t p at r (get_or ls i no_line) ≡ is_signal (heard_of_one L t p at r (get_or ls i no_line))) →
-    class_of_lines L t p at q ls ≡ is_signal (heard_of_lines L t p at q ls)
-heard_lines L t p at q [] same = refl
-heard_lines L t p at q (l ∷ ls) same =
-    ap₂ (λ (b c : Bool). b || c)
-    (same 0 q (omega arith) (omega arith))
-    (heard_lines L t p at (q + 1) ls (λ i r h e. same (suc i) r (omega (arith, h)) (omega (arith, e))))
-    ∙ sym (mix_class (heard_of_one L t p at q l) (heard_of_lines L t p at (q + 1) ls))
-
-heard_back : (b t : ℕ) (l : TapLine) → (b ≤ t → t - b < l.base + length l.symbols) → class_back l t b ≡ is_signal (earlier (symbol_on l) t b)
-heard_back b t l reach = elim (cases_lt t b) [
-  | inl early ↦ le_false {m = b} {n = t} _ _ early ∙ sym (ap is_signal (if_false {m = b} {n = t} _ _ early))
-  | inr late ↦
-      le_true {m = b} {n = t} _ _ late
-      ∙ class_within l (t - b) (reach late)
-      ∙ sym (ap is_signal (if_true {m = b} {n = t} _ _ late))
-]
-
--- what a tap hears of lines of which none that it hears has ended where it hears them
-pub class_heard : (L t p : ℕ) (ls : List TapLine) →
-    ((r : ℕ) → r < length ls → r ≢ p → half_bits_back L (get_or ls p no_line).at (get_or ls r no_line) ≤ t →
-    t - half_bits_back L (get_or ls p no_line).at (get_or ls r no_line) < (get_or ls r no_line).base + length (get_or ls r no_line).symbols) →
-    class_by_lines L t ls p ≡ is_signal (heard_by_lines L t ls p)
-class_heard L t p ls reach =
-    let at = (get_or ls p no_line).at in
-    heard_lines L t p at 0 ls (λ i r h e. elim (cases_eq r p) [
-      | inl own ↦
-          let same : eqb r p ≡ true = eq-eqb r p own in
-          let l = get_or ls i no_line in
-          ap (λ b. cond b false (class_back l t (half_bits_back L at l))) same
-          ∙ sym (ap (λ b. is_signal (cond b Idle (earlier (symbol_on l) t (half_bits_back L at l)))) same)
-      | inr differs ↦
-          let other : eqb r p ≡ false = ne_eqb r p differs in
-          let l = get_or ls i no_line in
-          ap (λ b. cond b false (class_back l t (half_bits_back L at l))) other
-          ∙ heard_back (half_bits_back L at l) t l (reach i h (λ z. differs (omega (arith, e, z))))
-          ∙ sym (ap (λ b. is_signal (cond b Idle (earlier (symbol_on l) t (half_bits_back L at l)))) other)
-    ])
-
 lines_same : (L t p at q : ℕ) (ls ls' : List TapLine) → length ls' ≡ length ls →
     ((i r : ℕ) → i < length ls → r ≡ q + i → class_of_one L t p at r (get_or ls' i no_line) ≡ class_of_one L t p at r (get_or ls i no_line)) →
     class_of_lines L t p at q ls' ≡ class_of_lines L t p at q ls
@@ -249,11 +190,3 @@ heard_alike L p from t q ls ls' is below =
 -- where the line is alike everywhere, in all half bits
 pub heard_unchanged : (L p t q : ℕ) (ls ls' : List TapLine) → ((from : ℕ) → IsAlikeBelow p from ls ls') → class_by_lines L t ls' q ≡ class_by_lines L t ls q
 heard_unchanged L p t q ls ls' is = heard_alike L p (suc t) t q ls ls' (is (suc t)) (omega arith)
-
--- a tap doesn't hear its own line, so that this may change as it will
-pub own_unheard : (L p t : ℕ) (ls ls' : List TapLine) → IsAlikeBelow p 0 ls ls' → class_by_lines L t ls' p ≡ class_by_lines L t ls p
-own_unheard L p t ls ls' is =
-    class_same L t p ls ls' is.many is.place
-    (λ r h d. ap (λ (l : TapLine). l.at) (is.others r no_line d))
-    (λ r h d. ap (λ (l : TapLine). l.delay) (is.others r no_line d))
-    (λ r h d late. ap (λ l. class_on l (t - half_bits_back L (get_or ls p no_line).at (get_or ls r no_line))) (is.others r no_line d))

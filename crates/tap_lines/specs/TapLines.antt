@@ -95,12 +95,6 @@ line_ended u l =
     then line_extended l (replicate (u - (l.base + length l.symbols)) Idle)
     else line_cut u l
 
--- A line that has come to half bit u where it ended before: nothing but Idle stands on it for the half bits between
--- (profile).
-abbrev pub passed_to : ℕ → TapLine → TapLine
-passed_to u l =
-    if nat_lt (l.base + length l.symbols) u then passed (u - (l.base + length l.symbols)) l else l
-
 -- A line that has come to half bit u, and has dropped what is further back from there than it keeps (profile).
 abbrev pub forgotten : ℕ → TapLine → TapLine
 forgotten u l =

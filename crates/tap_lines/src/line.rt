@@ -6,7 +6,7 @@ ghost use Rattle.manchester_line.specs.Line.{mix_of, is_signal as is_signal_of};
 ghost use Rattle.net_parts.specs.Machines.{span};
 ghost use Rattle.tap_lines.specs.Signals.{signals_end};
 ghost use Rattle.tap_lines.specs.TapLines.{line_cut, IsIdleFrom, IsWithinSignals, TapLine, symbol_on, half_bits_back, line_extended, dropped_from, passed};
-ghost use Rattle.tap_lines.specs.TapLines.{class_back, class_on, forgotten, goes_on, line_ended, passed_to};
+ghost use Rattle.tap_lines.specs.TapLines.{class_back, class_on, forgotten, goes_on, line_ended};
 ghost use Rattle.network.specs.Times.{earlier};
 
 use crate::runs::{end_of_signals, steady_first, steady_from};
@@ -387,18 +387,6 @@ impl Line {
             .saturating_sub(self.backlog as u64)
             .saturating_sub(self.base);
         self.drop_first(gone as usize);
-    }
-
-    /// Comes to half bit `u`, where it has ended before: nothing but Idle stands on it for the half bits between.
-    pub fn pass_to(&mut self, u: u64)
-        requires in_time { self.old.base + length self.old.symbols < 2 ^ 64 }
-        requires keeps { self.old.backlog ≤ length self.old.symbols + self.old.room }
-        ensures { self.new ≡ passed_to u self.old }
-    {
-        let end = self.end();
-        if end < u {
-            self.pass((u - end) as usize);
-        }
     }
 
     /// Puts the next symbols on it, which are signals, and at least one.

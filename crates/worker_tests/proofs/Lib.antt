@@ -1,5 +1,4 @@
 pub mod TurnExample
-pub mod FirstRowsExample
 pub mod PastExample
 pub mod FinishedExample
 pub mod CalmNetExample

@@ -1,8 +1,6 @@
-use Rattle.std.proofs.Common.{◌≡◌, ◌≢◌, ℕ, ◌+◌, ◌<◌, ◌≤◌, List, length, length-set, set, get_or, get_or-set_same, sym, subst, ap, ◌∙◌, arith}
+use Rattle.std.proofs.Common.{◌+◌, length-set, set, get_or, get_or-set_same, ap, ◌∙◌, arith}
 use Rattle.std.proofs.lemmas.List.{get_or-set_other, get_or_default}
-use Rattle.manchester_line.specs.declared.Sym.TheVariants.{Idle}
-use Rattle.manchester_line.specs.Line.{is_signal}
-use Rattle.tap_lines.specs.TapLines.{TapLine, no_line, goes_on, line_extended}
+use Rattle.tap_lines.specs.TapLines.{no_line, goes_on, line_extended}
 use Rattle.segment_engine.proofs.ArrivedLines.{all_alike, arrived_alike, stand_alike, stand_lowered}
 use Rattle.segment_engine.proofs.apart.arrive_one.Goals as goal
 

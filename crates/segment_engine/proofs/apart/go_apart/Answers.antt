@@ -1,14 +1,14 @@
-use Rattle.std.proofs.Common.{◌≡◌, ℕ, ◌+◌, ◌-◌, ◌*◌, ◌<◌, ◌≤◌, List, map, take, length, length-take-le, get_or, sym, subst, ap, ap₂, ◌∙◌, arith, rules}
+use Rattle.std.proofs.Common.{◌≡◌, ℕ, ◌+◌, ◌-◌, ◌*◌, ◌<◌, ◌≤◌, map, length, get_or, sym, subst, ap, ap₂, ◌∙◌, arith, rules}
 use Rattle.std.specs.Vec.{with_items}
 use Rattle.std.proofs.lemmas.List.{with_items_is}
 use Rattle.net_parts.specs.Windows.{lookahead}
-use Rattle.net_parts.specs.SegmentParts.{Wiring, wiring}
+use Rattle.net_parts.specs.SegmentParts.{wiring}
 use Rattle.net_parts.specs.declared.parcel.Parcel.{Parcel}
 use Rattle.tap_lines.specs.TapLines.{TapLine, no_line, heard_for}
 use Rattle.segment_engine.specs.KnownLines.{KnowLines}
 use Rattle.segment_engine.specs.PartStates.{half_filled}
 use Rattle.segment_engine.specs.SteadyPieces.{with_piece_at}
-use Rattle.segment_engine.specs.StationsApart.{AreToldAnew, StandAllApart, most_ahead}
+use Rattle.segment_engine.specs.StationsApart.{AreToldAnew}
 use Rattle.segment_engine.proofs.ChangedLines.{line_anew}
 use Rattle.segment_engine.proofs.FilledParcels.{parcels_after, parcels_long_for}
 use Rattle.segment_engine.proofs.RoomOfLines.{room_anew, tells_of}
@@ -37,26 +37,19 @@ run_apart-requires-clause-tell c = λ r h.
     (tells_of g.plan.value w g.lookahead a.t ((c.args.window + 1) * g.lookahead) a.from a.lines.items at.lines at.room (omega (arith, in_time)) c.requires.at.near
     (a.t + c.from.result) (omega (arith, within, is)) r (omega (arith, h, many)))
 
-pub put_all-requires-clause-reach : goal.put_all-requires-clause-reach
-put_all-requires-clause-reach c =
+pub put_first-requires-clause-reach : goal.put_first-requires-clause-reach
+put_first-requires-clause-reach c =
     let g = c.args.of.now in
     let a = c.args.state.now in
     reach_anew a.far g.lookahead a.t (length g.stations.items) c.deref_mut-lines.result.now c.run_apart.new.lines c.run_apart.ensures.lines
     (rw c.deref_mut-lines.ensures.value c.requires.at.goes.reach)
 
-pub put_all-requires-clause-long : goal.put_all-requires-clause-long
-put_all-requires-clause-long c =
+pub put_first-requires-clause-long : goal.put_first-requires-clause-long
+put_first-requires-clause-long c = λ i d l.
     let plan = c.args.of.now.plan.value in
-    let L = c.args.of.now.lookahead in
-    let es = (wiring plan.layout c.args.of.now.number).edges in
-    let m = c.args.count in
-    let run = c.run_apart.auto.piece in
-    let first = ap length c.deref_mut-piece.ensures.value in
-    let enough = c.requires.at.goes.piece in
     let within = c.requires.within in
-    let size : length (take m c.run_apart.new.piece) ≡ m = length-take-le m c.run_apart.new.piece (omega (arith, run, first, enough, within)) in
-    let fits : 0 + length (take m c.run_apart.new.piece) ≤ L = omega (arith, size, within) in
-    parcels_long_for plan L c.args.window 0 (length (take m c.run_apart.new.piece)) es c.args.parcels.now fits c.requires.parcels
+    let long = parcels_long_for plan c.args.of.now.lookahead c.args.window 0 c.args.count (wiring plan.layout c.args.of.now.number).edges c.args.parcels.now (omega (arith, within)) c.requires.parcels i d l in
+    omega (arith, long)
 
 pub returns-clause-goes : goal.returns-clause-goes
 returns-clause-goes c =
@@ -93,7 +86,7 @@ returns-clause-goes c =
       reach = rw lines (reach_anew a.far g.lookahead a.t n a.lines.items new anew at.reach);
       listing = c.run_apart.ensures.listing ∙ c.find.ensures.room ∙ at.listing ∙ same;
       late = c.run_apart.ensures.late ∙ at.late ∙ same;
-      piece = ?;
+      piece = rw (with_items_is a.piece c.put_first.new.piece (search rules)) (let size = c.put_first.auto.piece ∙ c.run_apart.auto.piece ∙ ap length c.deref_mut-piece.ensures.value in let enough = at.piece in omega (arith, size, enough));
     }
 
 pub returns-clause-parcels : goal.returns-clause-parcels
@@ -117,18 +110,13 @@ returns-clause-parcels c =
     let within = c.requires.within in
     let time = c.requires.time in
     let more : front ≡ c.args.window * g.lookahead + g.lookahead = omega arith in
-    let run = c.run_apart.auto.piece in
-    let first = ap length c.deref_mut-piece.ensures.value in
-    let enough = at.piece in
-    let size : length (take m c.run_apart.new.piece) ≡ m = length-take-le m c.run_apart.new.piece (omega (arith, run, first, enough, within)) in
     let numbers = ap length g.station_numbers in
     let counted = c.len-stations.ensures in
     let stations_are : c.len-stations.result ≡ length w.stations = omega (arith, numbers, counted) in
-    let filled : (p : ℕ) (d : Parcel) → p < length c.put_all.new.parcels → get_or c.put_all.new.parcels p d ≡ with_piece_at 0 (heard_for L t m new (length w.stations + p)) (get_or c.args.parcels.now p d) = λ p d l.
-    c.put_all.ensures p d l
+    let filled : (p : ℕ) (d : Parcel) → p < length c.put_first.new.parcels → get_or c.put_first.new.parcels p d ≡ with_piece_at 0 (heard_for L t m new (length w.stations + p)) (get_or c.args.parcels.now p d) = λ p d l.
+    c.put_first.ensures p d l
     ∙ ap (λ xs. with_piece_at 0 xs (get_or c.args.parcels.now p d))
-    (ap₂ (λ x y. heard_for x t y new (c.len-stations.result + p)) long size
-    ∙ ap (λ i. heard_for L t m new (i + p)) stations_are) in
+    (ap₂ (λ x i. heard_for x t m new (i + p)) long stations_are) in
     let begun : (r : ℕ) → r < length new → (get_or new r no_line).base ≤ t - (get_or new r no_line).backlog = λ r h.
     let many = anew.many in
     let line = line_anew t n r a.lines.items new anew in
@@ -139,8 +127,8 @@ returns-clause-parcels c =
     let start : t ≡ c.args.window * L + 0 = time ∙ ap (λ x. c.args.window * x) long ∙ omega arith in
     let were : c.args.parcels.now ≡ map (half_filled plan L c.args.window 0) w.edges = c.requires.parcels ∙ ap (λ x. map (half_filled plan x c.args.window 0) w.edges) long in
     let fits : 0 + m ≤ L = omega (arith, within, long) in
-    parcels_after plan g.number t m u front new knows (omega (arith, is)) (omega (arith, time, within, is, more)) begun c.args.window 0 c.args.parcels.now c.put_all.new.parcels start fits were c.put_all.auto.parcels filled
-    ∙ ap (λ x. map (half_filled plan x c.args.window m) w.edges) (sym long)
+    parcels_after plan g.number t m u front new knows (omega (arith, is)) (omega (arith, time, within, is, more)) begun c.args.window 0 c.args.parcels.now c.put_first.new.parcels start fits were c.put_first.auto.parcels filled
+    ∙ ap₂ (λ x j. map (half_filled plan x c.args.window j) w.edges) (sym long) (let e : 0 + m ≡ m = omega arith in e)
 
 pub returns-clause-left : goal.returns-clause-left
 returns-clause-left c = λ e h covers.

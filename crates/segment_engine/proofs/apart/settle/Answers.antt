@@ -1,4 +1,4 @@
-use Rattle.std.proofs.Common.{◌≡◌, ℕ, ◌+◌, ◌-◌, ◌<◌, ◌≤◌, ◌^◌, false, List, length, get_or, refl, sym, subst, ap, ◌∙◌, arith, rules}
+use Rattle.std.proofs.Common.{◌≡◌, ◌+◌, ◌-◌, ◌<◌, ◌≤◌, ◌^◌, false, List, length, get_or, sym, subst, ap, ◌∙◌, arith, rules}
 use Rattle.std.specs.Vec.{with_items}
 use Rattle.std.proofs.lemmas.List.{with_items_is, get_or_default}
 use Rattle.manchester_line.specs.Decoding.{new_decoding}
@@ -6,8 +6,7 @@ use Rattle.mac_receive.specs.KeptReceiver.{KeptReception}
 use Rattle.net_parts.specs.SegmentParts.{wiring}
 use Rattle.network.specs.Attempts.{sender_at}
 use Rattle.tap_lines.specs.TapLines.{TapLine, forgotten, no_line}
-use Rattle.segment_engine.specs.QuietHalfBits.{IsQuietFor}
-use Rattle.segment_engine.specs.StationsApart.{StandAllApart, most_ahead}
+use Rattle.segment_engine.specs.StationsApart.{StandAllApart}
 use Rattle.segment_engine.proofs.PassedStations.{calm_settled, rest_settled}
 use Rattle.segment_engine.proofs.RoomOfLines.{fits_of, keeps_of}
 use Rattle.segment_engine.proofs.SettledLines.{HaveForgotten, end_settled, have_forgotten, hear_settled, idle_settled, known_settled, near_of, reach_settled, room_settled, stand_settled}

@@ -1,10 +1,8 @@
 use Rattle.std.proofs.Common.{◌≡◌, ◌+◌, ◌<◌, ◌≤◌, ℕ, List, [], All, map, replicate, length, sym, subst, ap, ◌∙◌, arith, rules}
 use Rattle.load_plan.specs.declared.plan.Plan.{Plan}
-use Rattle.mac_receive.specs.KeptReceiver.{KeptReception}
-use Rattle.mac_transmit.specs.Sender.{Sender}
 use Rattle.network.specs.Attempts.{sender_at}
 use Rattle.kept_devices.specs.KeptReceivers.{AllHear}
-use Rattle.net_parts.specs.Standing.{receiver_at, rows_of_devices}
+use Rattle.net_parts.specs.Standing.{receiver_at}
 use Rattle.net_parts.specs.SegmentParts.{wiring}
 use Rattle.tap_lines.specs.TapLines.{TapLine, IsReachOf}
 use Rattle.segment_engine.specs.declared.apart.Watch.{Watch}

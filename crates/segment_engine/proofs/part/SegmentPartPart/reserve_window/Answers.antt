@@ -1,5 +1,4 @@
-use Rattle.std.proofs.Common.{◌≡◌, ◌+◌, ◌*◌, ◌≤◌, ◌==◌, length, sym, subst, ap, ◌∙◌, arith}
-use Rattle.mac_parameters.specs.Parameters.{most_octets}
+use Rattle.std.proofs.Common.{◌≡◌, ◌+◌, ◌*◌, length, subst, arith}
 use Rattle.net_parts.specs.Parts.{part_at}
 use Rattle.net_parts.proofs.LookaheadLeads.{few_lookahead}
 use Rattle.window_room.specs.NeededRoom.{Covers, demand_times, station_demand}
@@ -32,8 +31,8 @@ invariant_of-self-2 c =
       octets = x.octets;
       last = x.last;
       room = λ h. room_reserved g a.from a.t (a.t + g.lookahead) n a.lines.items a.watches.items a.senders.items a.receivers.items new x.stands.goes.stations (omega (arith, near))
-      (subst (λ m. Covers (demand_times (length g.stations.items) (station_demand m n)) new) x.octets
-      (subst (λ k. Covers (demand_times k (station_demand x.most n)) new) stations c.in_ok-reserve_stations.ensures.room));
+          (subst (λ m. Covers (demand_times (length g.stations.items) (station_demand m n)) new) x.octets
+          (subst (λ k. Covers (demand_times k (station_demand x.most n)) new) stations c.in_ok-reserve_stations.ensures.room));
       kept = other_proofs (λ s. KeepsSegment s (record a { room = new }) (part_at s.plan.value s.number x.window)) g _ _ _ _ _ _ _ (kept_room g x.window a new same.same_rows same.same_captures x.kept);
     }
 
