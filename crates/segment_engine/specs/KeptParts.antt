@@ -19,8 +19,8 @@ segment_state (OfSegment state) = state
 segment_state (OfRepeater state) =
     record { t = 0; senders = []; receivers = []; own = []; arrived = []; rows = []; captures = [] }
 
--- What is kept stands for a part's state, which is a segment's: the half bit, its rows and captures, and the senders and
--- receivers of its stations, behind which these stand (profile).
+-- What is kept stands for a part's state, which is a segment's: the half bit, its rows and captures, and the senders
+-- and receivers of its stations, behind which these stand (profile).
 pub record KeepsSegment (of : Segment) (a : Running) (p : PartState) : Type 0 where
   pub kind : is_segment_state p ≡ true
   pub time : a.t ≡ (segment_state p).t
