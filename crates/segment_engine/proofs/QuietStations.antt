@@ -28,7 +28,7 @@ use Rattle.segment_engine.specs.KnownLines.{KnowLines}
 use Rattle.segment_engine.specs.QuietHalfBits.{ComeInIdle, GoOutIdle, IsCalmFor, IsQuietFor}
 use Rattle.segment_engine.specs.RunningStates.{GoesOnAt}
 use Rattle.segment_engine.specs.SteadyPieces.{IsCalmAs}
-use Rattle.segment_engine.specs.StationsApart.{StandsBehind, StandsApart, StandAllApart, AreStill, HearAllByLines, most_ahead, number_on}
+use Rattle.segment_engine.specs.StationsApart.{StandsBehind, StandsApart, StandAllApart, AreStill, HearAllByLines, most_told, number_on}
 use Rattle.segment_engine.proofs.BehindStations.{idle_halves}
 use Rattle.segment_engine.proofs.CalmLater.{calm_on}
 use Rattle.segment_engine.proofs.LinesApart.{ports_from}

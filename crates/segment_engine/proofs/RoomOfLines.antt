@@ -6,7 +6,7 @@ use Rattle.net_parts.specs.SegmentParts.{Wiring}
 use Rattle.tap_lines.specs.TapLines.{TapLine, no_line}
 use Rattle.segment_engine.specs.KnownLines.{KnowLines}
 use Rattle.segment_engine.specs.RunningStates.{HaveRoomFrom, most_behind}
-use Rattle.segment_engine.specs.StationsApart.{AreToldAnew, TellsUpTo, most_ahead}
+use Rattle.segment_engine.specs.StationsApart.{AreToldAnew, TellsUpTo, most_told}
 use Rattle.segment_engine.proofs.ChangedLines.{line_anew}
 
 -- lines that are told anew have room for as much
@@ -50,7 +50,7 @@ module _ (plan : Plan) (w : Wiring) (L t front from : ℕ) (ls : List TapLine) (
         omega (arith, keep, size, end, near)
 
     -- and any line what is told ahead in it
-    pub tells_of : (end : ℕ) → end ≤ t + L → (r : ℕ) → r < length ls → TellsUpTo t (end + most_ahead) (get_or ls r no_line)
+    pub tells_of : (end : ℕ) → end ≤ t + L → (r : ℕ) → r < length ls → TellsUpTo t (end + most_told) (get_or ls r no_line)
     tells_of end few r h =
         let begun = know.begins r h in
         let keep = room.keep r h in

@@ -27,21 +27,6 @@ none_calm s (x ∷ hs) h = absurd (omega (arith, h))
 pub no_calm : (c : Bool) (s : Sender) → IsCalmAs 0 c s
 no_calm c s = record { number = omega arith; calm = λ hs a l. none_calm s hs l }
 
-pub fewer_calm : (m n : ℕ) (c : Bool) (s : Sender) → n ≤ m → IsCalmAs m c s → IsCalmAs n c s
-fewer_calm m n c s h is = record {
-  number = let x = is.number in omega (arith, x, h);
-  calm = λ hs a l. is.calm hs a (omega (arith, l, h));
-}
-
-pub calm_as : (n most : ℕ) (c c' : Bool) (s s' : Sender) → n ≤ most → most ≡ calm_of s c → most ≤ 4096 →
-    ((hs : List Sym) → AllHeardAs c hs → length hs ≤ 4096 → AreCalm s hs ↔ (length hs ≤ most)) → c ≡ c' → s ≡ s' → IsCalmAs n c' s'
-calm_as n most c c' s s' h is within exact ec es =
-    let one : IsCalmAs n c s = record {
-      number = omega (arith, h, is);
-      calm = λ hs a l. (exact hs a (omega (arith, l, h, within))).1 (omega (arith, l, h));
-    } in
-    subst (λ x. IsCalmAs n c' x) es (subst (λ x. IsCalmAs n x s) ec one)
-
 -- what a sending has ahead
 pub emission_is : (s : Sender) (octets : List ℕ) (start : ℕ) (hit : Option ℕ) (t j : ℕ) → octets ≡ frame_at s.queue s.place → s.phase ≡ Sending start hit → t ≡ s.t → start ≤ t →
     emission_by s j s.phase ≡ symbol_of octets hit (t - start + j)

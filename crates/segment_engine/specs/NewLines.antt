@@ -4,7 +4,7 @@ use Rattle.mac_parameters.specs.Distances.{distance}
 use Rattle.tap_lines.specs.TapLines.{TapLine, no_line}
 use Rattle.segment_engine.specs.declared.apart.Watch.{Watch}
 use Rattle.segment_engine.specs.RunningStates.{most_behind}
-use Rattle.segment_engine.specs.StationsApart.{most_ahead}
+use Rattle.segment_engine.specs.StationsApart.{most_told}
 
 -- The delay of tap r's line, where the first n taps are stations', a window has L half bits, and these are the delays
 -- of all ports (profile).
@@ -20,7 +20,7 @@ pub record IsNewLine (place wait away L : ℕ) (l : TapLine) : Type 0 where
   pub keeps : l.backlog ≡ max 1 (away + wait - L)
   pub from_first : l.base ≡ 0
   pub empty : l.symbols ≡ []
-  pub roomy : 2 * l.backlog + 2 * L + most_behind + 2 * most_ahead ≤ l.room
+  pub roomy : 2 * l.backlog + 2 * L + most_behind + 2 * most_told ≤ l.room
   pub fits : l.room < 2 ^ 63
 
 -- No two of these places are further from each other than so many half bits (profile).

@@ -23,8 +23,8 @@ pub record IsCalmFor (n : ℕ) (s : Sender) : Type 0 where
 abbrev pub AreAtRest : List KeptReception → Type 0
 AreAtRest ks = All (λ k. k.halves ≡ 0) ks
 
--- Nothing happens on a segment in the next n half bits, since nothing but Idle still reaches a tap: nothing happens to a
--- station that stands behind up to their end, as it hears Idle (profile).
+-- Nothing happens on a segment in the next n half bits, since nothing but Idle still reaches a tap: nothing happens to
+-- a station that stands behind up to their end, as it hears Idle (profile).
 pub record IsQuietFor (n : ℕ) (a : Running) : Type 0 where
   pub lines : AreIdleFrom (a.t - a.far) a.lines.items
   pub idle : (i : ℕ) (w : Watch) → i < length a.senders.items →

@@ -22,14 +22,14 @@ use Rattle.window_room.specs.NeededRoom.{Demand, Covers, both_demands, receiver_
 use Rattle.window_room.specs.Rooms.{Room}
 
 -- The half bits that are told ahead on a line, or that a station looks ahead, at most (profile).
-abbrev pub most_ahead : ℕ
-most_ahead = 4096
+abbrev pub most_told : ℕ
+most_told = 4096
 
 -- Station x, tap p of these lines, stands behind, before half bit `since` of its watch, which isn't before half bit
--- `from`. In each half bit from there on below `until` it hears a signal by the lines as they go on, or Idle in each, as
--- the watch says, and nothing happens at its sender. Below half bit `told` its line has what it emits if nothing happens
--- to it: a signal in each half bit, no longer than a sending lasts, or Idle in each; and the line goes on with a signal
--- where it sends, and else with Idle (4.2.8, profile).
+-- `from`. In each half bit from there on below `until` it hears a signal by the lines as they go on, or Idle in each,
+-- as the watch says, and nothing happens at its sender. Below half bit `told` its line has what it emits if nothing
+-- happens to it: a signal in each half bit, no longer than a sending lasts, or Idle in each; and the line goes on with
+-- a signal where it sends, and else with Idle (4.2.8, profile).
 pub record StandsBehind
     (plan : Plan) (x p L from : ℕ) (ls : List TapLine) (w : Watch) (s : Sender) (k : KeptReception) :
     Type 0 where
@@ -90,7 +90,7 @@ pub record StandsApart
   pub behind : StandsBehind of.plan.value (number_on of i) i of.lookahead from ls w s k
   pub since : w.since ≤ u
   pub until : u ≤ w.until
-  pub within : w.until ≤ w.since + most_ahead
+  pub within : w.until ≤ w.since + most_told
   pub still : w.since < u → IsStillBy w s k
 
 -- All stations of a segment do so (profile).
@@ -141,8 +141,8 @@ pub record TellsUpTo (u end : ℕ) (l : TapLine) : Type 0 where
   pub takes : end ≤ l.base + length l.symbols + l.room
   pub fits : l.base + length l.symbols + l.room < 2 ^ 64
 
--- A line of the same tap, with room for as much, which says the same of half bits below u, with a signal in the place of a
--- signal (profile).
+-- A line of the same tap, with room for as much, which says the same of half bits below u, with a signal in the place
+-- of a signal (profile).
 pub record IsToldAnew (u : ℕ) (l l' : TapLine) : Type 0 where
   pub place : l'.at ≡ l.at
   pub wait : l'.delay ≡ l.delay

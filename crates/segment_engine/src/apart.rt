@@ -15,7 +15,7 @@ ghost use Rattle.segment_engine.specs.PartStates.{half_filled};
 ghost use Rattle.segment_engine.specs.QuietHalfBits.{IsQuietFor};
 ghost use Rattle.segment_engine.specs.RunningStates.{GoesOnAt, IsRunningAt};
 ghost use Rattle.segment_engine.specs.SteadyPieces.{IsCalmAs};
-ghost use Rattle.segment_engine.specs.StationsApart.{StandsBehind, StandsApart, StandAllApart, AreStill, AreToldAnew, EndsAt, IsStillBy, HearsByLines, HearAllByLines, TellsUpTo, CoversApart, behind_demand, heard_reception, most_ahead, number_on};
+ghost use Rattle.segment_engine.specs.StationsApart.{StandsBehind, StandsApart, StandAllApart, AreStill, AreToldAnew, EndsAt, IsStillBy, HearsByLines, HearAllByLines, TellsUpTo, CoversApart, behind_demand, heard_reception, most_told, number_on};
 ghost use Rattle.tap_lines.specs.TapLines.{IsReachOf, TapLine, class_by_lines, forgotten, heard_by_lines, heard_for, line_extended, no_line};
 ghost use Rattle.tap_lines.specs.TapLists.{AreIdleButFor, HearsListed};
 ghost use Rattle.window_room.specs.NeededRoom.{Covers, Demand, IsDemandWithin, both_demands, receiver_demand, sender_demand, stations_demand};
@@ -152,7 +152,7 @@ fn bring_all(
     requires reach { IsReachOf far of.now.lookahead lines.now }
     requires listing { length lines.now ≤ late.old.room }
     requires in_time { u ≤ most_half_bits }
-    requires piece { most_ahead ≤ length piece.old }
+    requires piece { most_told ≤ length piece.old }
     requires apart { StandAllApart of.now from u lines.now watches.old senders.old receivers.old }
     requires still { AreStill of.now watches.old senders.old receivers.old }
     requires right { HearAllByLines of.now from u lines.now }
@@ -253,7 +253,7 @@ pub fn look_one(
     requires listing { length lines.now ≤ late.old.room }
     requires station { p < length of.now.stations.items }
     requires in_time { u < most_half_bits }
-    requires piece { most_ahead ≤ length piece.old }
+    requires piece { most_told ≤ length piece.old }
     requires apart { StandsApart of.now from u p lines.now watch.old sender.old receiver.old }
     requires right { HearsByLines of.now.plan.value (number_on of.now p) p of.now.lookahead from u lines.now }
     ensures apart { StandsApart of.now from u p lines.now watch.new sender.new receiver.new }
@@ -500,12 +500,12 @@ fn run_apart(
     requires upto { t ≤ end }
     requires ahead { end ≤ (window + 1) * of.now.lookahead }
     requires in_time { end ≤ most_half_bits }
-    requires piece { most_ahead ≤ length piece.old }
+    requires piece { most_told ≤ length piece.old }
     requires apart { StandAllApart of.now from t lines.old watches.old senders.old receivers.old }
     requires still { AreStill of.now watches.old senders.old receivers.old }
     requires know { KnowLines of.now.plan.value (wiring of.now.plan.value.layout of.now.number) of.now.lookahead t ((window + 1) * of.now.lookahead) lines.old }
     requires right { HearAllByLines of.now from t lines.old }
-    requires tell { (r : ℕ) → r < length of.now.stations.items → TellsUpTo t (end + most_ahead) (slice_index_or lines.old r no_line) }
+    requires tell { (r : ℕ) → r < length of.now.stations.items → TellsUpTo t (end + most_told) (slice_index_or lines.old r no_line) }
     requires room { CoversApart end (length of.now.stations.items) watches.old senders.old receivers.old room.old }
     requires logged { room.old.rows ≡ rows_of_devices of.now.plan.value of.now.stations.items t }
     requires kept { room.old.captures ≡ map (λ x. captures_at of.now.plan.value x t) of.now.stations.items }

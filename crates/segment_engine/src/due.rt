@@ -12,7 +12,7 @@ ghost use Rattle.network.specs.Captures.{taken_by};
 ghost use Rattle.network.specs.Rows.{row_of};
 ghost use Rattle.network.specs.Times.{heard};
 ghost use Rattle.segment_engine.specs.KnownLines.{KnowLines};
-ghost use Rattle.segment_engine.specs.StationsApart.{StandsApart, StandAllApart, AreStill, IsStillBy, HearsByLines, HearAllByLines, IsAnew, IsToldAnew, AreToldAnew, SaysOf, TellsUpTo, CoversApart, behind_demand, heard_reception, lowered_watch, most_ahead, number_on, rows_of_both, sent_event};
+ghost use Rattle.segment_engine.specs.StationsApart.{StandsApart, StandAllApart, AreStill, IsStillBy, HearsByLines, HearAllByLines, IsAnew, IsToldAnew, AreToldAnew, SaysOf, TellsUpTo, CoversApart, behind_demand, heard_reception, lowered_watch, most_told, number_on, rows_of_both, sent_event};
 ghost use Rattle.segment_engine.specs.declared.apart.Watch.{Watch};
 ghost use Rattle.tap_lines.specs.TapLines.{IsReachOf, TapLine, class_on, goes_on as goes_on_with, half_bits_back, heard_by_lines, no_line, symbol_on};
 ghost use Rattle.tap_lines.specs.TapLists.{AreIdleButFor, HearsListed};
@@ -66,8 +66,8 @@ fn goes_on(was: Phase, now: Phase) -> bool
 fn tell_anew(u: u64, said: Sym, sender: &Transmitter, line: &mut Line, piece: &mut [Sym]) -> u64
     requires time { sender.now.t ≡ u + 1 }
     requires in_time { u < most_half_bits }
-    requires piece { most_ahead ≤ length piece.old }
-    requires line { TellsUpTo u (u + 1 + most_ahead) line.old }
+    requires piece { most_told ≤ length piece.old }
+    requires line { TellsUpTo u (u + 1 + most_told) line.old }
     requires reaches { goes_on_with line.old ≡ true → u ≤ line.old.base + length line.old.symbols }
     requires class { is_signal_of said ≡ is_sending_in sender.now.phase }
     ensures { IsAnew u result said line.old line.new sender.now }
@@ -119,14 +119,14 @@ fn step_one(
     requires station { p < length of.now.stations.items }
     requires captures { p < length room.old.captures }
     requires in_time { u < most_half_bits }
-    requires piece { most_ahead ≤ length piece.old }
+    requires piece { most_told ≤ length piece.old }
     requires apart { StandsApart of.now from u p lines.old watch.old sender.old receiver.old }
     requires since { watch.old.since ≡ u }
     requires due { watch.old.until ≡ u }
     requires hears { heard of.now.plan.value (number_on of.now p) u ≡ heard_by_lines of.now.lookahead u lines.old p }
     requires classes { (a : ℕ) → a < u →
         class_on (slice_index_or lines.old p no_line) a ≡ is_signal_of (symbol_on (slice_index_or lines.old p no_line) a) }
-    requires line { TellsUpTo u (u + 1 + most_ahead) (slice_index_or lines.old p no_line) }
+    requires line { TellsUpTo u (u + 1 + most_told) (slice_index_or lines.old p no_line) }
     requires room { Covers (both_demands (sender_demand 1 sender.old) (receiver_demand 1 receiver.old)) room.old }
     ensures apart { StandsApart of.now from (u + 1) p lines.new watch.new sender.new receiver.new }
     ensures since { watch.new.since ≡ u + 1 }
@@ -186,11 +186,11 @@ fn take_turn(
     requires captures { p < length room.old.captures }
     requires ahead { u < (window + 1) * of.now.lookahead }
     requires in_time { u < most_half_bits }
-    requires piece { most_ahead ≤ length piece.old }
+    requires piece { most_told ≤ length piece.old }
     requires apart { StandsApart of.now from u p lines.old watch.old sender.old receiver.old }
     requires know { KnowLines of.now.plan.value (wiring of.now.plan.value.layout of.now.number) of.now.lookahead u ((window + 1) * of.now.lookahead) lines.old }
     requires right { HearsByLines of.now.plan.value (number_on of.now p) p of.now.lookahead from u lines.old }
-    requires line { TellsUpTo u (u + 1 + most_ahead) (slice_index_or lines.old p no_line) }
+    requires line { TellsUpTo u (u + 1 + most_told) (slice_index_or lines.old p no_line) }
     requires room { Covers (behind_demand (u + 1) watch.old sender.old receiver.old) room.old }
     ensures apart { StandsApart of.now from (u + 1) p lines.new watch.new sender.new receiver.new }
     ensures still { watch.new.since < watch.new.until → IsStillBy watch.new sender.new receiver.new }
@@ -280,12 +280,12 @@ pub fn step_all(
     requires after { t ≤ u }
     requires ahead { u < (window + 1) * of.now.lookahead }
     requires in_time { u < most_half_bits }
-    requires piece { most_ahead ≤ length piece.old }
+    requires piece { most_told ≤ length piece.old }
     requires apart { StandAllApart of.now from u lines.old watches.old senders.old receivers.old }
     requires still { AreStill of.now watches.old senders.old receivers.old }
     requires know { KnowLines of.now.plan.value (wiring of.now.plan.value.layout of.now.number) of.now.lookahead u ((window + 1) * of.now.lookahead) lines.old }
     requires right { HearAllByLines of.now from u lines.old }
-    requires tell { (r : ℕ) → r < length of.now.stations.items → TellsUpTo u (u + 1 + most_ahead) (slice_index_or lines.old r no_line) }
+    requires tell { (r : ℕ) → r < length of.now.stations.items → TellsUpTo u (u + 1 + most_told) (slice_index_or lines.old r no_line) }
     requires captures { length room.old.captures ≡ length of.now.stations.items }
     requires room { CoversApart (u + 1) (length of.now.stations.items) watches.old senders.old receivers.old room.old }
     ensures apart { StandAllApart of.now from (u + 1) lines.new watches.new senders.new receivers.new }

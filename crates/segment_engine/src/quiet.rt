@@ -9,7 +9,7 @@ ghost use Rattle.mac_transmit.specs.Sender.{Sender, is_sending as is_sending_in}
 ghost use Rattle.net_parts.specs.SegmentParts.{wiring};
 ghost use Rattle.segment_engine.specs.QuietHalfBits.{AreAtRest, ComeInIdle, IsCalmFor, IsQuietFor};
 ghost use Rattle.segment_engine.specs.RunningStates.{GoesOnAt, IsRunningAt};
-ghost use Rattle.segment_engine.specs.StationsApart.{most_ahead};
+ghost use Rattle.segment_engine.specs.StationsApart.{most_told};
 ghost use Rattle.segment_engine.specs.declared.apart.Watch.{Watch};
 
 use crate::apart::{Watch, first_due, forget_all, settle};
@@ -53,7 +53,7 @@ fn calm_half_bits(t: u64, senders: &[Transmitter], receivers: &[LateReceiver], m
 pub fn quiet_ahead(of: &Segment, state: &Running, most: u64) -> u64
     requires goes { GoesOnAt of.now state.now.t state.now }
     requires in_time { state.now.t < most_half_bits }
-    requires few { most ≤ most_ahead }
+    requires few { most ≤ most_told }
     ensures within { result ≤ most }
     ensures quiet { (n : ℕ) → 0 < n → n ≤ result → IsQuietFor n state.now }
 {

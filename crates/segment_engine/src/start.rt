@@ -7,7 +7,7 @@ ghost use Rattle.kept_devices.specs.KeptReceivers.{AllHear};
 ghost use Rattle.segment_engine.specs.KnownLines.{KnowLines};
 ghost use Rattle.segment_engine.specs.NewLines.{AreEmptyLines, AreNewLines, AreWithin, new_delay, new_watch};
 ghost use Rattle.segment_engine.specs.RunningStates.{HaveRoomFrom, IsRunningAt};
-ghost use Rattle.segment_engine.specs.StationsApart.{most_ahead};
+ghost use Rattle.segment_engine.specs.StationsApart.{most_told};
 
 use crate::apart::{AHEAD, KEEP, Watch};
 use crate::running::Running;
@@ -148,7 +148,7 @@ fn all_idle(
     ensures late { IfOk result (λ silence. silence.late.room ≡ taps) }
     ensures heard { IfOk result (λ silence. length silence.heard.items ≡ taps) }
     ensures emitted { IfOk result (λ silence. length silence.emitted.items ≡ stations) }
-    ensures piece { IfOk result (λ silence. most_ahead + lookahead ≤ length silence.piece.items) }
+    ensures piece { IfOk result (λ silence. most_told + lookahead ≤ length silence.piece.items) }
 {
     Ok(Silence {
         loud: LoudTaps::new(alloc, taps)?,

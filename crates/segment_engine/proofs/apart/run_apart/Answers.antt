@@ -7,7 +7,7 @@ use Rattle.tap_lines.specs.TapLines.{no_line}
 use Rattle.net_parts.specs.Standing.{captures_at, rows_of_devices}
 use Rattle.segment_engine.specs.declared.apart.Watch.{Watch}
 use Rattle.segment_engine.specs.KnownLines.{KnowLines}
-use Rattle.segment_engine.specs.StationsApart.{StandAllApart, HearAllByLines, most_ahead, number_on, heard_reception, rows_of_both, sent_event}
+use Rattle.segment_engine.specs.StationsApart.{StandAllApart, HearAllByLines, most_told, number_on, heard_reception, rows_of_both, sent_event}
 use Rattle.segment_engine.proofs.RowsOfBoth.{rows_next}
 use Rattle.segment_engine.proofs.RowsApart.{rows_same, captures_same, captures_stay, kept_later}
 use Rattle.segment_engine.proofs.RunsApart.{told_again, reach_anew, all_stand, all_tell, all_known, all_hear, covers_sooner, tells_sooner}
@@ -29,7 +29,7 @@ pub step_all-requires-clause-tell : goal.step_all-requires-clause-tell
 step_all-requires-clause-tell c = λ r h.
     let inv = c.loop-u.invariant in
     let below = c.loop-u-test.true in
-    tells_sooner c.loop-u.u (c.loop-u.u + 1 + most_ahead) (c.args.end + most_ahead) (get_or c.loop-u.lines r no_line) (omega (arith, below)) (inv.tell r h)
+    tells_sooner c.loop-u.u (c.loop-u.u + 1 + most_told) (c.args.end + most_told) (get_or c.loop-u.lines r no_line) (omega (arith, below)) (inv.tell r h)
 
 pub step_all-requires-clause-listing : goal.step_all-requires-clause-listing
 step_all-requires-clause-listing c =
@@ -106,7 +106,7 @@ loop-u-preserved c =
       still = still;
       know = all_known g t (u + 1) ls ws ss ks ds dk all v later first front known begun ends now;
       right = right;
-      tell = all_tell n u u v (end + most_ahead) old ls anew inv.tell (omega (arith, later));
+      tell = all_tell n u u v (end + most_told) old ls anew inv.tell (omega (arith, later));
       piece_len = c.step_all.auto.piece ∙ inv.piece_len;
       logged =
           c.step_all.ensures.rows
@@ -158,7 +158,7 @@ loop-u-init c =
       still = still;
       know = all_known g from t ls ws ss ks ds dk all v later first front c.requires.know begun ends c.requires.right;
       right = right;
-      tell = all_tell n t t v (c.args.end + most_ahead) ls ls (anew_none t n ls) c.requires.tell later;
+      tell = all_tell n t t v (c.args.end + most_told) ls ls (anew_none t n ls) c.requires.tell later;
       piece_len = refl;
       logged = c.requires.logged ∙ sym (rows_same g from ls ds dk t v later ws ss ks all still first right);
       kept =

@@ -4,7 +4,7 @@ use Rattle.net_parts.specs.Standing.{captures_at, rows_of_devices}
 use Rattle.tap_lines.specs.TapLines.{IsReachOf, no_line}
 use Rattle.tap_lines.specs.TapLists.{AreIdleButFor}
 use Rattle.segment_engine.specs.KnownLines.{KnowLines}
-use Rattle.segment_engine.specs.StationsApart.{StandAllApart, AreStill, HearAllByLines, AreToldAnew, TellsUpTo, CoversApart, most_ahead}
+use Rattle.segment_engine.specs.StationsApart.{StandAllApart, AreStill, HearAllByLines, AreToldAnew, TellsUpTo, CoversApart, most_told}
 use Rattle.segment_engine.proofs.apart.run_apart.Given as goal
 
 -- the stations stand apart, at half bit u, and their lines are right below it
@@ -21,7 +21,7 @@ invariant-loop-u l = record {
   still : AreStill l.of l.watches l.senders l.receivers;
   know : KnowLines l.of.plan.value (wiring l.of.plan.value.layout l.of.number) l.of.lookahead l.u ((l.window + 1) * l.of.lookahead) l.lines;
   right : HearAllByLines l.of l.from l.u l.lines;
-  tell : (r : ℕ) → r < length l.of.stations.items → TellsUpTo l.u (l.end + most_ahead) (slice_index_or l.lines r no_line);
+  tell : (r : ℕ) → r < length l.of.stations.items → TellsUpTo l.u (l.end + most_told) (slice_index_or l.lines r no_line);
   piece_len : length l.piece ≡ length l.fn.piece;
   logged : l.room.rows ≡ rows_of_devices l.of.plan.value l.of.stations.items l.u;
   kept : l.room.captures ≡ map (λ x. captures_at l.of.plan.value x l.u) l.of.stations.items;

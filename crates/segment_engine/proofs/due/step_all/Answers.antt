@@ -7,7 +7,7 @@ use Rattle.network.specs.Captures.{taken_by}
 use Rattle.tap_lines.specs.TapLists.{AreIdleButFor}
 use Rattle.tap_lines.specs.TapLines.{no_line, half_bits_back, class_on}
 use Rattle.segment_engine.specs.declared.apart.Watch.{Watch}
-use Rattle.segment_engine.specs.StationsApart.{StandsApart, IsStillBy, AreToldAnew, SaysOf, TellsUpTo, behind_demand, lowered_watch, most_ahead, number_on, rows_of_both}
+use Rattle.segment_engine.specs.StationsApart.{StandsApart, IsStillBy, AreToldAnew, SaysOf, TellsUpTo, behind_demand, lowered_watch, most_told, number_on, rows_of_both}
 use Rattle.tap_lines.proofs.LineClasses.{IsAlikeBelow}
 use Rattle.tap_lines.proofs.LoudLists.{later_idle}
 use Rattle.segment_engine.proofs.ChangedLines.{hears_anew, listed_alike}
@@ -177,7 +177,7 @@ loop-k-preserved-in_default c =
     let k = c.loop-k.k in
     let t = c.args.from in
     let u = c.args.u in
-    let end = u + 1 + most_ahead in
+    let end = u + 1 + most_told in
     let front = (c.args.window + 1) * g.lookahead in
     let n = length g.stations.items in
     let lines = c.loop-k.lines in
@@ -268,7 +268,7 @@ loop-k-preserved c =
     let k = c.loop-k.k in
     let t = c.args.from in
     let u = c.args.u in
-    let end = u + 1 + most_ahead in
+    let end = u + 1 + most_told in
     let front = (c.args.window + 1) * g.lookahead in
     let n = length g.stations.items in
     let lines = c.loop-k.lines in

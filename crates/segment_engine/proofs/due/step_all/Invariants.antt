@@ -1,7 +1,7 @@
 use Rattle.std.proofs.Common.{◌≡◌, ℕ, ◌+◌, ◌-◌, ◌*◌, ◌<◌, ◌≤◌, length, slice_index_or}
 use Rattle.tap_lines.specs.TapLines.{IsReachOf, no_line}
 use Rattle.tap_lines.specs.TapLists.{AreIdleButFor}
-use Rattle.segment_engine.specs.StationsApart.{AreToldAnew, TellsUpTo, CoversApart, most_ahead}
+use Rattle.segment_engine.specs.StationsApart.{AreToldAnew, TellsUpTo, CoversApart, most_told}
 use Rattle.segment_engine.proofs.StepPasses.{HaveMade}
 use Rattle.segment_engine.proofs.due.step_all.Given as goal
 
@@ -19,7 +19,7 @@ invariant-loop-k l = record {
   listing : l.loud.room ≡ l.fn.loud.room;
   lines : AreToldAnew l.u (length l.of.stations.items) l.fn.lines l.lines;
   late : l.late.room ≡ l.fn.late.room;
-  tell : (r : ℕ) → r < length l.of.stations.items → TellsUpTo l.u (l.u + 1 + most_ahead) (slice_index_or l.lines r no_line);
+  tell : (r : ℕ) → r < length l.of.stations.items → TellsUpTo l.u (l.u + 1 + most_told) (slice_index_or l.lines r no_line);
   made : HaveMade l.of l.from l.u ((l.window + 1) * l.of.lookahead) l.k l.lines l.watches l.senders l.receivers l.fn.room.rows l.room.rows l.fn.room.captures l.room.captures;
   left : (e : ℕ) → l.u < e → CoversApart e (length l.of.stations.items) l.fn.watches l.fn.senders l.fn.receivers l.fn.room →
       CoversApart e (length l.of.stations.items) l.watches l.senders l.receivers l.room;

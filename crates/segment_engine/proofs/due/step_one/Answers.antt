@@ -13,7 +13,7 @@ use Rattle.tap_lines.specs.TapLines.{TapLine, no_line, class_on, goes_on}
 use Rattle.window_room.specs.Rooms.{Room, captures_with}
 use Rattle.segment_engine.specs.declared.apart.Watch.{Watch}
 use Rattle.segment_engine.specs.declared.segment.Segment.{Segment}
-use Rattle.segment_engine.specs.StationsApart.{IsAnew, IsToldAnew, SaysOf, StandsApart, TellsOn, TellsUpTo, heard_reception, most_ahead, number_on, sent_event}
+use Rattle.segment_engine.specs.StationsApart.{IsAnew, IsToldAnew, SaysOf, StandsApart, TellsOn, TellsUpTo, heard_reception, most_told, number_on, sent_event}
 use Rattle.segment_engine.proofs.AnewLines.{reaches_of}
 use Rattle.segment_engine.proofs.StepOne.{StepsOne, alike_anew, captures_one, class_on_now, emits_on, hears_now, if_none_map, keeps, left_one, rows_one, said_now, sends_so, stands_on, tells_on}
 use Rattle.segment_engine.proofs.ChangedLines.{unchanged_line}
@@ -39,7 +39,7 @@ step_station-emitted-requires-clause-room c = c.requires.room
 
 pub tell_anew-watch-requires-clause-line : goal.tell_anew-watch-requires-clause-line
 tell_anew-watch-requires-clause-line c =
-    subst (λ (y : TapLine). TellsUpTo c.args.u (c.args.u + 1 + most_ahead) y)
+    subst (λ (y : TapLine). TellsUpTo c.args.u (c.args.u + 1 + most_told) y)
     (sym (get_or_default c.args.lines.now c.args.p c.index-lines-p.result no_line c.requires.tap)) c.requires.line
 
 pub tell_anew-watch-requires-clause-reaches : goal.tell_anew-watch-requires-clause-reaches
