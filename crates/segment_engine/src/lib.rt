@@ -1,6 +1,6 @@
-//! A segment of a network as a part that goes on a window at a time, over a line of symbols for each of its taps: at
-//! once over half bits in which nothing happens, in pieces where each station goes on with what it does, and else half
-//! bit by half bit (profile).
+//! A segment of a network as a part that goes on a window at a time, over a line of symbols for each of its taps. Its
+//! stations stand behind, and each goes from one half bit in which something happens at it to the next. Half bits in
+//! which nothing happens on the segment are passed over at once (profile).
 #![tactic(auto)]
 
 mod ahead;

@@ -187,8 +187,6 @@ impl SegmentPart {
             loud: _,
             late: _,
             from: _,
-            heard: _,
-            emitted: _,
             piece: _,
             room,
         } = state;

@@ -7,9 +7,10 @@ use reception_laws::{LateReceiver, Teller};
 use tap_lines::{Line, LoudTaps};
 use window_room::RowRoom;
 
-/// A segment before half bit `t`: its stations, the lines of its taps, and what was logged and captured. `heard` has a
-/// symbol for each tap, `emitted` one for each station, and `piece` those of a tap over several half bits. What is
-/// further back on a line than `far` half bits reaches no other tap, and `loud` has room for all taps.
+/// A segment before half bit `t`: its stations, which stand behind from half bit `from` on, the lines of its taps, and
+/// what was logged and captured. `piece` has room for what a tap hears in several half bits. What is further back on a
+/// line than `far` half bits reaches no other tap. `loud` and `late` have room for all taps: they list the lines that
+/// sound in a window, and those that a station that stands behind may hear.
 #[derive(Drop)]
 pub struct Running {
     pub t: u64,
@@ -22,8 +23,6 @@ pub struct Running {
     pub loud: LoudTaps,
     pub late: LoudTaps,
     pub from: u64,
-    pub heard: Vec<Sym>,
-    pub emitted: Vec<Sym>,
     pub piece: Vec<Sym>,
     pub room: RowRoom,
 }

@@ -24,13 +24,11 @@ use std::alloc::Global;
 use tap_lines::{Line, LoudTaps, farthest};
 use window_room::RowRoom;
 
-/// The symbols that a segment keeps, and which of its lines may sound.
+/// Room to list the lines of a segment that sound, and for the symbols of a piece.
 #[derive(Drop)]
 struct Silence {
     loud: LoudTaps,
     late: LoudTaps,
-    heard: Vec<Sym>,
-    emitted: Vec<Sym>,
     piece: Vec<Sym>,
 }
 
@@ -137,24 +135,15 @@ fn first_lines(alloc: Global, of: &Segment, plan: &Plan) -> Result<Vec<Line>, Ou
     lines_of(alloc, &places, stations, of.lookahead, edges, &delays)
 }
 
-/// What the taps hear, what the stations emit, and the symbols of a piece: Idle before half bit 0.
-fn all_idle(
-    alloc: Global,
-    taps: usize,
-    stations: usize,
-    lookahead: u32,
-) -> Result<Silence, OutOfMemory>
+/// Room to list so many taps, and the symbols of a piece: Idle before half bit 0.
+fn all_idle(alloc: Global, taps: usize, lookahead: u32) -> Result<Silence, OutOfMemory>
     ensures loud { IfOk result (λ silence. silence.loud.room ≡ taps) }
     ensures late { IfOk result (λ silence. silence.late.room ≡ taps) }
-    ensures heard { IfOk result (λ silence. length silence.heard.items ≡ taps) }
-    ensures emitted { IfOk result (λ silence. length silence.emitted.items ≡ stations) }
     ensures piece { IfOk result (λ silence. most_told + lookahead ≤ length silence.piece.items) }
 {
     Ok(Silence {
         loud: LoudTaps::new(alloc, taps)?,
         late: LoudTaps::new(alloc, taps)?,
-        heard: vec![in alloc; Sym::Idle; taps]?,
-        emitted: vec![in alloc; Sym::Idle; stations]?,
         piece: vec![in alloc; Sym::Idle; AHEAD as usize + lookahead as usize]?,
     })
 }
@@ -183,7 +172,7 @@ pub fn start(alloc: Global, of: &Segment, plan: &Plan) -> Result<Running, OutOfM
     let watches = watches_of(alloc, stations)?;
     let room = RowRoom::new(alloc, stations)?;
     let lines = first_lines(alloc, of, plan)?;
-    let silence = all_idle(alloc, lines.len(), stations, of.lookahead)?;
+    let silence = all_idle(alloc, lines.len(), of.lookahead)?;
     let senders = senders_of(alloc, plan, &of.stations)?;
     let receivers = receivers_of(alloc, plan, &of.stations)?;
     Ok(Running {
@@ -196,8 +185,6 @@ pub fn start(alloc: Global, of: &Segment, plan: &Plan) -> Result<Running, OutOfM
         loud: silence.loud,
         late: silence.late,
         from: 0,
-        heard: silence.heard,
-        emitted: silence.emitted,
         piece: silence.piece,
         watches,
         room,
