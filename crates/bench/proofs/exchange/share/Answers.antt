@@ -1,6 +1,7 @@
-use Rattle.std.proofs.Common.{◌≡◌, ◌∙◌, ℕ, true, nat_lt, ◌<◌, length, arith, sym, subst}
+use Rattle.std.proofs.Common.{◌≡◌, ◌∙◌, ℕ, true, false, nat_lt, ◌<◌, ◌≤◌, length, ap, arith, sym, subst}
 use denote.Param.Send.{sendable}
 use Rattle.std.proofs.lemmas.Bool.Decides.{nat_tests}
+use Rattle.load_plan.specs.declared.plan.Plan.{Plan}
 use Rattle.net_parts.specs.Parcels.{arrived}
 use Rattle.net_parts.specs.Parts.{is_segment_part}
 use Rattle.exchange_core.specs.Shares.{AreParcelsFor, IsOfPlan, nothing_held, with_segment}
@@ -12,6 +13,9 @@ use Rattle.bench.proofs.exchange.share.Goals as goal
 
 less : (b : ℕ) → 0 < b → nat_lt 0 b ≡ true
 less b h = grind (arith, nat_tests)
+
+not_less : (a b : ℕ) → b ≤ a → nat_lt a b ≡ false
+not_less a b h = grind (arith, nat_tests)
 
 pub new-share-requires-send-S : goal.new-share-requires-send-S
 new-share-requires-send-S c κs = search (sendable, segment_part_send) depth 12
@@ -48,3 +52,10 @@ add_repeater-requires-clause-plan c κs =
     c.in_ok-add_segment.ensures.ok ∙ (λ i. with_segment (added_segment (f.plan i) (f.number i) (f.at i) (c.in_ok-parcels.ensures i)) (c.new-share.ensures i)) in
     let begun = shares_begin plan in
     λ kind u h it. subst (IsOfPlan plan) (sym whole) (begun.1 0 nothing_held some begun.0).plans kind u h it ∙ sym c.in_ok-repeater.ensures.plan
+
+pub add_repeater-requires-clause-kind : goal.add_repeater-requires-clause-kind
+add_repeater-requires-clause-kind c κs =
+    let made = c.in_ok-repeater.repeater in
+    let number = c.in_ok-repeater.ensures.number in
+    let many = ap (λ (p : Plan). length p.layout.segments) c.in_ok-repeater.ensures.plan in
+    not_less made.part (length made.plan.value.layout.segments) (omega (arith, number, many))
