@@ -181,3 +181,15 @@ fn a_sender_is_calm_until_its_frame_is_ready(rt: HostRuntime) -> Result<(), OutO
     }
     Ok(())
 }
+
+#[test]
+fn a_sender_passes_long_quiet_at_once(rt: HostRuntime) -> Result<(), OutOfMemory> {
+    let mut sender = with_one(rt.alloc(), 100_000)?;
+    let Some(100_000) = sender.next_change(0, false) else {
+        assert!(rt; false, "the next change isn't that of the frame");
+        return Ok(());
+    };
+    sender.pass(0, 100_000, false);
+    assert_eq!(rt; sender.next_change(100_000, false), Some(0));
+    Ok(())
+}

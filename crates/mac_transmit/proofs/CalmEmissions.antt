@@ -11,9 +11,9 @@ use Rattle.mac_transmit.specs.declared.phase.Phase.TheVariants.{Rest, Waiting, S
 use Rattle.mac_transmit.specs.Deference.{deferred}
 use Rattle.mac_transmit.specs.Laws.{carrier_after}
 use Rattle.mac_transmit.specs.Sender.{Sender, sender_step, finished, sending_ended, promoted, deferring, is_free, sending_started, emitting, after_turn, before_emission, emitted_from, symbol_emitted, symbol_of, phase_started, defer_started, phase_after, hit_at, frame_at, ready_at, sending_length, is_sending}
-use Rattle.mac_transmit.specs.Calm.{after_all, AllHeardAs, gets_hit, change_from, change_in, up_to_most}
+use Rattle.mac_transmit.specs.Calm.{after_all, AllHeardAs, gets_hit, change_from, change_in, AreOverBefore, up_to_most}
 use Rattle.mac_transmit.specs.Emissions.{emission_by, IsSendingFor, CalmSendersEmit, CalmSendingsLast}
-use Rattle.mac_transmit.proofs.CalmHalfBits.{pred_of, awaits, gap_on, same_hit, sends_on, sender, Fits, not_now, fits_down, uncapped, heard_first, heard_rest, state_is}
+use Rattle.mac_transmit.proofs.CalmHalfBits.{pred_of, awaits, gap_on, same_hit, sends_on, sender, not_now, over_sooner, uncapped, heard_first, heard_rest, state_is}
 
 -- Nothing happens in a half bit: no sending ends, no frame or backoff is awaited to it, the phase stays, and what is
 -- emitted is what the phase says.
@@ -111,14 +111,14 @@ emits_now s h c e k =
 next_state : (s : Sender) (h : Sym) (c : Bool) → is_signal h ≡ c → IsQuiet s c → (sender_step s h).state ≡ emitting (after_turn s c) c
 next_state s h c e k = state_is s h c e ∙ ap (λ x. emitting (after_turn x c) c) k.settled
 
-emits_so : (hs : List Sym) (s : Sender) (c : Bool) (h : Sym) → AllHeardAs c hs → is_signal h ≡ c → Fits (suc (length hs)) (change_in s c)
+pub emits_so : (hs : List Sym) (s : Sender) (c : Bool) (h : Sym) → AllHeardAs c hs → is_signal h ≡ c → AreOverBefore (suc (length hs)) (change_in s c)
     → (sender_step (after_all s hs) h).emitted ≡ emission_by s (length hs) s.phase
 emits_so [] s c h a e f = emits_now s h c e (quiet s c (not_now 0 (change_in s c) f))
 emits_so (g ∷ hs) s c h a e f =
     let k = quiet s c (not_now (suc (length hs)) (change_in s c) f) in
     let next = emitting (after_turn s c) c in
     ap (λ x. (sender_step (after_all x hs) h).emitted) (next_state s g c (heard_first c g hs a) k)
-    ∙ emits_so hs next c h (heard_rest c g hs a) e (subst (Fits (suc (length hs))) (sym k.left) (fits_down (suc (length hs)) (change_in s c) f))
+    ∙ emits_so hs next c h (heard_rest c g hs a) e (subst (AreOverBefore (suc (length hs))) (sym k.left) (over_sooner (suc (length hs)) (change_in s c) f))
     ∙ emission_next s c (length hs) k.same_phase
 
 pub calm_senders_emit : CalmSendersEmit

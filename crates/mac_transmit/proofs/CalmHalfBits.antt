@@ -15,7 +15,7 @@ use Rattle.mac_transmit.specs.Deference.{deferred, free_of, gap_of, watched}
 use Rattle.mac_transmit.specs.Laws.{carrier_after}
 use Rattle.mac_transmit.specs.Sender.{Sender, IsSender, PhaseIsSound, sender_step, finished, sending_ended, promoted, deferring, is_free, sending_started, emitting, after_turn, event_from, end_event, phase_started, defer_started, phase_after, hit_at, is_sending, frame_at, ready_at, sending_length}
 use Rattle.manchester_line.specs.Line.{is_signal}
-use Rattle.mac_transmit.specs.Calm.{after_all, AllHeardAs, IsCalmIn, AreCalm, gap_left, gets_hit, change_in, up_to_most, gap_at, waited, leapt}
+use Rattle.mac_transmit.specs.Calm.{after_all, AllHeardAs, IsCalmIn, AreCalm, gap_left, gets_hit, change_in, AreOverBefore, up_to_most, gap_at, waited, leapt}
 use Rattle.mac_transmit.proofs.SenderInvariant.{goes_on, busy_stays, gap_next}
 
 -- tests on numbers
@@ -423,35 +423,31 @@ no_calm : (s : Sender) (h : Sym) (c : Bool) → is_signal h ≡ c → IsSteady s
 no_calm s h c e y now k = changes s c y now (sym (event_is s h) ∙ k.no_event) (sym (ap (λ (x : Sender). x.phase) (state_is s h c e)) ∙ k.same_phase)
 
 -- many half bits
-abbrev pub Fits : ℕ → Option ℕ → Type 0
-Fits n None = Unit {0}
-Fits n (Some m) = n ≤ m
-
 is_now : (o : Option ℕ) → (o ≡ Some 0) ⊎ (o ≡ Some 0 → ⊥)
 is_now None = inr (λ e. absurd (cc))
 is_now (Some zero) = inl refl
 is_now (Some (suc m)) = inr (λ e. let n : suc m ≡ 0 = some_same _ _ e in absurd (omega arith))
 
-fits_none : (o : Option ℕ) → Fits 0 o
-fits_none None = tt
-fits_none (Some m) = omega arith
+none_are_over : (o : Option ℕ) → AreOverBefore 0 o
+none_are_over None = tt
+none_are_over (Some m) = omega arith
 
-fits_up : (n : ℕ) (o : Option ℕ) → (o ≡ Some 0 → ⊥) → Fits n (pred_of o) → Fits (suc n) o
+over_later : (n : ℕ) (o : Option ℕ) → (o ≡ Some 0 → ⊥) → AreOverBefore n (pred_of o) → AreOverBefore (suc n) o
 unfolding pred_of
-fits_up n None h f = tt
-fits_up n (Some zero) h f = absurd (h refl)
-fits_up n (Some (suc m)) h f = omega arith
+over_later n None h f = tt
+over_later n (Some zero) h f = absurd (h refl)
+over_later n (Some (suc m)) h f = omega arith
 
-pub fits_down : (n : ℕ) (o : Option ℕ) → Fits (suc n) o → Fits n (pred_of o)
+pub over_sooner : (n : ℕ) (o : Option ℕ) → AreOverBefore (suc n) o → AreOverBefore n (pred_of o)
 unfolding pred_of
-fits_down n None f = tt
-fits_down n (Some m) f = omega arith
+over_sooner n None f = tt
+over_sooner n (Some m) f = omega arith
 
-pub not_now : (n : ℕ) (o : Option ℕ) → Fits (suc n) o → o ≡ Some 0 → ⊥
-not_now n o f e = let l : suc n ≤ 0 = subst (Fits (suc n)) e f in omega arith
+pub not_now : (n : ℕ) (o : Option ℕ) → AreOverBefore (suc n) o → o ≡ Some 0 → ⊥
+not_now n o f e = let l : suc n ≤ 0 = subst (AreOverBefore (suc n)) e f in omega arith
 
 abbrev IsExact : Bool → List Sym → Sender → Type 0
-IsExact c hs s = (AreCalm s hs → Fits (length hs) (change_in s c)) × (Fits (length hs) (change_in s c) → AreCalm s hs)
+IsExact c hs s = (AreCalm s hs → AreOverBefore (length hs) (change_in s c)) × (AreOverBefore (length hs) (change_in s c) → AreCalm s hs)
 
 exact_first : (h : Sym) (hs : List Sym) (s : Sender) (c : Bool) → IsSteady s → is_signal h ≡ c → ((x : Sender) → IsSteady x → IsExact c hs x) → IsExact c (h ∷ hs) s
 exact_first h hs s c y e ih =
@@ -461,8 +457,8 @@ exact_first h hs s c y e ih =
           let k = still s c y later in
           let state = still_state s h c e k in
           let rest = ih (leapt s c 1) k.steady in (
-            λ a. fits_up (length hs) (change_in s c) later (subst (Fits (length hs)) k.left (rest.0 (subst (λ x. AreCalm x hs) state a.1))),
-            λ f. (still_calm s h c e k, subst (λ x. AreCalm x hs) (sym state) (rest.1 (subst (Fits (length hs)) (sym k.left) (fits_down (length hs) (change_in s c) f)))),
+            λ a. over_later (length hs) (change_in s c) later (subst (AreOverBefore (length hs)) k.left (rest.0 (subst (λ x. AreCalm x hs) state a.1))),
+            λ f. (still_calm s h c e k, subst (λ x. AreCalm x hs) (sym state) (rest.1 (subst (AreOverBefore (length hs)) (sym k.left) (over_sooner (length hs) (change_in s c) f)))),
           )
     ]
 
@@ -473,14 +469,14 @@ pub heard_rest : (c : Bool) (h : Sym) (hs : List Sym) → AllHeardAs c (h ∷ hs
 heard_rest c h hs a = λ k d l. a (suc k) d (omega arith)
 
 exact : (hs : List Sym) (s : Sender) (c : Bool) → IsSteady s → AllHeardAs c hs → IsExact c hs s
-exact [] s c y a = (λ _. fits_none (change_in s c), λ _. tt)
+exact [] s c y a = (λ _. none_are_over (change_in s c), λ _. tt)
 exact (h ∷ hs) s c y a = exact_first h hs s c y (heard_first c h hs a) (λ x z. exact hs x c z (heard_rest c h hs a))
 
-capped : (n : ℕ) (o : Option ℕ) → n ≤ 4096 → Fits n o → n ≤ up_to_most o
+capped : (n : ℕ) (o : Option ℕ) → n ≤ 4096 → AreOverBefore n o → n ≤ up_to_most o
 capped n None l f = l
 capped n (Some m) l f = omega arith
 
-pub uncapped : (n : ℕ) (o : Option ℕ) → n ≤ up_to_most o → Fits n o
+pub uncapped : (n : ℕ) (o : Option ℕ) → n ≤ up_to_most o → AreOverBefore n o
 uncapped n None l = tt
 uncapped n (Some m) l = omega arith
 
@@ -489,6 +485,13 @@ pub calm_is : (s : Sender) (c : Bool) (n : ℕ) → IsSender s → n ≡ up_to_m
 calm_is s c n h e hs a l =
     let x = exact hs s c (steady s h) a in
     (λ k. subst (λ m. length hs ≤ m) (sym e) (capped (length hs) (change_in s c) l (x.0 k)), λ m. x.1 (uncapped (length hs) (change_in s c) (subst (λ i. length hs ≤ i) e m)))
+
+-- the same, of any number of half bits and what is said of the next change
+pub over_is : (s : Sender) (c : Bool) (o : Option ℕ) → IsSender s → o ≡ change_in s c
+    → (hs : List Sym) → AllHeardAs c hs → (AreCalm s hs ↔ AreOverBefore (length hs) o)
+over_is s c o h e hs a =
+    let x = exact hs s c (steady s h) a in
+    (λ k. subst (AreOverBefore (length hs)) (sym e) (x.0 k), λ f. x.1 (subst (AreOverBefore (length hs)) e f))
 
 -- a leap
 or_true : (b : Bool) → (b || true) ≡ true
@@ -533,18 +536,18 @@ leapt_more : (s : Sender) (c : Bool) (n : ℕ) → gap_of s.defer ≤ interframe
 leapt_more s c zero g = leapt_none (leapt s c 1) c
 leapt_more s c (suc n) g = leapt_many s c n g
 
-pub leaps : (hs : List Sym) (s : Sender) (c : Bool) → IsSteady s → AllHeardAs c hs → Fits (length hs) (change_in s c) → after_all s hs ≡ leapt s c (length hs)
+pub leaps : (hs : List Sym) (s : Sender) (c : Bool) → IsSteady s → AllHeardAs c hs → AreOverBefore (length hs) (change_in s c) → after_all s hs ≡ leapt s c (length hs)
 leaps [] s c y a f = sym (leapt_none s c)
 leaps (h ∷ hs) s c y a f =
     let k = still s c y (not_now (length hs) (change_in s c) f) in
     ap (λ x. after_all x hs) (still_state s h c (heard_first c h hs a) k)
-    ∙ leaps hs (leapt s c 1) c k.steady (heard_rest c h hs a) (subst (Fits (length hs)) (sym k.left) (fits_down (length hs) (change_in s c) f))
+    ∙ leaps hs (leapt s c 1) c k.steady (heard_rest c h hs a) (subst (AreOverBefore (length hs)) (sym k.left) (over_sooner (length hs) (change_in s c) f))
     ∙ leapt_more s c (length hs) y.gap
 
-pub leap_is : (s t : Sender) (c : Bool) (n : ℕ) → IsSender s → n ≤ up_to_most (change_in s c) → t ≡ leapt s c n
+pub leap_is : (s t : Sender) (c : Bool) (n : ℕ) → IsSender s → AreOverBefore n (change_in s c) → t ≡ leapt s c n
     → (hs : List Sym) → AllHeardAs c hs → length hs ≡ n → t ≡ after_all s hs
 leap_is s t c n h l e hs a m =
-    e ∙ ap (leapt s c) (sym m) ∙ sym (leaps hs s c (steady s h) a (subst (λ i. Fits i (change_in s c)) (sym m) (uncapped n (change_in s c) l)))
+    e ∙ ap (leapt s c) (sym m) ∙ sym (leaps hs s c (steady s h) a (subst (λ i. AreOverBefore i (change_in s c)) (sym m) l))
 
 -- what a leap keeps
 one_kept : (s : Sender) (c : Bool) → IsSender s → s.t < most_half_bits → IsStill s c → IsSender (leapt s c 1)
@@ -555,21 +558,17 @@ leapt_time : (s : Sender) (c : Bool) (n : ℕ) → (leapt s c n).t ≡ s.t + n
 unfolding leapt
 leapt_time s c n = refl
 
-pub leap_kept : (n : ℕ) (s : Sender) (c : Bool) → IsSender s → Fits n (change_in s c) → s.t + n ≤ most_half_bits → IsSender (leapt s c n)
+pub leap_kept : (n : ℕ) (s : Sender) (c : Bool) → IsSender s → AreOverBefore n (change_in s c) → s.t + n ≤ most_half_bits → IsSender (leapt s c n)
 leap_kept zero s c h f l = subst IsSender (sym (leapt_none s c)) h
 leap_kept (suc n) s c h f l =
     let k = still s c (steady s h) (not_now n (change_in s c) f) in
     let t : (leapt s c 1).t ≡ s.t + 1 = leapt_time s c 1 in
     subst IsSender (leapt_more s c n h.gap)
-    (leap_kept n (leapt s c 1) c (one_kept s c h (omega arith) k) (subst (Fits n) (sym k.left) (fits_down n (change_in s c) f)) (omega (arith, t)))
+    (leap_kept n (leapt s c 1) c (one_kept s c h (omega arith) k) (subst (AreOverBefore n) (sym k.left) (over_sooner n (change_in s c) f)) (omega (arith, t)))
 
-pub few_leapt : (n : ℕ) (o : Option ℕ) → n ≤ up_to_most o → n ≤ 4096
-few_leapt n None l = l
-few_leapt n (Some m) l = omega arith
-
-pub leap_keeps : (s : Sender) (c : Bool) (n t from : ℕ) (d : Defer) → IsSender s → n ≤ up_to_most (change_in s c) → t ≡ s.t + n → t ≤ most_half_bits
+pub leap_keeps : (s : Sender) (c : Bool) (n t from : ℕ) (d : Defer) → IsSender s → AreOverBefore n (change_in s c) → t ≡ s.t + n → t ≤ most_half_bits
     → d ≡ (if is_sending s.phase || eqb n 0 then s.defer else waited c s.defer n) → from ≡ (if c || eqb n 0 then s.carrier_from else s.t + n)
     → IsSender (record s { t = t; defer = d; carrier_from = from })
 unfolding leapt
 leap_keeps s c n t from d h l et lt ed el =
-    subst IsSender (with_fields s (s.t + n) t _ d _ from (sym et) (sym ed) (sym el)) (leap_kept n s c h (uncapped n (change_in s c) l) (omega arith))
+    subst IsSender (with_fields s (s.t + n) t _ d _ from (sym et) (sym ed) (sym el)) (leap_kept n s c h l (omega arith))

@@ -1,6 +1,6 @@
 -- Half bits one after another, and those in which nothing happens to a sender but that time goes on and it waits: by
 -- these a run leaps over many half bits (profile; what happens in one half bit is that of IEEE 802.3, 4.2.3 and 4.2.8).
-use Rattle.std.specs.Prelude.{ℕ, ◌≡◌, ◌+◌, ◌-◌, Bool, true, false, ◌==◌, ◌&&◌, ◌||◌, not, nat_lt, nat_le, min, if◌then◌else◌, Option, Some, None, List, [], ◌∷◌, length}
+use Rattle.std.specs.Prelude.{ℕ, ◌≡◌, ◌+◌, ◌-◌, ◌≤◌, Bool, true, false, ◌==◌, ◌&&◌, ◌||◌, not, nat_lt, nat_le, min, if◌then◌else◌, Option, Some, None, List, [], ◌∷◌, length}
 use Rattle.std.specs.List.{All}
 use Rattle.mac_parameters.specs.Parameters.{interframe_gap, interframe_gap_part_1}
 use Rattle.manchester_line.specs.declared.Sym.{Sym}
@@ -59,6 +59,11 @@ change_from s c (Backoff until) = Some (until - s.t)
 -- the same, by the sender's own phase
 unfoldable pub change_in : Sender → Bool → Option ℕ
 change_in s c = change_from s c s.phase
+
+-- n half bits are over before a change that comes after m half bits, or that never comes
+abbrev pub AreOverBefore : ℕ → Option ℕ → Type 0
+AreOverBefore n None = Unit {0}
+AreOverBefore n (Some m) = n ≤ m
 
 -- a number of half bits, or 4,096 where it is greater or there is none (profile)
 abbrev pub up_to_most : Option ℕ → ℕ

@@ -1,6 +1,6 @@
 //! Deference, by its table (IEEE 802.3, 4.2.3.2.1).
 ghost use Rattle.std.specs.Prelude.{◌≡◌, ◌≤◌, ◌==◌, ◌||◌, if◌then◌else◌, false};
-ghost use Rattle.mac_parameters.specs.Parameters.{interframe_gap};
+ghost use Rattle.mac_parameters.specs.Parameters.{interframe_gap, most_half_bits};
 ghost use Rattle.mac_transmit.specs.Deference.{deferred, free_of, gap_of, watched};
 ghost use Rattle.mac_transmit.specs.Calm.{gap_left, gap_at, waited};
 ghost use Rattle.mac_transmit.specs.Sender.{is_sending};
@@ -118,10 +118,10 @@ fn gap_after(k: u32, was: bool, carrier: bool) -> Defer
     }
 }
 
-/// Deference after `n` half bits, at least one and at most 4,096, in which the station doesn't send.
+/// Deference after `n` half bits, at least one and at most 2,000,000,000, in which the station doesn't send.
 fn deference_after(state: Defer, n: u32, carrier: bool) -> Defer
     requires gap { gap_of state ≤ interframe_gap }
-    requires most { n ≤ 4096 }
+    requires most { n ≤ most_half_bits }
     ensures { result ≡ waited carrier state n }
 {
     match state {
@@ -143,10 +143,10 @@ fn deference_after(state: Defer, n: u32, carrier: bool) -> Defer
     }
 }
 
-/// Deference after `n` half bits, at most 4,096, in which the phase stays as it is.
+/// Deference after `n` half bits, at most 2,000,000,000, in which the phase stays as it is.
 pub fn defer_leapt(phase: Phase, state: Defer, n: u64, carrier: bool) -> Defer
     requires gap { gap_of state ≤ interframe_gap }
-    requires most { n ≤ 4096 }
+    requires most { n ≤ most_half_bits }
     ensures { result ≡ (if is_sending phase || n == 0 then state else waited carrier state n) }
 {
     if sending(phase) || n == 0 {

@@ -101,7 +101,7 @@ impl Transmitter {
     ghost use Rattle.mac_parameters.specs.Parameters.{interframe_gap, most_draws, most_half_bits};
     ghost use Rattle.manchester_line.specs.declared.Sym.TheVariants.{Clash};
     ghost use Rattle.mac_transmit.specs.Laws.{end_after, carrier_after, StartsAt, IsAway, IsLongEnough};
-    ghost use Rattle.mac_transmit.specs.Calm.{change_in, calm_of, AllHeardAs, AreCalm, after_all, leapt};
+    ghost use Rattle.mac_transmit.specs.Calm.{change_in, AreOverBefore, calm_of, AllHeardAs, AreCalm, after_all, leapt};
     ghost use Rattle.std.specs.Prelude.{List};
     ghost use Rattle.mac_transmit.specs.Emissions.{emission_by};
     ghost use Rattle.mac_transmit.specs.Resuming.{state_of, resumed_sender, IsStateOf};
@@ -315,6 +315,18 @@ impl Transmitter {
         }
     }
 
+    /// The half bits from `t` on, the one after the last that was stepped or leapt, until one that gives an event,
+    /// another phase or a new hit, where the station hears something in each, as `carrier` says, or Idle in each; none
+    /// where that never comes.
+    pub fn next_change(&self, t: u64, carrier: bool) -> Option<u64>
+        requires time { t ≡ self.now.t }
+        requires in_time { t < most_half_bits }
+        ensures number { result ≡ change_in self.now carrier }
+        ensures exact { (hs : List Sym) → AllHeardAs carrier hs → (AreCalm self.now hs ↔ AreOverBefore (length hs) result) }
+    {
+        self.change(carrier)
+    }
+
     /// The greatest number up to 4,096 of half bits from `t` on, the one after the last that was stepped or leapt, that
     /// give no event, no change of phase and no new hit, where the station hears something in each, as `carrier` says,
     /// or Idle in each. A sending that goes on is calm, though it emits.
@@ -331,7 +343,7 @@ impl Transmitter {
     /// Goes over `n` half bits from `t` on in which nothing happens.
     #[tactic(auto, unfolding(crate::specs::Calm::leapt))]
     fn leap_over(&mut self, t: u64, n: u64, carrier: bool)
-        requires calm { n ≤ calm_of self.old carrier }
+        requires calm { AreOverBefore n (change_in self.old carrier) }
         requires time { t ≡ self.old.t }
         requires in_time { t + n ≤ most_half_bits }
         ensures state { self.new ≡ leapt self.old carrier n }
@@ -342,6 +354,23 @@ impl Transmitter {
         self.defer = defer_leapt(self.phase, self.defer, n, carrier);
         self.carrier_from = carrier_leapt(self.carrier_from, t, n, carrier);
         self.t = t + n;
+    }
+
+    /// The state after any number `n` of half bits from `t` on, the one after the last that was stepped or leapt, that
+    /// are over before the next change, in each of which the station hears something, or Idle in each. It takes as long
+    /// as one half bit.
+    pub fn pass(&mut self, t: u64, n: u64, carrier: bool)
+        requires calm { AreOverBefore n (change_in self.old carrier) }
+        requires time { t ≡ self.old.t }
+        requires in_time { t + n ≤ most_half_bits }
+        ensures state { (hs : List Sym) → AllHeardAs carrier hs → length hs ≡ n → self.new ≡ after_all self.old hs }
+        ensures phase { self.new.phase ≡ self.old.phase }
+        ensures time { self.new.t ≡ self.old.t + n }
+        // In each of them it emits what it would if nothing happened to it.
+        ensures emits { (hs : List Sym) (h : Sym) → AllHeardAs carrier hs → is_signal h ≡ carrier → length hs < n →
+            (sender_step (after_all self.old hs) h).emitted ≡ emission_by self.old (length hs) self.old.phase }
+    {
+        self.leap_over(t, n, carrier);
     }
 
     /// The state after `n` half bits from `t` on, the one after the last that was stepped, at most as many as `calm`
@@ -357,7 +386,7 @@ impl Transmitter {
         ensures emits { (hs : List Sym) (h : Sym) → AllHeardAs carrier hs → is_signal h ≡ carrier → length hs < n →
             (sender_step (after_all self.old hs) h).emitted ≡ emission_by self.old (length hs) self.old.phase }
     {
-        self.leap_over(t, n, carrier);
+        self.pass(t, n, carrier);
     }
 
     /// The row of the sending that is under way; none exactly where no sending is.
