@@ -1,5 +1,5 @@
 -- The turns of a worker's parts (profile). Parts, segments and places count from 0.
-use Rattle.std.specs.Prelude.{ℕ, ◌+◌, nat_lt, List}
+use Rattle.std.specs.Prelude.{ℕ, ◌+◌, nat_lt, Bool, List}
 use Rattle.std.specs.List.{position_or_len}
 use Rattle.part_dealing.specs.declared.duties.Duty.{Duty}
 
@@ -8,6 +8,7 @@ use Rattle.part_dealing.specs.declared.duties.Duty.{Duty}
 abbrev pub turn_place : ℕ → List Duty → ℕ
 turn_place last turns = position_or_len (λ (d : Duty). nat_lt last d.last) turns
 
--- A part with its last segment, and with so many outlets from place `first` on (profile).
-abbrev pub duty_with : ℕ → ℕ → ℕ → ℕ → Duty
-duty_with part last first count = record { part = part; last = last; first = first; end = first + count }
+-- A part with its last segment, and with so many outlets from place `first` on, of which one leads to another worker, or
+-- none, as `border` says (profile).
+abbrev pub duty_with : ℕ → ℕ → ℕ → ℕ → Bool → Duty
+duty_with part last first count border = record { part = part; last = last; first = first; end = first + count; border = border }

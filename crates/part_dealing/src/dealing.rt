@@ -1,5 +1,5 @@
 //! Which worker gets which part: parts are dealt along a walk of the tree, in runs of about equal work.
-ghost use Rattle.std.specs.Prelude.{◌≡◌, ◌<◌, ◌≤◌, ◌+◌, ◌==◌, true, All, IfOk, count_by, length, map, slice_index_or};
+ghost use Rattle.std.specs.Prelude.{◌≡◌, ◌≢◌, ◌<◌, ◌≤◌, ◌+◌, ◌==◌, ◌↔◌, true, All, Any, IfOk, IsTrue, count_by, length, map, slice_index_or};
 ghost use Rattle.net_parts.specs.Boards.{has_edge};
 ghost use Rattle.part_dealing.specs.OtherEnds.{GoesToOwner, IsOtherEnd};
 ghost use Rattle.layout.specs.declared.lines.PortLine.{PortLine};
@@ -186,6 +186,13 @@ pub fn outlets_of(
         })?;
     }
     Ok(outlets)
+}
+
+/// Whether one of these edges leads to another worker than this one.
+pub fn leads_out(outlets: &[Outlet], worker: u32) -> bool
+    ensures { IsTrue result ↔ Any (λ (o : Outlet). o.worker ≢ worker) outlets.now }
+{
+    outlets.iter().any(|outlet| outlet.worker != worker)
 }
 
 /// The part at the other end of an edge of this part: the repeater of the edge's port, or the segment on which the port

@@ -10,13 +10,14 @@ use lists::OutOfMemory;
 use std::alloc::Global;
 
 /// A part of a worker, and the last segment on which it is; its outlets are those from place `first` on to before place
-/// `end`.
+/// `end`. It is at the border where one of them leads to another worker.
 #[derive(Clone, Copy)]
 pub struct Duty {
     pub part: u32,
     pub last: u32,
     pub first: usize,
     pub end: usize,
+    pub border: bool,
 }
 
 /// The parts of a worker in the order of their turns, and all their outlets. A repeater has its turn behind its last
@@ -48,9 +49,15 @@ impl Duties {
         }
     }
 
-    /// Adds a part whose last segment is this one. On refusal nothing changes.
-    pub fn add(&mut self, part: u32, last: u32, outlets: &[Outlet]) -> Result<(), OutOfMemory>
-        ensures turns { OnOk result (self.new.turns.items ≡ insert self.old.turns.items (turn_place last self.old.turns.items) (duty_with part last (length self.old.outlets.items) (length outlets.now))) }
+    /// Adds a part whose last segment is this one, at the border or not. On refusal nothing changes.
+    pub fn add(
+        &mut self,
+        part: u32,
+        last: u32,
+        outlets: &[Outlet],
+        border: bool,
+    ) -> Result<(), OutOfMemory>
+        ensures turns { OnOk result (self.new.turns.items ≡ insert self.old.turns.items (turn_place last self.old.turns.items) (duty_with part last (length self.old.outlets.items) (length outlets.now) border)) }
         ensures outlets { OnOk result (self.new.outlets.items ≡ self.old.outlets.items ++ outlets.now) }
         ensures turns_kept { OnErr result (self.new.turns.items ≡ self.old.turns.items) }
         ensures outlets_kept { OnErr result (self.new.outlets.items ≡ self.old.outlets.items) }
@@ -67,6 +74,7 @@ impl Duties {
                 last,
                 first,
                 end,
+                border,
             },
         )?;
         Ok(())

@@ -5,5 +5,5 @@
 mod dealing;
 mod duties;
 
-pub use dealing::{Outlet, count_edges, other_end, outlets_of, owner_of, owners};
+pub use dealing::{Outlet, count_edges, leads_out, other_end, outlets_of, owner_of, owners};
 pub use duties::{Duties, Duty, last_segment};

@@ -8,7 +8,7 @@ use crate::kit::Kit;
 use lists::OutOfMemory;
 use load_plan::Plan;
 use net_parts::{Pace, Part};
-use part_dealing::{Duties, last_segment, outlets_of, owner_of, owners};
+use part_dealing::{Duties, last_segment, leads_out, outlets_of, owner_of, owners};
 use std::alloc::Global;
 use window_exchange::Planned;
 
@@ -119,7 +119,7 @@ fn deal_segments<P: Planned, S: Part, R: Part, F: Fn(u32) -> Result<S, OutOfMemo
         let part = segment(i)?;
         segments.add(alloc, plan, pace, part)?;
         let outlets = outlets_of(alloc, plan, owners, i)?;
-        duties.add(i, i, &outlets)?;
+        duties.add(i, i, &outlets, leads_out(&outlets, number))?;
     }
     Ok(segments)
 }
@@ -145,10 +145,11 @@ fn deal_repeaters<P: Planned, S: Part, R: Part, H: Fn(u32) -> Result<R, OutOfMem
             continue;
         }
         let part = repeater(i)?;
-        let number = part.part();
+        let own = part.part();
         desk.add_repeater(plan, part)?;
-        let outlets = outlets_of(alloc, plan, owners, number)?;
-        duties.add(number, last_segment(&plan.layout, i as usize), &outlets)?;
+        let outlets = outlets_of(alloc, plan, owners, own)?;
+        let last = last_segment(&plan.layout, i as usize);
+        duties.add(own, last, &outlets, leads_out(&outlets, number))?;
     }
     Ok(())
 }

@@ -47,12 +47,15 @@ impl<P: Planned, S: Part, R: Part> Kit<P, S, R> {
         self.number
     }
 
-    /// Makes one window of each part whose parcels are here, and hands its parcels on. Says whether it made one.
+    /// Makes one window of each part whose parcels are here, and hands its parcels on. Parts at the border come first, so
+    /// that other workers needn't wait for these. Says whether it made one.
     pub fn turn<X: Wait>(&mut self, rt: &X, boxes: &mut Vec<Endpoint<P>>) -> bool
         ensures windows { self.new.windows ≡ self.old.windows }
         ensures duties { self.new.duties ≡ self.old.duties }
     {
-        turn(rt, &mut self.desk, &self.duties, self.number, boxes)
+        let first = turn(rt, &mut self.desk, &self.duties, true, self.number, boxes);
+        let then = turn(rt, &mut self.desk, &self.duties, false, self.number, boxes);
+        first || then
     }
 
     /// Puts all parcels in the worker's box to their parts. Says whether there was one.
@@ -130,17 +133,19 @@ fn take_all<P: Planned, S: Part, R: Part>(desk: &mut Desk<P, S, R>, own: &mut En
     came
 }
 
-/// Makes one window of each part whose parcels are here, and hands its parcels on. Says whether it made one.
+/// Makes one window of each part whose parcels are here, or of those at the border alone, and hands its parcels on. Says
+/// whether it made one.
 fn turn<P: Planned, S: Part, R: Part, X: Wait>(
     rt: &X,
     desk: &mut Desk<P, S, R>,
     duties: &Duties,
+    border: bool,
     number: u32,
     boxes: &mut Vec<Endpoint<P>>,
 ) -> bool {
     let mut made = false;
     for duty in duties.turns.as_slice() {
-        if desk.step(duty.part) {
+        if (duty.border || !border) && desk.step(duty.part) {
             made = true;
             hand_on(rt, desk, *duty, duties.outlets.as_slice(), number, boxes);
         }

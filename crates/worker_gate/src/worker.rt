@@ -8,7 +8,8 @@ use net_parts::Part;
 use std::sync::Wait;
 use window_exchange::{Pauses, Planned};
 
-/// Makes all windows of these kits: once it returns, each of their parts has them, or was given up for them.
+/// Makes all windows of these kits: once it returns, each of their parts has them, or was given up for them. It looks for
+/// parcels before each turn, so that no part waits for one that is here.
 pub fn work<P: Planned, S: Part, R: Part, X: Wait>(
     rt: &X,
     kits: &mut [Kit<P, S, R>],
@@ -19,6 +20,7 @@ pub fn work<P: Planned, S: Part, R: Part, X: Wait>(
     ensures duties { map (λ kit. kit.duties) kits.new ≡ map (λ kit. kit.duties) kits.old }
 {
     for _ in rt.forever() {
+        take_all(kits, boxes);
         if !turn_all(rt, kits, boxes) {
             if are_done(kits) {
                 return;

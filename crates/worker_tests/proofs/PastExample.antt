@@ -10,7 +10,7 @@ use Rattle.part_dealing.specs.Turns.{duty_with}
 use Rattle.worker_gate.specs.SteppedShares.{ArePast}
 
 abbrev two_duties : List Duty
-two_duties = duty_with 0 0 0 1 ∷ duty_with 2 2 1 1 ∷ []
+two_duties = duty_with 0 0 0 1 false ∷ duty_with 2 2 1 1 true ∷ []
 
 module _ (plan : Plan) where
   abbrev segment_0 : Holding
@@ -29,4 +29,4 @@ module _ (plan : Plan) where
   past_two (suc (suc k)) d within = absurd (omega (arith, within))
 
   pub not_past_three : ArePast 3 two_parts two_duties → ⊥
-  not_past_three past = let second = past 1 (duty_with 2 2 1 1) (omega arith) in omega (arith, second)
+  not_past_three past = let second = past 1 (duty_with 2 2 1 1 true) (omega arith) in omega (arith, second)

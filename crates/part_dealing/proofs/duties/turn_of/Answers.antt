@@ -1,4 +1,4 @@
-use Rattle.std.proofs.Common.{length, arith, sym}
+use Rattle.std.proofs.Common.{false, length, arith, sym}
 use Rattle.part_dealing.proofs.DutyPlaces.{turn_at}
 use Rattle.part_dealing.proofs.duties.turn_of.Goals as goal
 
@@ -11,5 +11,5 @@ returns-clause-place c =
     let turns = c.args.turns.now in
     let end = c.loop-i.auto.i-end in
     let past = c.loop-i-test.false in
-    sym (turn_at c.args.last turns (length turns) record { part = 0; last = 0; first = 0; end = 0 } (omega arith) (λ k d below. c.loop-i.invariant k d (omega (arith, below, end, past)))
+    sym (turn_at c.args.last turns (length turns) record { part = 0; last = 0; first = 0; end = 0; border = false } (omega arith) (λ k d below. c.loop-i.invariant k d (omega (arith, below, end, past)))
     (λ within. absurd (omega (arith, within))))
