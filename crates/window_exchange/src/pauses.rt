@@ -6,10 +6,6 @@ use std::sync::Wait;
 use std::thread::Parker;
 use std::time::Duration;
 
-/// How often a thread spins before it yields. Together that takes about as long as the shortest sleep, some 60
-/// microseconds, within which most of what it waits for comes.
-const SPINS: u32 = 30;
-
 /// The longest sleep, in microseconds.
 const LONGEST: u64 = 100;
 
@@ -17,7 +13,6 @@ const LONGEST: u64 = 100;
 /// the processor, and then it sleeps, each time twice as long, up to a tenth of a millisecond.
 #[derive(Drop)]
 pub struct Pauses {
-    spins: u32,
     backoff: Backoff,
     parker: Parker,
     micros: u64,
@@ -30,7 +25,6 @@ impl Pauses {
         ensures { result.micros ≡ 1 }
     {
         Pauses {
-            spins: 0,
             backoff: Backoff::new(),
             parker: Parker::new(),
             micros: 1,
@@ -41,11 +35,6 @@ impl Pauses {
     pub fn pause<R: Wait>(&mut self, rt: &R)
         ensures { self.old.micros ≤ self.new.micros }
     {
-        if self.spins < SPINS {
-            self.spins += 1;
-            self.backoff.spin();
-            return;
-        }
         if !self.backoff.is_completed() {
             self.backoff.snooze();
             return;
