@@ -6,6 +6,7 @@ pub mod NearestTaps
 pub mod SegmentHearing
 pub mod DeviceSteps
 pub mod StationRows
+pub mod SendersEmit
 pub mod SegmentSteps
 pub mod RepeaterSteps
 pub mod WindowCuts

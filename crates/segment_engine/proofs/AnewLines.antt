@@ -6,11 +6,11 @@ use Rattle.manchester_line.specs.declared.Sym.TheVariants.{Idle}
 use Rattle.manchester_line.specs.Line.{is_signal}
 use Rattle.mac_transmit.specs.Sender.{Sender, is_sending}
 use Rattle.mac_transmit.specs.Emissions.{IsSendingFor, emission_by}
-use Rattle.net_parts.proofs.LateRows.{if_true, if_false}
+use Rattle.net_parts.proofs.LateRows.{if_false}
 use Rattle.net_parts.proofs.RepeaterSteps.{length-span, get_or-span}
 use Rattle.tap_lines.specs.TapLines.{TapLine, class_on, goes_on, line_ended, line_extended, symbol_on}
 use Rattle.tap_lines.proofs.KeptLines.{ended_place, ended_delay, ended_backlog, ended_base, ended_end, ended_size, ended_symbol, ended_class}
-use Rattle.tap_lines.proofs.LineClasses.{class_within, class_behind, class_before, class_all_alike}
+use Rattle.tap_lines.proofs.LineClasses.{class_within, class_behind, class_before, class_all_alike, symbol_behind}
 use Rattle.tap_lines.proofs.LinesAhead.{symbol_ahead, symbol_before}
 use Rattle.segment_engine.specs.SteadyPieces.{sent_ahead}
 use Rattle.segment_engine.specs.StationsApart.{IsAnew, IsToldAnew}
@@ -38,18 +38,6 @@ ended_room u n l begun takes =
 
 pub said_room : (u n : ℕ) (e : Sym) (l : TapLine) → l.base ≤ u → u + 1 + n ≤ l.base + length l.symbols + l.room → n ≤ (line_extended (line_ended u l) (e ∷ [])).room
 said_room u n e l begun takes = let more = ended_room u (1 + n) l begun (omega (arith, takes)) in omega (arith, more)
-
--- behind its last symbol a line has Idle
-behind_last : (xs : List Sym) (i : ℕ) → length xs ≤ i → get_or xs i Idle ≡ Idle
-behind_last [] i h = refl
-behind_last (x ∷ xs) zero h = absurd (omega (arith, h))
-behind_last (x ∷ xs) (suc i) h = behind_last xs i (omega (arith, h))
-
-symbol_behind : (l : TapLine) (a : ℕ) → l.base + length l.symbols ≤ a → symbol_on l a ≡ Idle
-symbol_behind l a h = elim (cases_lt a l.base) [
-  | inl before ↦ nothing_before l a before
-  | inr from ↦ if_true {m = l.base} {n = a} _ _ from ∙ behind_last l.symbols (a - l.base) (omega (arith, h, from))
-]
 
 -- a line that goes on with a signal reaches to where it is right
 pub reaches_of : (u : ℕ) (l : TapLine) → ((a : ℕ) → a < u → class_on l a ≡ is_signal (symbol_on l a)) → goes_on l ≡ true → u ≤ l.base + length l.symbols

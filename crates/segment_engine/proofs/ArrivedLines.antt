@@ -21,7 +21,7 @@ use Rattle.segment_engine.specs.declared.apart.Watch.{Watch}
 use Rattle.segment_engine.specs.declared.segment.Segment.{Segment}
 use Rattle.segment_engine.specs.KnownLines.{KnowLines}
 use Rattle.segment_engine.specs.StationsApart.{AreToldAnew, IsToldAnew, StandsApart, lowered_watch, number_on}
-use Rattle.segment_engine.proofs.ChangedLines.{line_anew, lowered, same_places, unchanged_line, unlowered}
+use Rattle.segment_engine.proofs.ChangedLines.{known_with, lowered, unchanged_line, unlowered}
 
 -- one line, which ended at half bit t
 before_arrived : (t a : ℕ) (l : TapLine) (ss : List Sym) → l.base + length l.symbols ≡ t → a < t → symbol_on (line_extended l ss) a ≡ symbol_on l a
@@ -65,8 +65,8 @@ module _ (r : ℕ) (ls ls' : List TapLine) (ss : List Sym) (many : length ls' �
   all_alike alike from = alike_with from (λ a low. class_all_alike l ss a alike)
 
 -- a station, where the line of another tap is alike below half bit f, and where it is alike everywhere
-pub stand_lowered : (of : Segment) (from t f i r : ℕ) (ls ls' : List TapLine) (w w' : Watch) (s : Sender) (k : KeptReception) → IsAlikeBelow r f ls ls' → t ≤ f → i ≢ r →
-    w' ≡ lowered_watch (f + half_bits_back of.lookahead (get_or ls' i no_line).at (get_or ls' r no_line)) w →
+pub stand_lowered : (of : Segment) (from t f i r : ℕ) (ls ls' : List TapLine) (w w' : Watch) (s : Sender) (k : KeptReception) → IsAlikeBelow r f ls ls' →
+    t ≤ f + half_bits_back of.lookahead (get_or ls i no_line).at (get_or ls r no_line) → i ≢ r → w' ≡ lowered_watch (f + half_bits_back of.lookahead (get_or ls' i no_line).at (get_or ls' r no_line)) w →
     StandsApart of from t i ls w s k → StandsApart of from t i ls' w' s k
 stand_lowered of from t f i r ls ls' w w' s k alike late other low is =
     let until = is.until in
@@ -134,18 +134,6 @@ module _ (plan : Plan) (w : Wiring) (L t m : ℕ) (ls ls' : List TapLine) (know 
   abbrev n : ℕ
   n = length w.stations
 
-  same_of : (f : TapLine → ℕ) → ((l : TapLine) (ss : List Sym) → f (line_extended l ss) ≡ f l) → (r : ℕ) → r < length ls → f (get_or ls' r no_line) ≡ f (get_or ls r no_line)
-  same_of f same r h = elim (cases_lt r n) [
-    | inl station ↦ ap f (stations r station)
-    | inr port ↦
-        let p = r - n in
-        let at : n + p ≡ r = omega (arith, port) in
-        let all = know.many in
-        let in_it : p < length w.edges = omega (arith, h, all, at) in
-        subst (λ j. f (get_or ls' j no_line) ≡ f (get_or ls j no_line)) at
-        (ap f (ports p in_it) ∙ same (get_or ls (n + p) no_line) (span (arrives plan L (get_or w.edges p 0)) t m))
-  ]
-
   arrival : (p u : ℕ) → p < length w.edges → (get_or ls (n + p) no_line).base ≤ u → u < t + m → symbol_on (get_or ls' (n + p) no_line) u ≡ arrives plan L (get_or w.edges p 0) u
   arrival p u h low high =
       let l = get_or ls (n + p) no_line in
@@ -192,38 +180,12 @@ module _ (plan : Plan) (w : Wiring) (L t m : ℕ) (ls ls' : List TapLine) (know 
 
   pub known_arrived : KnowLines plan w L t (t + m) ls'
   known_arrived =
-      let all = know.many in
-      record {
-        many = is.many ∙ all;
-        places = same_places ls ls' many (λ r. (line_anew t (length ls) r ls ls' told_arrived).place) ∙ know.places;
-        no_delays = λ r h. ap (λ (l : TapLine). l.delay) (stations r h) ∙ know.no_delays r h;
-        delays = λ p h. ap (λ (l : TapLine). l.delay) (ports p h) ∙ know.delays p h;
-        begins = λ r h.
-            let size = is.many in
-            let in_it : r < length ls = omega (arith, h, size) in
-            let base = same_of (λ (l : TapLine). l.base) (λ l ss. refl) r in_it in
-            let back = same_of (λ (l : TapLine). l.backlog) (λ l ss. refl) r in_it in
-            let z = know.begins r in_it in
-            omega (arith, base, back, z);
-        near = λ p r hp hr.
-            let size = is.many in
-            let in_it : r < length ls = omega (arith, hr, size) in
-            let delay = same_of (λ (l : TapLine). l.delay) (λ l ss. refl) r in_it in
-            let back = same_of (λ (l : TapLine). l.backlog) (λ l ss. refl) r in_it in
-            let z = know.near p r hp in_it in
-            omega (arith, delay, back, z);
-        emissions = λ r u h low high.
-            let base = ap (λ (l : TapLine). l.base) (stations r h) in
-            ap (λ y. symbol_on y u) (stations r h) ∙ know.emissions r u h (omega (arith, base, low)) high;
-        arrivals = λ p u h low high.
-            let base = ap (λ (l : TapLine). l.base) (ports p h) in
-            arrival p u h (omega (arith, base, low)) high;
-        classes = λ r u h high. subst (λ y. class_on y u ≡ is_signal (symbol_on y u)) (sym (stations r h)) (know.classes r u h high);
-        port_classes = λ p u h high.
-            let f = arrives plan L (get_or w.edges p 0) in
-            let end = ends p h in
-            let size = length-span f t m in
-            let sum = length-append (get_or ls (n + p) no_line).symbols (span f t m) in
-            subst (λ y. class_on y u ≡ is_signal (symbol_on y u)) (sym (ports p h))
-            (class_within (line_extended (get_or ls (n + p) no_line) (span f t m)) u (omega (arith, end, size, sum, high)));
-      }
+      known_with plan w L t (length ls) t (t + m) ls ls' told_arrived know
+      (λ p u h low high. let base = ap (λ (l : TapLine). l.base) (ports p h) in arrival p u h (omega (arith, base, low)) high)
+      (λ p u h high.
+      let f = arrives plan L (get_or w.edges p 0) in
+      let end = ends p h in
+      let size = length-span f t m in
+      let sum = length-append (get_or ls (n + p) no_line).symbols (span f t m) in
+      subst (λ y. class_on y u ≡ is_signal (symbol_on y u)) (sym (ports p h))
+      (class_within (line_extended (get_or ls (n + p) no_line) (span f t m)) u (omega (arith, end, size, sum, high))))

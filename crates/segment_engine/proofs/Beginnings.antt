@@ -5,7 +5,6 @@ use Rattle.std.proofs.lemmas.Grind.{same_number_lists, get_or_default_zero}
 use Rattle.std.proofs.lemmas.Bool.Decides.{nat_tests}
 use Rattle.manchester_line.specs.declared.Sym.TheVariants.{Idle}
 use Rattle.manchester_line.specs.Line.{is_signal}
-use Rattle.mac_parameters.specs.Distances.{distance}
 use Rattle.mac_parameters.specs.Parameters.{most_octets}
 use Rattle.layout.specs.declared.lines.StationLine.{StationLine}
 use Rattle.layout.specs.Taps.{tap_of, taps_of}
@@ -90,15 +89,14 @@ module _ (plan : Plan) (s : ℕ) where
       sym (length-numbers s 0 (taps_of plan.layout)) ∙ length-both s 0 (map tap_of plan.layout.stations) (edge_ports plan.layout)
 
   -- the lines before half bit 0
-  module _ (L : ℕ) (ls : List TapLine) (n : ℕ) (es ds places : List ℕ) (n_is : n ≡ length w.stations) (es_is : es ≡ w.edges) (ds_is : ds ≡ port_delays plan.layout)
-      (places_is : places ≡ w.positions) (are : AreNewLines places n L es ds ls) where
-    count : length ls ≡ length w.positions
-    count = are.count ∙ ap length places_is
+  module _ (L : ℕ) (ls : List TapLine) (are : AreNewLines w.positions (length w.stations) L w.edges (port_delays plan.layout) ls) where
+    abbrev here : ℕ
+    here = length w.stations
 
-    many : length ls ≡ length w.stations + length w.edges
-    many = count ∙ taps_many
+    many : length ls ≡ here + length w.edges
+    many = are.count ∙ taps_many
 
-    line : (r : ℕ) → r < length ls → IsNewLine (get_or places r 0) (new_delay n L es ds r) are.away L (get_or ls r no_line)
+    line : (r : ℕ) → r < length ls → IsNewLine (get_or w.positions r 0) (new_delay here L w.edges (port_delays plan.layout) r) are.away L (get_or ls r no_line)
     line r h = are.each r no_line h
 
     is_station : (r m x : ℕ) → r < m → cond (ltb r m) L x ≡ L
@@ -113,16 +111,13 @@ module _ (plan : Plan) (s : ℕ) where
         let size = many in
         record {
           many = many;
-          places = same_number_lists (map (λ (l : TapLine). l.at) ls) w.positions (at_size ∙ count) (λ k h.
-              get_or-map (λ (l : TapLine). l.at) ls k no_line 0 (omega (arith, h, at_size))
-              ∙ (line k (omega (arith, h, at_size))).at_place
-              ∙ ap (λ xs. get_or xs k 0) places_is);
-          no_delays = λ r h. (line r (omega (arith, h, size))).with_delay ∙ is_station r n _ (omega (arith, h, n_is));
+          places = same_number_lists (map (λ (l : TapLine). l.at) ls) w.positions (at_size ∙ are.count) (λ k h.
+              get_or-map (λ (l : TapLine). l.at) ls k no_line 0 (omega (arith, h, at_size)) ∙ (line k (omega (arith, h, at_size))).at_place);
+          no_delays = λ r h. (line r (omega (arith, h, size))).with_delay ∙ is_station r here _ h;
           delays = λ p h.
-              let place : length w.stations + p - n ≡ p = omega (arith, n_is) in
-              (line (length w.stations + p) (omega (arith, h, size))).with_delay
-              ∙ is_port (length w.stations + p) n _ (omega (arith, n_is))
-              ∙ ap₂ (λ xs ys. get_or xs (get_or ys (length w.stations + p - n) 0) 0) ds_is es_is
+              let place : here + p - here ≡ p = omega arith in
+              (line (here + p) (omega (arith, h, size))).with_delay
+              ∙ is_port (here + p) here _ (omega arith)
               ∙ ap (λ i. get_or (port_delays plan.layout) (get_or w.edges i 0) 0) place
               ∙ sym (get_or-map (λ j. get_or (port_delays plan.layout) j 0) w.edges p 0 0 h);
           begins = λ r h. let first = (line r h).from_first in omega (arith, first);
@@ -130,10 +125,8 @@ module _ (plan : Plan) (s : ℕ) where
               let keeps = (line r hr).keeps in
               let wait = (line r hr).with_delay in
               let same = are.count in
-              let few = are.within p r (subst (λ (xs : List ℕ). p < length xs) (sym places_is) hp) (omega (arith, hr, same)) in
-              let few_so : distance (get_or w.positions p 0) (get_or w.positions r 0) ≤ are.away =
-              subst (λ (xs : List ℕ). distance (get_or xs p 0) (get_or xs r 0) ≤ are.away) places_is few in
-              omega (arith, keeps, wait, few_so);
+              let few = are.within p r hp (omega (arith, hr, same)) in
+              omega (arith, keeps, wait, few);
           emissions = λ r u h low high. absurd (omega (arith, high));
           arrivals = λ p u h low high. absurd (omega (arith, high));
           classes = λ r u h high. absurd (omega (arith, high));

@@ -18,14 +18,16 @@ use Rattle.net_parts.proofs.RepeaterSteps.{length-span, get_or-span}
 use Rattle.tap_lines.specs.TapLines.{TapLine, no_line, symbol_on, heard_by_lines, heard_for}
 use Rattle.tap_lines.proofs.LinesAhead.{span_alike}
 use Rattle.segment_engine.specs.declared.apart.Watch.{Watch}
+use Rattle.segment_engine.specs.declared.segment.Segment.{Segment}
 use Rattle.segment_engine.specs.SteadyPieces.{IsCalmAs}
 use Rattle.segment_engine.specs.StationsApart.{StandsBehind, EndsAt, IsStillBy, HearsByLines}
 use Rattle.segment_engine.proofs.StationsLater.{sender_runs, receiver_runs, last_calm, last_still, no_bodies, no_halves}
 use Rattle.segment_engine.proofs.SteadyReceivers.{idle_piece, signal_piece}
 use Rattle.segment_engine.proofs.QuietRoom.{GoesOn, both_within, sender_needs, kept_needs}
 use Rattle.window_room.specs.NeededRoom.{IsDemandWithin, receiver_demand, sender_demand}
-use Rattle.segment_engine.specs.StationsApart.{behind_demand}
+use Rattle.segment_engine.specs.StationsApart.{behind_demand, number_on}
 use Rattle.tap_lines.proofs.Spans.{span_more}
+use Rattle.segment_engine.proofs.Beginnings.{is_station_of}
 use Rattle.segment_engine.proofs.CalmLater.{calm_on}
 use Rattle.segment_engine.proofs.SendersStep.{sending_left}
 
@@ -38,7 +40,7 @@ idle_after r false (x ∷ xs) e = refl
 pub idle_halves : (r : Receiving) → (receiver_step r Idle false).state.halves ≡ []
 idle_halves r = idle_after r r.deaf r.halves refl
 
-halves_after : (n : ℕ) (r : Receiving) → r.halves ≡ [] → (receiver_after r (replicate n Idle) false).halves ≡ []
+pub halves_after : (n : ℕ) (r : Receiving) → r.halves ≡ [] → (receiver_after r (replicate n Idle) false).halves ≡ []
 halves_after zero r h = h
 halves_after (suc n) r h = halves_after n (receiver_step r Idle false).state (idle_halves r)
 
@@ -53,10 +55,10 @@ module _ (plan : Plan) (x : ℕ) (station : x < length plan.layout.stations) (p 
   there : w.since + n ≡ u
   there = omega (arith, since)
 
-  pub size : length hs ≡ n
+  size : length hs ≡ n
   size = length-span (λ a. heard_by_lines L a ls p) w.since n
 
-  pub heard_so : AllHeardAs w.carrier hs
+  heard_so : AllHeardAs w.carrier hs
   heard_so = λ i d l.
       let many = size in
       let in_it : i < n = omega (arith, l, many) in
@@ -83,7 +85,7 @@ module _ (plan : Plan) (x : ℕ) (station : x < length plan.layout.stations) (p 
       ap (λ (y : Sender). y.phase) sent ∙ (calm_on hs s w.carrier (w.until - w.since) heard_so (omega (arith, many, until)) behind.calm).0.phase
 
   -- a receiver at which no reception is under way while Idle is heard goes on so
-  pub still_brought : (s' : Sender) (k' : KeptReception) → s' ≡ after_all s hs →
+  still_brought : (s' : Sender) (k' : KeptReception) → s' ≡ after_all s hs →
       ((r : Receiving) → Hears r k → Hears (receiver_after r hs (is_sending s.phase)) k') → IsStillBy w s k → IsStillBy w s' k'
   still_brought s' k' sent receives still = λ idle silent.
       let from = behind.from_start in
@@ -97,7 +99,7 @@ module _ (plan : Plan) (x : ℕ) (station : x < length plan.layout.stations) (p 
       (receives r behind.receiver).count
       ∙ ap length (ap₂ (λ xs b. (receiver_after r xs b).halves) is off ∙ halves_after n r (no_halves r k (still idle off) behind.receiver))
 
-  pub brought : (s' : Sender) (k' : KeptReception) (w' : Watch) → w'.since ≡ u → w'.until ≡ w.until → w'.carrier ≡ w.carrier → w'.told ≡ w.told →
+  brought : (s' : Sender) (k' : KeptReception) (w' : Watch) → w'.since ≡ u → w'.until ≡ w.until → w'.carrier ≡ w.carrier → w'.told ≡ w.told →
       s' ≡ after_all s hs → s'.t ≡ w.since + n → k'.steps ≡ w.since + n →
       ((r : Receiving) → Hears r k → Hears (receiver_after r hs (is_sending s.phase)) k') →
       StandsBehind plan x p L t ls w' s' k'
@@ -225,7 +227,7 @@ module _ (plan : Plan) (x : ℕ) (station : x < length plan.layout.stations) (p 
       ∙ last_still r0 before (f u) sending none
 
 -- what it can need has not become more
-pub needs_less : (e : ℕ) (w' w : Watch) (s s' : Sender) (k k' : KeptReception) (hs : List Sym) (sending : Bool) → e - w.since ≡ e - w'.since + length hs → s' ≡ after_all s hs → GoesOn hs sending k k' →
+needs_less : (e : ℕ) (w' w : Watch) (s s' : Sender) (k k' : KeptReception) (hs : List Sym) (sending : Bool) → e - w.since ≡ e - w'.since + length hs → s' ≡ after_all s hs → GoesOn hs sending k k' →
     IsDemandWithin (behind_demand e w' s' k') (behind_demand e w s k)
 needs_less e w' w s s' k k' hs sending size sent goes =
     let n = e - w'.since in
@@ -234,6 +236,34 @@ needs_less e w' w s s' k k' hs sending size sent goes =
     subst (λ y. IsDemandWithin (sender_demand n y) (sender_demand m s)) (sym sent) (subst (λ a. IsDemandWithin (sender_demand n (after_all s hs)) (sender_demand a s)) (sym size) (sender_needs hs s n)) in
     let receiver : IsDemandWithin (receiver_demand n k') (receiver_demand m k) = subst (λ a. IsDemandWithin (receiver_demand n k') (receiver_demand a k)) (sym size) (kept_needs hs sending k k' n goes) in
     both_within (sender_demand n s') (receiver_demand n k') (sender_demand m s) (receiver_demand m k) sender receiver
+
+-- a station of a segment that stood behind, when it has gone on up to half bit u
+pub record IsBrought (of : Segment) (p t u : ℕ) (ls : List TapLine) (w : Watch) (s s' : Sender) (k k' : KeptReception) : Type 0 where
+  pub behind : StandsBehind of.plan.value (number_on of p) p of.lookahead t ls (record w { since = u }) s' k'
+  pub still : IsStillBy w s k → IsStillBy w s' k'
+  pub left : (e : ℕ) → u ≤ e → IsDemandWithin (behind_demand e (record w { since = u }) s' k') (behind_demand e w s k)
+
+pub is_brought : (of : Segment) (p t u : ℕ) (ls : List TapLine) (w : Watch) (s s' : Sender) (k k' : KeptReception) → p < length of.stations.items →
+    StandsBehind of.plan.value (number_on of p) p of.lookahead t ls w s k → w.since ≤ u → u ≤ w.until → HearsByLines of.plan.value (number_on of p) p of.lookahead t u ls →
+    ((hs : List Sym) → AllHeardAs w.carrier hs → length hs ≡ u - w.since → s' ≡ after_all s hs) → s'.t ≡ s.t + (u - w.since) → k'.steps ≡ w.since + (u - w.since) →
+    ((r : Receiving) → Hears r k → Hears (receiver_after r (heard_for of.lookahead w.since (u - w.since) ls p) (is_sending s.phase)) k') → IsBrought of p t u ls w s s' k k'
+is_brought of p t u ls w s s' k k' h stands since until right passed time steps receives =
+    let plan = of.plan.value in
+    let x = number_on of p in
+    let L = of.lookahead in
+    let n = u - w.since in
+    let hs = heard_for L w.since n ls p in
+    let there = is_station_of of p h in
+    let many = size plan x there p L t u ls w s k stands since until right in
+    let sent : s' ≡ after_all s hs = passed hs (heard_so plan x there p L t u ls w s k stands since until right) many in
+    record {
+      behind = brought plan x there p L t u ls w s k stands since until right s' k' (record w { since = u }) refl refl refl refl sent (time ∙ ap (λ a. a + n) stands.time) steps receives;
+      still = still_brought plan x there p L t u ls w s k stands since until right s' k' sent receives;
+      left = λ e later.
+          let r = receiver_at plan x w.since in
+          needs_less e (record w { since = u }) w s s' k k' hs (is_sending s.phase) (omega (arith, many, later, since)) sent
+          (record { receiver = r; before = stands.receiver; after = receives r stands.receiver });
+    }
 
 -- the half bit in which a reception ends
 pub idle_now : (plan : Plan) (x p L t u : ℕ) (ls : List TapLine) (w : Watch) (s : Sender) (k : KeptReception) → StandsBehind plan x p L t ls w s k → u < w.until → EndsAt u w s →

@@ -12,9 +12,9 @@ use Rattle.mac_transmit.specs.declared.phase.Phase.TheVariants.{Rest, Waiting, S
 use Rattle.mac_transmit.specs.Deference.{deferred}
 use Rattle.mac_transmit.specs.Laws.{carrier_after}
 use Rattle.mac_transmit.specs.Sender.{Sender, sender_step, finished, sending_ended, promoted, deferring, is_free, sending_started, emitting, after_turn, emitted_from, symbol_emitted, symbol_of, phase_started, defer_started, phase_after, hit_at, frame_at, ready_at, sending_length}
-use Rattle.mac_transmit.specs.Calm.{after_all, AllHeardAs, AreCalm, gets_hit, change_in, up_to_most}
+use Rattle.mac_transmit.specs.Calm.{after_all, AllHeardAs, AreCalm, AreOverBefore, gets_hit, change_in}
 use Rattle.mac_transmit.specs.Emissions.{emission_by}
-use Rattle.mac_transmit.proofs.CalmHalfBits.{pred_of, awaits, gap_on, same_hit, sends_on, sender, Fits, not_now, fits_down, uncapped, few_leapt, heard_first, heard_rest, state_is}
+use Rattle.mac_transmit.proofs.CalmHalfBits.{pred_of, awaits, gap_on, same_hit, sends_on, sender, not_now, over_sooner, heard_first, heard_rest, state_is}
 use Rattle.segment_engine.specs.SteadyPieces.{IsCalmAs}
 
 -- Nothing happens in a half bit: no sending ends, no frame or backoff is awaited to it, the phase stays, and what is
@@ -106,31 +106,34 @@ emission_next s c j e = ap (emission_by (emitting (after_turn s c) c) j) e ∙ e
 next_state : (s : Sender) (h : Sym) (c : Bool) → is_signal h ≡ c → IsQuiet s c → (sender_step s h).state ≡ emitting (after_turn s c) c
 next_state s h c e k = state_is s h c e ∙ ap (λ x. emitting (after_turn x c) c) k.settled
 
-fewer_fit : (a b : ℕ) (o : Option ℕ) → a ≤ b → Fits b o → Fits a o
-fewer_fit a b None h f = tt
-fewer_fit a b (Some m) h f = omega (arith, h, f)
+-- fewer half bits
+pub fewer_over : (a b : ℕ) (o : Option ℕ) → a ≤ b → AreOverBefore b o → AreOverBefore a o
+fewer_over a b None h f = tt
+fewer_over a b (Some m) h f = omega (arith, h, f)
 
-capped : (n : ℕ) (o : Option ℕ) → n ≤ 4096 → Fits n o → n ≤ up_to_most o
-capped n None l f = l
-capped n (Some m) l f = omega (arith, l, f)
+pub calm_fewer : (a b : ℕ) (c : Bool) (s : Sender) → a ≤ b → IsCalmAs b c s → IsCalmAs a c s
+calm_fewer a b c s h is = record {
+  number = fewer_over a b (change_in s c) h is.number;
+  calm = λ hs heard few. is.calm hs heard (omega (arith, few, h));
+}
 
 -- what is left, and what is emitted then
 pub record GoesOnCalm (s s' : Sender) (c : Bool) (n m : ℕ) : Type 0 where
-  pub left : Fits m (change_in s' c)
+  pub left : AreOverBefore m (change_in s' c)
   pub phase : s'.phase ≡ s.phase
   pub emits : (j : ℕ) → emission_by s' j s'.phase ≡ emission_by s (n + j) s.phase
 
-pub goes_on_calm : (hs : List Sym) (s : Sender) (c : Bool) (m : ℕ) → AllHeardAs c hs → Fits (length hs + m) (change_in s c) → GoesOnCalm s (after_all s hs) c (length hs) m
+pub goes_on_calm : (hs : List Sym) (s : Sender) (c : Bool) (m : ℕ) → AllHeardAs c hs → AreOverBefore (length hs + m) (change_in s c) → GoesOnCalm s (after_all s hs) c (length hs) m
 goes_on_calm [] s c m a f = record {
-  left = fewer_fit m (0 + m) (change_in s c) (omega arith) f;
+  left = fewer_over m (0 + m) (change_in s c) (omega arith) f;
   phase = refl;
   emits = λ j. let e : j ≡ 0 + j = omega arith in ap (λ x. emission_by s x s.phase) e;
 }
 goes_on_calm (h ∷ hs) s c m a f =
-    let f' : Fits (suc (length hs + m)) (change_in s c) = fewer_fit (suc (length hs + m)) (length (h ∷ hs) + m) (change_in s c) (omega arith) f in
+    let f' : AreOverBefore (suc (length hs + m)) (change_in s c) = fewer_over (suc (length hs + m)) (length (h ∷ hs) + m) (change_in s c) (omega arith) f in
     let k = quiet s c (not_now (length hs + m) (change_in s c) f') in
     let next = emitting (after_turn s c) c in
-    let later = goes_on_calm hs next c m (heard_rest c h hs a) (subst (Fits (length hs + m)) (sym k.left) (fits_down (length hs + m) (change_in s c) f')) in
+    let later = goes_on_calm hs next c m (heard_rest c h hs a) (subst (AreOverBefore (length hs + m)) (sym k.left) (over_sooner (length hs + m) (change_in s c) f')) in
     let is = next_state s h c (heard_first c h hs a) k in
     subst (λ x. GoesOnCalm s (after_all x hs) c (length (h ∷ hs)) m) (sym is) (record {
       left = later.left;
@@ -155,12 +158,10 @@ all_heard c (h ∷ hs) xs a b = with_first (heard_first c h hs a) (all_heard c h
 -- a sender that is calm for n half bits, after some of them
 pub calm_on : (hs : List Sym) (s : Sender) (c : Bool) (n : ℕ) → AllHeardAs c hs → length hs ≤ n → IsCalmAs n c s → GoesOnCalm s (after_all s hs) c (length hs) (n - length hs) × IsCalmAs (n - length hs) c (after_all s hs)
 calm_on hs s c n a few is =
-    let all = uncapped n (change_in s c) is.number in
-    let on = goes_on_calm hs s c (n - length hs) a (fewer_fit (length hs + (n - length hs)) n (change_in s c) (omega (arith, few)) all) in
-    let most = few_leapt n (change_in s c) is.number in (
+    let on = goes_on_calm hs s c (n - length hs) a (fewer_over (length hs + (n - length hs)) n (change_in s c) (omega (arith, few)) is.number) in (
       on,
       record {
-        number = capped (n - length hs) (change_in (after_all s hs) c) (omega (arith, most)) on.left;
+        number = on.left;
         calm = λ xs b l. let sum = length-append hs xs in calm_rest hs xs s (is.calm (hs ++ xs) (all_heard c hs xs a b) (omega (arith, sum, l, few)));
       },
     )

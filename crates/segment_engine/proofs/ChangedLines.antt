@@ -1,5 +1,5 @@
 -- What taps hear by lines of which some have changed.
-use Rattle.std.proofs.Common.{◌≡◌, ◌≢◌, ℕ, suc, ◌+◌, ◌-◌, ◌<◌, ◌≤◌, ◌∷◌, ◌||◌, Bool, true, false, cond, eqb, leb, inl, inr, List, [], map, take, length, length-append, get_or, refl, sym, subst, ap, ap₂, ◌∙◌, arith}
+use Rattle.std.proofs.Common.{◌≡◌, ◌≢◌, ℕ, suc, ◌+◌, ◌-◌, ◌<◌, ◌≤◌, ◌∷◌, ◌||◌, Bool, true, false, cond, eqb, leb, inl, inr, List, [], map, max, min, take, length, length-append, get_or, refl, sym, subst, ap, ap₂, ◌∙◌, arith}
 use Rattle.std.proofs.lemmas.List.{get_or-map, get_or_append_left}
 use Rattle.std.proofs.lemmas.Bool.{cases_lt, cases_eq, cases_order, eq-eqb}
 use Rattle.manchester_line.specs.declared.Sym.{Sym}
@@ -16,7 +16,8 @@ use Rattle.network.specs.TapsOnSegments.{count_on}
 use Rattle.network.proofs.RunnablePlans.{apart_plan}
 use Rattle.network.proofs.TapsOnSegments.{position_at}
 use Rattle.net_parts.specs.Windows.{edge_ports, lookahead}
-use Rattle.net_parts.specs.SegmentParts.{wiring}
+use Rattle.net_parts.specs.SegmentParts.{Wiring, wiring}
+use Rattle.net_parts.specs.Standing.{arrives}
 use Rattle.net_parts.proofs.LateRows.{if_true, if_false}
 use Rattle.net_parts.proofs.StationNumbers.{numbered, count-left}
 use Rattle.tap_lines.specs.TapLines.{TapLine, no_line, half_bits_back, heard_of_lines, heard_by_lines, symbol_on, class_on, class_back, class_of_lines, class_by_lines}
@@ -25,6 +26,7 @@ use Rattle.tap_lines.proofs.LineClasses.{IsAlikeBelow, class_same, heard_alike, 
 use Rattle.segment_engine.specs.declared.apart.Watch.{Watch}
 use Rattle.segment_engine.specs.KnownLines.{KnowLines}
 use Rattle.segment_engine.specs.StationsApart.{StandsBehind, HearsByLines, AreToldAnew, IsToldAnew, lowered_watch}
+use Rattle.segment_engine.proofs.CalmLater.{calm_fewer}
 
 -- what tap p, at a place, hears of a line that is tap q's
 abbrev heard_of_one : ℕ → ℕ → ℕ → ℕ → ℕ → TapLine → Sym
@@ -68,43 +70,51 @@ same_places [] (l' ∷ ls') many same = absurd (omega (arith, many))
 same_places (l ∷ ls) [] many same = absurd (omega (arith, many))
 same_places (l ∷ ls) (l' ∷ ls') many same = ap₂ ◌∷◌ (same 0) (same_places ls ls' (omega (arith, many)) (λ i. same (suc i)))
 
-pub known_anew : (plan : Plan) (s u front : ℕ) (ls ls' : List TapLine) → AreToldAnew u (length (wiring plan.layout s).stations) ls ls' →
-    KnowLines plan (wiring plan.layout s) (lookahead plan.layout) u front ls → KnowLines plan (wiring plan.layout s) (lookahead plan.layout) u front ls'
-known_anew plan s u front ls ls' anew know =
-    let n = length (wiring plan.layout s).stations in
+-- where it is known what their ports' have
+pub known_with : (plan : Plan) (w : Wiring) (L u m front front' : ℕ) (ls ls' : List TapLine) → AreToldAnew u m ls ls' → KnowLines plan w L u front ls →
+    ((p a : ℕ) → p < length w.edges → (get_or ls' (length w.stations + p) no_line).base ≤ a → a < front' → symbol_on (get_or ls' (length w.stations + p) no_line) a ≡ arrives plan L (get_or w.edges p 0) a) →
+    ((p a : ℕ) → p < length w.edges → a < front' → class_on (get_or ls' (length w.stations + p) no_line) a ≡ is_signal (symbol_on (get_or ls' (length w.stations + p) no_line) a)) → KnowLines plan w L u front' ls'
+known_with plan w L u m front front' ls ls' anew know arrivals classes =
+    let n = length w.stations in
     let many = anew.many in
     record {
       many = many ∙ know.many;
-      places = same_places ls ls' many (λ i. (line_anew u n i ls ls' anew).place) ∙ know.places;
-      no_delays = λ r h. (line_anew u n r ls ls' anew).wait ∙ know.no_delays r h;
-      delays = λ p h. (line_anew u n (n + p) ls ls' anew).wait ∙ know.delays p h;
+      places = same_places ls ls' many (λ i. (line_anew u m i ls ls' anew).place) ∙ know.places;
+      no_delays = λ r h. (line_anew u m r ls ls' anew).wait ∙ know.no_delays r h;
+      delays = λ p h. (line_anew u m (n + p) ls ls' anew).wait ∙ know.delays p h;
       begins = λ r h.
-          let is = line_anew u n r ls ls' anew in
+          let is = line_anew u m r ls ls' anew in
           let base = is.begins in
           let kept = is.keeps in
           let z = know.begins r (omega (arith, h, many)) in
           omega (arith, base, kept, z);
       near = λ p r hp hr.
-          let is = line_anew u n r ls ls' anew in
+          let is = line_anew u m r ls ls' anew in
           let wait = is.wait in
           let kept = is.keeps in
           let z = know.near p r hp (omega (arith, hr, many)) in
           omega (arith, wait, kept, z);
       emissions = λ r a h low high.
-          let is = line_anew u n r ls ls' anew in
+          let is = line_anew u m r ls ls' anew in
           let base = is.begins in
           is.before a high ∙ know.emissions r a h (omega (arith, low, base)) high;
-      arrivals = λ p a h low high.
-          let is = anew.others (n + p) (omega arith) in
-          let base = ap (λ (l : TapLine). l.base) is in
-          ap (λ l. symbol_on l a) is ∙ know.arrivals p a h (omega (arith, low, base)) high;
+      arrivals = arrivals;
       classes = λ r a h low.
-          let is = line_anew u n r ls ls' anew in
+          let is = line_anew u m r ls ls' anew in
           is.classes a low ∙ know.classes r a h low ∙ sym (ap is_signal (is.before a low));
-      port_classes = λ p a h low.
-          let is = anew.others (n + p) (omega arith) in
-          subst (λ l. class_on l a ≡ is_signal (symbol_on l a)) (sym is) (know.port_classes p a h low);
+      port_classes = classes;
     }
+
+pub known_anew : (plan : Plan) (s u front : ℕ) (ls ls' : List TapLine) → AreToldAnew u (length (wiring plan.layout s).stations) ls ls' →
+    KnowLines plan (wiring plan.layout s) (lookahead plan.layout) u front ls → KnowLines plan (wiring plan.layout s) (lookahead plan.layout) u front ls'
+known_anew plan s u front ls ls' anew know =
+    let n = length (wiring plan.layout s).stations in
+    known_with plan (wiring plan.layout s) (lookahead plan.layout) u n front front ls ls' anew know
+    (λ p a h low high.
+    let is = anew.others (n + p) (omega arith) in
+    let base = ap (λ (l : TapLine). l.base) is in
+    ap (λ l. symbol_on l a) is ∙ know.arrivals p a h (omega (arith, low, base)) high)
+    (λ p a h low. subst (λ l. class_on l a ≡ is_signal (symbol_on l a)) (sym (anew.others (n + p) (omega arith))) (know.port_classes p a h low))
 
 pub heard_anew : (L u n a q : ℕ) (ls ls' : List TapLine) → AreToldAnew u n ls ls' → a < u → heard_by_lines L a ls' q ≡ heard_by_lines L a ls q
 heard_anew L u n a q ls ls' anew below =
@@ -264,7 +274,6 @@ lowered plan x q L t p from ls ls' w s k is apart behind =
     let same : get_or ls' q no_line ≡ get_or ls q no_line = is.others q no_line apart in
     let order = behind.ordered in
     let within = behind.within in
-    let number = behind.calm.number in
     record {
       from_start = behind.from_start;
       ordered = omega (arith, order);
@@ -273,10 +282,7 @@ lowered plan x q L t p from ls ls' w s k is apart behind =
       receiver = behind.receiver;
       time = behind.time;
       steps = behind.steps;
-      calm = record {
-        number = omega (arith, number);
-        calm = λ hs heard few. behind.calm.calm hs heard (omega (arith, few));
-      };
+      calm = calm_fewer (min w.until (max (from + back) w.since) - w.since) (w.until - w.since) w.carrier s (omega arith) behind.calm;
       steady = λ a low high. heard_alike L p from a q ls ls' is (omega (arith, low, high)) ∙ behind.steady a low (omega (arith, high));
       line = λ j h. ap (λ l. symbol_on l (w.since + j)) same ∙ behind.line j h;
       signal = behind.signal;

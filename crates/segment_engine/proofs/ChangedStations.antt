@@ -216,10 +216,3 @@ regroup_less o a b a' room h c = record {
   for_frames = let y = c.for_frames in let x = h.fewer_frames in omega (arith, x, y);
   for_octets = let y = c.for_octets in let x = h.fewer_octets in omega (arith, x, y);
 }
-
-pub covers_second : (a b : Demand) (room : Room) → Covers (both_demands a b) room → Covers b room
-covers_second a b room c = record {
-  for_rows = let y = c.for_rows in omega (arith, y);
-  for_frames = let y = c.for_frames in omega (arith, y);
-  for_octets = let y = c.for_octets in omega (arith, y);
-}

@@ -13,7 +13,6 @@ pub mod SteadyReceivers
 pub mod SteadyCalm
 pub mod CalmLater
 pub mod SendersStep
-pub mod SignalSenders
 pub mod AnewLines
 pub mod StepOne
 pub mod StepPasses

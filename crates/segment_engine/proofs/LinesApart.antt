@@ -6,9 +6,9 @@ use Rattle.manchester_line.specs.Line.{is_signal}
 use Rattle.load_plan.specs.declared.plan.Plan.{Plan}
 use Rattle.mac_receive.specs.KeptReceiver.{KeptReception}
 use Rattle.mac_transmit.specs.Sender.{Sender, sender_step}
-use Rattle.mac_transmit.specs.Calm.{AllHeardAs, after_all, calm_of}
+use Rattle.mac_transmit.specs.Calm.{AllHeardAs, AreOverBefore, after_all, change_in}
 use Rattle.mac_transmit.specs.Emissions.{emission_by}
-use Rattle.mac_transmit.proofs.CalmEmissions.{calm_senders_emit}
+use Rattle.mac_transmit.proofs.CalmEmissions.{emits_so}
 use Rattle.network.specs.Attempts.{sender_at}
 use Rattle.network.specs.Times.{heard}
 use Rattle.net_parts.specs.Windows.{lookahead}
@@ -22,6 +22,7 @@ use Rattle.tap_lines.specs.TapLines.{TapLine, no_line, symbol_on, class_by_lines
 use Rattle.segment_engine.specs.declared.apart.Watch.{Watch}
 use Rattle.segment_engine.specs.KnownLines.{KnowLines}
 use Rattle.segment_engine.specs.StationsApart.{StandsBehind, HearsByLines, SaysOf}
+use Rattle.segment_engine.proofs.CalmLater.{fewer_over}
 use Rattle.segment_engine.proofs.ChangedLines.{class_known}
 use Rattle.segment_engine.proofs.LinesHear.{station_by_lines, port_by_lines}
 use Rattle.segment_engine.proofs.StationsLater.{sender_runs, station}
@@ -111,8 +112,7 @@ module _ (plan : Plan) (s u front : ℕ) (ls : List TapLine) (know : KnowLines p
         let all : AllHeardAs w0.carrier hs = λ i d c.
         let in_it : i < m = omega (arith, c, size) in
         ap is_signal (get_or-span (heard plan k) w0.since m i d in_it) ∙ heard_as i (omega (arith, in_it)) in
-        let number_of = is.calm.number in
-        let enough : length hs < calm_of x w0.carrier = omega (arith, number_of, size, late, there) in
+        let over : AreOverBefore (suc (length hs)) (change_in x w0.carrier) = fewer_over (suc (length hs)) (w0.until - w0.since) (change_in x w0.carrier) (omega (arith, size, late, there)) is.calm.number in
         let now : is_signal (heard plan k a) ≡ w0.carrier = subst (λ b. is_signal (heard plan k b) ≡ w0.carrier) there (heard_as m (omega arith)) in
         let later : sender_at plan k a ≡ after_all x hs = ap (sender_at plan k) (sym there) ∙ sender_runs plan k (station plan s r h) m w0.since ∙ ap (λ y. after_all y hs) (sym is.sender) in
         let in_told : w0.since + m < w0.told = omega (arith, there, late, told) in
@@ -120,7 +120,7 @@ module _ (plan : Plan) (s u front : ℕ) (ls : List TapLine) (know : KnowLines p
         record {
           emits = sym (line
               ∙ ap (λ i. emission_by x i x.phase) (sym size)
-              ∙ sym (calm_senders_emit x w0.carrier hs (heard plan k a) all now enough)
+              ∙ sym (emits_so hs x w0.carrier (heard plan k a) all now over)
               ∙ ap (λ y. (sender_step y (heard plan k a)).emitted) (sym later)
               ∙ sym ((station_facts plan).emits k a (station plan s r h)));
           class = is.goes a (omega (arith, early, after)) ∙ sym (ap is_signal line ∙ is.signal m in_told);

@@ -1,11 +1,10 @@
 -- Stations of a segment on which nothing happens, when they have come to the present half bit, and then several half bits
 -- later.
-use Rattle.std.proofs.Common.{◌≡◌, ℕ, ◌+◌, ◌-◌, ◌<◌, ◌≤◌, All, false, List, length, replicate, get_or, sym, subst, ap, ap₂, ◌∙◌, arith}
+use Rattle.std.proofs.Common.{◌≡◌, ℕ, ◌+◌, ◌-◌, ◌<◌, ◌≤◌, false, List, length, replicate, get_or, sym, subst, ap, ◌∙◌, arith}
 use Rattle.std.proofs.lemmas.Bool.{false≢true}
 use Rattle.manchester_line.specs.declared.Sym.TheVariants.{Idle}
 use Rattle.manchester_line.specs.Line.{is_signal}
 use Rattle.mac_receive.specs.KeptReceiver.{KeptReception, Hears}
-use Rattle.mac_receive.specs.Receiver.{Receiving, receiver_after}
 use Rattle.mac_transmit.specs.Sender.{Sender, is_sending}
 use Rattle.mac_transmit.specs.Calm.{after_all}
 use Rattle.network.specs.Attempts.{sender_at}
@@ -16,7 +15,7 @@ use Rattle.tap_lines.proofs.LineClasses.{idle_on}
 use Rattle.segment_engine.specs.declared.apart.Watch.{Watch}
 use Rattle.segment_engine.specs.declared.running.Running.{Running}
 use Rattle.segment_engine.specs.declared.segment.Segment.{Segment}
-use Rattle.segment_engine.specs.QuietHalfBits.{AreAtRest, ComeInIdle, IsCalmFor, IsQuietFor}
+use Rattle.segment_engine.specs.QuietHalfBits.{AreAtRest, ComeInIdle, HasLeapt, IsCalmFor, IsQuietFor}
 use Rattle.segment_engine.specs.RunningStates.{GoesOnAt}
 use Rattle.segment_engine.specs.SteadyPieces.{IsCalmAs}
 use Rattle.segment_engine.specs.StationsApart.{StandsBehind, StandAllApart, number_on}
@@ -58,14 +57,7 @@ module _ (of : Segment) (a : Running) (m front : ℕ) (at : GoesOnAt of front a)
   module _ (come : ComeInIdle of.plan.value (wiring of.plan.value.layout of.number).edges t m) (settled : a.from ≡ t)
       (ls : List TapLine) (forgot : HaveForgotten (t + m) a.lines.items ls)
       (ws : List Watch) (ss : List Sender) (ks : List KeptReception) (ws_len : length ws ≡ length a.watches.items) (ss_len : length ss ≡ length a.senders.items) (ks_len : length ks ≡ length a.receivers.items)
-      (since : (i : ℕ) (w : Watch) → i < length ws → (get_or ws i w).since ≡ t + m)
-      (until : (i : ℕ) (w : Watch) → i < length ws → (get_or ws i w).until ≡ t + m)
-      (told : (i : ℕ) (w : Watch) → i < length ws → t + m ≤ (get_or ws i w).told)
-      (states : (i : ℕ) (s : Sender) → i < length ss → get_or ss i s ≡ after_all (get_or a.senders.items i s) (replicate m Idle))
-      (times : All (λ s. s.t ≡ t + m) ss)
-      (phases : (i : ℕ) (s : Sender) → i < length ss → (get_or ss i s).phase ≡ (get_or a.senders.items i s).phase)
-      (hears : (i : ℕ) (k : KeptReception) (r : Receiving) → i < length ks → Hears r (get_or a.receivers.items i k) → Hears (receiver_after r (replicate m Idle) false) (get_or ks i k))
-      (steps : All (λ k. k.steps ≡ t + m) ks) where
+      (leapt : (i : ℕ) (w : Watch) (s s' : Sender) (k k' : KeptReception) → i < length ss → HasLeapt t m (get_or ws i w) (get_or a.senders.items i s) (get_or ss i s') (get_or a.receivers.items i k) (get_or ks i k')) where
     abbrev u : ℕ
     u = t + m
 
@@ -82,38 +74,33 @@ module _ (of : Segment) (a : Running) (m front : ℕ) (at : GoesOnAt of front a)
         let x = number_on of i in
         let plan = of.plan.value in
         let st = at.stations in
-        let watched = st.watches in
         let many = st.senders in
-        let heard = st.receivers in
         let taps = st.taps in
-        let lw : i < length ws = omega (arith, h, ws_len, watched) in
-        let ls' : i < length ss = omega (arith, h, ss_len, many) in
-        let lk : i < length ks = omega (arith, h, ks_len, heard) in
         let in_it : i < length a.lines.items = omega (arith, h, taps) in
-        let one = st.each i w s k h in
-        let b = one.behind in
+        let b = (st.each i w s k h).behind in
+        let one = leapt i w s s k k (omega (arith, h, ss_len, many)) in
         let y = get_or ss i s in
-        let at_u = since i w lw in
-        let to_u = until i w lw in
-        let told_u = told i w lw in
+        let at_u = one.since in
+        let to_u = one.until in
+        let told_u = one.told in
         let then = was_since i w h in
         let off : is_sending (get_or a.senders.items i s).phase ≡ false = (quiet.senders i w s (omega (arith, h, many))).not_sending in
-        let silent : is_sending y.phase ≡ false = ap is_sending (phases i s ls') ∙ off in
+        let silent : is_sending y.phase ≡ false = ap is_sending one.phase ∙ off in
         let goes : (v : ℕ) → u ≤ v → class_on (get_or ls i no_line) v ≡ false = λ v late.
         class_was u a.lines.items ls forgot i v in_it (omega (arith, late)) ∙ b.goes v (omega (arith, late, then)) ∙ off in
         let state : y ≡ sender_at plan x u =
-        states i s ls' ∙ ap (λ z. after_all z (replicate m Idle)) (b.sender ∙ ap (sender_at plan x) then) ∙ sym (sender_then of a m front at quiet come ds dk i h) in
+        one.state ∙ ap (λ z. after_all z (replicate m Idle)) (b.sender ∙ ap (sender_at plan x) then) ∙ sym (sender_then of a m front at quiet come ds dk i h) in
         let receiver : Hears (receiver_at plan x u) (get_or ks i k) =
         subst (λ r. Hears r (get_or ks i k)) (sym (receiver_then of a m front at quiet come ds dk i h))
-        (hears i k (receiver_at plan x t) lk (subst (λ v. Hears (receiver_at plan x v) (get_or a.receivers.items i k)) then b.receiver)) in
+        (one.receiver (receiver_at plan x t) (subst (λ v. Hears (receiver_at plan x v) (get_or a.receivers.items i k)) then b.receiver)) in
         record {
           from_start = omega (arith, at_u);
           ordered = omega (arith, at_u, to_u);
           within = omega (arith, to_u, told_u);
           sender = state ∙ ap (sender_at plan x) (sym at_u);
           receiver = subst (λ v. Hears (receiver_at plan x v) (get_or ks i k)) (sym at_u) receiver;
-          time = times i s ls' ∙ sym at_u;
-          steps = steps i k lk ∙ sym at_u;
+          time = one.time ∙ sym at_u;
+          steps = one.steps ∙ sym at_u;
           calm = let none : 0 ≡ (get_or ws i w).until - (get_or ws i w).since = omega (arith, at_u, to_u) in subst (λ j. IsCalmAs j (get_or ws i w).carrier y) none (no_calm (get_or ws i w).carrier y);
           steady = λ v low high. absurd (omega (arith, low, high, at_u, to_u));
           line = λ j l. idle_on u ((get_or ws i w).since + j) (get_or ls i no_line) goes (omega (arith, at_u)) ∙ sym (emits_idle y j y.phase silent);
@@ -134,9 +121,10 @@ module _ (of : Segment) (a : Running) (m front : ℕ) (at : GoesOnAt of front a)
           watches = watched ∙ sym ws_len;
           taps = omega (arith, taps, lines);
           each = λ i w s k h.
-              let lw : i < length ws = omega (arith, h, ws_len, watched) in
-              let at_u = since i w lw in
-              let to_u = until i w lw in
+              let many = st.senders in
+              let one = leapt i w s s k k (omega (arith, h, ss_len, many)) in
+              let at_u = one.since in
+              let to_u = one.until in
               record {
                 behind = behind i w s k h;
                 since = omega (arith, at_u);

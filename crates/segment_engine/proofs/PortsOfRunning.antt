@@ -34,7 +34,7 @@ module _ (of : Segment) (a : Running) (front : ℕ) (at : IsRunningAt of front a
   port_room p h =
       let w = wiring of.plan.value.layout of.number in
       let many = at.goes.lines.many in
-      takes_in of.plan.value w of.lookahead a.t front a.from a.lines.items at.goes.lines at.goes.room in_time at.near (length w.stations + p) (omega (arith, h, many)) (port_ends p h)
+      takes_in of front a at in_time (length w.stations + p) (omega (arith, h, many)) (port_ends p h)
 
   pub watch_fits : (i : ℕ) (w : Watch) → i < length a.watches.items → (get_or a.watches.items i w).until < 2 ^ 64
   watch_fits i w h =

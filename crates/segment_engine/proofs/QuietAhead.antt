@@ -11,6 +11,7 @@ use Rattle.segment_engine.specs.declared.segment.Segment.{Segment}
 use Rattle.segment_engine.specs.QuietHalfBits.{AreAtRest, IsCalmFor, IsQuietFor}
 use Rattle.segment_engine.specs.RunningStates.{GoesOnAt}
 use Rattle.segment_engine.specs.SteadyPieces.{IsCalmAs}
+use Rattle.segment_engine.proofs.CalmLater.{calm_fewer}
 use Rattle.segment_engine.proofs.QuietStations.{no_class}
 
 a_watch : Watch
@@ -52,11 +53,9 @@ module _ (of : Segment) (a : Running) (at : GoesOnAt of a.t a) (silent : AreIdle
           let x = get_or a.watches.items i w in
           let b = (at.stations.each i w s a_kept in_it).behind in
           let calm : IsCalmAs (x.until - x.since) false (get_or a.senders.items i s) = subst (λ c. IsCalmAs (x.until - x.since) c (get_or a.senders.items i s)) (carrier_off i w in_it) b.calm in
-          let number = calm.number in
           record {
             not_sending = not_sending i s in_it;
-            number = omega (arith, number, late);
-            calm = λ hs heard few. calm.calm hs heard (omega (arith, few, late));
+            calm = calm_fewer (a.t + n - x.since) (x.until - x.since) false (get_or a.senders.items i s) (omega (arith, late)) calm;
           };
       receivers = λ i k h.
           let many = at.stations.receivers in

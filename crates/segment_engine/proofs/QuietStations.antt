@@ -1,15 +1,14 @@
 -- Where nothing happens on a segment, all taps hear Idle, and all stations stand in the network several half bits later.
-use Rattle.std.proofs.Common.{◌≡◌, ℕ, zero, suc, ◌+◌, ◌-◌, ◌<◌, ◌≤◌, false, inl, inr, Option, Some, None, List, [], ◌∷◌, map, length, replicate, get_or, refl, sym, subst, ap, ◌∙◌, arith}
+use Rattle.std.proofs.Common.{◌≡◌, ℕ, ◌+◌, ◌-◌, ◌<◌, ◌≤◌, false, inl, inr, List, [], map, length, replicate, get_or, refl, sym, subst, ap, ◌∙◌, arith}
 use Rattle.std.proofs.lemmas.Bool.{cases_lt, false≢true}
 use Rattle.std.proofs.lemmas.List.{get_or-map, length-map}
-use Rattle.manchester_line.specs.declared.Sym.{Sym}
 use Rattle.manchester_line.specs.declared.Sym.TheVariants.{Idle}
 use Rattle.manchester_line.specs.Line.{is_signal}
 use Rattle.load_plan.specs.declared.plan.Plan.{Plan}
 use Rattle.mac_receive.specs.KeptReceiver.{KeptReception}
-use Rattle.mac_receive.specs.Receiver.{Receiving, receiver_step, receiver_after}
+use Rattle.mac_receive.specs.Receiver.{Receiving, receiver_after}
 use Rattle.mac_transmit.specs.Sender.{Sender, is_sending}
-use Rattle.mac_transmit.specs.Calm.{AllHeardAs, after_all, calm_of, change_in, up_to_most}
+use Rattle.mac_transmit.specs.Calm.{AllHeardAs, after_all}
 use Rattle.network.specs.Attempts.{sender_at}
 use Rattle.network.specs.Times.{heard, emitted}
 use Rattle.net_parts.specs.Machines.{span}
@@ -28,29 +27,22 @@ use Rattle.segment_engine.specs.KnownLines.{KnowLines}
 use Rattle.segment_engine.specs.QuietHalfBits.{ComeInIdle, GoOutIdle, IsCalmFor, IsQuietFor}
 use Rattle.segment_engine.specs.RunningStates.{GoesOnAt}
 use Rattle.segment_engine.specs.SteadyPieces.{IsCalmAs}
-use Rattle.segment_engine.specs.StationsApart.{StandsBehind, StandsApart, StandAllApart, AreStill, HearAllByLines, most_told, number_on}
-use Rattle.segment_engine.proofs.BehindStations.{idle_halves}
-use Rattle.segment_engine.proofs.CalmLater.{calm_on}
+use Rattle.segment_engine.specs.StationsApart.{StandsBehind, HearAllByLines, number_on}
+use Rattle.segment_engine.proofs.BehindStations.{halves_after}
+use Rattle.segment_engine.proofs.Beginnings.{is_station_of}
+use Rattle.segment_engine.proofs.CalmLater.{calm_fewer, calm_on}
 use Rattle.segment_engine.proofs.LinesApart.{ports_from}
-use Rattle.segment_engine.proofs.RowsApart.{captures_same, captures_stay, rows_same, there}
+use Rattle.segment_engine.proofs.RowsApart.{GoOnTo, a_watch, captures_same, captures_stay, rows_same}
 use Rattle.segment_engine.proofs.RunsApart.{all_hear, all_known}
 use Rattle.segment_engine.proofs.StationsLater.{no_halves, receiver_runs, sender_runs}
 use Rattle.segment_engine.proofs.SteadyCalm.{emits_idle}
 use Rattle.segment_engine.proofs.SteadyReceivers.{idle_piece, span_same}
 
-abbrev a_watch : Watch
-a_watch = record { since = 0; until = 0; carrier = false; told = 0 }
-
-few_at_most : (o : Option ℕ) → up_to_most o ≤ 4096
-few_at_most None = omega arith
-few_at_most (Some n) = omega arith
-
 -- quiet for fewer half bits
-calm_for_fewer : (m n : ℕ) (s : Sender) → n ≤ m → IsCalmFor m s → IsCalmFor n s
+pub calm_for_fewer : (m n : ℕ) (s : Sender) → n ≤ m → IsCalmFor m s → IsCalmFor n s
 calm_for_fewer m n s h c = record {
   not_sending = c.not_sending;
-  number = let x = c.number in omega (arith, x, h);
-  calm = λ hs a l. c.calm hs a (omega (arith, l, h));
+  calm = calm_fewer n m false s h c.calm;
 }
 
 pub quiet_for_fewer : (m n : ℕ) (a : Running) → n ≤ m → IsQuietFor m a → IsQuietFor n a
@@ -60,11 +52,6 @@ quiet_for_fewer m n a h q = record {
   senders = λ i w s l. calm_for_fewer (a.t + m - (get_or a.watches.items i w).since) (a.t + n - (get_or a.watches.items i w).since) (get_or a.senders.items i s) (omega (arith, h)) (q.senders i w s l);
   receivers = q.receivers;
 }
-
--- a receiver at rest that hears Idle stays so
-rest_after : (n : ℕ) (r : Receiving) → r.halves ≡ [] → (receiver_after r (replicate n Idle) false).halves ≡ []
-rest_after zero r h = h
-rest_after (suc n) r h = rest_after n (receiver_step r Idle false).state (idle_halves r)
 
 -- a segment on whose lines nothing is that still reaches a tap
 module _ (of : Segment) (a : Running) (front : ℕ) (at : GoesOnAt of front a) (silent : AreIdleFrom (a.t - a.far) a.lines.items) where
@@ -118,12 +105,6 @@ module _ (of : Segment) (a : Running) (m front : ℕ) (at : GoesOnAt of front a)
   abbrev calm_watch : Watch → Watch
   calm_watch x = record x { until = t + m; carrier = false; told = t + m }
 
-  abbrev calm_watches : List Watch
-  calm_watches = map calm_watch ws
-
-  watch_is : (i : ℕ) (x : Watch) → i < n → get_or calm_watches i x ≡ calm_watch (get_or ws i x)
-  watch_is i x h = let many = at.stations.watches in get_or-map calm_watch ws i x x (omega (arith, h, many))
-
   calm_behind : (i : ℕ) (x : Watch) (s : Sender) (k : KeptReception) → i < n →
       StandsBehind plan (number_on of i) i L a.from ls (calm_watch (get_or ws i x)) (get_or ss i s) (get_or ks i k)
   calm_behind i x s k h =
@@ -143,7 +124,7 @@ module _ (of : Segment) (a : Running) (m front : ℕ) (at : GoesOnAt of front a)
         receiver = b.receiver;
         time = b.time;
         steps = b.steps;
-        calm = record { number = c.number; calm = c.calm };
+        calm = c.calm;
         steady = λ u low high. elim (cases_lt u t) [
           | inl before ↦ b.steady u low (omega (arith, before, late)) ∙ carrier_off i x h (omega (arith, low, before))
           | inr after ↦ no_class of a front at quiet.lines u i after (omega (arith, h, taps))
@@ -154,33 +135,13 @@ module _ (of : Segment) (a : Running) (m front : ℕ) (at : GoesOnAt of front a)
         lasts = λ yes. absurd (false≢true (sym c.not_sending ∙ yes));
       }
 
-  stand_calm : StandAllApart of a.from t ls calm_watches ss ks
-  stand_calm =
-      let st = at.stations in
-      let size = length-map ws calm_watch in
-      record {
-        senders = st.senders;
-        receivers = st.receivers;
-        watches = st.watches ∙ sym size;
-        taps = st.taps;
-        each = λ i x s k h.
-            let one = st.each i x s k h in
-            let c = calm_at i x s h in
-            let heard = st.receivers in
-            let number = c.number in
-            let few = few_at_most (change_in (get_or ss i s) false) in
-            let early = one.since in
-            subst (λ y. StandsApart of a.from t i ls y (get_or ss i s) (get_or ks i k)) (sym (watch_is i x h)) (record {
-              behind = calm_behind i x s k h;
-              since = one.since;
-              until = omega arith;
-              within = omega (arith, number, few, early);
-              still = λ b e q. quiet.receivers i k (omega (arith, h, heard));
-            });
-      }
-
-  still_calm : AreStill of calm_watches ss ks
-  still_calm i x s k h below e q = let heard = at.stations.receivers in quiet.receivers i k (omega (arith, h, heard))
+  calm_on_to : (ds : Sender) (dk : KeptReception) → GoOnTo of a.from t (t + m) ls (λ i. calm_watch (get_or ws i a_watch)) (λ i. get_or ss i ds) (λ i. get_or ks i dk)
+  calm_on_to ds dk = record {
+    behind = λ i h. calm_behind i a_watch ds dk h;
+    since = λ i h. (at.stations.each i a_watch ds dk h).since;
+    until = λ i h. omega arith;
+    still = λ i h below idle silent. let heard = at.stations.receivers in quiet.receivers i dk (omega (arith, h, heard));
+  }
 
   -- each station now
   module _ (ds : Sender) (dk : KeptReception) (i : ℕ) (h : i < n) where
@@ -225,14 +186,13 @@ module _ (of : Segment) (a : Running) (m front : ℕ) (at : GoesOnAt of front a)
         let all : AllHeardAs false hs = λ j d l.
         let in_it : j < k = omega (arith, l, size) in
         ap is_signal (get_or-span (heard plan x) since k j d in_it) ∙ heard_idle j in_it in
-        let later : sender_at plan x t ≡ after_all s hs = ap (sender_at plan x) (sym e) ∙ sender_runs plan x (there of t ls ds dk i h) k since ∙ ap (λ y. after_all y hs) (sym was.sender) in
+        let later : sender_at plan x t ≡ after_all s hs = ap (sender_at plan x) (sym e) ∙ sender_runs plan x (is_station_of of i h) k since ∙ ap (λ y. after_all y hs) (sym was.sender) in
         let on = calm_on hs s false (t + m - since) all (omega (arith, size, e)) was.calm in
         let left : t + m - since - length hs ≡ m = omega (arith, size, e) in
         let calm : IsCalmAs m false (after_all s hs) = subst (λ j. IsCalmAs j false (after_all s hs)) left on.1 in
         subst (IsCalmFor m) (sym later) (record {
           not_sending = ap is_sending on.0.phase ∙ (calm_at i a_watch ds h).not_sending;
-          number = calm.number;
-          calm = calm.calm;
+          calm = calm;
         })
 
     -- and its receiver at rest
@@ -243,8 +203,8 @@ module _ (of : Segment) (a : Running) (m front : ℕ) (at : GoesOnAt of front a)
         let heard_many = at.stations.receivers in
         let none = no_halves r (get_or ks i dk) (quiet.receivers i dk (omega (arith, h, heard_many))) was.receiver in
         let later : receiver_at plan x t ≡ receiver_after r (replicate k Idle) false =
-        ap (receiver_at plan x) (sym so_far) ∙ receiver_runs plan x (there of t ls ds dk i h) false k since emits_nothing ∙ ap (λ hs. receiver_after r hs false) (idle_piece (heard plan x) since k heard_idle) in
-        ap (λ (y : Receiving). y.halves) later ∙ rest_after k r none
+        ap (receiver_at plan x) (sym so_far) ∙ receiver_runs plan x (is_station_of of i h) false k since emits_nothing ∙ ap (λ hs. receiver_after r hs false) (idle_piece (heard plan x) since k heard_idle) in
+        ap (λ (y : Receiving). y.halves) later ∙ halves_after k r none
 
   -- where Idle comes in, too
   module _ (come : ComeInIdle plan w.edges t m) where
@@ -286,16 +246,22 @@ module _ (of : Segment) (a : Running) (m front : ℕ) (at : GoesOnAt of front a)
           ];
         }
 
-    later_until : (i : ℕ) (x : Watch) → i < n → u ≤ (get_or calm_watches i x).until
-    later_until i x h = let e = ap (λ (y : Watch). y.until) (watch_is i x h) in omega (arith, e)
-
     module _ (ds : Sender) (dk : KeptReception) where
+      abbrev w' : ℕ → Watch
+      w' i = calm_watch (get_or ws i a_watch)
+
+      abbrev s' : ℕ → Sender
+      s' i = get_or ss i ds
+
+      abbrev k' : ℕ → KeptReception
+      k' i = get_or ks i dk
+
       -- the lines are right below their end
       pub quiet_known : KnowLines plan w L u u ls
-      quiet_known = all_known of a.from t ls calm_watches ss ks ds dk stand_calm u (omega arith) later_until u know_ahead at.begun (omega arith) at.hears
+      quiet_known = all_known of a.from t u (omega arith) ls w' s' k' (calm_on_to ds dk) u know_ahead at.begun (omega arith) at.hears
 
       quiet_heard : HearAllByLines of a.from u ls
-      quiet_heard = all_hear of a.from t ls calm_watches ss ks ds dk stand_calm u (omega arith) later_until u know_ahead at.begun (omega arith) at.hears
+      quiet_heard = all_hear of a.from t u (omega arith) ls w' s' k' (calm_on_to ds dk) u know_ahead at.begun (omega arith) at.hears
 
       hear_idle : (i j : ℕ) → i < n → j < m → heard plan (number_on of i) (t + j) ≡ Idle
       hear_idle i j h l =
@@ -316,20 +282,20 @@ module _ (of : Segment) (a : Running) (m front : ℕ) (at : GoesOnAt of front a)
       pub sender_then : (i : ℕ) → i < n → sender_at plan (number_on of i) u ≡ after_all (sender_at plan (number_on of i) t) (replicate m Idle)
       sender_then i h =
           let x = number_on of i in
-          sender_runs plan x (there of t ls ds dk i h) m t ∙ ap (after_all (sender_at plan x t)) (span_same (heard plan x) t m Idle (λ j l. hear_idle i j h l))
+          sender_runs plan x (is_station_of of i h) m t ∙ ap (after_all (sender_at plan x t)) (span_same (heard plan x) t m Idle (λ j l. hear_idle i j h l))
 
       pub receiver_then : (i : ℕ) → i < n → receiver_at plan (number_on of i) u ≡ receiver_after (receiver_at plan (number_on of i) t) (replicate m Idle) false
       receiver_then i h =
           let x = number_on of i in
-          receiver_runs plan x (there of t ls ds dk i h) false m t (λ j l. ap is_signal (emit_idle i j h l))
+          receiver_runs plan x (is_station_of of i h) false m t (λ j l. ap is_signal (emit_idle i j h l))
           ∙ ap (λ hs. receiver_after (receiver_at plan x t) hs false) (span_same (heard plan x) t m Idle (λ j l. hear_idle i j h l))
 
       -- nothing is logged and captured
       pub quiet_rows : rows_of_devices plan of.stations.items u ≡ rows_of_devices plan of.stations.items t
-      quiet_rows = rows_same of a.from ls ds dk t u (omega arith) calm_watches ss ks stand_calm still_calm later_until quiet_heard
+      quiet_rows = rows_same of a.from ls t u (omega arith) w' s' k' (calm_on_to ds dk) quiet_heard
 
       pub quiet_captures : map (λ x. captures_at plan x u) of.stations.items ≡ map (λ x. captures_at plan x t) of.stations.items
-      quiet_captures = captures_stay of a.from ls ds dk u t (λ i h. captures_same of a.from ls ds dk t u (omega arith) calm_watches ss ks stand_calm still_calm later_until quiet_heard i h)
+      quiet_captures = captures_stay of a.from ls u t (λ i h. captures_same of a.from ls t u (omega arith) w' s' k' (calm_on_to ds dk) quiet_heard i h)
 
       -- the ports hear Idle, which goes out
       pub ports_hear_nothing : GoOutIdle plan w.edges t m

@@ -16,14 +16,32 @@ use Rattle.net_parts.proofs.NetworkFacts.{station_facts}
 use Rattle.tap_lines.specs.TapLines.{TapLine}
 use Rattle.segment_engine.specs.declared.apart.Watch.{Watch}
 use Rattle.segment_engine.specs.declared.segment.Segment.{Segment}
-use Rattle.segment_engine.specs.StationsApart.{StandAllApart, AreStill, HearAllByLines, number_on, heard_reception}
+use Rattle.segment_engine.specs.StationsApart.{StandsBehind, StandAllApart, AreStill, IsStillBy, HearAllByLines, number_on, heard_reception}
+use Rattle.segment_engine.proofs.Beginnings.{is_station_of}
 use Rattle.segment_engine.proofs.BehindStations.{no_sending, no_reception}
-use Rattle.segment_engine.proofs.StationsLater.{station, rows_stay, captures_to}
+use Rattle.segment_engine.proofs.StationsLater.{rows_stay, captures_to}
 
-abbrev a_watch : Watch
+abbrev pub a_watch : Watch
 a_watch = record { since = 0; until = 0; carrier = false; told = 0 }
 
-module _ (of : Segment) (t : ℕ) (ls : List TapLine) (ds : Sender) (dk : KeptReception) where
+-- Stations that stand behind, before half bit u at the latest, and of which none is due before half bit v.
+pub record GoOnTo (of : Segment) (t u v : ℕ) (ls : List TapLine) (ws : ℕ → Watch) (ss : ℕ → Sender) (ks : ℕ → KeptReception) : Type 0 where
+  pub behind : (i : ℕ) → i < length of.stations.items → StandsBehind of.plan.value (number_on of i) i of.lookahead t ls (ws i) (ss i) (ks i)
+  pub since : (i : ℕ) → i < length of.stations.items → (ws i).since ≤ u
+  pub until : (i : ℕ) → i < length of.stations.items → v ≤ (ws i).until
+  pub still : (i : ℕ) → i < length of.stations.items → (ws i).since < (ws i).until → IsStillBy (ws i) (ss i) (ks i)
+
+pub go_on_to : (of : Segment) (t u v : ℕ) (ls : List TapLine) (ws : List Watch) (ss : List Sender) (ks : List KeptReception) (ds : Sender) (dk : KeptReception) →
+    StandAllApart of t u ls ws ss ks → AreStill of ws ss ks → ((i : ℕ) (w : Watch) → i < length of.stations.items → v ≤ (get_or ws i w).until) →
+    GoOnTo of t u v ls (λ i. get_or ws i a_watch) (λ i. get_or ss i ds) (λ i. get_or ks i dk)
+go_on_to of t u v ls ws ss ks ds dk all still until = record {
+  behind = λ i h. (all.each i a_watch ds dk h).behind;
+  since = λ i h. (all.each i a_watch ds dk h).since;
+  until = λ i h. until i a_watch h;
+  still = λ i h. still i a_watch ds dk h;
+}
+
+module _ (of : Segment) (t : ℕ) (ls : List TapLine) where
   abbrev plan : Plan
   plan = of.plan.value
 
@@ -33,11 +51,6 @@ module _ (of : Segment) (t : ℕ) (ls : List TapLine) (ds : Sender) (dk : KeptRe
   abbrev n : ℕ
   n = length items
 
-  pub there : (i : ℕ) → i < n → number_on of i < length plan.layout.stations
-  there i h =
-      let numbers = of.station_numbers in
-      subst (λ (ks : List ℕ). get_or ks i 0 < length plan.layout.stations) (sym numbers) (station plan of.number i (let e = ap length numbers in omega (arith, e, h)))
-
   pub heard_less : (u v : ℕ) → u ≤ v → HearAllByLines of t v ls → HearAllByLines of t u ls
   heard_less u v h right = λ i l. record {
     hears = λ a low high. (right i l).hears a low (omega (arith, high, h));
@@ -46,22 +59,20 @@ module _ (of : Segment) (t : ℕ) (ls : List TapLine) (ds : Sender) (dk : KeptRe
   }
 
   -- half bits in which nothing happens
-  module _ (u v : ℕ) (later : u ≤ v) (ws : List Watch) (ss : List Sender) (ks : List KeptReception) (all : StandAllApart of t u ls ws ss ks)
-      (still : AreStill of ws ss ks)
-      (until : (i : ℕ) (w : Watch) → i < n → v ≤ (get_or ws i w).until) (right : HearAllByLines of t v ls) where
+  module _ (u v : ℕ) (later : u ≤ v) (ws : ℕ → Watch) (ss : ℕ → Sender) (ks : ℕ → KeptReception) (on : GoOnTo of t u v ls ws ss ks) (right : HearAllByLines of t v ls) where
     abbrev Nothing : List ℕ → Type 0
     Nothing xs = (r j : ℕ) → r < length xs → j < v - u → ((sender_step (sender_at plan (get_or xs r 0) (u + j)) (heard plan (get_or xs r 0) (u + j))).event ≡ None)
         × ((receiver_step (receiver_at plan (get_or xs r 0) (u + j)) (heard plan (get_or xs r 0) (u + j)) (is_signal (emitted plan (get_or xs r 0) (u + j)))).event ≡ None)
 
     nothing : Nothing items
     nothing r j h l =
-        let one = all.each r a_watch ds dk h in
-        let early = one.since in
-        let late = until r a_watch h in
+        let early = on.since r h in
+        let late = on.until r h in
+        let there = is_station_of of r h in
         let a = u + j in
         let so = heard_less (a + 1) v (omega (arith, l)) right r h in (
-          no_sending plan (number_on of r) (there r h) r of.lookahead t a ls (get_or ws r a_watch) (get_or ss r ds) (get_or ks r dk) one.behind (omega (arith, early)) (omega (arith, late, l)) so,
-          no_reception plan (number_on of r) (there r h) r of.lookahead t a ls (get_or ws r a_watch) (get_or ss r ds) (get_or ks r dk) one.behind (omega (arith, early)) (omega (arith, late, l)) so (still r a_watch ds dk h (omega (arith, early, late, l))),
+          no_sending plan (number_on of r) there r of.lookahead t a ls (ws r) (ss r) (ks r) (on.behind r h) (omega (arith, early)) (omega (arith, late, l)) so,
+          no_reception plan (number_on of r) there r of.lookahead t a ls (ws r) (ss r) (ks r) (on.behind r h) (omega (arith, early)) (omega (arith, late, l)) so (on.still r h (omega (arith, early, late, l))),
         )
 
     at_last : u + (v - u) ≡ v
@@ -105,6 +116,6 @@ module _ (of : Segment) (t : ℕ) (ls : List TapLine) (ds : Sender) (dk : KeptRe
       ∙ taken i in_it
       ∙ ap (λ xs. get_or xs i [] ++ taken_by u one.event one.octets) were
       ∙ ap (λ xs. xs ++ taken_by u one.event one.octets) (get_or-map c items i 0 [] in_it)
-      ∙ sym (capture_next plan (station_facts plan) (number_on of i) u (there i in_it))
+      ∙ sym (capture_next plan (station_facts plan) (number_on of i) u (is_station_of of i in_it))
       ∙ sym (same i in_it)
       ∙ sym (get_or-map c' items i 0 d in_it))

@@ -1,5 +1,5 @@
 -- Stations that go on one by one, from a half bit to the next in which one of them is due.
-use Rattle.std.proofs.Common.{◌≡◌, ℕ, zero, suc, ◌+◌, ◌-◌, ◌<◌, ◌≤◌, false, List, length, get_or, sym, subst, ap, ap₂, ◌∙◌, arith}
+use Rattle.std.proofs.Common.{◌≡◌, ℕ, zero, suc, ◌+◌, ◌-◌, ◌<◌, ◌≤◌, List, length, get_or, sym, subst, ap, ap₂, ◌∙◌, arith}
 use Rattle.mac_parameters.specs.Distances.{distance}
 use Rattle.load_plan.specs.declared.plan.Plan.{Plan}
 use Rattle.mac_receive.specs.KeptReceiver.{KeptReception}
@@ -13,14 +13,12 @@ use Rattle.segment_engine.specs.KnownLines.{KnowLines}
 use Rattle.segment_engine.specs.StationsApart.{StandsBehind, StandAllApart, AreStill, HearsByLines, HearAllByLines, AreToldAnew, TellsUpTo, CoversApart, behind_demand, first_demands}
 use Rattle.segment_engine.proofs.KeptParts.{covers_within}
 use Rattle.segment_engine.proofs.QuietRoom.{both_within}
+use Rattle.segment_engine.proofs.RowsApart.{GoOnTo}
 use Rattle.segment_engine.proofs.StepAll.{both_more, tells_anew}
 use Rattle.window_room.specs.NeededRoom.{Demand, IsDemandWithin}
 use Rattle.window_room.specs.Rooms.{Room}
 use Rattle.segment_engine.proofs.ChangedLines.{line_anew}
 use Rattle.segment_engine.proofs.LinesApart.{know_below, hears_below}
-
-abbrev a_watch : Watch
-a_watch = record { since = 0; until = 0; carrier = false; told = 0 }
 
 -- lines that are told anew twice
 pub told_again : (u v n : ℕ) (ls ls' ls'' : List TapLine) → u ≤ v → AreToldAnew u n ls ls' → AreToldAnew v n ls' ls'' → AreToldAnew u n ls ls''
@@ -77,9 +75,30 @@ covers_sooner a b n ws ss ks room h c = λ w s k.
     (first_within n f g (λ i l. both_more (get_or ss i s) (get_or ks i k) (a - (get_or ws i w).since) (b - (get_or ws i w).since) (omega (arith, h))))
     (c w s k)
 
-module _ (of : Segment) (t u : ℕ) (ls : List TapLine) (ws : List Watch) (ss : List Sender) (ks : List KeptReception) (ds : Sender) (dk : KeptReception)
-    (all : StandAllApart of t u ls ws ss ks) (v : ℕ) (later : u ≤ v)
-    (until : (i : ℕ) (w : Watch) → i < length of.stations.items → v ≤ (get_or ws i w).until) where
+-- no station is due before v
+pub all_stand : (of : Segment) (t u v : ℕ) (ls : List TapLine) (ws : List Watch) (ss : List Sender) (ks : List KeptReception) → StandAllApart of t u ls ws ss ks → u ≤ v →
+    ((i : ℕ) (w : Watch) → i < length of.stations.items → v ≤ (get_or ws i w).until) → AreStill of ws ss ks → StandAllApart of t v ls ws ss ks
+all_stand of t u v ls ws ss ks all later until still = record {
+  senders = all.senders;
+  receivers = all.receivers;
+  watches = all.watches;
+  taps = all.taps;
+  each = λ i x s k h.
+      let one = all.each i x s k h in
+      let early = one.since in
+      let late = until i x h in
+      record {
+        behind = one.behind;
+        since = omega (arith, early, later);
+        until = late;
+        within = one.within;
+        still = λ before. still i x s k h (omega (arith, before, late));
+      };
+}
+
+-- their lines are right below v, where they are right below u
+module _ (of : Segment) (t u v : ℕ) (later : u ≤ v) (ls : List TapLine) (ws : ℕ → Watch) (ss : ℕ → Sender) (ks : ℕ → KeptReception) (on : GoOnTo of t u v ls ws ss ks)
+    (front : ℕ) (know : KnowLines of.plan.value (wiring of.plan.value.layout of.number) of.lookahead u front ls) (from : t ≤ u) (upto : v ≤ front) (right : HearAllByLines of t u ls) where
   abbrev plan : Plan
   plan = of.plan.value
 
@@ -92,61 +111,36 @@ module _ (of : Segment) (t u : ℕ) (ls : List TapLine) (ws : List Watch) (ss : 
   abbrev items : List ℕ
   items = of.stations.items
 
-  -- no station is due before v
-  pub all_stand : AreStill of ws ss ks → StandAllApart of t v ls ws ss ks
-  all_stand still = record {
-    senders = all.senders;
-    receivers = all.receivers;
-    watches = all.watches;
-    taps = all.taps;
-    each = λ i x s k h.
-        let one = all.each i x s k h in
-        let early = one.since in
-        let late = until i x h in
-        record {
-          behind = one.behind;
-          since = omega (arith, early, later);
-          until = late;
-          within = one.within;
-          still = λ before. still i x s k h (omega (arith, before, late));
-        };
-  }
+  abbrev Behind : List ℕ → ℕ → Type 0
+  Behind xs l = (i : ℕ) → i < length xs → StandsBehind plan (get_or xs i 0) i l t ls (ws i) (ss i) (ks i)
 
-  -- they are right below v, where they are right below u
-  module _ (front : ℕ) (know : KnowLines plan w of.lookahead u front ls) (from : t ≤ u) (upto : v ≤ front) (right : HearAllByLines of t u ls) where
-    abbrev Behind : List ℕ → ℕ → Type 0
-    Behind xs l = (i : ℕ) → i < length xs → StandsBehind plan (get_or xs i 0) i l t ls (get_or ws i a_watch) (get_or ss i ds) (get_or ks i dk)
+  abbrev RightTo : ℕ → List ℕ → ℕ → Type 0
+  RightTo b xs l = (i : ℕ) → i < length xs → HearsByLines plan (get_or xs i 0) i l t b ls
 
-    abbrev RightTo : ℕ → List ℕ → ℕ → Type 0
-    RightTo b xs l = (i : ℕ) → i < length xs → HearsByLines plan (get_or xs i 0) i l t b ls
+  many : length items ≡ length w.stations
+  many = ap length of.station_numbers
 
-    many : length items ≡ length w.stations
-    many = ap length of.station_numbers
+  know_there : KnowLines plan w L u front ls
+  know_there = subst (λ l. KnowLines plan w l u front ls) of.window_length know
 
-    know_there : KnowLines plan w L u front ls
-    know_there = subst (λ l. KnowLines plan w l u front ls) of.window_length know
+  behind_there : Behind w.stations L
+  behind_there = subst (λ xs. Behind xs L) of.station_numbers (subst (λ l. Behind items l) of.window_length on.behind)
 
-    behind_there : Behind w.stations L
-    behind_there = subst (λ xs. Behind xs L) of.station_numbers (subst (λ l. Behind items l) of.window_length (λ i h. (all.each i a_watch ds dk h).behind))
+  right_there : RightTo u w.stations L
+  right_there = subst (λ xs. RightTo u xs L) of.station_numbers (subst (λ l. RightTo u items l) of.window_length right)
 
-    right_there : RightTo u w.stations L
-    right_there = subst (λ xs. RightTo u xs L) of.station_numbers (subst (λ l. RightTo u items l) of.window_length right)
+  since_there : (i : ℕ) → i < length w.stations → (ws i).since ≤ u
+  since_there i h = on.since i (let e = many in omega (arith, h, e))
 
-    since_there : (i : ℕ) → i < length w.stations → (get_or ws i a_watch).since ≤ u
-    since_there i h = (all.each i a_watch ds dk (let e = many in omega (arith, h, e))).since
+  until_there : (i : ℕ) → i < length w.stations → v ≤ (ws i).until
+  until_there i h = on.until i (let e = many in omega (arith, h, e))
 
-    until_there : (i : ℕ) → i < length w.stations → v ≤ (get_or ws i a_watch).until
-    until_there i h = until i a_watch (let e = many in omega (arith, h, e))
+  pub all_known : KnowLines plan w of.lookahead v front ls
+  all_known =
+      subst (λ l. KnowLines plan w l v front ls) (sym of.window_length)
+      (know_below plan of.number u front ls know_there t v from upto ws ss ks behind_there since_there until_there right_there later)
 
-    pub all_known : KnowLines plan w of.lookahead v front ls
-    all_known =
-        subst (λ l. KnowLines plan w l v front ls) (sym of.window_length)
-        (know_below plan of.number u front ls know_there t v from upto (λ i. get_or ws i a_watch) (λ i. get_or ss i ds) (λ i. get_or ks i dk)
-        behind_there since_there until_there right_there later)
-
-    pub all_hear : HearAllByLines of t v ls
-    all_hear =
-        let there : RightTo v w.stations L =
-        hears_below plan of.number u front ls know_there t v from upto (λ i. get_or ws i a_watch) (λ i. get_or ss i ds) (λ i. get_or ks i dk)
-        behind_there since_there until_there right_there later in
-        subst (λ l. RightTo v items l) (sym of.window_length) (subst (λ xs. RightTo v xs L) (sym of.station_numbers) there)
+  pub all_hear : HearAllByLines of t v ls
+  all_hear =
+      let there : RightTo v w.stations L = hears_below plan of.number u front ls know_there t v from upto ws ss ks behind_there since_there until_there right_there later in
+      subst (λ l. RightTo v items l) (sym of.window_length) (subst (λ xs. RightTo v xs L) (sym of.station_numbers) there)

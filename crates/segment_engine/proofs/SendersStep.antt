@@ -1,21 +1,20 @@
 -- One half bit of a sender of which a sending is under way.
-use Rattle.std.proofs.Common.{◌≡◌, ℕ, zero, suc, ◌+◌, ◌-◌, ◌*◌, ◌<◌, ◌≤◌, Bool, true, false, ltb, leb, ◌&&◌, Option, Some, None, List, [], ◌∷◌, length, refl, sym, ap, subst, ◌∙◌, arith}
+use Rattle.std.proofs.Common.{◌≡◌, ℕ, zero, suc, ◌+◌, ◌-◌, ◌<◌, ◌≤◌, Bool, true, false, ltb, leb, ◌&&◌, Option, Some, None, List, [], ◌∷◌, length, refl, sym, ap, subst, ◌∙◌, arith}
 use Rattle.std.proofs.lemmas.Bool.{cond-true, cond-false, cond_both, leb-true}
 use Rattle.std.proofs.lemmas.Bool.Decides.{nat_tests}
 use Rattle.manchester_line.specs.declared.Sym.{Sym}
 use Rattle.manchester_line.specs.declared.Sym.TheVariants.{Idle}
 use Rattle.manchester_line.specs.Line.{is_signal, jam_at}
-use Rattle.manchester_line.proofs.Places.{length_line}
-use Rattle.mac_parameters.specs.Parameters.{half_bits_an_octet, preamble_length}
 use Rattle.mac_transmit.specs.declared.phase.Phase.{Phase}
 use Rattle.mac_transmit.specs.declared.phase.Phase.TheVariants.{Rest, Waiting, Sending, Backoff}
-use Rattle.mac_transmit.specs.Sender.{Sender, sender_step, finished, sending_ended, promoted, deferring, is_free, sending_started, emitting, after_turn, emitted_from, symbol_emitted, symbol_of, phase_started, phase_after, hit_at, frame_at, ready_at, line_at, line_length, jam_start, sending_length, is_sending}
+use Rattle.mac_transmit.specs.Sender.{Sender, sender_step, finished, sending_ended, promoted, deferring, is_free, sending_started, emitting, after_turn, emitted_from, symbol_emitted, symbol_of, phase_started, phase_after, hit_at, frame_at, ready_at, line_at, jam_start, sending_length, is_sending}
 use Rattle.mac_transmit.specs.Calm.{after_all, AllHeardAs, AreCalm}
 use Rattle.mac_transmit.specs.Emissions.{IsSendingFor, emission_by}
 use Rattle.mac_transmit.proofs.CalmHalfBits.{state_is}
 use Rattle.mac_transmit.proofs.EndedSendings.{ended_either}
 use Rattle.mac_transmit.proofs.SignalSendings.{jam_later}
 use Rattle.segment_engine.specs.SteadyPieces.{IsCalmAs}
+use Rattle.segment_engine.proofs.SendingTexts.{text_length}
 
 -- a hit changes nothing in the half bit in which it comes
 less : (a b : ℕ) → a < b → ltb a b ≡ true
@@ -30,10 +29,6 @@ new_hit octets None false p = refl
 new_hit octets (Some hit) c p = refl
 
 -- a sending has half bits
-text_length : (octets : List ℕ) → line_length octets ≡ preamble_length + half_bits_an_octet * length octets
-unfolding line_length
-text_length octets = length_line octets
-
 length_some : (octets : List ℕ) (hit : Option ℕ) → 0 < sending_length octets hit
 length_some octets None = let e = text_length octets in omega (arith, e)
 length_some octets (Some hit) = omega arith

@@ -170,7 +170,7 @@ one_part f xs a p i h l ea =
     sym (take_all i (a ++ drop i xs) l) ∙ front_text f xs a p i h ea ∙ ap (span f p) all
 
 -- what is no Idle is a signal
-signal : (s : Sym) → s ≢ Idle → is_signal s ≡ true
+pub signal : (s : Sym) → s ≢ Idle → is_signal s ≡ true
 signal Idle h = absurd (h refl)
 signal Hi h = refl
 signal Lo h = refl

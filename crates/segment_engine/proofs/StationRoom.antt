@@ -79,7 +79,3 @@ station_left n other s s' h k k' e old mid new state is keeps received c =
     let three = from_inner other (sender_demand n sent) (receiver_demand (suc n) k) mid two in
     let four = received n (both_demands other (sender_demand n sent)) three in
     subst P (sym state) (to_right other (sender_demand n sent) (receiver_demand n k') new four)
-
--- demands that are the same in each of the three
-pub same_demand : {a b c d e f : ℕ} → a ≡ d → b ≡ e → c ≡ f → ◌≡◌ {A = Demand} (record { rows = a; frames = b; octets = c }) (record { rows = d; frames = e; octets = f })
-same_demand x y z = λ i. record { rows = x i; frames = y i; octets = z i }

@@ -1,13 +1,12 @@
 -- Stations to which nothing happens for several half bits, and what their lines tell ahead.
-use Rattle.std.proofs.Common.{◌≡◌, ℕ, ◌+◌, ◌-◌, ◌≤◌, Bool, false, List, [], ◌∷◌, length, replicate, refl, sym, subst, ap, ap₂, ◌∙◌, arith}
-use Rattle.std.specs.Prelude.{◌↔◌, Option}
+use Rattle.std.proofs.Common.{◌≡◌, ℕ, ◌+◌, ◌-◌, ◌≤◌, Bool, false, Option, Some, None, List, [], ◌∷◌, length, replicate, refl, sym, ap, ap₂, ◌∙◌, arith}
 use Rattle.manchester_line.specs.declared.Sym.{Sym}
 use Rattle.manchester_line.specs.declared.Sym.TheVariants.{Idle}
 use Rattle.manchester_line.specs.Line.{is_signal}
 use Rattle.mac_transmit.specs.declared.phase.Phase.{Phase}
 use Rattle.mac_transmit.specs.declared.phase.Phase.TheVariants.{Rest, Waiting, Sending, Backoff}
 use Rattle.mac_transmit.specs.Sender.{Sender, is_sending, frame_at, symbol_of}
-use Rattle.mac_transmit.specs.Calm.{AllHeardAs, AreCalm, calm_of}
+use Rattle.mac_transmit.specs.Calm.{AreCalm, AreOverBefore, change_in}
 use Rattle.mac_transmit.specs.Emissions.{emission_by}
 use Rattle.segment_engine.specs.SteadyPieces.{IsCalmAs, sent_ahead}
 use Rattle.segment_engine.proofs.SteadyReceivers.{span_same}
@@ -23,9 +22,13 @@ none_calm : (s : Sender) (hs : List Sym) → length hs ≤ 0 → AreCalm s hs
 none_calm s [] h = tt
 none_calm s (x ∷ hs) h = absurd (omega (arith, h))
 
+none_over : (change : Option ℕ) → AreOverBefore 0 change
+none_over None = tt
+none_over (Some m) = omega arith
+
 -- nothing happens in no half bits
 pub no_calm : (c : Bool) (s : Sender) → IsCalmAs 0 c s
-no_calm c s = record { number = omega arith; calm = λ hs a l. none_calm s hs l }
+no_calm c s = record { number = none_over (change_in s c); calm = λ hs a l. none_calm s hs l }
 
 -- what a sending has ahead
 pub emission_is : (s : Sender) (octets : List ℕ) (start : ℕ) (hit : Option ℕ) (t j : ℕ) → octets ≡ frame_at s.queue s.place → s.phase ≡ Sending start hit → t ≡ s.t → start ≤ t →

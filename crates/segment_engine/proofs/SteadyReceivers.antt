@@ -3,11 +3,12 @@ use Rattle.std.proofs.Common.{◌≡◌, ◌≢◌, ℕ, zero, suc, ◌+◌, ◌
 use Rattle.std.proofs.lemmas.List.{length-replicate, get_or-replicate}
 use Rattle.std.proofs.lemmas.Bool.{false≢true}
 use Rattle.manchester_line.specs.declared.Sym.{Sym}
-use Rattle.manchester_line.specs.declared.Sym.TheVariants.{Idle, Hi, Lo, Clash}
+use Rattle.manchester_line.specs.declared.Sym.TheVariants.{Idle}
 use Rattle.manchester_line.specs.Line.{is_signal}
 use Rattle.mac_transmit.specs.Calm.{AllHeardAs}
 use Rattle.net_parts.specs.Machines.{span}
 use Rattle.net_parts.proofs.RepeaterSteps.{length-span, get_or-span}
+use Rattle.tap_lines.proofs.HeardClasses.{idle_symbol}
 
 pub span_same : {X : Type 0} (f : ℕ → X) (k n : ℕ) (x : X) → ((i : ℕ) → i < n → f (k + i) ≡ x) → span f k n ≡ replicate n x
 span_same f k zero x h = refl
@@ -18,14 +19,8 @@ span_same f k (suc n) x h =
 pub all_idle : (n : ℕ) → AllHeardAs false (replicate n Idle)
 all_idle n = λ i d c. let size = length-replicate n Idle in ap is_signal (get_or-replicate n i Idle d (omega (arith, c, size)))
 
-idle_of : (s : Sym) → is_signal s ≡ false → s ≡ Idle
-idle_of Idle h = refl
-idle_of Hi h = absurd (false≢true (sym h))
-idle_of Lo h = absurd (false≢true (sym h))
-idle_of Clash h = absurd (false≢true (sym h))
-
 pub idle_piece : (f : ℕ → Sym) (t n : ℕ) → ((j : ℕ) → j < n → is_signal (f (t + j)) ≡ false) → span f t n ≡ replicate n Idle
-idle_piece f t n h = span_same f t n Idle (λ j l. idle_of (f (t + j)) (h j l))
+idle_piece f t n h = span_same f t n Idle (λ j l. idle_symbol (f (t + j)) (h j l))
 
 not_idle : (s : Sym) → is_signal s ≡ true → s ≢ Idle
 not_idle s h e = false≢true (sym (ap is_signal e) ∙ h)

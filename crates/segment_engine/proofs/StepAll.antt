@@ -1,12 +1,11 @@
 -- A half bit of stations of which some are due: what stands once one of them has had its turn.
-use Rattle.std.proofs.Common.{◌≡◌, ◌≢◌, ℕ, suc, ◌+◌, ◌-◌, ◌<◌, ◌≤◌, ◌++◌, inl, inr, None, List, length, set, get_or, refl, sym, subst, ap, ap₂, ◌∙◌, arith, append_assoc}
+use Rattle.std.proofs.Common.{◌≡◌, ◌≢◌, ℕ, suc, ◌+◌, ◌<◌, ◌≤◌, ◌++◌, inl, inr, None, List, length, set, get_or, refl, sym, subst, ap, ◌∙◌, arith, append_assoc}
 use Rattle.std.proofs.lemmas.Bool.{cases_lt, cases_eq}
 use Rattle.std.proofs.lemmas.List.{append-nil}
 use Rattle.std.specs.Prelude.{Option, min, max}
 use Rattle.collision_log.specs.declared.row.Body.{Body}
 use Rattle.collision_log.specs.declared.row.Row.{Row}
 use Rattle.manchester_line.specs.Line.{is_signal}
-use Rattle.mac_parameters.specs.Distances.{distance}
 use Rattle.load_plan.specs.declared.plan.Plan.{Plan}
 use Rattle.mac_receive.specs.KeptReceiver.{KeptReception}
 use Rattle.mac_transmit.specs.Sender.{Sender}
@@ -22,12 +21,13 @@ use Rattle.segment_engine.specs.declared.apart.Watch.{Watch}
 use Rattle.segment_engine.specs.declared.segment.Segment.{Segment}
 use Rattle.segment_engine.specs.KnownLines.{KnowLines}
 use Rattle.segment_engine.specs.StationsApart.{StandsBehind, StandsApart, HearsByLines, IsStillBy, IsToldAnew, AreToldAnew, SaysOf, TellsUpTo, CoversApart, behind_demand, heard_reception, lowered_watch, number_on, rows_of_both, sent_event}
+use Rattle.segment_engine.proofs.ArrivedLines.{stand_lowered}
+use Rattle.segment_engine.proofs.Beginnings.{is_station_of}
 use Rattle.segment_engine.proofs.BehindStations.{no_reception, no_sending}
-use Rattle.segment_engine.proofs.ChangedLines.{class_known, known_anew, lowered, reaches_later, unchanged_line, unlowered}
+use Rattle.segment_engine.proofs.ChangedLines.{class_known, known_anew, reaches_later, unchanged_line}
 use Rattle.segment_engine.proofs.ChangedStations.{demands_alike, each_set}
 use Rattle.segment_engine.proofs.LinesApart.{hears_so_far, emits_one}
 use Rattle.segment_engine.proofs.QuietRoom.{both_within}
-use Rattle.segment_engine.proofs.StationsLater.{station}
 use Rattle.segment_engine.proofs.WindowParcels.{receiver_more}
 
 -- lines of which one is told anew
@@ -50,13 +50,6 @@ pub alike_to : (u n p from : ℕ) (ls ls' : List TapLine) → p < n → AreToldA
 alike_to u n p from ls ls' few anew others alike =
     let is = anew.told p few in
     record { many = anew.many; place = is.place; wait = is.wait; others = others; alike = alike }
-
--- what is heard of the changed line stands as far back as before
-back_alike : (L p from q : ℕ) (ls ls' : List TapLine) → IsAlikeBelow p from ls ls' → q ≢ p →
-    half_bits_back L (get_or ls' q no_line).at (get_or ls' p no_line) ≡ half_bits_back L (get_or ls q no_line).at (get_or ls p no_line)
-back_alike L p from q ls ls' is other =
-    let here : (get_or ls' q no_line).at ≡ (get_or ls q no_line).at = ap (λ (l : TapLine). l.at) (is.others q no_line other) in
-    ap₂ (λ x y. x + y - L) (ap₂ distance here is.place) is.wait
 
 -- one more half bit of what is heard
 pub right_next : (plan : Plan) (x p L t u : ℕ) (ls : List TapLine) → HearsByLines plan x p L t u ls → heard plan x u ≡ heard_by_lines L u ls p →
@@ -152,20 +145,15 @@ module _ (of : Segment) where
       right_next plan (number_on of r) r of.lookahead t u ls right (heard_so u front r ls know below h) (class_so u front r ls know below h)
       (emits_so t u front r ls w s k know below h is on right).emits
 
-  there : (i : ℕ) → i < n → number_on of i < length plan.layout.stations
-  there i h =
-      let len = ap length of.station_numbers in
-      subst (λ (xs : List ℕ). get_or xs i 0 < length plan.layout.stations) (sym of.station_numbers) (station plan of.number i (omega (arith, h, len)))
-
   pub silent_on : (t u front r : ℕ) (ls : List TapLine) (w : Watch) (s : Sender) (k : KeptReception) → Know u front ls → u < front → r < n → StandsApart of t u r ls w s k → u < w.until →
       HearsByLines plan (number_on of r) r of.lookahead t u ls → sent_event plan (number_on of r) u ≡ None
   silent_on t u front r ls w s k know below h is on right =
-      no_sending plan (number_on of r) (there r h) r of.lookahead t u ls w s k is.behind is.since on (right_on t u front r ls w s k know below h is on right)
+      no_sending plan (number_on of r) (is_station_of of r h) r of.lookahead t u ls w s k is.behind is.since on (right_on t u front r ls w s k know below h is on right)
 
   pub nothing_on : (t u front r : ℕ) (ls : List TapLine) (w : Watch) (s : Sender) (k : KeptReception) → Know u front ls → u < front → r < n → StandsApart of t u r ls w s k → u < w.until →
       HearsByLines plan (number_on of r) r of.lookahead t u ls → IsStillBy w s k → (heard_reception plan (number_on of r) u).event ≡ None
   nothing_on t u front r ls w s k know below h is on right still =
-      no_reception plan (number_on of r) (there r h) r of.lookahead t u ls w s k is.behind is.since on (right_on t u front r ls w s k know below h is on right) still
+      no_reception plan (number_on of r) (is_station_of of r h) r of.lookahead t u ls w s k is.behind is.since on (right_on t u front r ls w s k know below h is on right) still
 
   pub gone_on : (t u r : ℕ) (ls : List TapLine) (w : Watch) (s : Sender) (k : KeptReception) → StandsApart of t u r ls w s k → u < w.until → (w.since < w.until → IsStillBy w s k) →
       StandsApart of t (u + 1) r ls w s k
@@ -198,26 +186,8 @@ module _ (of : Segment) where
       StandsApart of t v q ls' (lowered_watch (from + half_bits_back of.lookahead (get_or ls' q no_line).at (get_or ls' p no_line)) w) s k
   apart_lowered t u v front q p from ls ls' w s k know alike late few hq hp other is =
       let some = later_on u front q p ls know hq hp other in
-      let a = is.until in
-      let b = is.since in
-      let c = is.within in
-      subst (λ x. StandsApart of t v q ls' (lowered_watch (from + x) w) s k) (sym (back_alike of.lookahead p from q ls ls' alike other)) (record {
-        behind = lowered plan (number_on of q) q of.lookahead t p from ls ls' w s k alike other is.behind;
-        since = b;
-        until = omega (arith, a, late, few, some);
-        within = omega (arith, c);
-        still = is.still;
-      })
-
-  pub apart_alike : (t u v front q p : ℕ) (ls ls' : List TapLine) (w : Watch) (s : Sender) (k : KeptReception) → Know u front ls → ((from : ℕ) → IsAlikeBelow p from ls ls') →
-      q < n → p < n → q ≢ p → StandsApart of t v q ls w s k → StandsApart of t v q ls' w s k
-  apart_alike t u v front q p ls ls' w s k know alike hq hp other is = record {
-    behind = unlowered plan (number_on of q) q of.lookahead t p ls ls' w s k alike other is.behind;
-    since = is.since;
-    until = is.until;
-    within = is.within;
-    still = is.still;
-  }
+      let low = lowered_watch (from + half_bits_back of.lookahead (get_or ls' q no_line).at (get_or ls' p no_line)) w in
+      stand_lowered of t v from q p ls ls' w low s k alike (omega (arith, late, few, some)) other refl is
 
 -- the line of a station that is told anew has room for as much as before
 pub tells_anew : (u v end : ℕ) (l l' : TapLine) → TellsUpTo v end l → IsToldAnew u l l' → TellsUpTo v end l'

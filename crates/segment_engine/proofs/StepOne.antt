@@ -18,6 +18,7 @@ use Rattle.network.specs.Times.{heard, emitted}
 use Rattle.net_parts.specs.Standing.{receiver_at}
 use Rattle.net_parts.proofs.DeviceSteps.{receiver_next}
 use Rattle.net_parts.proofs.NetworkFacts.{station_facts}
+use Rattle.net_parts.proofs.SendersEmit.{station_sends}
 use Rattle.tap_lines.specs.TapLines.{TapLine, no_line, symbol_on, class_on}
 use Rattle.window_room.specs.NeededRoom.{Demand, Covers, both_demands, receiver_demand, sender_demand}
 use Rattle.window_room.specs.Rooms.{Room, captures_with}
@@ -27,7 +28,6 @@ use Rattle.segment_engine.specs.SteadyPieces.{IsCalmAs}
 use Rattle.segment_engine.specs.StationsApart.{StandsBehind, StandsApart, IsAnew, TellsOn, behind_demand, heard_reception, number_on, sent_event}
 use Rattle.segment_engine.proofs.SteadyCalm.{emits_idle, no_calm}
 use Rattle.segment_engine.proofs.SendersStep.{same_sending, same_emits, same_lasts, silent_emits}
-use Rattle.segment_engine.proofs.SignalSenders.{station_sends}
 use Rattle.segment_engine.proofs.StationsLater.{station}
 
 pub if_none_map : (o : Option ℕ) (P Q : Type 0) → (P → Q) → IfNone o P → IfNone o Q

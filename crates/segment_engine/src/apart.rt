@@ -22,7 +22,7 @@ ghost use Rattle.window_room.specs.NeededRoom.{Covers, Demand, IsDemandWithin, b
 ghost use Rattle.window_room.specs.Rooms.{Room, captures_with};
 
 use crate::due::{lower_all, step_all};
-use crate::quiet::is_sending;
+use crate::quiet::{before_change, is_sending};
 use crate::running::Running;
 use crate::segment::Segment;
 use crate::steady::put_first;
@@ -132,7 +132,7 @@ fn bring_one(
     hear_on(
         since, lines, late, p, lookahead, far, sending, carrier, receiver, part,
     );
-    sender.leap(since, count, carrier);
+    sender.pass(since, count, carrier);
     watch.since = u;
 }
 
@@ -184,14 +184,16 @@ pub const KEEP: u64 = 2_048;
 fn calm_watch(u: u64, carrier: bool, steady: usize, told: u64, sender: &Transmitter) -> Watch
     requires time { u ≡ sender.now.t }
     requires in_time { u < most_half_bits }
+    requires fits { u + steady < 2 ^ 64 }
     ensures since { result.since ≡ u }
     ensures carrier { result.carrier ≡ carrier }
     ensures told { result.told ≡ told }
     ensures from { u ≤ result.until }
     ensures within { result.until ≤ u + steady }
+    ensures longest { (n : ℕ) → n ≤ steady → IsCalmAs n carrier sender.now → u + n ≤ result.until }
     ensures calm { IsCalmAs (result.until - u) carrier sender.now }
 {
-    let calm = sender.calm(u, carrier).min(steady as u64);
+    let calm = before_change(sender, u, carrier, steady as u64);
     Watch {
         since: u,
         until: u + calm,
@@ -221,6 +223,9 @@ fn watch_from(
     ensures told { result.told ≡ told }
     ensures from { u ≤ result.until }
     ensures within { result.until ≤ u + most }
+    ensures now { 0 < most → class_by_lines lookahead u lines.now p ≡ result.carrier }
+    ensures longest { (n : ℕ) → n ≤ most → ((j : ℕ) → j < n → class_by_lines lookahead (u + j) lines.now p ≡ result.carrier) →
+        IsCalmAs n result.carrier sender.now → u + n ≤ result.until }
     ensures calm { IsCalmAs (result.until - u) result.carrier sender.now }
     ensures steady { (j : ℕ) → u + j < result.until → class_by_lines lookahead (u + j) lines.now p ≡ result.carrier }
 {
@@ -318,7 +323,7 @@ pub fn end_one(
     }
     let device = of.stations[p];
     receiver.receive(teller, room, p, u, device, Sym::Idle, false);
-    sender.leap(u, 1, false);
+    sender.pass(u, 1, false);
     watch.since = u + 1;
 }
 

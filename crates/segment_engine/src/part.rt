@@ -29,7 +29,7 @@ use std::alloc::Global;
 use window_room::{RowRoom, reserve_stations};
 
 /// The most half bits that are passed over at once.
-const MOST_AT_ONCE: u32 = 4_096;
+const MOST_AT_ONCE: u32 = 1_048_576;
 
 /// A segment with its stations, over a line of symbols for each of its taps.
 #[derive(Drop)]

@@ -1,15 +1,12 @@
 //! Half bits in which nothing happens on a segment, many at once.
-ghost use Rattle.std.specs.Prelude.{◌≡◌, ◌≤◌, ◌<◌, ◌+◌, ℕ, false, All, length, replicate, slice_index_or};
+ghost use Rattle.std.specs.Prelude.{◌≡◌, ◌≤◌, ◌<◌, ◌+◌, ◌^◌, ℕ, All, length, slice_index_or};
 ghost use Rattle.mac_parameters.specs.Parameters.{most_half_bits};
-ghost use Rattle.manchester_line.specs.declared.Sym.TheVariants.{Idle};
-ghost use Rattle.mac_receive.specs.KeptReceiver.{KeptReception, Hears};
-ghost use Rattle.mac_receive.specs.Receiver.{Receiving, receiver_after};
-ghost use Rattle.mac_transmit.specs.Calm.{after_all};
+ghost use Rattle.mac_receive.specs.KeptReceiver.{KeptReception};
 ghost use Rattle.mac_transmit.specs.Sender.{Sender, is_sending as is_sending_in};
 ghost use Rattle.net_parts.specs.SegmentParts.{wiring};
-ghost use Rattle.segment_engine.specs.QuietHalfBits.{AreAtRest, ComeInIdle, IsCalmFor, IsQuietFor};
+ghost use Rattle.segment_engine.specs.QuietHalfBits.{AreAtRest, ComeInIdle, HasLeapt, IsCalmFor, IsQuietFor};
 ghost use Rattle.segment_engine.specs.RunningStates.{GoesOnAt, IsRunningAt};
-ghost use Rattle.segment_engine.specs.StationsApart.{most_told};
+ghost use Rattle.segment_engine.specs.SteadyPieces.{IsCalmAs};
 ghost use Rattle.segment_engine.specs.declared.apart.Watch.{Watch};
 
 use crate::apart::{Watch, first_due, forget_all, settle};
@@ -29,8 +26,23 @@ pub fn is_sending(sender: &Transmitter) -> bool
     }
 }
 
-/// For how many half bits from `t` on, at most `most`, nothing happens to stations that hear Idle; none at once says
-/// nothing.
+/// For how many half bits from `t` on, at most `most`, nothing happens to a sender whose station hears something in each,
+/// as `carrier` says, or Idle in each.
+pub fn before_change(sender: &Transmitter, t: u64, carrier: bool, most: u64) -> u64
+    requires time { t ≡ sender.now.t }
+    requires in_time { t < most_half_bits }
+    ensures within { result ≤ most }
+    ensures calm { IsCalmAs result carrier sender.now }
+    ensures greatest { (n : ℕ) → n ≤ most → IsCalmAs n carrier sender.now → n ≤ result }
+{
+    match sender.next_change(t, carrier) {
+        None => most,
+        Some(change) => change.min(most),
+    }
+}
+
+/// For how many half bits from `t` on, at most `most`, nothing happens to stations that hear Idle, none of which sends or
+/// receives.
 fn calm_half_bits(t: u64, senders: &[Transmitter], receivers: &[LateReceiver], most: u64) -> u64
     requires many { length receivers.now ≡ length senders.now }
     requires times { All (λ s. s.t ≡ t) senders.now }
@@ -38,13 +50,14 @@ fn calm_half_bits(t: u64, senders: &[Transmitter], receivers: &[LateReceiver], m
     ensures within { result ≤ most }
     ensures calm { 0 < result → All (IsCalmFor result) senders.now }
     ensures rest { 0 < result → AreAtRest receivers.now }
+    ensures greatest { (n : ℕ) → n ≤ most → All (IsCalmFor n) senders.now → AreAtRest receivers.now → n ≤ result }
 {
     let mut calm = most;
     for k in 0..senders.len() {
         if is_sending(&senders[k]) || receivers[k].is_receiving() {
             return 0;
         }
-        calm = calm.min(senders[k].calm(t, false));
+        calm = before_change(&senders[k], t, false, calm);
     }
     calm
 }
@@ -53,7 +66,7 @@ fn calm_half_bits(t: u64, senders: &[Transmitter], receivers: &[LateReceiver], m
 pub fn quiet_ahead(of: &Segment, state: &Running, most: u64) -> u64
     requires goes { GoesOnAt of.now state.now.t state.now }
     requires in_time { state.now.t < most_half_bits }
-    requires few { most ≤ most_told }
+    requires few { most < 2 ^ 32 }
     ensures within { result ≤ most }
     ensures quiet { (n : ℕ) → 0 < n → n ≤ result → IsQuietFor n state.now }
 {
@@ -83,20 +96,12 @@ fn leap_all(
     requires in_time { t + count ≤ most_half_bits }
     requires calm { All (IsCalmFor count) senders.old }
     requires rest { AreAtRest receivers.old }
-    ensures since { (i : ℕ) (w : Watch) → i < length watches.new → (slice_index_or watches.new i w).since ≡ t + count }
-    ensures until { (i : ℕ) (w : Watch) → i < length watches.new → (slice_index_or watches.new i w).until ≡ t + count }
-    ensures told { (i : ℕ) (w : Watch) → i < length watches.new → t + count ≤ (slice_index_or watches.new i w).told }
-    ensures states { (i : ℕ) (d : Sender) → i < length senders.new →
-        slice_index_or senders.new i d ≡ after_all (slice_index_or senders.old i d) (replicate count Idle) }
-    ensures times { All (λ s. s.t ≡ t + count) senders.new }
-    ensures phases { (i : ℕ) (d : Sender) → i < length senders.new →
-        (slice_index_or senders.new i d).phase ≡ (slice_index_or senders.old i d).phase }
-    ensures receivers { (i : ℕ) (d : KeptReception) (r : Receiving) → i < length receivers.new → Hears r (slice_index_or receivers.old i d) →
-        Hears (receiver_after r (replicate count Idle) false) (slice_index_or receivers.new i d) }
-    ensures steps { All (λ r. r.steps ≡ t + count) receivers.new }
+    ensures { (i : ℕ) (w : Watch) (s s' : Sender) (k k' : KeptReception) → i < length senders.new →
+        HasLeapt t count (slice_index_or watches.new i w) (slice_index_or senders.old i s) (slice_index_or senders.new i s')
+        (slice_index_or receivers.old i k) (slice_index_or receivers.new i k') }
 {
     for k in 0..senders.len() {
-        senders[k].leap(t, count, false);
+        senders[k].pass(t, count, false);
         receivers[k].leap_quiet(count);
         let watch = &mut watches[k];
         watch.since = t + count;

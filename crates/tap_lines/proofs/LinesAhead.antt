@@ -1,15 +1,13 @@
 -- Lines that tell more than was emitted so far, and what is left of them when that is cut off.
-use Rattle.std.proofs.Common.{◌≡◌, ℕ, zero, suc, min, ◌+◌, ◌-◌, ◌<◌, ◌≤◌, List, [], ◌∷◌, ◌++◌, replicate, take, drop, map, length, length-append, length-drop, length-take-le, get_or, refl, sym, ap, ap₂, ◌∙◌, arith}
-use Rattle.std.proofs.lemmas.List.{length-map, get_or-map, same_lists, get_or-take, get_or-drop, get_or_default}
-use Rattle.std.proofs.lemmas.Grind.{same_number_lists}
+use Rattle.std.proofs.Common.{◌≡◌, ℕ, zero, suc, min, ◌+◌, ◌-◌, ◌<◌, ◌≤◌, List, [], ◌∷◌, ◌++◌, replicate, take, drop, length, length-drop, length-take-le, get_or, refl, sym, ap, ap₂, ◌∙◌, arith}
+use Rattle.std.proofs.lemmas.List.{same_lists, get_or-take, get_or-drop, get_or_default}
 use Rattle.manchester_line.specs.declared.Sym.{Sym}
 use Rattle.manchester_line.specs.declared.Sym.TheVariants.{Idle}
 use Rattle.network.specs.Times.{earlier}
 use Rattle.net_parts.specs.Machines.{span}
 use Rattle.net_parts.proofs.LateRows.{if_true}
 use Rattle.net_parts.proofs.RepeaterSteps.{length-span, get_or-span}
-use Rattle.tap_lines.specs.TapLines.{TapLine, no_line, symbol_on, line_extended, line_cut}
-use Rattle.tap_lines.proofs.Spans.{take-span}
+use Rattle.tap_lines.specs.TapLines.{TapLine, symbol_on, line_extended}
 
 -- values that agree
 pub span_alike : {X : Type 0} (f g : ℕ → X) (a b n : ℕ) → ((i : ℕ) → i < n → f (a + i) ≡ g (b + i)) → span f a n ≡ span g b n
@@ -63,33 +61,6 @@ symbol_ahead l piece u j is =
     let place : u - l.base ≡ length l.symbols + j = omega (arith, is) in
     if_true {m = l.base} {n = u} _ _ (omega (arith, is)) ∙ ap (λ i. get_or (l.symbols ++ piece) i Idle) place ∙ get_second l.symbols piece j Idle
 
--- a line whose piece is cut
-pub cut_ahead : (f : ℕ → Sym) (l : TapLine) (m e u : ℕ) → u ≡ l.base + length l.symbols + m → m ≤ e → e ≤ l.room →
-    line_cut u (line_extended l (span f 0 e)) ≡ line_extended l (span f 0 m)
-cut_ahead f l m e u is few room =
-    let size = length-span f 0 e in
-    let small = length-span f 0 m in
-    let sum = length-append l.symbols (span f 0 e) in
-    let k = u - l.base in
-    let rest : k - length l.symbols ≡ m = omega (arith, is) in
-    let all : length l.symbols ≤ k = omega (arith, is) in
-    let symbols : take k (l.symbols ++ span f 0 e) ≡ l.symbols ++ span f 0 m =
-    take_both k l.symbols (span f 0 e) ∙ ap₂ (λ xs n. xs ++ take n (span f 0 e)) (take_more k l.symbols all) rest
-    ∙ ap (λ xs. l.symbols ++ xs) (take-span f 0 e m few) in
-    let same : l.room - length (span f 0 e) + (length (l.symbols ++ span f 0 e) - k) ≡ l.room - length (span f 0 m) = omega (arith, size, small, sum, is, few, room) in
-    λ i. record { at = l.at; delay = l.delay; backlog = l.backlog; base = l.base; symbols = symbols i; room = same i }
-
--- lines of the same places
-pub places_same : (ls ls' : List TapLine) → length ls' ≡ length ls → ((r : ℕ) → r < length ls → (get_or ls' r no_line).at ≡ (get_or ls r no_line).at) →
-    map (λ (l : TapLine). l.at) ls' ≡ map (λ (l : TapLine). l.at) ls
-places_same ls ls' len same =
-    let n = length-map ls (λ (l : TapLine). l.at) in
-    let n' = length-map ls' (λ (l : TapLine). l.at) in
-    same_number_lists (map (λ (l : TapLine). l.at) ls') (map (λ (l : TapLine). l.at) ls) (n' ∙ len ∙ sym n) (λ k h.
-    get_or-map (λ (l : TapLine). l.at) ls' k no_line 0 (omega (arith, h, n'))
-    ∙ same k (omega (arith, h, n', len))
-    ∙ sym (get_or-map (λ (l : TapLine). l.at) ls k no_line 0 (omega (arith, h, n', len))))
-
 -- what stands on a line whose Idle at its end isn't written
 pub idle_tail : (xs : List Sym) (q i : ℕ) → get_or (xs ++ replicate q Idle) i Idle ≡ get_or xs i Idle
 idle_tail [] q i = get_or-idle q i
@@ -129,11 +100,3 @@ back_piece l written q t back count n is low high room same =
     ∙ get_or_default written (first + j) d Idle there
     ∙ back_is l written q t back j is low high
     ∙ sym (get_or-span f t count j d in_it))
-
--- how long a piece is of which the first part was written
-pub cut_size : (all new : List Sym) (a s : ℕ) → a ≤ length all → length new ≡ length (take a all) → s ≤ length (take a all) → length (take s (new ++ drop a all)) ≡ s
-cut_size all new a s h len few =
-    let cut = length-take-le a all h in
-    let rest = length-drop a all in
-    let sum = length-append new (drop a all) in
-    length-take-le s (new ++ drop a all) (omega (arith, cut, rest, sum, len, few, h))

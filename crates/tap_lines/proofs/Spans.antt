@@ -1,6 +1,5 @@
 -- Values of numbers that follow one another, cut and put together.
-use Rattle.std.proofs.Common.{◌≡◌, ℕ, zero, suc, ◌+◌, ◌-◌, ◌<◌, ◌≤◌, List, [], ◌∷◌, ◌++◌, length, drop, take, get_or, sym, ap, ◌∙◌, arith, drop-cons}
-use Rattle.std.proofs.lemmas.List.{take-append-le, take_all}
+use Rattle.std.proofs.Common.{◌≡◌, ℕ, zero, suc, ◌+◌, ◌-◌, ◌<◌, ◌≤◌, List, [], ◌∷◌, ◌++◌, length, drop, get_or, sym, ap, ◌∙◌, arith, drop-cons}
 use Rattle.std.proofs.Math.Seq.{drop-append_seam}
 use Rattle.net_parts.specs.Machines.{span}
 use Rattle.net_parts.proofs.RepeaterSteps.{length-span}
@@ -26,15 +25,6 @@ drop-span f k n i h =
     ∙ ap (drop i) (span_two f k i (n - i))
     ∙ ap (λ m. drop m (span f k i ++ rest)) (sym (length-span f k i))
     ∙ drop-append_seam (span f k i) rest
-
-pub take-span : {X : Type 0} (f : ℕ → X) (k n i : ℕ) → i ≤ n → take i (span f k n) ≡ span f k i
-take-span f k n i h =
-    let e : n ≡ i + (n - i) = omega arith in
-    let size = length-span f k i in
-    ap (λ m. take i (span f k m)) e
-    ∙ ap (take i) (span_two f k i (n - i))
-    ∙ take-append-le i (span f k i) (span f (k + i) (n - i)) (omega (arith, size))
-    ∙ take_all i (span f k i) (omega (arith, size))
 
 -- a list from place i on
 pub rest_of : {X : Type 0} (xs : List X) (i : ℕ) (d : X) → i < length xs → get_or xs i d ∷ drop (i + 1) xs ≡ drop i xs

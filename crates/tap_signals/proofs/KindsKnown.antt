@@ -32,7 +32,7 @@ use Rattle.tap_signals.specs.declared.kind.SignalKind.TheVariants as kind
 use Rattle.tap_signals.specs.Kinds.{sent_kind, kind_of_mode, kind_if_signal, kind_emitted, decided_kind}
 use Rattle.tap_signals.specs.Laws.{RestIsIdle}
 use Rattle.tap_signals.proofs.PortsDecide.{port_decides}
-use Rattle.tap_signals.proofs.SendersEmit.{station_sends}
+use Rattle.net_parts.proofs.SendersEmit.{station_sends}
 
 -- where a tap emits Idle
 none_where_idle : (plan : Plan) (tap : Attachment) (t : ℕ) → emitted plan (tap_number plan.layout tap) t ≡ Idle → kind_emitted plan tap t ≡ None

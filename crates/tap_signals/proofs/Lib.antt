@@ -1,5 +1,4 @@
 pub mod StretchesGrow
-pub mod SendersEmit
 pub mod PortsDecide
 pub mod TapsOfLayout
 pub mod KindsKnown

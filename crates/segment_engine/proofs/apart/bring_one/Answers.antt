@@ -1,14 +1,14 @@
-use Rattle.std.proofs.Common.{◌≡◌, ℕ, ◌+◌, ◌-◌, ◌<◌, List, length, take, get_or, refl, sym, subst, ap, ◌∙◌, arith}
+use Rattle.std.proofs.Common.{◌≡◌, ◌+◌, ◌-◌, length, take, sym, subst, ap, ◌∙◌, arith}
 use Rattle.std.proofs.lemmas.List.{length-take-le}
 use Rattle.mac_receive.specs.KeptReceiver.{Hears}
 use Rattle.mac_receive.specs.Receiver.{receiver_after}
-use Rattle.mac_transmit.specs.Calm.{after_all}
+use Rattle.mac_transmit.specs.Calm.{change_in}
 use Rattle.mac_transmit.specs.Sender.{is_sending}
-use Rattle.net_parts.specs.Standing.{receiver_at}
 use Rattle.tap_lines.specs.TapLines.{heard_for}
 use Rattle.segment_engine.specs.StationsApart.{number_on}
-use Rattle.segment_engine.proofs.BehindStations.{brought, heard_so, needs_less, size, still_brought}
-use Rattle.segment_engine.proofs.StationsLater.{station}
+use Rattle.segment_engine.proofs.BehindStations.{IsBrought, is_brought}
+use Rattle.segment_engine.proofs.CalmLater.{fewer_over}
+use Rattle.segment_engine.proofs.apart.bring_one.Goals.{After-pass}
 use Rattle.segment_engine.proofs.apart.bring_one.Goals as goal
 
 pub hear_on-requires-clause-steady : goal.hear_on-requires-clause-steady
@@ -24,89 +24,34 @@ hear_on-requires-clause-steady c = λ j h.
     sym (c.requires.right.classes (w.since + j) (omega (arith, from)) (omega (arith, h, fits, early)))
     ∙ b.steady (w.since + j) (omega arith) (omega (arith, h, fits, early, late))
 
-pub returns-clause-behind : goal.returns-clause-behind
-returns-clause-behind c =
+pub pass-requires-clause-calm : goal.pass-requires-clause-calm
+pass-requires-clause-calm c =
+    let w = c.args.watch.now in
+    let late = c.requires.until in
+    fewer_over (c.args.u - w.since) (w.until - w.since) (change_in c.args.sender.now w.carrier) (omega (arith, late)) c.requires.behind.calm.number
+
+brought : (c : After-pass) → IsBrought c.args.of.now c.args.p c.args.from c.args.u c.args.lines.now c.args.watch.now c.args.sender.now c.pass.new.self c.args.receiver.now c.hear_on.new.receiver
+brought c =
     let g = c.args.of.now in
-    let plan = g.plan.value in
     let p = c.args.p in
-    let x = number_on g p in
     let ls = c.args.lines.now in
     let w = c.args.watch.now in
     let s = c.args.sender.now in
-    let k = c.args.receiver.now in
+    let k' = c.hear_on.new.receiver in
     let n = c.args.u - w.since in
-    let hs = heard_for g.lookahead w.since n ls p in
-    let numbers = g.station_numbers in
-    let there : x < length plan.layout.stations = subst (λ (ks : List ℕ). get_or ks p 0 < length plan.layout.stations) (sym numbers) (station plan g.number p (let e = ap length numbers in let h = c.requires.station in omega (arith, e, h))) in
-    let b = c.requires.behind in
     let early = c.requires.since in
-    let late = c.requires.until in
     let long = c.requires.piece in
     let fits : length (take n c.args.piece.now) ≡ n = length-take-le n c.args.piece.now (omega (arith, early, long)) in
-    let leapt : c.leap.new.self ≡ after_all s hs = c.leap.ensures.state hs
-    (heard_so plan x there p g.lookahead c.args.from c.args.u ls w s k b early late c.requires.right)
-    (size plan x there p g.lookahead c.args.from c.args.u ls w s k b early late c.requires.right) in
-    brought plan x there p g.lookahead c.args.from c.args.u ls w s k b early late c.requires.right
-    c.leap.new.self c.hear_on.new.receiver (record { since = c.args.u; until = w.until; carrier = w.carrier; told = w.told }) refl refl refl refl
-    leapt
-    (c.leap.ensures.time ∙ ap (λ a. a + n) b.time)
-    (c.hear_on.ensures.steps ∙ ap (λ a. w.since + a) fits)
-    (λ r h. subst (λ m. Hears (receiver_after r (heard_for g.lookahead w.since m ls p) (is_sending s.phase)) c.hear_on.new.receiver) fits
-    (subst (λ q. Hears (receiver_after r (heard_for g.lookahead w.since (length (take n c.args.piece.now)) ls p) q) c.hear_on.new.receiver) c.is_sending-sending.ensures (c.hear_on.ensures.state r h)))
+    is_brought g p c.args.from c.args.u ls w s c.pass.new.self c.args.receiver.now k' c.requires.station c.requires.behind early c.requires.until c.requires.right
+    c.pass.ensures.state c.pass.ensures.time (c.hear_on.ensures.steps ∙ ap (λ a. w.since + a) fits)
+    (λ r h. subst (λ m. Hears (receiver_after r (heard_for g.lookahead w.since m ls p) (is_sending s.phase)) k') fits
+    (subst (λ q. Hears (receiver_after r (heard_for g.lookahead w.since (length (take n c.args.piece.now)) ls p) q) k') c.is_sending-sending.ensures (c.hear_on.ensures.state r h)))
+
+pub returns-clause-behind : goal.returns-clause-behind
+returns-clause-behind c = (brought (goal.at.returns-clause-behind c).After-pass).behind
 
 pub returns-clause-still : goal.returns-clause-still
-returns-clause-still c = λ before.
-    let g = c.args.of.now in
-    let plan = g.plan.value in
-    let p = c.args.p in
-    let x = number_on g p in
-    let ls = c.args.lines.now in
-    let w = c.args.watch.now in
-    let s = c.args.sender.now in
-    let k = c.args.receiver.now in
-    let n = c.args.u - w.since in
-    let hs = heard_for g.lookahead w.since n ls p in
-    let numbers = g.station_numbers in
-    let there : x < length plan.layout.stations = subst (λ (ks : List ℕ). get_or ks p 0 < length plan.layout.stations) (sym numbers) (station plan g.number p (let e = ap length numbers in let h = c.requires.station in omega (arith, e, h))) in
-    let b = c.requires.behind in
-    let early = c.requires.since in
-    let late = c.requires.until in
-    let long = c.requires.piece in
-    let fits : length (take n c.args.piece.now) ≡ n = length-take-le n c.args.piece.now (omega (arith, early, long)) in
-    let leapt : c.leap.new.self ≡ after_all s hs = c.leap.ensures.state hs
-    (heard_so plan x there p g.lookahead c.args.from c.args.u ls w s k b early late c.requires.right)
-    (size plan x there p g.lookahead c.args.from c.args.u ls w s k b early late c.requires.right) in
-    still_brought plan x there p g.lookahead c.args.from c.args.u ls w s k b early late c.requires.right c.leap.new.self c.hear_on.new.receiver leapt
-    (λ r h. subst (λ m. Hears (receiver_after r (heard_for g.lookahead w.since m ls p) (is_sending s.phase)) c.hear_on.new.receiver) fits
-    (subst (λ q. Hears (receiver_after r (heard_for g.lookahead w.since (length (take n c.args.piece.now)) ls p) q) c.hear_on.new.receiver) c.is_sending-sending.ensures (c.hear_on.ensures.state r h)))
-    before
+returns-clause-still c = (brought (goal.at.returns-clause-still c).After-pass).still
 
 pub returns-clause-left : goal.returns-clause-left
-returns-clause-left c = λ e h.
-    let g = c.args.of.now in
-    let p = c.args.p in
-    let ls = c.args.lines.now in
-    let w = c.args.watch.now in
-    let s = c.args.sender.now in
-    let k = c.args.receiver.now in
-    let n = c.args.u - w.since in
-    let hs = heard_for g.lookahead w.since n ls p in
-    let numbers = g.station_numbers in
-    let plan = g.plan.value in
-    let x = number_on g p in
-    let there : x < length plan.layout.stations = subst (λ (ks : List ℕ). get_or ks p 0 < length plan.layout.stations) (sym numbers) (station plan g.number p (let e = ap length numbers in let h = c.requires.station in omega (arith, e, h))) in
-    let b = c.requires.behind in
-    let early = c.requires.since in
-    let late = c.requires.until in
-    let long = c.requires.piece in
-    let fits : length (take n c.args.piece.now) ≡ n = length-take-le n c.args.piece.now (omega (arith, early, long)) in
-    let many = size plan x there p g.lookahead c.args.from c.args.u ls w s k b early late c.requires.right in
-    let leapt : c.leap.new.self ≡ after_all s hs = c.leap.ensures.state hs
-    (heard_so plan x there p g.lookahead c.args.from c.args.u ls w s k b early late c.requires.right) many in
-    needs_less e (record { since = c.args.u; until = w.until; carrier = w.carrier; told = w.told }) w s c.leap.new.self k c.hear_on.new.receiver hs (is_sending s.phase)
-    (omega (arith, many, h, early)) leapt (record {
-      receiver = receiver_at plan x w.since;
-      before = b.receiver;
-      after = subst (λ m. Hears (receiver_after (receiver_at plan x w.since) (heard_for g.lookahead w.since m ls p) (is_sending s.phase)) c.hear_on.new.receiver) fits
-          (subst (λ q. Hears (receiver_after (receiver_at plan x w.since) (heard_for g.lookahead w.since (length (take n c.args.piece.now)) ls p) q) c.hear_on.new.receiver) c.is_sending-sending.ensures (c.hear_on.ensures.state (receiver_at plan x w.since) b.receiver));
-    })
+returns-clause-left c = (brought (goal.at.returns-clause-left c).After-pass).left

@@ -27,15 +27,12 @@ pub run_apart-requires-clause-tell : goal.run_apart-requires-clause-tell
 run_apart-requires-clause-tell c = λ r h.
     let a = c.args.state.now in
     let g = c.args.of.now in
-    let w = wiring g.plan.value.layout g.number in
-    let at = c.requires.at.goes in
-    let many = at.stations.taps in
+    let many = c.requires.at.goes.stations.taps in
     let in_time = c.requires.in_time in
     let within = c.requires.within in
     let is = c.from.ensures in
     rw c.deref_mut-lines.ensures.value
-    (tells_of g.plan.value w g.lookahead a.t ((c.args.window + 1) * g.lookahead) a.from a.lines.items at.lines at.room (omega (arith, in_time)) c.requires.at.near
-    (a.t + c.from.result) (omega (arith, within, is)) r (omega (arith, h, many)))
+    (tells_of g ((c.args.window + 1) * g.lookahead) a c.requires.at (omega (arith, in_time)) r (omega (arith, h, many)) (a.t + c.from.result) (omega (arith, within, is)))
 
 pub put_first-requires-clause-reach : goal.put_first-requires-clause-reach
 put_first-requires-clause-reach c =

@@ -10,11 +10,13 @@ use Rattle.segment_engine.specs.declared.apart.Watch.{Watch}
 use Rattle.segment_engine.specs.StationsApart.{StandsApart, IsStillBy, AreToldAnew, SaysOf, TellsUpTo, behind_demand, lowered_watch, most_told, number_on, rows_of_both}
 use Rattle.tap_lines.proofs.LineClasses.{IsAlikeBelow}
 use Rattle.tap_lines.proofs.LoudLists.{later_idle}
+use Rattle.segment_engine.proofs.ArrivedLines.{stand_alike}
 use Rattle.segment_engine.proofs.ChangedLines.{hears_anew, listed_alike}
 use Rattle.segment_engine.proofs.ChangedStations.{below_next, covers_one, covers_with, each_set}
 use Rattle.segment_engine.proofs.RunsApart.{reach_anew, told_again}
-use Rattle.segment_engine.proofs.StepAll.{anew_none, anew_one, alike_to, apart_alike, apart_lowered, class_so, covers_lowered, each_lowered, heard_so, know_anew, know_next, lowered_own, right_next, rows_stepped, tap_there, tells_anew}
+use Rattle.segment_engine.proofs.StepAll.{anew_none, anew_one, alike_to, apart_lowered, class_so, covers_lowered, each_lowered, heard_so, know_anew, know_next, lowered_own, right_next, rows_stepped, tap_there, tells_anew}
 use Rattle.segment_engine.proofs.StepPasses.{HaveMade, event, octets, passed, sent}
+use Rattle.segment_engine.proofs.due.step_all.Goals.{After-loop-k, In-loop-k}
 use Rattle.segment_engine.proofs.due.step_all.Goals as goal
 
 abbrev a_watch : Watch
@@ -60,13 +62,16 @@ loop-k-init c =
     }
 
 -- a station that is due
+here : (c : In-loop-k) → c.loop-k.k < length c.args.of.now.stations.items
+here c =
+    let test = c.loop-k-test.true in
+    let many = c.loop-k.invariant.senders in
+    let len = c.loop-k.auto.senders in
+    omega (arith, test, many, len)
+
 pub take_turn-requires-clause-apart : goal.take_turn-requires-clause-apart
 take_turn-requires-clause-apart c =
-    let inv = c.loop-k.invariant in
-    let test = c.loop-k-test.true in
-    let many = inv.senders in
-    let len = c.loop-k.auto.senders in
-    inv.made.others c.loop-k.k a_watch c.index-senders-k.result c.index-receivers-k.result (omega (arith, test, many, len)) (omega arith)
+    c.loop-k.invariant.made.others c.loop-k.k a_watch c.index-senders-k.result c.index-receivers-k.result (here (goal.at.take_turn-requires-clause-apart c).In-loop-k) (omega arith)
 
 pub take_turn-requires-clause-loud : goal.take_turn-requires-clause-loud
 take_turn-requires-clause-loud c =
@@ -74,20 +79,10 @@ take_turn-requires-clause-loud c =
     later_idle (c.args.t - c.args.far) (c.args.u - c.args.far) c.loop-k.lines c.loop-k.loud.taps (omega (arith, after)) c.loop-k.invariant.loud
 
 pub take_turn-requires-clause-right : goal.take_turn-requires-clause-right
-take_turn-requires-clause-right c =
-    let inv = c.loop-k.invariant in
-    let test = c.loop-k-test.true in
-    let many = inv.senders in
-    let len = c.loop-k.auto.senders in
-    inv.made.right c.loop-k.k (omega (arith, test, many, len))
+take_turn-requires-clause-right c = c.loop-k.invariant.made.right c.loop-k.k (here (goal.at.take_turn-requires-clause-right c).In-loop-k)
 
 pub take_turn-requires-clause-line : goal.take_turn-requires-clause-line
-take_turn-requires-clause-line c =
-    let inv = c.loop-k.invariant in
-    let test = c.loop-k-test.true in
-    let many = inv.senders in
-    let len = c.loop-k.auto.senders in
-    inv.tell c.loop-k.k (omega (arith, test, many, len))
+take_turn-requires-clause-line c = c.loop-k.invariant.tell c.loop-k.k (here (goal.at.take_turn-requires-clause-line c).In-loop-k)
 
 pub take_turn-requires-clause-room : goal.take_turn-requires-clause-room
 take_turn-requires-clause-room c =
@@ -98,13 +93,8 @@ take_turn-requires-clause-room c =
     let ks = c.loop-k.receivers in
     let ds = c.index-senders-k.result in
     let dk = c.index-receivers-k.result in
-    let inv = c.loop-k.invariant in
-    let test = c.loop-k-test.true in
-    let many = inv.senders in
-    let len = c.loop-k.auto.senders in
-    let n = length c.args.of.now.stations.items in
-    let in_it : k < n = omega (arith, test, many, len) in
-    covers_one n k (λ i. behind_demand e (get_or ws i a_watch) (get_or ss i ds) (get_or ks i dk)) c.loop-k.room in_it (inv.left e (omega arith) c.requires.room a_watch ds dk)
+    covers_one (length c.args.of.now.stations.items) k (λ i. behind_demand e (get_or ws i a_watch) (get_or ss i ds) (get_or ks i dk)) c.loop-k.room (here (goal.at.take_turn-requires-clause-room c).In-loop-k)
+    (c.loop-k.invariant.left e (omega arith) c.requires.room a_watch ds dk)
 
 pub find-requires : goal.find-requires
 find-requires c =
@@ -117,11 +107,7 @@ find-requires c =
 
 pub lower_all-requires-clause-tap : goal.lower_all-requires-clause-tap
 lower_all-requires-clause-tap c =
-    let inv = c.loop-k.invariant in
-    let test = c.loop-k-test.true in
-    let many = inv.senders in
-    let len = c.loop-k.auto.senders in
-    let there = tap_there c.args.of.now c.args.u ((c.args.window + 1) * c.args.of.now.lookahead) c.loop-k.k c.loop-k.lines inv.made.know (omega (arith, test, many, len)) in
+    let there = tap_there c.args.of.now c.args.u ((c.args.window + 1) * c.args.of.now.lookahead) c.loop-k.k c.loop-k.lines c.loop-k.invariant.made.know (here (goal.at.lower_all-requires-clause-tap c).In-loop-k) in
     let size = c.take_turn.auto.lines in
     omega (arith, there, size)
 
@@ -219,12 +205,12 @@ loop-k-preserved-in_default c =
           (λ i b l. subst (λ y. SaysOf plan (number_on g i) u y) (sym (now.others i no_line (λ e. omega (arith, e, b)))) (inv.made.now i l b))
           (λ l. now.says) i h l;
       done = λ i w s r l h. each_set (λ i w s r. i < k + 1 → StandsApart g t (u + 1) i lines' w s r) n k ws ss ks w' s' k' lw ls lk
-          (λ i w s r l e h. apart_alike g t u (u + 1) front i k lines lines' (get_or ws i w) (get_or ss i s) (get_or ks i r) inv.made.know alike l in_it e (inv.made.done i w s r l (omega (arith, h, e))))
+          (λ i w s r l e h. stand_alike g t (u + 1) i k lines lines' (get_or ws i w) (get_or ss i s) (get_or ks i r) alike e (inv.made.done i w s r l (omega (arith, h, e))))
           (λ h. now.apart) i w s r l h;
       still = λ i w s r l h. each_set (λ i w s r. i < k + 1 → w.since < w.until → IsStillBy w s r) n k ws ss ks w' s' k' lw ls lk
           (λ i w s r l e h. inv.made.still i w s r l (omega (arith, h, e))) (λ h. now.still) i w s r l h;
       others = λ i w s r l h. each_set (λ i w s r. k + 1 ≤ i → StandsApart g t u i lines' w s r) n k ws ss ks w' s' k' lw ls lk
-          (λ i w s r l e h. apart_alike g t u u front i k lines lines' (get_or ws i w) (get_or ss i s) (get_or ks i r) inv.made.know alike l in_it e (inv.made.others i w s r l (omega (arith, h))))
+          (λ i w s r l e h. stand_alike g t u i k lines lines' (get_or ws i w) (get_or ss i s) (get_or ks i r) alike e (inv.made.others i w s r l (omega (arith, h))))
           (λ h. absurd (omega (arith, h))) i w s r l h;
       waits = λ i w s r l h. each_set (λ i w s r. k + 1 ≤ i → w.since < w.until → IsStillBy w s r) n k ws ss ks w' s' k' lw ls lk
           (λ i w s r l e h. inv.made.waits i w s r l (omega (arith, h))) (λ h. absurd (omega (arith, h))) i w s r l h;
@@ -364,51 +350,44 @@ loop-k-preserved c =
     }
 
 -- all stations have had their turn
+turned : (c : After-loop-k) (i : ℕ) → i < length c.args.of.now.stations.items → i < c.loop-k.k
+turned c i h =
+    let test = c.loop-k-test.false in
+    let many = c.loop-k.invariant.senders in
+    let len = c.loop-k.auto.senders in
+    omega (arith, h, test, many, len)
+
 pub returns-clause-apart : goal.returns-clause-apart
 returns-clause-apart c =
     let inv = c.loop-k.invariant in
-    let test = c.loop-k-test.false in
-    let many = inv.senders in
-    let len = c.loop-k.auto.senders in
     let taps = c.requires.apart.taps in
     let lines = inv.lines.many in
     record {
-      senders = many;
+      senders = inv.senders;
       receivers = inv.receivers;
       watches = inv.watches;
       taps = omega (arith, taps, lines);
-      each = λ i w s r h. inv.made.done i w s r h (omega (arith, h, test, many, len));
+      each = λ i w s r h. inv.made.done i w s r h (turned (goal.at.returns-clause-apart c).After-loop-k i h);
     }
 
 pub returns-clause-still : goal.returns-clause-still
-returns-clause-still c = λ i w s r h.
-    let inv = c.loop-k.invariant in
-    let test = c.loop-k-test.false in
-    let many = inv.senders in
-    let len = c.loop-k.auto.senders in
-    inv.made.still i w s r h (omega (arith, h, test, many, len))
+returns-clause-still c = λ i w s r h. c.loop-k.invariant.made.still i w s r h (turned (goal.at.returns-clause-still c).After-loop-k i h)
 
 pub returns-clause-know : goal.returns-clause-know
 returns-clause-know c =
     let g = c.args.of.now in
-    let inv = c.loop-k.invariant in
-    let test = c.loop-k-test.false in
-    let many = inv.senders in
-    let len = c.loop-k.auto.senders in
-    know_next g c.args.u ((c.args.window + 1) * g.lookahead) c.loop-k.lines inv.made.know (λ i h. inv.made.now i h (omega (arith, h, test, many, len)))
+    let made = c.loop-k.invariant.made in
+    know_next g c.args.u ((c.args.window + 1) * g.lookahead) c.loop-k.lines made.know (λ i h. made.now i h (turned (goal.at.returns-clause-know c).After-loop-k i h))
 
 pub returns-clause-right : goal.returns-clause-right
 returns-clause-right c = λ i h.
     let g = c.args.of.now in
-    let inv = c.loop-k.invariant in
-    let test = c.loop-k-test.false in
-    let many = inv.senders in
-    let len = c.loop-k.auto.senders in
+    let made = c.loop-k.invariant.made in
     let ahead = c.requires.ahead in
-    right_next g.plan.value (number_on g i) i g.lookahead c.args.from c.args.u c.loop-k.lines (inv.made.right i h)
-    (heard_so g c.args.u ((c.args.window + 1) * g.lookahead) i c.loop-k.lines inv.made.know ahead h)
-    (class_so g c.args.u ((c.args.window + 1) * g.lookahead) i c.loop-k.lines inv.made.know ahead h)
-    (inv.made.now i h (omega (arith, h, test, many, len))).emits
+    right_next g.plan.value (number_on g i) i g.lookahead c.args.from c.args.u c.loop-k.lines (made.right i h)
+    (heard_so g c.args.u ((c.args.window + 1) * g.lookahead) i c.loop-k.lines made.know ahead h)
+    (class_so g c.args.u ((c.args.window + 1) * g.lookahead) i c.loop-k.lines made.know ahead h)
+    (made.now i h (turned (goal.at.returns-clause-right c).After-loop-k i h)).emits
 
 pub returns-clause-rows : goal.returns-clause-rows
 returns-clause-rows c =
@@ -423,9 +402,4 @@ returns-clause-rows c =
     subst (λ (m : ℕ). c.loop-k.room.rows ≡ c.args.room.now.rows ++ rows_of_both c.args.u g.stations.items (sent g c.args.u) (event g c.args.u) m) all inv.made.logged
 
 pub returns-clause-captures : goal.returns-clause-captures
-returns-clause-captures c = λ i h.
-    let inv = c.loop-k.invariant in
-    let test = c.loop-k-test.false in
-    let many = inv.senders in
-    let len = c.loop-k.auto.senders in
-    inv.made.kept i (omega (arith, h, test, many, len))
+returns-clause-captures c = λ i h. c.loop-k.invariant.made.kept i (turned (goal.at.returns-clause-captures c).After-loop-k i h)

@@ -7,11 +7,11 @@ use Rattle.network.specs.Rows.{row_of}
 use Rattle.window_room.specs.NeededRoom.{Covers, Demand, IsDemandWithin, both_demands, receiver_demand, sender_demand}
 use Rattle.window_room.specs.Rooms.{Room}
 use Rattle.segment_engine.specs.StationsApart.{behind_demand, heard_reception, number_on, sent_event}
-use Rattle.segment_engine.proofs.ChangedStations.{covers_second}
 use Rattle.segment_engine.proofs.KeptParts.{covers_within}
 use Rattle.segment_engine.proofs.QuietRoom.{both_within, same_within}
 use Rattle.segment_engine.proofs.StepAll.{anew_none, both_more, emits_so, heard_so, right_on, silent_on, tap_there}
-use Rattle.segment_engine.proofs.WindowParcels.{receiver_more}
+use Rattle.segment_engine.proofs.StationRoom.{second}
+use Rattle.segment_engine.proofs.due.take_turn.Goals.{After-look_one}
 use Rattle.segment_engine.proofs.due.take_turn.Goals as goal
 
 -- what holds anyway holds of the half bit that is answered
@@ -38,8 +38,9 @@ end_one-requires-clause-right c =
     right_on g c.args.from c.args.u ((c.args.window + 1) * g.lookahead) c.args.p c.args.lines.now c.look_one.new.watch c.look_one.new.sender c.look_one.new.receiver
     c.requires.know (ahead) c.requires.station c.look_one.ensures.apart c.if-watch-u.true c.requires.right
 
-pub end_one-requires-clause-room : goal.end_one-requires-clause-room
-end_one-requires-clause-room c =
+-- there is room for the half bit
+one_more : (c : After-look_one) → Covers (both_demands (sender_demand 1 c.look_one.new.sender) (receiver_demand 1 c.look_one.new.receiver)) c.args.room.now
+one_more c =
     let e = c.args.u + 1 in
     let w = c.look_one.new.watch in
     let s = c.look_one.new.sender in
@@ -47,8 +48,11 @@ end_one-requires-clause-room c =
     let at = c.look_one.ensures.since in
     let left : 1 ≤ e - w.since = omega (arith, at) in
     let all = covers_within (behind_demand e w s k) (behind_demand e c.args.watch.now c.args.sender.now c.args.receiver.now) c.args.room.now (c.look_one.ensures.left e (omega arith)) c.requires.room in
-    let received = covers_second (sender_demand (e - w.since) s) (receiver_demand (e - w.since) k) c.args.room.now all in
-    covers_within (receiver_demand 1 k) (receiver_demand (e - w.since) k) c.args.room.now (receiver_more k 1 (e - w.since) left) received
+    covers_within (both_demands (sender_demand 1 s) (receiver_demand 1 k)) (behind_demand e w s k) c.args.room.now (both_more s k 1 (e - w.since) left) all
+
+pub end_one-requires-clause-room : goal.end_one-requires-clause-room
+end_one-requires-clause-room c =
+    second (sender_demand 1 c.look_one.new.sender) (receiver_demand 1 c.look_one.new.receiver) c.args.room.now (one_more (goal.at.end_one-requires-clause-room c).After-look_one)
 
 pub returns-then-watch-u-clause-still : goal.returns-then-watch-u-clause-still
 returns-then-watch-u-clause-still c = λ h. c.end_one.ensures.still
@@ -102,15 +106,7 @@ step_one-requires-clause-hears c =
     heard_so g c.args.u ((c.args.window + 1) * g.lookahead) c.args.p c.args.lines.now c.requires.know (ahead) c.requires.station
 
 pub step_one-requires-clause-room : goal.step_one-requires-clause-room
-step_one-requires-clause-room c =
-    let e = c.args.u + 1 in
-    let w = c.look_one.new.watch in
-    let s = c.look_one.new.sender in
-    let k = c.look_one.new.receiver in
-    let at = c.look_one.ensures.since in
-    let left : 1 ≤ e - w.since = omega (arith, at) in
-    let all = covers_within (behind_demand e w s k) (behind_demand e c.args.watch.now c.args.sender.now c.args.receiver.now) c.args.room.now (c.look_one.ensures.left e (omega arith)) c.requires.room in
-    covers_within (both_demands (sender_demand 1 s) (receiver_demand 1 k)) (behind_demand e w s k) c.args.room.now (both_more s k 1 (e - w.since) left) all
+step_one-requires-clause-room c = one_more (goal.at.step_one-requires-clause-room c).After-look_one
 
 pub returns-clause-still : goal.returns-clause-still
 returns-clause-still c = λ later.

@@ -1,30 +1,21 @@
-use Rattle.std.proofs.Common.{◌≡◌, ℕ, ◌+◌, ◌<◌, ◌≤◌, inl, inr, false, replicate, length, set, get_or, get_or-set_same, length-set, List, refl, sym, subst, ap, ◌∙◌, arith}
+use Rattle.std.proofs.Common.{◌≡◌, ◌+◌, ◌<◌, false, replicate, length, get_or, length-set, refl, sym, subst, ap, ◌∙◌, arith}
 use Rattle.std.proofs.lemmas.List.{get_or-set_other, get_or_default, length-replicate}
-use Rattle.std.proofs.lemmas.Bool.{cases_lt}
 use Rattle.manchester_line.specs.declared.Sym.TheVariants.{Idle}
 use Rattle.mac_receive.specs.KeptReceiver.{KeptReception, Hears}
-use Rattle.mac_receive.specs.Receiver.{receiver_after}
 use Rattle.mac_transmit.specs.Sender.{Sender}
 use Rattle.mac_transmit.specs.Calm.{after_all}
 use Rattle.segment_engine.specs.declared.apart.Watch.{Watch}
+use Rattle.segment_engine.specs.QuietHalfBits.{HasLeapt}
+use Rattle.segment_engine.proofs.ChangedStations.{each_set}
 use Rattle.segment_engine.proofs.SteadyReceivers.{all_idle}
 use Rattle.segment_engine.proofs.quiet.leap_all.Goals as goal
-
--- what holds of the entries below k, where entry k has changed
-below_set_of : {X : Type 0} (P : X → Type 0) (k : ℕ) (xs : List X) (x' : X) → k < length xs → ((q : ℕ) (d : X) → q < k → P (get_or xs q d)) → P x' →
-    (q : ℕ) (d : X) → q < k + 1 → P (get_or (set xs k x') q d)
-below_set_of P k xs x' there before now q d h = elim (cases_lt q k) [
-  | inl less ↦ subst P (sym (get_or-set_other xs k q x' d (λ e. omega (arith, e, less)))) (before q d less)
-  | inr last ↦
-      let e : k ≡ q = omega (arith, h, last) in
-      subst (λ j. P (get_or (set xs k x') j d)) e (subst P (sym (get_or-set_same xs k x' d there)) now)
-]
 
 pub loop-k-preserved : goal.loop-k-preserved
 loop-k-preserved c =
     let k = c.loop-k.k in
-    let u = c.args.t + c.args.count in
-    let idle = replicate c.args.count Idle in
+    let t = c.args.t in
+    let n = c.args.count in
+    let u = t + n in
     let ws = c.loop-k.watches in
     let ss = c.loop-k.senders in
     let ks = c.loop-k.receivers in
@@ -39,7 +30,7 @@ loop-k-preserved c =
     let klen = inv.receivers_len in
     let ds = c.index-senders-k.result in
     let dk = c.index-receivers-k.result in
-    let s' = c.leap.new.self in
+    let s' = c.pass.new.self in
     let k' = c.leap_quiet.new.self in
     let dw : Watch = record { since = 0; until = 0; carrier = false; told = 0 } in
     let w' : Watch = record { since = u; until = u; carrier = (get_or ws k dw).carrier; told = 18446744073709551615 } in
@@ -53,33 +44,19 @@ loop-k-preserved c =
       watched = length-set ws k w' ∙ wlen;
       senders_len = length-set ss k s' ∙ slen;
       receivers_len = length-set ks k k' ∙ klen;
-      since = below_set_of (λ (w : Watch). w.since ≡ u) k ws w' lw inv.since refl;
-      until = below_set_of (λ (w : Watch). w.until ≡ u) k ws w' lw inv.until refl;
-      told = below_set_of (λ (w : Watch). u ≤ w.told) k ws w' lw inv.told (omega (arith, small));
-      states = λ q d l. elim (cases_lt q k) [
-        | inl less ↦ get_or-set_other ss k q s' d (λ e. omega (arith, e, less)) ∙ inv.states q d less
-        | inr last ↦
-            let e : k ≡ q = omega (arith, l, last) in
-            let P : ℕ → Type 0 = λ j. get_or (set ss k s') j d ≡ after_all (get_or ss0 j d) idle in
-            subst P e (get_or-set_same ss k s' d ls ∙ c.leap.ensures.state idle (all_idle c.args.count) (length-replicate c.args.count Idle) ∙ ap (λ x. after_all x idle) (same_s d))
-      ];
-      times = below_set_of (λ (s : Sender). s.t ≡ u) k ss s' ls inv.times (c.leap.ensures.time ∙ ap (λ x. x + c.args.count) (ap (λ (s : Sender). s.t) (same_s ds) ∙ c.requires.times k ds (omega (arith, ls, slen))));
-      phases = λ q d l. elim (cases_lt q k) [
-        | inl less ↦ ap (λ (s : Sender). s.phase) (get_or-set_other ss k q s' d (λ e. omega (arith, e, less))) ∙ inv.phases q d less
-        | inr last ↦
-            let e : k ≡ q = omega (arith, l, last) in
-            subst (λ j. (get_or (set ss k s') j d).phase ≡ (get_or ss0 j d).phase) e
-            (ap (λ (s : Sender). s.phase) (get_or-set_same ss k s' d ls) ∙ c.leap.ensures.phase ∙ ap (λ (s : Sender). s.phase) (same_s d))
-      ];
-      hear = λ q d r l. elim (cases_lt q k) [
-        | inl less ↦ λ hears. subst (λ (x : KeptReception). Hears (receiver_after r idle false) x) (sym (get_or-set_other ks k q k' d (λ e. omega (arith, e, less)))) (inv.hear q d r less hears)
-        | inr last ↦
-            let e : k ≡ q = omega (arith, l, last) in
-            subst (λ j. Hears r (get_or ks0 j d) → Hears (receiver_after r idle false) (get_or (set ks k k') j d)) e
-            (λ hears. subst (λ (x : KeptReception). Hears (receiver_after r idle false) x) (sym (get_or-set_same ks k k' d lk))
-            (c.leap_quiet.ensures.state r (subst (λ (x : KeptReception). Hears r x) (sym (same_k d)) hears)))
-      ];
-      steps = below_set_of (λ (x : KeptReception). x.steps ≡ u) k ks k' lk inv.steps (c.leap_quiet.ensures.steps ∙ ap (λ x. x + c.args.count) (ap (λ (x : KeptReception). x.steps) (same_k dk) ∙ c.requires.steps k dk (omega (arith, lk, klen))));
-      senders_left = λ q d l. get_or-set_other ss k q s' d (λ e. omega (arith, e, l)) ∙ inv.senders_left q d (omega (arith, l));
-      receivers_left = λ q d l. get_or-set_other ks k q k' d (λ e. omega (arith, e, l)) ∙ inv.receivers_left q d (omega (arith, l));
+      done = λ i x y z p q l.
+          each_set (λ i w s r. HasLeapt t n w (get_or ss0 i y) s (get_or ks0 i p) r) (k + 1) k ws ss ks w' s' k' lw ls lk (λ i x z q l other. inv.done i x y z p q (omega (arith, l, other)))
+          (record {
+            since = refl;
+            until = refl;
+            told = omega (arith, small);
+            state = c.pass.ensures.state (replicate n Idle) (all_idle n) (length-replicate n Idle) ∙ ap (λ s. after_all s (replicate n Idle)) (same_s y);
+            phase = c.pass.ensures.phase ∙ ap (λ (s : Sender). s.phase) (same_s y);
+            time = c.pass.ensures.time ∙ ap (λ (s : Sender). s.t + n) (same_s ds) ∙ ap (λ m. m + n) (c.requires.times k ds (omega (arith, ls, slen)));
+            receiver = λ r hears. c.leap_quiet.ensures.state r (subst (λ (x : KeptReception). Hears r x) (sym (same_k p)) hears);
+            steps = c.leap_quiet.ensures.steps ∙ ap (λ (x : KeptReception). x.steps + n) (same_k dk) ∙ ap (λ m. m + n) (c.requires.steps k dk (omega (arith, lk, klen)));
+          })
+          i x z q l;
+      senders_left = λ i d l. get_or-set_other ss k i s' d (λ e. omega (arith, e, l)) ∙ inv.senders_left i d (omega (arith, l));
+      receivers_left = λ i d l. get_or-set_other ks k i k' d (λ e. omega (arith, e, l)) ∙ inv.receivers_left i d (omega (arith, l));
     }

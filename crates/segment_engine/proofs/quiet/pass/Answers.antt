@@ -1,14 +1,12 @@
-use Rattle.std.proofs.Common.{◌≡◌, ◌+◌, ◌<◌, ◌≤◌, ◌^◌, All, false, List, length, replicate, get_or, sym, subst, ap, ◌∙◌, arith, rules}
+use Rattle.std.proofs.Common.{◌≡◌, ◌+◌, ◌<◌, All, false, List, length, get_or, sym, subst, ap, ◌∙◌, arith, rules}
 use Rattle.std.specs.Vec.{with_items}
-use Rattle.std.proofs.lemmas.List.{with_items_is, get_or_default}
+use Rattle.std.proofs.lemmas.List.{with_items_is}
 use Rattle.manchester_line.specs.Decoding.{new_decoding}
-use Rattle.manchester_line.specs.declared.Sym.TheVariants.{Idle}
-use Rattle.mac_receive.specs.KeptReceiver.{KeptReception, Hears}
+use Rattle.mac_receive.specs.KeptReceiver.{KeptReception}
 use Rattle.mac_transmit.specs.Sender.{Sender}
-use Rattle.mac_transmit.specs.Calm.{after_all}
 use Rattle.network.specs.Attempts.{sender_at}
 use Rattle.net_parts.specs.SegmentParts.{wiring}
-use Rattle.tap_lines.specs.TapLines.{TapLine, forgotten, no_line}
+use Rattle.tap_lines.specs.TapLines.{TapLine, forgotten}
 use Rattle.segment_engine.specs.KnownLines.{KnowLines}
 use Rattle.segment_engine.specs.QuietHalfBits.{AreAtRest, ComeInIdle, IsCalmFor, IsQuietFor}
 use Rattle.segment_engine.proofs.PassedStations.{stand_passed}
@@ -41,34 +39,13 @@ pub leap_all-requires-clause-rest : goal.leap_all-requires-clause-rest
 leap_all-requires-clause-rest c = subst AreAtRest (sym c.deref_mut-3.ensures.value) (c.settle.ensures.quiet c.args.count c.requires.quiet).receivers
 
 pub forget_all-requires-clause-in_time : goal.forget_all-requires-clause-in_time
-forget_all-requires-clause-in_time c = λ r d h.
-    let b = c.settle.new.state in
-    let g = c.args.of.now in
-    let ls = b.lines.items in
-    let at = c.settle.ensures.goes in
+forget_all-requires-clause-in_time c =
     let small = c.requires.in_time in
     let time = c.settle.ensures.time in
-    let n = ap length c.deref_mut-4.ensures.value in
-    let in_it : r < length ls = omega (arith, h, n) in
-    let there = fits_of g.plan.value (wiring g.plan.value.layout g.number) g.lookahead b.t c.args.state.now.t b.from ls at.lines at.room (omega (arith, small, time)) r in_it in
-    let same = get_or_default ls r no_line d in_it in
-    subst (λ (xs : List TapLine). (get_or xs r d).base + length (get_or xs r d).symbols < 2 ^ 64) (sym c.deref_mut-4.ensures.value)
-    (subst (λ (x : TapLine). x.base + length x.symbols < 2 ^ 64) same there)
+    rw c.deref_mut-4.ensures.value (λ r d h. fits_of c.args.of.now c.args.state.now.t c.settle.new.state c.settle.ensures.goes r d h (omega (arith, small, time)))
 
 pub forget_all-requires-clause-keeps : goal.forget_all-requires-clause-keeps
-forget_all-requires-clause-keeps c = λ r d h.
-    let b = c.settle.new.state in
-    let g = c.args.of.now in
-    let ls = b.lines.items in
-    let at = c.settle.ensures.goes in
-    let small = c.requires.in_time in
-    let time = c.settle.ensures.time in
-    let n = ap length c.deref_mut-4.ensures.value in
-    let in_it : r < length ls = omega (arith, h, n) in
-    let there = keeps_of g.plan.value (wiring g.plan.value.layout g.number) g.lookahead b.t c.args.state.now.t b.from ls at.lines at.room (omega (arith, small, time)) r in_it in
-    let same = get_or_default ls r no_line d in_it in
-    subst (λ (xs : List TapLine). (get_or xs r d).backlog ≤ length (get_or xs r d).symbols + (get_or xs r d).room) (sym c.deref_mut-4.ensures.value)
-    (subst (λ (x : TapLine). x.backlog ≤ length x.symbols + x.room) same there)
+forget_all-requires-clause-keeps c = rw c.deref_mut-4.ensures.value (keeps_of c.args.of.now c.args.state.now.t c.settle.new.state c.settle.ensures.goes)
 
 pub returns-clause-at : goal.returns-clause-at
 returns-clause-at c =
@@ -101,25 +78,23 @@ returns-clause-at c =
     let receivers = with_items_is b.receivers ks (search rules) in
     let ws_len = c.leap_all.auto.watches ∙ ap length c.deref_mut.ensures.value in
     let same = sym (ap length lines ∙ size) in
-    let watched = at.stations.watches in
+    let many = at.stations.senders in
+    let ss_len = c.leap_all.auto.senders ∙ ap length c.deref_mut-2.ensures.value in
+    let leapt = rw (c.deref_mut-2.ensures.value, c.deref_mut-3.ensures.value) at c.leap_all.ensures in
     record {
       goes = record {
         begun = omega arith;
         upto = omega arith;
         stations = rw (lines, watches, senders, receivers)
             (stand_passed g b m front at quiet ds a_kept come settled new forgot ws ss ks ws_len
-            (c.leap_all.auto.senders ∙ ap length c.deref_mut-2.ensures.value)
+            ss_len
             (c.leap_all.auto.receivers ∙ ap length c.deref_mut-3.ensures.value)
-            c.leap_all.ensures.since c.leap_all.ensures.until c.leap_all.ensures.told
-            (λ i s h. c.leap_all.ensures.states i s h ∙ ap (λ (xs : List Sender). after_all (get_or xs i s) (replicate m Idle)) c.deref_mut-2.ensures.value)
-            c.leap_all.ensures.times
-            (λ i s h. c.leap_all.ensures.phases i s h ∙ ap (λ (xs : List Sender). (get_or xs i s).phase) c.deref_mut-2.ensures.value)
-            (λ i k r h hears. c.leap_all.ensures.receivers i k r h (subst (λ (xs : List KeptReception). Hears r (get_or xs i k)) (sym c.deref_mut-3.ensures.value) hears))
-            c.leap_all.ensures.steps);
+            leapt);
         still = rw (watches, senders, receivers) (λ i x s k h below.
-            let there : i < length ws = omega (arith, h, watched, ws_len) in
-            let since = c.leap_all.ensures.since i x there in
-            let until = c.leap_all.ensures.until i x there in
+            let there : i < length ss = omega (arith, h, many, ss_len) in
+            let one = leapt i x s s k k there in
+            let since = one.since in
+            let until = one.until in
             absurd (omega (arith, below, since, until)));
         lines = rw lines (known_settled u ls new forgot plan w L u know);
         ends = rw lines (λ p h.

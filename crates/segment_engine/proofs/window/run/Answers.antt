@@ -1,4 +1,5 @@
-use Rattle.std.proofs.Common.{◌≡◌, ◌+◌, ◌*◌, List, map, length, refl, sym, subst, ap, ap₂, ◌∙◌, arith}
+use Rattle.std.proofs.Common.{◌≡◌, ◌+◌, ◌*◌, ◌≤◌, List, map, length, refl, sym, subst, ap, ap₂, ◌∙◌, arith}
+use Rattle.mac_parameters.specs.Parameters.{most_half_bits}
 use Rattle.mac_receive.specs.KeptReceiver.{KeptReception}
 use Rattle.mac_transmit.specs.Sender.{Sender}
 use Rattle.net_parts.specs.declared.parcel.Parcel.{Parcel}
@@ -9,13 +10,15 @@ use Rattle.segment_engine.specs.StationsApart.{CoversApart}
 use Rattle.segment_engine.proofs.RunsApart.{covers_sooner}
 use Rattle.segment_engine.proofs.SegmentWindows.{is_window, begins, early, half_bits_are, within_window, within_run}
 use Rattle.segment_engine.proofs.WindowParcels.{parcels_came, parcels_go, covers_since}
+use Rattle.segment_engine.proofs.window.run.Goals.{Start, After-arrive}
 use Rattle.segment_engine.proofs.window.run.Goals as goal
 
 pub arrive-requires-clause-time : goal.arrive-requires-clause-time
 arrive-requires-clause-time c = begins c.args.of.now c.args.window c.args.state.now.t c.requires.below c.requires.time
 
-pub arrive-requires-clause-parcels : goal.arrive-requires-clause-parcels
-arrive-requires-clause-parcels c =
+-- what came in for the ports
+came : (c : Start) → c.args.parcels.now ≡ map (half_filled c.args.of.now.plan.value c.args.of.now.lookahead c.args.window 0) (wiring c.args.of.now.plan.value.layout c.args.of.now.number).edges
+came c =
     let g = c.args.of.now in
     let plan = g.plan.value in
     let wd = c.args.window in
@@ -23,11 +26,15 @@ arrive-requires-clause-parcels c =
     ∙ parcels_came plan wd (is_window g wd c.args.state.now.t c.requires.below c.requires.time) g.number g.within
     ∙ ap (λ n. map (half_filled plan n wd 0) (wiring plan.layout g.number).edges) (sym g.window_length)
 
+pub arrive-requires-clause-parcels : goal.arrive-requires-clause-parcels
+arrive-requires-clause-parcels c = came (goal.at.arrive-requires-clause-parcels c).Start
+
 pub arrive-requires-clause-in_time : goal.arrive-requires-clause-in_time
 arrive-requires-clause-in_time c = early c.args.of.now c.args.window c.args.state.now.t c.requires.below c.requires.time
 
-pub go_apart-requires-clause-in_time : goal.go_apart-requires-clause-in_time
-go_apart-requires-clause-in_time c =
+-- the window's half bits are within the run
+in_run : (c : After-arrive) → c.arrive.new.state.t + c.min-count.result ≤ most_half_bits
+in_run c =
     let g = c.args.of.now in
     let t = c.args.state.now.t in
     let wd = c.args.window in
@@ -36,14 +43,11 @@ go_apart-requires-clause-in_time c =
     let few = within_run g wd t c.requires.below c.requires.time c.from.result c.min-count.result t c.from.ensures refl c.min-count.ensures t 0 (omega (arith, starts)) (omega arith) in
     omega (arith, few, same)
 
+pub go_apart-requires-clause-in_time : goal.go_apart-requires-clause-in_time
+go_apart-requires-clause-in_time c = in_run (goal.at.go_apart-requires-clause-in_time c).After-arrive
+
 pub go_apart-requires-clause-parcels : goal.go_apart-requires-clause-parcels
-go_apart-requires-clause-parcels c =
-    let g = c.args.of.now in
-    let plan = g.plan.value in
-    let wd = c.args.window in
-    c.requires.parcels
-    ∙ parcels_came plan wd (is_window g wd c.args.state.now.t c.requires.below c.requires.time) g.number g.within
-    ∙ ap (λ n. map (half_filled plan n wd 0) (wiring plan.layout g.number).edges) (sym g.window_length)
+go_apart-requires-clause-parcels c = came (goal.at.go_apart-requires-clause-parcels c).Start
 
 pub go_apart-requires-clause-room : goal.go_apart-requires-clause-room
 go_apart-requires-clause-room c =
@@ -73,14 +77,9 @@ overflow_mul-front c =
 
 pub settle_if_due-requires-clause-in_time : goal.settle_if_due-requires-clause-in_time
 settle_if_due-requires-clause-in_time c =
-    let g = c.args.of.now in
-    let t = c.args.state.now.t in
-    let wd = c.args.window in
-    let starts = begins g wd t c.requires.below c.requires.time in
-    let same = c.arrive.ensures.time in
     let later = c.go_apart.ensures.time in
-    let few = within_run g wd t c.requires.below c.requires.time c.from.result c.min-count.result t c.from.ensures refl c.min-count.ensures t 0 (omega (arith, starts)) (omega arith) in
-    omega (arith, few, same, later)
+    let few = in_run (goal.at.settle_if_due-requires-clause-in_time c).After-arrive in
+    omega (arith, few, later)
 
 pub returns-clause-parcels : goal.returns-clause-parcels
 returns-clause-parcels c =
