@@ -96,7 +96,7 @@ pub idle_but : (u q : ℕ) (ls : List TapLine) (ns : List ℕ) → AreIdleButFor
     ((i : ℕ) → i < length ns → get_or ns i 0 ≢ q → IsIdleFrom u (get_or ls (get_or ns i 0) no_line)) → AreOthersIdle u ls q
 idle_but u q ls ns idle each r v h other late = false_from_ne_true (class_on (get_or ls r no_line) v) (λ on.
     let there : IsIdleFrom u (get_or ls r no_line) = idle.others r h (λ i m e.
-        false≢true (sym (subst (λ k. IsIdleFrom u (get_or ls k no_line)) e (each i m (λ z. other (sym e ∙ z))) v late) ∙ on)) in
+    false≢true (sym (subst (λ k. IsIdleFrom u (get_or ls k no_line)) e (each i m (λ z. other (sym e ∙ z))) v late) ∙ on)) in
     false≢true (sym (there v late) ∙ on))
 
 -- goes on as listed up to a tap behind, where those between are idle

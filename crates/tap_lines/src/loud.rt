@@ -58,11 +58,11 @@ fn write_loud_among(lines: &[Line], u: u64, among: &LoudTaps, numbers: &mut [usi
 {
     let mut count = 0;
     for i in 0..among.len() {
-        let r = among.tap(i);
-        if lines[r].is_quiet_from(u) {
+        let q = among.tap(i);
+        if lines[q].is_quiet_from(u) {
             continue;
         }
-        numbers[count] = r;
+        numbers[count] = q;
         count += 1;
     }
     count

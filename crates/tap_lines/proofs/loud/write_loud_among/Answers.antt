@@ -12,9 +12,9 @@ loop-i-preserved-then-is_quiet_from c =
     let test = c.loop-i-test.true in
     let many = c.len-i-end.ensures in
     let in_it : i < length ms = omega (arith, test, many) in
-    let which = c.tap-r.ensures in
+    let which = c.tap-q.ensures in
     let there = c.requires.idle.within i in_it in
-    let is = get_or_read ls c.tap-r.result c.index-lines-r.result (omega (arith, which, there)) c.index-lines-r.is no_line in
+    let is = get_or_read ls c.tap-q.result c.index-lines-q.result (omega (arith, which, there)) c.index-lines-q.is no_line in
     record {
       len = c.loop-i.invariant.len;
       few = c.loop-i.invariant.few;
@@ -44,13 +44,13 @@ loop-i-preserved c =
     let len = inv.len in
     let fits = c.requires.room in
     let in_it : i < length ms = omega (arith, test, many) in
-    let which = c.tap-r.ensures in
+    let which = c.tap-q.ensures in
     let there = c.requires.idle.within i in_it in
-    let is = get_or_read ls c.tap-r.result c.index-lines-r.result (omega (arith, which, there)) c.index-lines-r.is no_line in
+    let is = get_or_read ls c.tap-q.result c.index-lines-q.result (omega (arith, which, there)) c.index-lines-q.is no_line in
     let less = among_room c.args.u i n ls ms ns c.requires.idle in_it inv.so_far in
     record {
       few = omega (arith, less);
-      len = length-set ns n c.tap-r.result ∙ len;
+      len = length-set ns n c.tap-q.result ∙ len;
       so_far = subst (λ x. AmongTo c.args.u ls ms (i + 1) (set ns n x) (n + 1)) (sym which)
           (among_loud c.args.u i n ls ms ns c.requires.idle in_it (omega (arith, fits, len))
           (λ idle. c.is_quiet_from.ensures.loud c.if-is_quiet_from.false (subst (IsIdleFrom c.args.u) (sym (is ∙ ap (λ k. get_or ls k no_line) which)) idle)) inv.so_far);

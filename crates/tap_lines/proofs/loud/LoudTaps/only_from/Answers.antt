@@ -1,6 +1,5 @@
-use Rattle.std.proofs.Common.{◌≡◌, ◌<◌, ◌≤◌, inl, inr, length, get_or, sym, subst, ap, ◌∙◌, arith}
+use Rattle.std.proofs.Common.{◌≡◌, inl, inr, length, get_or, sym, ap, ◌∙◌, arith}
 use Rattle.std.proofs.lemmas.Bool.{cases_lt}
-use Rattle.tap_lines.specs.TapLines.{IsOnlySource}
 use Rattle.tap_lines.proofs.LoudLists.{idle_but, two_loud}
 use Rattle.tap_lines.proofs.loud.LoudTaps.only_from.Goals as goal
 use Rattle.tap_lines.proofs.loud.LoudTaps.only_from.Goals.{then-i-len-via-then-i-len, then-i-len-via-else-i-len+then-next_loud-len}
