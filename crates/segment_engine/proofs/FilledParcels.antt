@@ -1,5 +1,5 @@
 -- The parcels of a window, with what the ports hear by lines in the place of what came in for them.
-use Rattle.std.proofs.Common.{◌≡◌, ℕ, zero, suc, ◌+◌, ◌-◌, ◌*◌, ◌<◌, ◌≤◌, false, All, List, [], ◌∷◌, ◌++◌, map, take, drop, length, length-append, get_or, refl, sym, subst, ap, ap₂, ◌∙◌, arith, append_assoc}
+use Rattle.std.proofs.Common.{◌≡◌, ℕ, suc, ◌+◌, ◌-◌, ◌*◌, ◌<◌, ◌≤◌, false, All, List, [], ◌∷◌, ◌++◌, map, take, drop, length, length-append, get_or, sym, subst, ap, ap₂, ◌∙◌, arith, append_assoc}
 use Rattle.std.proofs.lemmas.List.{get_or-map, length-map, same_lists, take-append-le, take_all}
 use Rattle.manchester_line.specs.declared.Sym.{Sym}
 use Rattle.load_plan.specs.declared.plan.Plan.{Plan}

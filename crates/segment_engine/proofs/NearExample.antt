@@ -1,6 +1,6 @@
 -- An example of how far back lines keep what stands on them, where a window has 20 half bits: of a station at a cable's
 -- end, and of a port 30 half bits away whose repeater has a delay of 25.
-use Rattle.std.proofs.Common.{ℕ, ◌+◌, ◌≤◌, List, [], ◌∷◌, arith}
+use Rattle.std.proofs.Common.{ℕ, ◌+◌, ◌≤◌, [], ◌∷◌, arith}
 use Rattle.load_plan.specs.declared.plan.Plan.{Plan}
 use Rattle.net_parts.specs.SegmentParts.{Wiring}
 use Rattle.tap_lines.specs.TapLines.{TapLine}

@@ -15,7 +15,7 @@ use Rattle.segment_engine.specs.declared.apart.Watch.{Watch}
 use Rattle.segment_engine.specs.declared.running.Running.{Running}
 use Rattle.segment_engine.specs.declared.segment.Segment.{Segment}
 use Rattle.segment_engine.specs.PartStates.{half_filled}
-use Rattle.segment_engine.specs.RunningStates.{GoesOnAt, IsRunningAt}
+use Rattle.segment_engine.specs.RunningStates.{IsRunningAt}
 use Rattle.segment_engine.proofs.RoomOfLines.{takes_in}
 
 a_kept : KeptReception

@@ -1,5 +1,5 @@
 -- For how long nothing happens on a segment on whose lines nothing is that still reaches a tap.
-use Rattle.std.proofs.Common.{◌≡◌, ℕ, ◌+◌, ◌-◌, ◌<◌, ◌≤◌, All, false, List, length, get_or, sym, subst, ◌∙◌, arith}
+use Rattle.std.proofs.Common.{◌≡◌, ℕ, ◌+◌, ◌-◌, ◌<◌, ◌≤◌, All, false, length, get_or, sym, subst, ◌∙◌, arith}
 use Rattle.manchester_line.specs.Decoding.{new_decoding}
 use Rattle.mac_receive.specs.KeptReceiver.{KeptReception}
 use Rattle.mac_transmit.specs.Sender.{Sender, is_sending}

@@ -1,7 +1,6 @@
 -- Where nothing happens on a segment, all taps hear Idle, and all stations stand in the network several half bits later.
 use Rattle.std.proofs.Common.{◌≡◌, ℕ, ◌+◌, ◌-◌, ◌<◌, ◌≤◌, false, inl, inr, List, [], map, length, replicate, get_or, refl, sym, subst, ap, ◌∙◌, arith}
 use Rattle.std.proofs.lemmas.Bool.{cases_lt, false≢true}
-use Rattle.std.proofs.lemmas.List.{get_or-map, length-map}
 use Rattle.manchester_line.specs.declared.Sym.TheVariants.{Idle}
 use Rattle.manchester_line.specs.Line.{is_signal}
 use Rattle.load_plan.specs.declared.plan.Plan.{Plan}
@@ -13,7 +12,7 @@ use Rattle.network.specs.Attempts.{sender_at}
 use Rattle.network.specs.Times.{heard, emitted}
 use Rattle.net_parts.specs.Machines.{span}
 use Rattle.net_parts.specs.SegmentParts.{Wiring, wiring}
-use Rattle.net_parts.specs.Standing.{arrives, captures_at, port_hears, receiver_at, rows_of_devices}
+use Rattle.net_parts.specs.Standing.{arrives, captures_at, receiver_at, rows_of_devices}
 use Rattle.net_parts.specs.Windows.{lookahead}
 use Rattle.net_parts.proofs.RepeaterSteps.{length-span, get_or-span}
 use Rattle.tap_lines.specs.TapLines.{TapLine, no_line, symbol_on, heard_by_lines, class_by_lines, AreIdleFrom}

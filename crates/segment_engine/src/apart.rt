@@ -21,7 +21,7 @@ ghost use Rattle.tap_lines.specs.TapLists.{AreIdleButFor, HearsListed};
 ghost use Rattle.window_room.specs.NeededRoom.{Covers, Demand, IsDemandWithin, both_demands, receiver_demand, sender_demand, stations_demand};
 ghost use Rattle.window_room.specs.Rooms.{Room, captures_with};
 
-use crate::due::{lower_all, step_all};
+use crate::due::{list_taps, lower_all, step_all};
 use crate::quiet::{before_change, is_sending};
 use crate::running::Running;
 use crate::segment::Segment;
@@ -47,7 +47,7 @@ pub struct Watch {
 fn hear_on(
     t: u64,
     lines: &[Line],
-    late: &mut LoudTaps,
+    late: &LoudTaps,
     p: usize,
     lookahead: u32,
     far: u64,
@@ -58,7 +58,7 @@ fn hear_on(
 )
     requires tap { p < length lines.now }
     requires reach { IsReachOf far lookahead lines.now }
-    requires listing { length lines.now ≤ late.old.room }
+    requires late { AreIdleButFor (t - far) lines.now late.now.taps }
     requires steps { receiver.old.steps ≡ t }
     requires in_time { t + length piece.old ≤ most_half_bits }
     requires rest { carrier ≡ false → sending ≡ false → receiver.old.halves ≡ 0 }
@@ -66,7 +66,6 @@ fn hear_on(
     ensures state { (r : Receiving) → Hears r receiver.old →
         Hears (receiver_after r (heard_for lookahead t (length piece.old) lines.now p) sending) receiver.new }
     ensures steps { receiver.new.steps ≡ t + length piece.old }
-    ensures listing { late.new.room ≡ late.old.room }
 {
     let count = piece.len() as u64;
     if sending {
@@ -76,8 +75,8 @@ fn hear_on(
     } else if receiver.is_deaf() {
         receiver.leap_deaf(count);
     } else {
-        late.find(lines, t.saturating_sub(far));
-        if let Some(heard) = piece_of(lines, late.only(), p, lookahead, far, t, piece.len()) {
+        let source = late.only_from(lines, t.saturating_sub(far));
+        if let Some(heard) = piece_of(lines, source, p, lookahead, far, t, piece.len()) {
             receiver.take(heard);
         } else {
             hear_listed(lines, late, p, lookahead, far, t, piece);
@@ -92,7 +91,7 @@ fn bring_one(
     from: u64,
     u: u64,
     lines: &[Line],
-    late: &mut LoudTaps,
+    late: &LoudTaps,
     p: usize,
     far: u64,
     watch: &mut Watch,
@@ -102,7 +101,7 @@ fn bring_one(
 )
     requires tap { p < length lines.now }
     requires reach { IsReachOf far of.now.lookahead lines.now }
-    requires listing { length lines.now ≤ late.old.room }
+    requires late { AreIdleButFor (from - far) lines.now late.now.taps }
     requires station { p < length of.now.stations.items }
     requires since { watch.old.since ≤ u }
     requires until { u ≤ watch.old.until }
@@ -117,7 +116,6 @@ fn bring_one(
     ensures carrier { watch.new.carrier ≡ watch.old.carrier }
     ensures still { IsStillBy watch.old sender.old receiver.old → IsStillBy watch.new sender.new receiver.new }
     ensures left { (e : ℕ) → u ≤ e → IsDemandWithin (behind_demand e watch.new sender.new receiver.new) (behind_demand e watch.old sender.old receiver.old) }
-    ensures listing { late.new.room ≡ late.old.room }
 {
     let _ = from;
     let since = watch.since;
@@ -142,7 +140,7 @@ fn bring_all(
     from: u64,
     u: u64,
     lines: &[Line],
-    late: &mut LoudTaps,
+    late: &LoudTaps,
     far: u64,
     watches: &mut [Watch],
     senders: &mut [Transmitter],
@@ -150,7 +148,7 @@ fn bring_all(
     piece: &mut [Sym],
 )
     requires reach { IsReachOf far of.now.lookahead lines.now }
-    requires listing { length lines.now ≤ late.old.room }
+    requires late { AreIdleButFor (from - far) lines.now late.now.taps }
     requires in_time { u ≤ most_half_bits }
     requires piece { most_told ≤ length piece.old }
     requires apart { StandAllApart of.now from u lines.now watches.old senders.old receivers.old }
@@ -162,7 +160,6 @@ fn bring_all(
     ensures left { (e : ℕ) (room : Room) → u ≤ e →
         CoversApart e (length of.now.stations.items) watches.old senders.old receivers.old room →
         CoversApart e (length of.now.stations.items) watches.new senders.new receivers.new room }
-    ensures listing { late.new.room ≡ late.old.room }
 {
     for k in 0..senders.len() {
         let watch = &mut watches[k];
@@ -244,7 +241,7 @@ pub fn look_one(
     u: u64,
     lines: &[Line],
     loud: &LoudTaps,
-    late: &mut LoudTaps,
+    late: &LoudTaps,
     p: usize,
     far: u64,
     watch: &mut Watch,
@@ -255,7 +252,7 @@ pub fn look_one(
     requires tap { p < length lines.now }
     requires reach { IsReachOf far of.now.lookahead lines.now }
     requires loud { AreIdleButFor (u - far) lines.now loud.now.taps }
-    requires listing { length lines.now ≤ late.old.room }
+    requires late { AreIdleButFor (from - far) lines.now late.now.taps }
     requires station { p < length of.now.stations.items }
     requires in_time { u < most_half_bits }
     requires piece { most_told ≤ length piece.old }
@@ -264,7 +261,6 @@ pub fn look_one(
     ensures apart { StandsApart of.now from u p lines.now watch.new sender.new receiver.new }
     ensures since { watch.new.since ≡ u }
     ensures left { (e : ℕ) → u ≤ e → IsDemandWithin (behind_demand e watch.new sender.new receiver.new) (behind_demand e watch.old sender.old receiver.old) }
-    ensures listing { late.new.room ≡ late.old.room }
 {
     bring_one(
         of, from, u, lines, late, p, far, watch, sender, receiver, piece,
@@ -458,6 +454,7 @@ pub fn settle(of: &Segment, front: u64, state: &mut Running)
         return;
     }
     let far = state.far;
+    state.late.find(&state.lines, from.saturating_sub(far));
     let watches: &mut [Watch] = &mut state.watches;
     let senders: &mut [Transmitter] = &mut state.senders;
     let receivers: &mut [LateReceiver] = &mut state.receivers;
@@ -467,7 +464,7 @@ pub fn settle(of: &Segment, front: u64, state: &mut Running)
         from,
         t,
         &state.lines,
-        &mut state.late,
+        &state.late,
         far,
         watches,
         senders,
@@ -499,8 +496,9 @@ fn run_apart(
 )
     requires reach { IsReachOf far of.now.lookahead lines.old }
     requires loud { AreIdleButFor (t - far) lines.old loud.old.taps }
-    requires listing { length lines.old ≤ loud.old.room }
-    requires late { length lines.old ≤ late.old.room }
+    requires late { AreIdleButFor (from - far) lines.old late.old.taps }
+    requires loud_room { length lines.old ≤ loud.old.room }
+    requires late_room { length lines.old ≤ late.old.room }
     requires begun { from ≤ t }
     requires upto { t ≤ end }
     requires ahead { end ≤ (window + 1) * of.now.lookahead }
@@ -520,8 +518,8 @@ fn run_apart(
     ensures right { HearAllByLines of.now from end lines.new }
     ensures lines { AreToldAnew t (length of.now.stations.items) lines.old lines.new }
     ensures loud { AreIdleButFor (t - far) lines.new loud.new.taps }
-    ensures listing { loud.new.room ≡ loud.old.room }
-    ensures late { late.new.room ≡ late.old.room }
+    ensures loud_room { loud.new.room ≡ loud.old.room }
+    ensures late_room { late.new.room ≡ late.old.room }
     ensures logged { room.new.rows ≡ rows_of_devices of.now.plan.value of.now.stations.items end }
     ensures kept { room.new.captures ≡ map (λ x. captures_at of.now.plan.value x end) of.now.stations.items }
     ensures left { (e : ℕ) → end ≤ e →
@@ -574,7 +572,7 @@ pub fn go_apart(of: &Segment, window: u64, count: u32, state: &mut Running, parc
     let lines: &mut [Line] = &mut state.lines;
     let loud = &mut state.loud;
     let late = &mut state.late;
-    loud.find(lines, t.saturating_sub(far));
+    list_taps(lines, from, t, far, loud, late);
     run_apart(
         of, window, from, t, end, lines, loud, late, far, watches, senders, receivers, piece,
         teller, room,

@@ -169,7 +169,7 @@ fn take_turn(
     u: u64,
     lines: &mut [Line],
     loud: &LoudTaps,
-    late: &mut LoudTaps,
+    late: &LoudTaps,
     p: usize,
     far: u64,
     watch: &mut Watch,
@@ -181,7 +181,7 @@ fn take_turn(
 ) -> Option<u64>
     requires reach { IsReachOf far of.now.lookahead lines.old }
     requires loud { AreIdleButFor (u - far) lines.old loud.now.taps }
-    requires listing { length lines.old ≤ late.old.room }
+    requires late { AreIdleButFor (from - far) lines.old late.now.taps }
     requires station { p < length of.now.stations.items }
     requires captures { p < length room.old.captures }
     requires ahead { u < (window + 1) * of.now.lookahead }
@@ -208,7 +208,6 @@ fn take_turn(
     ensures left { (e : ℕ) (other : Demand) → u < e →
         Covers (both_demands other (behind_demand e watch.old sender.old receiver.old)) room.old →
         Covers (both_demands other (behind_demand e watch.new sender.new receiver.new)) room.new }
-    ensures listing { late.new.room ≡ late.old.room }
 {
     let _ = window;
     look_one(
@@ -255,6 +254,28 @@ fn next_due(watches: &[Watch], from: usize, u: u64) -> usize
     watches.len()
 }
 
+/// The lines that sound are listed: those that stations may hear which stand behind from half bit `from` on, and among
+/// them those that any tap may hear from half bit `t` on.
+pub fn list_taps(
+    lines: &[Line],
+    from: u64,
+    t: u64,
+    far: u64,
+    loud: &mut LoudTaps,
+    late: &mut LoudTaps,
+)
+    requires begun { from ≤ t }
+    requires loud_room { length lines.now ≤ loud.old.room }
+    requires late_room { length lines.now ≤ late.old.room }
+    ensures loud { AreIdleButFor (t - far) lines.now loud.new.taps }
+    ensures late { AreIdleButFor (from - far) lines.now late.new.taps }
+    ensures loud_room { loud.new.room ≡ loud.old.room }
+    ensures late_room { late.new.room ≡ late.old.room }
+{
+    late.find(lines, from.saturating_sub(far));
+    loud.find_among(lines, t.saturating_sub(far), late);
+}
+
 /// Half bit `u` of the stations of a segment: those that are due in it have their turn, one after another.
 pub fn step_all(
     of: &Segment,
@@ -275,8 +296,10 @@ pub fn step_all(
 )
     requires reach { IsReachOf far of.now.lookahead lines.old }
     requires loud { AreIdleButFor (t - far) lines.old loud.old.taps }
-    requires listing { length lines.old ≤ loud.old.room }
-    requires late { length lines.old ≤ late.old.room }
+    requires late { AreIdleButFor (from - far) lines.old late.old.taps }
+    requires loud_room { length lines.old ≤ loud.old.room }
+    requires late_room { length lines.old ≤ late.old.room }
+    requires begun { from ≤ t }
     requires after { t ≤ u }
     requires ahead { u < (window + 1) * of.now.lookahead }
     requires in_time { u < most_half_bits }
@@ -294,8 +317,9 @@ pub fn step_all(
     ensures right { HearAllByLines of.now from (u + 1) lines.new }
     ensures lines { AreToldAnew u (length of.now.stations.items) lines.old lines.new }
     ensures loud { AreIdleButFor (t - far) lines.new loud.new.taps }
-    ensures listing { loud.new.room ≡ loud.old.room }
-    ensures late { late.new.room ≡ late.old.room }
+    ensures late { AreIdleButFor (from - far) lines.new late.new.taps }
+    ensures loud_room { loud.new.room ≡ loud.old.room }
+    ensures late_room { late.new.room ≡ late.old.room }
     ensures rows { room.new.rows ≡ room.old.rows ++ rows_of_both u of.now.stations.items (λ i. sent_event of.now.plan.value (number_on of.now i) u)
         (λ i. (heard_reception of.now.plan.value (number_on of.now i) u).event) (length of.now.stations.items) }
     ensures captures { (i : ℕ) → i < length of.now.stations.items → slice_index_or room.new.captures i [] ≡ slice_index_or room.old.captures i [] ++
@@ -317,7 +341,7 @@ pub fn step_all(
             k = next_due(watches, k + 1, u);
             continue;
         };
-        loud.find(lines, t.saturating_sub(far));
+        list_taps(lines, from, t, far, loud, late);
         lower_all(at, of.lookahead, lines, k, watches);
         k = next_due(watches, k + 1, u);
     }

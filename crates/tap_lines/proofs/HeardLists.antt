@@ -42,6 +42,30 @@ between ns i q q' r early parts low high k h e = elim (cases_lt k i) [
   | inr after ↦ let z = parts.behind k after h in omega (arith, z, e, high)
 ]
 
+-- those below the first that is listed
+pub idle_first : (u q r : ℕ) (ls : List TapLine) (ns : List ℕ) → AreIdleButFor u ls ns → Parts ns 0 q → q ≤ length ls → r < q → IsIdleFrom u (get_or ls r no_line)
+idle_first u q r ls ns idle parts few high = idle.others r (omega (arith, high, few)) (between ns 0 0 q r (λ k h. absurd (omega (arith, h))) parts (omega arith) high)
+
+-- those behind one that is listed
+pub idle_next : (u i q r : ℕ) (ls : List TapLine) (ns : List ℕ) → AreIdleButFor u ls ns → i < length ns → Parts ns (i + 1) q → q ≤ length ls → get_or ns i 0 < r → r < q → IsIdleFrom u (get_or ls r no_line)
+idle_next u i q r ls ns idle h parts few low high =
+    let x = get_or ns i 0 in
+    idle.others r (omega (arith, high, few)) (between ns (i + 1) (x + 1) q r
+    (λ k m. elim (cases_lt k i) [
+      | inl before ↦ let z = idle.rising k i before h in omega (arith, z)
+      | inr now ↦ let e : k ≡ i = omega (arith, m, now) in let z = ap (λ j. get_or ns j 0) e in omega (arith, z)
+    ]) parts (omega (arith, low)) high)
+
+-- at one that is listed
+pub parts_at : (u i : ℕ) (ls : List TapLine) (ns : List ℕ) → AreIdleButFor u ls ns → i < length ns → Parts ns i (get_or ns i 0)
+parts_at u i ls ns idle h = record {
+  before = λ k m. idle.rising k i m h;
+  behind = λ k l m. elim (cases_lt i k) [
+    | inl after ↦ let z = idle.rising i k after m in omega (arith, z)
+    | inr now ↦ let e : i ≡ k = omega (arith, l, now) in let z = ap (λ j. get_or ns j 0) e in omega (arith, z)
+  ];
+}
+
 -- from the first line on
 pub listed_first : (L t far p : ℕ) (ls : List TapLine) (ns : List ℕ) (s : Sym) → IsReachOf far L ls → p < length ls → AreIdleButFor (t - far) ls ns → s ≡ Idle →
     CompletedFrom L t ls p ns 0 s
@@ -50,7 +74,7 @@ listed_first L t far p ls ns s within hp idle none q parts few =
     let e : q ≡ 0 + q = omega arith in
     ap (λ k. mix_of s (heard_of_lines L t p (get_or ls p no_line).at k (drop k ls))) e
     ∙ heard_behind L t far p 0 q ls s all within hp (omega (arith, few))
-    (λ r low high. idle.others r (omega (arith, high, few)) (between ns 0 0 q r (λ k h. absurd (omega (arith, h))) parts low (omega (arith, high))))
+    (λ r low high. idle_first (t - far) q r ls ns idle parts few (omega (arith, high)))
     (ap (λ x. mix_of x all) none ∙ idle_mix all)
 
 -- a listed line more
@@ -60,24 +84,13 @@ listed_next L t far p i ls ns s s' within hp idle h is so_far q parts few =
     let x = get_or ns i 0 in
     let all = heard_by_lines L t ls p in
     let in_it : x < length ls = idle.within i h in
-    let here : Parts ns i x = record {
-      before = λ k m. idle.rising k i m h;
-      behind = λ k l m. elim (cases_lt i k) [
-        | inl after ↦ let z = idle.rising i k after m in omega (arith, z)
-        | inr now ↦ let e : i ≡ k = omega (arith, l, now) in let z = ap (λ j. get_or ns j 0) e in omega (arith, z)
-      ];
-    } in
-    let one = heard_next L t p x ls s s' all in_it is (so_far x here (omega (arith, in_it))) in
+    let one = heard_next L t p x ls s s' all in_it is (so_far x (parts_at (t - far) i ls ns idle h) (omega (arith, in_it))) in
     let less : x < q = parts.before i (omega arith) in
     let n = q - (x + 1) in
     let e : q ≡ x + 1 + n = omega (arith, less) in
     ap (λ k. mix_of s' (heard_of_lines L t p (get_or ls p no_line).at k (drop k ls))) e
     ∙ heard_behind L t far p (x + 1) n ls s' all within hp (omega (arith, few, less))
-    (λ r low high. idle.others r (omega (arith, high, few, less)) (between ns (i + 1) (x + 1) q r
-    (λ k m. elim (cases_lt k i) [
-      | inl before ↦ let z = idle.rising k i before h in omega (arith, z)
-      | inr now ↦ let e : k ≡ i = omega (arith, m, now) in let z = ap (λ j. get_or ns j 0) e in omega (arith, z)
-    ]) parts low (omega (arith, high, less)))) one
+    (λ r low high. idle_next (t - far) i q r ls ns idle h parts few (omega (arith, low)) (omega (arith, high, less))) one
 
 -- behind all that are listed
 pub all_listed : (u i : ℕ) (ls : List TapLine) (ns : List ℕ) → AreIdleButFor u ls ns → length ns ≤ i → i ≤ length ns → Parts ns i (length ls)

@@ -5,6 +5,7 @@ pub mod HeardLines
 pub mod EndsOfSignals
 pub mod LoudLists
 pub mod HeardLists
+pub mod AmongLists
 pub mod HeardClasses
 pub mod Mixes
 pub mod LineClasses

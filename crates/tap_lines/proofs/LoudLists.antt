@@ -1,8 +1,8 @@
 -- Lists of the taps on whose lines anything stands that may still be heard.
 use Rattle.std.proofs.Common.{◌≡◌, ◌≢◌, ℕ, ◌+◌, ◌<◌, ◌≤◌, inl, inr, List, [], ◌∷◌, set, take, length, length-take-le, get_or, get_or-set_same, refl, sym, subst, ap, ◌∙◌, arith}
 use Rattle.std.proofs.lemmas.List.{get_or-set_other, get_or-take}
-use Rattle.std.proofs.lemmas.Bool.{cases_lt}
-use Rattle.tap_lines.specs.TapLines.{TapLine, no_line, AreIdleFrom, IsIdleFrom, IsOnlySource}
+use Rattle.std.proofs.lemmas.Bool.{cases_lt, false_from_ne_true, false≢true}
+use Rattle.tap_lines.specs.TapLines.{TapLine, no_line, class_on, AreIdleFrom, AreOthersIdle, IsIdleFrom, IsOnlySource}
 use Rattle.tap_lines.specs.TapLists.{AreIdleButFor, AreLoudTaps}
 
 -- the first n of these list the loud taps below r
@@ -74,18 +74,46 @@ listed_all u n r ls ns so_far end room =
       loud = λ i h. subst (λ z. ¬ IsIdleFrom u (get_or ls z no_line)) (sym (same i h)) (so_far.loud i (omega (arith, h, size)));
     }
 
+-- where two taps are loud, none is the only one
+pub two_loud : (u i j q : ℕ) (ls : List TapLine) (ns : List ℕ) → AreIdleButFor u ls ns → i < j → j < length ns →
+    ¬ IsIdleFrom u (get_or ls (get_or ns i 0) no_line) → ¬ IsIdleFrom u (get_or ls (get_or ns j 0) no_line) → ¬ IsOnlySource u ls q
+two_loud u i j q ls ns idle before h first second only =
+    let less = idle.rising i j before h in
+    elim (cases_lt q (get_or ns j 0)) [
+      | inl low ↦ second (λ v late. only.others (get_or ns j 0) v (idle.within j h) (λ e. omega (arith, e, low)) late)
+      | inr high ↦ first (λ v late. only.others (get_or ns i 0) v (idle.within i (omega (arith, before, h))) (λ e. omega (arith, e, high, less)) late)
+    ]
+
 -- where not just one tap is listed, none is the only one
 pub not_one : (u : ℕ) (ls : List TapLine) (ns : List ℕ) → AreLoudTaps u ls ns → length ns ≢ 1 → (q : ℕ) → IsOnlySource u ls q → AreIdleFrom u ls
 not_one u ls [] loud many q only = λ r v h late. loud.idle.others r h (λ i m. absurd (omega (arith, m))) v late
 not_one u ls (x ∷ []) loud many q only = absurd (many refl)
 not_one u ls (x ∷ y ∷ ns) loud many q only =
-    let first : x < length ls = loud.idle.within 0 (omega arith) in
-    let second : y < length ls = loud.idle.within 1 (omega arith) in
-    let less : x < y = loud.idle.rising 0 1 (omega arith) (omega arith) in
-    absurd (elim (cases_lt q y) [
-      | inl before ↦ loud.loud 1 (omega arith) (λ v late. only.others y v second (λ e. omega (arith, e, before)) late)
-      | inr behind ↦ loud.loud 0 (omega arith) (λ v late. only.others x v first (λ e. omega (arith, e, behind, less)) late)
-    ])
+    absurd (two_loud u 0 1 q ls (x ∷ y ∷ ns) loud.idle (omega arith) (omega arith) (loud.loud 0 (omega arith)) (loud.loud 1 (omega arith)) only)
+
+-- where all listed taps but this one are idle, so are all others
+pub idle_but : (u q : ℕ) (ls : List TapLine) (ns : List ℕ) → AreIdleButFor u ls ns →
+    ((i : ℕ) → i < length ns → get_or ns i 0 ≢ q → IsIdleFrom u (get_or ls (get_or ns i 0) no_line)) → AreOthersIdle u ls q
+idle_but u q ls ns idle each r v h other late = false_from_ne_true (class_on (get_or ls r no_line) v) (λ on.
+    let there : IsIdleFrom u (get_or ls r no_line) = idle.others r h (λ i m e.
+    false≢true (sym (subst (λ k. IsIdleFrom u (get_or ls k no_line)) e (each i m (λ z. other (sym e ∙ z))) v late) ∙ on)) in
+    false≢true (sym (there v late) ∙ on))
+
+-- goes on as listed up to a tap behind, where those between are idle
+pub listed_on : (u n r r' : ℕ) (ls : List TapLine) (ns : List ℕ) → ListedTo u ls ns n r → r ≤ r' →
+    ((q : ℕ) → r ≤ q → q < r' → IsIdleFrom u (get_or ls q no_line)) → ListedTo u ls ns n r'
+listed_on u n r r' ls ns so_far more idle =
+    let few = so_far.few in
+    record {
+      few = omega (arith, few, more);
+      within = λ i h. let z = so_far.within i h in omega (arith, z, more);
+      rising = so_far.rising;
+      others = λ q h out. elim (cases_lt q r) [
+        | inl before ↦ so_far.others q before out
+        | inr after ↦ idle q after h
+      ];
+      loud = so_far.loud;
+    }
 
 -- from a later half bit on
 pub later_idle : (u u' : ℕ) (ls : List TapLine) (ns : List ℕ) → u ≤ u' → AreIdleButFor u ls ns → AreIdleButFor u' ls ns

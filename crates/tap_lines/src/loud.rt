@@ -48,6 +48,26 @@ fn write_loud(lines: &[Line], u: u64, numbers: &mut [usize]) -> usize
     count
 }
 
+/// Writes the numbers of those taps of a list on whose lines something else than Idle stands from half bit `u` on, and
+/// says how many.
+fn write_loud_among(lines: &[Line], u: u64, among: &LoudTaps, numbers: &mut [usize]) -> usize
+    requires idle { AreIdleButFor u lines.now among.now.taps }
+    requires room { length lines.now ≤ length numbers.old }
+    ensures within { result ≤ length numbers.new }
+    ensures loud { AreLoudTaps u lines.now (take result numbers.new) }
+{
+    let mut count = 0;
+    for i in 0..among.len() {
+        let q = among.tap(i);
+        if lines[q].is_quiet_from(u) {
+            continue;
+        }
+        numbers[count] = q;
+        count += 1;
+    }
+    count
+}
+
 impl LoudTaps {
     /// The empty list for so many taps.
     pub fn new(alloc: Global, taps: usize) -> Result<LoudTaps, OutOfMemory>
@@ -67,6 +87,16 @@ impl LoudTaps {
         ensures room { self.new.room ≡ self.old.room }
     {
         self.count = write_loud(lines, u, &mut self.numbers);
+    }
+
+    /// Lists those of the taps of another list on whose lines something else than Idle stands from half bit `u` on.
+    pub fn find_among(&mut self, lines: &[Line], u: u64, among: &LoudTaps)
+        requires idle { AreIdleButFor u lines.now among.now.taps }
+        requires room { length lines.now ≤ self.old.room }
+        ensures loud { AreLoudTaps u lines.now self.new.taps }
+        ensures room { self.new.room ≡ self.old.room }
+    {
+        self.count = write_loud_among(lines, u, among, &mut self.numbers);
     }
 
     /// How many taps it lists.
@@ -100,5 +130,37 @@ impl LoudTaps {
         } else {
             None
         }
+    }
+
+    /// The first place from `from` on, from 0, of a tap on whose line something else than Idle stands from half bit `u`
+    /// on, or else how many taps it lists.
+    fn next_loud(&self, lines: &[Line], u: u64, from: usize) -> usize
+        requires idle { AreIdleButFor u lines.now self.now.taps }
+        requires from { from ≤ length self.now.taps }
+        ensures from { from ≤ result }
+        ensures within { result ≤ length self.now.taps }
+        ensures idle { (i : ℕ) → from ≤ i → i < result → IsIdleFrom u (slice_index_or lines.now (slice_index_or self.now.taps i 0) no_line) }
+        ensures loud { result < length self.now.taps → ¬ IsIdleFrom u (slice_index_or lines.now (slice_index_or self.now.taps result 0) no_line) }
+    {
+        for i in from..self.len() {
+            if !lines[self.tap(i)].is_quiet_from(u) {
+                return i;
+            }
+        }
+        self.len()
+    }
+
+    /// The tap that it lists on whose line something else than Idle stands from half bit `u` on, if it is just one.
+    pub fn only_from(&self, lines: &[Line], u: u64) -> Option<usize>
+        requires { AreIdleButFor u lines.now self.now.taps }
+        ensures only { IfSome result (IsOnlySource u lines.now) }
+        ensures loud { IfSome result (λ q. ¬ IsIdleFrom u (slice_index_or lines.now q no_line)) }
+        ensures none { IfNone result ((q : ℕ) → IsOnlySource u lines.now q → AreIdleFrom u lines.now) }
+    {
+        let i = self.next_loud(lines, u, 0);
+        if i == self.len() || self.next_loud(lines, u, i + 1) < self.len() {
+            return None;
+        }
+        Some(self.tap(i))
     }
 }

@@ -44,7 +44,6 @@ loop-k-preserved c =
           i w s r h;
       since = below_set (λ (w : Watch). w.since ≡ c.args.u) k c.loop-k.watches w' lw (λ i w h. inv.since i w h) at;
       piece_len = c.bring_one.auto.piece ∙ inv.piece_len;
-      listing = now.listing ∙ inv.listing;
       left = λ e room h covers.
           covers_less e (length c.args.of.now.stations.items) k c.loop-k.watches c.loop-k.senders c.loop-k.receivers w' c.bring_one.new.sender c.bring_one.new.receiver in_it lw ls lk
           a_watch c.index-senders-k.result c.index-receivers-k.result room (now.left e h) (inv.left e room h covers);

@@ -10,7 +10,6 @@ invariant-loop-k l = record {
   apart : StandAllApart l.of l.from l.u l.lines l.watches l.senders l.receivers;
   still : AreStill l.of l.watches l.senders l.receivers;
   since : (i : ℕ) (w : Watch) → i < l.k → (slice_index_or l.watches i w).since ≡ l.u;
-  listing : l.late.room ≡ l.fn.late.room;
   piece_len : length l.piece ≡ length l.fn.piece;
   left : (e : ℕ) (room : Room) → l.u ≤ e → CoversApart e (length l.of.stations.items) l.fn.watches l.fn.senders l.fn.receivers room →
       CoversApart e (length l.of.stations.items) l.watches l.senders l.receivers room;

@@ -5,11 +5,17 @@ use Rattle.mac_receive.specs.Receiver.{receiver_after}
 use Rattle.mac_transmit.specs.Calm.{change_in}
 use Rattle.mac_transmit.specs.Sender.{is_sending}
 use Rattle.tap_lines.specs.TapLines.{heard_for}
-use Rattle.segment_engine.specs.StationsApart.{number_on}
+use Rattle.tap_lines.proofs.LoudLists.{later_idle}
 use Rattle.segment_engine.proofs.BehindStations.{IsBrought, is_brought}
 use Rattle.segment_engine.proofs.CalmLater.{fewer_over}
 use Rattle.segment_engine.proofs.apart.bring_one.Goals.{After-pass}
 use Rattle.segment_engine.proofs.apart.bring_one.Goals as goal
+
+pub hear_on-requires-clause-late : goal.hear_on-requires-clause-late
+hear_on-requires-clause-late c =
+    let since = c.args.watch.now.since in
+    let from = c.requires.behind.from_start in
+    later_idle (c.args.from - c.args.far) (since - c.args.far) c.args.lines.now c.args.late.now.taps (omega (arith, from)) c.requires.late
 
 pub hear_on-requires-clause-steady : goal.hear_on-requires-clause-steady
 hear_on-requires-clause-steady c = λ j h.

@@ -81,8 +81,8 @@ returns-clause-goes c =
       kept = c.run_apart.ensures.kept;
       room = rw lines (room_anew a.t n a.from g.lookahead a.lines.items new anew at.room);
       reach = rw lines (reach_anew a.far g.lookahead a.t n a.lines.items new anew at.reach);
-      listing = c.run_apart.ensures.listing ∙ c.find.ensures.room ∙ at.listing ∙ same;
-      late = c.run_apart.ensures.late ∙ at.late ∙ same;
+      listing = c.run_apart.ensures.loud_room ∙ c.list_taps.ensures.loud_room ∙ at.listing ∙ same;
+      late = c.run_apart.ensures.late_room ∙ c.list_taps.ensures.late_room ∙ at.late ∙ same;
       piece = rw (with_items_is a.piece c.put_first.new.piece (search rules)) (let size = c.put_first.auto.piece ∙ c.run_apart.auto.piece ∙ ap length c.deref_mut-piece.ensures.value in let enough = at.piece in omega (arith, size, enough));
     }
 

@@ -1,18 +1,20 @@
-use Rattle.std.proofs.Common.{◌≡◌, ◌≢◌, ℕ, ◌-◌, All, true, false, List, length, sym, subst, ◌∙◌, arith, rules}
+use Rattle.std.proofs.Common.{◌≡◌, ◌≢◌, ℕ, All, true, false, List, IfSome, length, sym, subst, ◌∙◌, arith, rules}
 use Rattle.manchester_line.specs.declared.Sym.{Sym}
 use Rattle.manchester_line.specs.declared.Sym.TheVariants.{Idle}
 use Rattle.mac_receive.specs.KeptReceiver.{Hears}
 use Rattle.mac_receive.specs.Receiver.{receiver_after}
 use Rattle.net_parts.proofs.RepeaterSteps.{length-span}
-use Rattle.tap_lines.specs.TapLines.{heard_by_lines, heard_for}
+use Rattle.tap_lines.specs.TapLines.{IsOnlySource, heard_by_lines, heard_for}
 use Rattle.tap_lines.specs.TapLists.{AreIdleButFor}
 use Rattle.segment_engine.proofs.SteadyReceivers.{idle_piece, signal_piece}
 use Rattle.segment_engine.proofs.apart.hear_on.Goals as goal
 
+pub only_from-source-requires : goal.only_from-source-requires
+only_from-source-requires c = subst (λ v. AreIdleButFor v c.args.lines.now c.args.late.now.taps) (sym c.saturating_sub.ensures) c.requires.late
+
 pub piece_of-requires-clause-source : goal.piece_of-requires-clause-source
 piece_of-requires-clause-source c =
-    c.only.ensures.only (c.args.t - c.args.far) c.args.lines.now
-    (subst (λ v. AreIdleButFor v c.args.lines.now c.find.new.self.taps) c.saturating_sub.ensures c.find.ensures.loud.idle)
+    subst (λ v. IfSome c.only_from-source.result (IsOnlySource v c.args.lines.now)) c.saturating_sub.ensures c.only_from-source.ensures.only
 
 pub hear_listed-requires : goal.hear_listed-requires
 hear_listed-requires c =
@@ -21,7 +23,7 @@ hear_listed-requires c =
       listed = record {
         tap = c.requires.tap;
         reach = c.requires.reach;
-        loud = subst (λ v. AreIdleButFor v c.args.lines.now c.find.new.self.taps) c.saturating_sub.ensures c.find.ensures.loud.idle;
+        loud = c.requires.late;
         in_time = omega (arith, last);
       };
     }

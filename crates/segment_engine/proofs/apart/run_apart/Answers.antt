@@ -32,20 +32,20 @@ step_all-requires-clause-tell c = λ r h.
     let below = c.loop-u-test.true in
     tells_sooner c.loop-u.u (c.loop-u.u + 1 + most_told) (c.args.end + most_told) (get_or c.loop-u.lines r no_line) (omega (arith, below)) (inv.tell r h)
 
-pub step_all-requires-clause-listing : goal.step_all-requires-clause-listing
-step_all-requires-clause-listing c =
+pub step_all-requires-clause-loud_room : goal.step_all-requires-clause-loud_room
+step_all-requires-clause-loud_room c =
     let inv = c.loop-u.invariant in
     let many = inv.lines.many in
-    let room = inv.listing in
-    let enough = c.requires.listing in
+    let room = inv.loud_room in
+    let enough = c.requires.loud_room in
     omega (arith, many, room, enough)
 
-pub step_all-requires-clause-late : goal.step_all-requires-clause-late
-step_all-requires-clause-late c =
+pub step_all-requires-clause-late_room : goal.step_all-requires-clause-late_room
+step_all-requires-clause-late_room c =
     let inv = c.loop-u.invariant in
     let many = inv.lines.many in
-    let room = inv.late in
-    let enough = c.requires.late in
+    let room = inv.late_room in
+    let enough = c.requires.late_room in
     omega (arith, many, room, enough)
 
 pub loop-u-smaller : goal.loop-u-smaller
@@ -102,8 +102,9 @@ loop-u-preserved c =
       within = upto;
       reach = reach_anew c.args.far g.lookahead u n old ls anew inv.reach;
       loud = c.step_all.ensures.loud;
-      listing = c.step_all.ensures.listing ∙ inv.listing;
-      late = c.step_all.ensures.late ∙ inv.late;
+      late = c.step_all.ensures.late;
+      loud_room = c.step_all.ensures.loud_room ∙ inv.loud_room;
+      late_room = c.step_all.ensures.late_room ∙ inv.late_room;
       lines = told_again c.args.t u n c.args.lines.now old ls after inv.lines anew;
       apart = all_stand g t (u + 1) v ls ws ss ks all later first still;
       still = still;
@@ -157,8 +158,9 @@ loop-u-init c =
       within = upto;
       reach = c.requires.reach;
       loud = c.requires.loud;
-      listing = refl;
-      late = refl;
+      late = c.requires.late;
+      loud_room = refl;
+      late_room = refl;
       lines = anew_none t n ls;
       apart = all_stand g from t v ls ws ss ks all later first still;
       still = still;

@@ -14,8 +14,9 @@ invariant-loop-u l = record {
   within : l.u ≤ l.end;
   reach : IsReachOf l.far l.of.lookahead l.lines;
   loud : AreIdleButFor (l.t - l.far) l.lines l.loud.taps;
-  listing : l.loud.room ≡ l.fn.loud.room;
-  late : l.late.room ≡ l.fn.late.room;
+  late : AreIdleButFor (l.from - l.far) l.lines l.late.taps;
+  loud_room : l.loud.room ≡ l.fn.loud.room;
+  late_room : l.late.room ≡ l.fn.late.room;
   lines : AreToldAnew l.t (length l.of.stations.items) l.fn.lines l.lines;
   apart : StandAllApart l.of l.from l.u l.lines l.watches l.senders l.receivers;
   still : AreStill l.of l.watches l.senders l.receivers;

@@ -25,7 +25,7 @@ forget_all-requires-clause-keeps c = rw c.deref_mut.ensures.value (keeps_of c.ar
 
 -- the stations, when they have come to the present half bit
 apart : (c : After-forget_all) → StandAllApart c.args.of.now c.args.state.now.from c.args.state.now.t c.args.state.now.lines.items c.bring_all.new.watches c.bring_all.new.senders c.bring_all.new.receivers
-apart c = rw (← c.deref.ensures.value) c.bring_all.ensures.apart
+apart c = rw (← c.deref-2.ensures.value) c.bring_all.ensures.apart
 
 -- the lines, when they have forgotten what they needn't keep
 forgot : (c : After-forget_all) → HaveForgotten c.args.state.now.t c.args.state.now.lines.items c.forget_all.new.lines
@@ -75,7 +75,7 @@ returns-clause-goes c =
       room = rw lines (room_settled a.t ls new is a.from g.lookahead at.room);
       reach = rw lines (reach_settled a.t ls new is a.far g.lookahead at.reach);
       listing = at.listing ∙ same;
-      late = c.bring_all.ensures.listing ∙ at.late ∙ same;
+      late = c.find.ensures.room ∙ at.late ∙ same;
       piece = rw (with_items_is a.piece c.bring_all.new.piece (search rules)) (let size = c.bring_all.auto.piece ∙ ap length c.deref_mut-piece.ensures.value in let enough = at.piece in omega (arith, size, enough));
     }
 

@@ -4,7 +4,6 @@ use Rattle.std.proofs.lemmas.List.{append-nil, get_or-set_other}
 use Rattle.std.specs.Prelude.{IfNone, IfSome}
 use Rattle.network.specs.declared.outputs.Taken.{Taken}
 use Rattle.network.specs.Captures.{taken_by}
-use Rattle.tap_lines.specs.TapLists.{AreIdleButFor}
 use Rattle.tap_lines.specs.TapLines.{no_line, half_bits_back, class_on}
 use Rattle.segment_engine.specs.declared.apart.Watch.{Watch}
 use Rattle.segment_engine.specs.StationsApart.{StandsApart, IsStillBy, AreToldAnew, SaysOf, TellsUpTo, behind_demand, lowered_watch, most_told, number_on, rows_of_both}
@@ -52,8 +51,9 @@ loop-k-init c =
       within = within;
       reach = c.requires.reach;
       loud = c.requires.loud;
-      listing = refl;
-      late = refl;
+      late = c.requires.late;
+      loud_room = refl;
+      late_room = refl;
       lines = anew_none u (length g.stations.items) c.args.lines.now;
       tell = c.requires.tell;
       made = passed g c.args.from u front c.args.lines.now c.args.watches.now c.args.senders.now c.args.receivers.now c.args.room.now.rows c.args.room.now.rows c.args.room.now.captures c.args.room.now.captures
@@ -96,14 +96,23 @@ take_turn-requires-clause-room c =
     covers_one (length c.args.of.now.stations.items) k (λ i. behind_demand e (get_or ws i a_watch) (get_or ss i ds) (get_or ks i dk)) c.loop-k.room (here (goal.at.take_turn-requires-clause-room c).In-loop-k)
     (c.loop-k.invariant.left e (omega arith) c.requires.room a_watch ds dk)
 
-pub find-requires : goal.find-requires
-find-requires c =
+pub list_taps-requires-clause-loud_room : goal.list_taps-requires-clause-loud_room
+list_taps-requires-clause-loud_room c =
     let inv = c.loop-k.invariant in
     let size = c.take_turn.auto.lines in
     let many = inv.lines.many in
-    let listing = inv.listing in
-    let enough = c.requires.listing in
-    omega (arith, size, many, listing, enough)
+    let room = inv.loud_room in
+    let enough = c.requires.loud_room in
+    omega (arith, size, many, room, enough)
+
+pub list_taps-requires-clause-late_room : goal.list_taps-requires-clause-late_room
+list_taps-requires-clause-late_room c =
+    let inv = c.loop-k.invariant in
+    let size = c.take_turn.auto.lines in
+    let many = inv.lines.many in
+    let room = inv.late_room in
+    let enough = c.requires.late_room in
+    omega (arith, size, many, room, enough)
 
 pub lower_all-requires-clause-tap : goal.lower_all-requires-clause-tap
 lower_all-requires-clause-tap c =
@@ -234,8 +243,9 @@ loop-k-preserved-in_default c =
       within = few;
       reach = reach_anew c.args.far g.lookahead u n lines lines' anew inv.reach;
       loud = listed_alike (c.args.t - c.args.far) k lines lines' c.loop-k.loud.taps alike inv.loud;
-      listing = inv.listing;
-      late = now.listing ∙ inv.late;
+      late = listed_alike (t - c.args.far) k lines lines' c.loop-k.late.taps alike inv.late;
+      loud_room = inv.loud_room;
+      late_room = inv.late_room;
       lines = told_again u u n c.args.lines.now lines lines' (omega arith) inv.lines anew;
       tell = λ i l. elim (cases_eq i k) [
         | inl own ↦ subst (λ j. TellsUpTo u end (get_or lines' j no_line)) (sym own) (tells_anew u u end (get_or lines k no_line) (get_or lines' k no_line) (inv.tell k in_it) now.line)
@@ -334,9 +344,10 @@ loop-k-preserved c =
       piece_len = c.take_turn.auto.piece ∙ inv.piece_len;
       within = few;
       reach = reach_anew c.args.far g.lookahead u n lines lines' anew inv.reach;
-      loud = subst (λ v. AreIdleButFor v lines' c.find.new.self.taps) c.saturating_sub.ensures c.find.ensures.loud.idle;
-      listing = c.find.ensures.room ∙ inv.listing;
-      late = now.listing ∙ inv.late;
+      loud = c.list_taps.ensures.loud;
+      late = c.list_taps.ensures.late;
+      loud_room = c.list_taps.ensures.loud_room ∙ inv.loud_room;
+      late_room = c.list_taps.ensures.late_room ∙ inv.late_room;
       lines = told_again u u n c.args.lines.now lines lines' (omega arith) inv.lines anew;
       tell = λ i l. elim (cases_eq i k) [
         | inl own ↦ subst (λ j. TellsUpTo u end (get_or lines' j no_line)) (sym own) (tells_anew u u end (get_or lines k no_line) (get_or lines' k no_line) (inv.tell k in_it) now.line)

@@ -16,9 +16,10 @@ invariant-loop-k l = record {
   within : l.k ≤ length l.watches;
   reach : IsReachOf l.far l.of.lookahead l.lines;
   loud : AreIdleButFor (l.t - l.far) l.lines l.loud.taps;
-  listing : l.loud.room ≡ l.fn.loud.room;
+  late : AreIdleButFor (l.from - l.far) l.lines l.late.taps;
+  loud_room : l.loud.room ≡ l.fn.loud.room;
+  late_room : l.late.room ≡ l.fn.late.room;
   lines : AreToldAnew l.u (length l.of.stations.items) l.fn.lines l.lines;
-  late : l.late.room ≡ l.fn.late.room;
   tell : (r : ℕ) → r < length l.of.stations.items → TellsUpTo l.u (l.u + 1 + most_told) (slice_index_or l.lines r no_line);
   made : HaveMade l.of l.from l.u ((l.window + 1) * l.of.lookahead) l.k l.lines l.watches l.senders l.receivers l.fn.room.rows l.room.rows l.fn.room.captures l.room.captures;
   left : (e : ℕ) → l.u < e → CoversApart e (length l.of.stations.items) l.fn.watches l.fn.senders l.fn.receivers l.fn.room →
