@@ -7,3 +7,4 @@ pub mod ClassesOfRows
 pub mod LeapedHalfBits
 pub mod SteadyExample
 pub mod SilentRuns
+pub mod StandingBehind

@@ -57,12 +57,15 @@ pub record IsPutAside (kept : KeptRepeater) (text : List Sym) : Type 0 where
   pub repeats : RepeatsLevels kept.heard kept.state.repeater.mode
   pub source : IsOfSource kept.state.repeater.mode kept.heard text
 
--- A repeater that stands behind by `late` half bits, all of them steady, with the text of those that are put aside; there
--- are as many places for it, and for what is sent in them, as may be put aside (profile).
+-- A repeater that stands behind by `late` half bits, all of them steady, with the text of those that are put aside, after
+-- which it has its ports still; there are as many places for it, and for what is sent in them, as may be put aside
+-- (profile).
 pub record HasPutAside (kept : KeptRepeater) (late : ℕ) (text sent : List Sym) : Type 0 where
   pub sending : KnowsSending kept
   pub within : late ≤ kept.steady
   pub aside : 0 < late → IsPutAside kept (take late text)
+  pub ports :
+      length (kept_later (take late text) kept).state.repeater.guards ≡ length kept.state.repeater.guards
   pub few : late ≤ most_calm
   pub hearing : length text ≡ most_calm
   pub sending_room : length sent ≡ most_calm

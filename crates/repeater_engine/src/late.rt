@@ -109,7 +109,7 @@ impl LateEngine {
             return left;
         }
         self.engine
-            .catch_up(&self.text[..late], &mut self.sent[..late]);
+            .catch_up(&self.text[..late], &mut self.sent[0..late]);
         self.late = 0;
         self.engine.go_on(parcels, k, n)
     }
@@ -136,7 +136,7 @@ impl LateEngine {
     {
         let late = self.late;
         self.engine
-            .catch_up(&self.text[..late], &mut self.sent[..late]);
+            .catch_up(&self.text[..late], &mut self.sent[0..late]);
         self.late = 0;
         self.engine.pass(count);
     }
