@@ -1,6 +1,6 @@
 -- A repeater that stands behind: the rows of half bits that are put aside, its state after them, and what is decided in
 -- a window in which it goes on steadily.
-use Rattle.std.proofs.Common.{◌≡◌, ℕ, zero, suc, ◌+◌, ◌<◌, ◌≤◌, false, Bool, List, [], ◌∷◌, ◌++◌, length, length-append, length-take-le, length-drop, append_assoc, map, take, drop, set, get_or, refl, sym, ap, ap₂, subst, ◌∙◌, arith}
+use Rattle.std.proofs.Common.{◌≡◌, ℕ, zero, suc, ◌+◌, ◌<◌, ◌≤◌, Bool, List, [], ◌∷◌, ◌++◌, length, length-append, length-take-le, length-drop, append_assoc, map, take, drop, set, get_or, refl, sym, ap, ap₂, subst, ◌∙◌, arith}
 use Rattle.std.proofs.lemmas.Bool.Decides.{nat_tests}
 use Rattle.std.proofs.Math.Seq.{take-append_seam}
 use Rattle.std.proofs.lemmas.List.{length-map, map-append, get_or-set_same, take-take}
@@ -9,10 +9,9 @@ use Rattle.std.specs.List.{AllByRecursion}
 use Rattle.manchester_line.specs.declared.Sym.{Sym}
 use Rattle.manchester_line.specs.declared.Sym.TheVariants.{Idle}
 use Rattle.manchester_line.specs.Line.{is_signal}
-use Rattle.collision_log.specs.declared.row.Row.{Row}
 use Rattle.repeater_core.specs.declared.modes.Mode.{Mode}
 use Rattle.repeater_core.specs.declared.modes.Mode.TheVariants as mode
-use Rattle.repeater_core.specs.Classes.{class_of, after_rows, texts_after, AreHeardAs, AreSteadyRows, DecideTexts, IsOfSource, IsSource}
+use Rattle.repeater_core.specs.Classes.{class_of, after_rows, texts_after, AreHeardAs, AreSteadyRows, IsOfSource, IsSource}
 use Rattle.repeater_core.specs.Counts.{Choice}
 use Rattle.repeater_core.specs.Steady.{mode_on, texted, IsSteady, IsSteadyStep}
 use Rattle.repeater_core.specs.Step.{RepeaterDevice, after, chosen, emitted_by, decided_by}

@@ -114,8 +114,8 @@ impl LateEngine {
         self.engine.go_on(parcels, k, n)
     }
 
-    /// For how many half bits, at most 4,096, nothing happens where every port hears Idle. While half bits are put aside
-    /// a port is repeated, and there are none.
+    /// For how many half bits, at most 4,096, nothing happens where every port hears Idle. It answers none while half
+    /// bits are put aside.
     pub fn calm(&self) -> u64
         ensures { IsCalm self.now.state.repeater result }
     {

@@ -1,10 +1,10 @@
-use Rattle.std.proofs.Common.{◌≡◌, ℕ, ◌+◌, ◌-◌, ◌<◌, ◌≤◌, List, ◌++◌, map, length, take, drop, refl, sym, subst, ap, ap₂, ◌∙◌, arith, rules}
+use Rattle.std.proofs.Common.{◌≡◌, ℕ, ◌+◌, ◌-◌, ◌<◌, ◌≤◌, List, ◌++◌, map, length, take, drop, refl, sym, subst, ap, ◌∙◌, arith, rules}
 use Rattle.std.proofs.Math.Seq.{take-append_seam}
 use Rattle.std.proofs.lemmas.Grind.{common_steps}
 use Rattle.manchester_line.specs.declared.Sym.{Sym}
 use Rattle.manchester_line.specs.Line.{is_signal}
 use Rattle.repeater_core.specs.Classes.{AreHeardAs}
-use Rattle.repeater_core.specs.Step.{RepeaterDevice, emitted_by, decided_by}
+use Rattle.repeater_core.specs.Step.{RepeaterDevice, decided_by}
 use Rattle.repeater_core.specs.Steady.{IsSteady}
 use Rattle.repeater_core.proofs.SteadinessLasts.{lasts}
 use Rattle.net_parts.specs.RepeaterParts.{RepeaterState}

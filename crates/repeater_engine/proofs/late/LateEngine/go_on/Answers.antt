@@ -1,10 +1,9 @@
-use Rattle.std.proofs.Common.{◌≡◌, ℕ, ◌+◌, ◌-◌, ◌<◌, ◌≤◌, List, [], ◌++◌, map, length, length-take-le, take, get_or, refl, sym, subst, ap, ap₂, ◌∙◌, arith, rules}
+use Rattle.std.proofs.Common.{◌≡◌, ℕ, ◌+◌, ◌-◌, ◌<◌, List, ◌++◌, map, length, length-take-le, take, get_or, refl, sym, subst, ap, ◌∙◌, arith, rules}
 use Rattle.manchester_line.specs.declared.Sym.{Sym}
 use Rattle.manchester_line.specs.declared.Sym.TheVariants.{Idle}
 use Rattle.manchester_line.specs.Line.{is_signal}
 use Rattle.repeater_core.specs.Classes.{IsOfSource, IsSource}
 use Rattle.repeater_core.specs.Steady.{IsSteady}
-use Rattle.net_parts.specs.RepeaterParts.{RepeaterState}
 use Rattle.net_parts.proofs.RepeaterSteps.{length-span}
 use Rattle.repeater_engine.specs.KeptRepeaters.{KeptRepeater, piece_of, row_brought, with_piece}
 use Rattle.repeater_engine.specs.LeapedHalfBits.{made_of, rows_brought}
