@@ -6,4 +6,6 @@ pub mod SteadyRuns
 pub mod ClassesOfRows
 pub mod LeapedHalfBits
 pub mod SteadyExample
+pub mod PutAsideExample
 pub mod SilentRuns
+pub mod StandingBehind

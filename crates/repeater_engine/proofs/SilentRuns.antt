@@ -15,7 +15,6 @@ use Rattle.repeater_core.specs.Counts.{Choice}
 use Rattle.repeater_core.specs.Step.{RepeaterDevice, after, chosen, decided_by, emitted_by, guard_events, is_closing, is_opening, mask_from}
 use Rattle.network.specs.Rows.{happened, guard_bodies, port_bodies, repeater_bodies, rows_of_bodies}
 use Rattle.network.specs.Times.{decided}
-use Rattle.net_parts.specs.Machines.{span}
 use Rattle.net_parts.specs.RepeaterParts.{RepeaterState, repeater_step, edges_before, edges_in, edges_at}
 use Rattle.net_parts.specs.Standing.{port_hears, repeater_state, repeater_at}
 use Rattle.net_parts.specs.Parts.{edges_of_part}

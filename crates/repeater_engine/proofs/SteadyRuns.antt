@@ -63,6 +63,11 @@ module _ (ports : ℕ) (emitting deciding : List Bool) (wide : length emitting �
         let places : row_places (length r.guards) ≡ row_places ports = ap row_places g in
         omega (arith, pays, places)
 
+  -- it has as many ports after them
+  pub ports_last : (rows : List (List Sym)) (r : RepeaterDevice) → HasPorts ports r → AllByRecursion (λ row. length row ≡ ports) rows → AreSteadyRows rows emitting deciding r → HasPorts ports (after_rows rows r)
+  ports_last [] r has long steady = has
+  ports_last (row ∷ rest) r has long steady = ports_last rest (after row r) (next_ports row r has long.0 (steady 0 (omega arith))) long.1 (λ k h. steady (suc k) (omega arith))
+
   -- the state after them: its rows are as they were
   pub steady_run : (device : ℕ) (rows : List (List Sym)) (s : RepeaterState) → HasPorts ports s.repeater → AllByRecursion (λ row. length row ≡ ports) rows → AreSteadyRows rows emitting deciding s.repeater →
       (made_of device rows s).state ≡ record { t = s.t + length rows; repeater = after_rows rows s.repeater; rows = s.rows }
@@ -133,3 +138,9 @@ texts_at deciding p (t ∷ ts) = ap₂ ◌∷◌ (text_at deciding p t) (texts_a
 -- what is decided for port p in them
 pub piece_decided : (deciding : List Bool) (p : ℕ) (texts : List Sym) → map (λ row. get_or row p Idle) (map (texted deciding) texts) ≡ piece_of (get_or deciding p false) texts
 piece_decided deciding p texts = texts_at deciding p texts ∙ piece_is (get_or deciding p false) texts
+
+-- whether port p is sent a signal
+pub signal_at : (xs : List Sym) (p : ℕ) → get_or (map is_signal xs) p false ≡ is_signal (get_or xs p Idle)
+signal_at [] p = refl
+signal_at (x ∷ xs) zero = refl
+signal_at (x ∷ xs) (suc p) = signal_at xs p

@@ -18,13 +18,15 @@ use Rattle.net_parts.specs.Windows.{lookahead, windows}
 use Rattle.network.specs.Outputs.{half_bits}
 
 -- The number of its device, the repeater with its time and its rows, how many more rows there is room for, what its
--- ports heard last, and for how many half bits more it is known to be steady where they hear as in that row (profile).
+-- ports heard last, for how many half bits more it is known to be steady where they hear as in that row, and a row of
+-- what was decided for its ports (profile).
 pub record KeptRepeater : Type 0 where
   pub device : ℕ
   pub state : RepeaterState
   pub room : ℕ
   pub heard : List Sym
   pub steady : ℕ
+  pub decided : List Sym
 
 -- Each port has its guard and its places for what it emits and is sent; there are as many places for what is sent in
 -- half bits that are made at once as a delay may have half bits; and a repeater has no captures (profile).

@@ -15,21 +15,23 @@ ghost use Rattle.repeater_engine.specs.LeapedHalfBits.{made_of, rows_brought, Ar
 ghost use Rattle.repeater_engine.specs.RowWaits.{HasRowRoom};
 
 use crate::leaps::{alike_ahead, heard_alike, leap_over};
-use crate::parcels::{MOST_AT_ONCE, hear_all, put_all, put_pieces};
+use crate::parcels::{MOST_AT_ONCE, hear_all, put_all, put_pieces, repeated};
 use crate::rows::{log_events, rows_in};
 use lists::OutOfMemory;
-use load_plan::Plan;
+use mac_parameters::PREAMBLE;
 use manchester_line::Sym;
 use net_parts::Parcel;
 use network::Outputs;
-use repeater_core::Repeater;
+use repeater_core::{Mode, Repeater};
 use std::alloc::Global;
 use std::marker::Model;
-use std::snapshot::Snapshot;
 use window_room::RowRoom;
 
 /// The fewest half bits that are made at once.
 const FEWEST_AT_ONCE: usize = 4;
+
+/// The most half bits that are put aside.
+pub const MOST_ASIDE: usize = 4096;
 
 /// A repeater before half bit `t`, its device's number and its rows. `heard`, `emitted` and `decided` have a symbol for
 /// each of its ports. It is known to be steady for `steady` half bits more in which each port hears symbols of the
@@ -84,6 +86,7 @@ impl Model for RepeaterEngine {
       room = e.log.row_room;
       heard = e.heard.items;
       steady = e.steady;
+      decided = e.decided.items;
     } };
 
     ghost invariant = { λ e. FitTogether e.ports e.repeater e.log (length e.emitted.items) (length e.decided.items) (length e.sent.items)
@@ -91,7 +94,7 @@ impl Model for RepeaterEngine {
 }
 
 impl RepeaterEngine {
-    ghost use Rattle.std.specs.Prelude.{◌≡◌, ◌<◌, ◌≤◌, ◌+◌, ◌-◌, ◌^◌, [], All, length, IfOk, OnOk};
+    ghost use Rattle.std.specs.Prelude.{◌≡◌, ◌<◌, ◌≤◌, ◌+◌, ◌-◌, ◌^◌, [], All, length, IfOk, IsTrue, OnOk};
     ghost use Rattle.mac_parameters.specs.Parameters.{greatest_delay, most_ports};
     ghost use Rattle.std.specs.Fn.{iterate};
     ghost use Rattle.net_parts.specs.RepeaterParts.{repeater_step};
@@ -100,7 +103,10 @@ impl RepeaterEngine {
     ghost use Rattle.repeater_core.specs.Step.{decided_by, new_state};
     ghost use Rattle.repeater_core.specs.Steady.{IsSteady};
     ghost use Rattle.repeater_engine.specs.KeptRepeaters.{HaveRow, row_brought};
-    ghost use Rattle.repeater_engine.specs.LeapedHalfBits.{made_of, rows_brought, AreOfClasses, HaveRows, ReachFrom};
+    ghost use Rattle.repeater_core.specs.Classes.{IsSource};
+    ghost use Rattle.repeater_core.specs.Step.{RepeaterDevice};
+    ghost use Rattle.repeater_engine.specs.LeapedHalfBits.{made_of, rows_brought, AreOfClasses, HavePieces, HaveRows, ReachFrom};
+    ghost use Rattle.repeater_engine.specs.PutAside.{state_later, GoesOnSteadily, IsPutAside, KnowsSending, RepeatsLevels};
     ghost use Rattle.repeater_engine.specs.RowWaits.{HasRowRoom};
 
     /// The repeater of this device before half bit 0, of 2 to 32 ports and with a delay of 1 to 200 half bits.
@@ -116,6 +122,7 @@ impl RepeaterEngine {
         requires delay_at_most { delay ≤ greatest_delay }
         ensures device { IfOk result (λ e. e.device ≡ device) }
         ensures state { IfOk result (λ e. e.state ≡ record { t = 0; repeater = new_state ports delay; rows = [] }) }
+        ensures steady { IfOk result (λ e. e.steady ≡ 0) }
     {
         let symbols = all_idle(alloc, ports as usize)?;
         let log = RowRoom::new(alloc, 0)?;
@@ -139,7 +146,8 @@ impl RepeaterEngine {
         ensures device { self.new.device ≡ self.old.device }
         ensures state { self.new.state ≡ self.old.state }
         ensures kept { self.old.room ≤ self.new.room }
-        ensures room { OnOk result (HasRowRoom (length self.new.state.repeater.guards) half_bits self.new.room self.new.state.repeater) }
+        ensures others { self.new ≡ record self.old { room = self.new.room } }
+        ensures room { OnOk result ((r : RepeaterDevice) → HasRowRoom (length self.new.state.repeater.guards) half_bits self.new.room r) }
     {
         let rows = rows_in(self.ports as usize, half_bits);
         self.log.reserve(rows, 0, 0)
@@ -158,6 +166,7 @@ impl RepeaterEngine {
         ensures ports { length self.new.state.repeater.guards ≡ length self.old.state.repeater.guards }
         ensures parcels { HaveRow k (decided_by (row_brought k parcels.old) self.old.state.repeater) parcels.old parcels.new }
         ensures room { HasRowRoom (length self.new.state.repeater.guards) (n - (k + 1)) self.new.room self.new.state.repeater }
+        ensures steady { self.new.steady ≡ 0 }
     {
         hear_all(parcels, k, &mut self.heard);
         let events = self
@@ -231,6 +240,7 @@ impl RepeaterEngine {
         ensures ports { length self.new.state.repeater.guards ≡ length self.old.state.repeater.guards }
         ensures parcels { HaveRows k (made_of self.old.device (rows_brought k m parcels.old) self.old.state).rows parcels.old parcels.new }
         ensures room { HasRowRoom (length self.new.state.repeater.guards) (n - (k + m)) self.new.room self.new.state.repeater }
+        ensures sending { KnowsSending self.new }
     {
         leap_over(
             &mut self.repeater,
@@ -262,6 +272,7 @@ impl RepeaterEngine {
         ensures ports { length self.new.state.repeater.guards ≡ length self.old.state.repeater.guards }
         ensures parcels { HaveRows k (made_of self.old.device (rows_brought k result parcels.old) self.old.state).rows parcels.old parcels.new }
         ensures room { HasRowRoom (length self.new.state.repeater.guards) (n - (k + result)) self.new.room self.new.state.repeater }
+        ensures sending { KnowsSending self.new }
     {
         let m = self.ahead(parcels, k, n);
         if m < FEWEST_AT_ONCE {
@@ -270,6 +281,73 @@ impl RepeaterEngine {
         }
         self.leap(parcels, k, m, n);
         m
+    }
+
+    /// Whether its mode repeats one of the ports, past the preamble and start frame delimiter.
+    fn repeats_levels(&self) -> bool
+        ensures { IsTrue result → RepeatsLevels self.now.heard self.now.state.repeater.mode }
+    {
+        match self.repeater.mode() {
+            Mode::Repeat { n, i } => i >= PREAMBLE && (n as usize) < self.heard.len(),
+            _ => false,
+        }
+    }
+
+    /// Whether, once `late` half bits are put aside, the `m` of a window from half bit `k` on may be as well.
+    pub fn goes_on(&self, parcels: &[Parcel], late: usize, k: usize, m: usize) -> bool
+        requires many { length parcels.now ≡ length self.now.state.repeater.guards }
+        requires long { ReachFrom k m parcels.now }
+        requires late { late ≤ most_calm }
+        ensures few { IsTrue result → m ≤ greatest_delay }
+        ensures within { IsTrue result → late + m ≤ most_calm }
+        ensures steady { IsTrue result → GoesOnSteadily late k m parcels.now self.now }
+        ensures hearing { length self.now.heard ≡ length self.now.state.repeater.guards }
+        ensures deciding { length self.now.decided ≡ length self.now.state.repeater.guards }
+    {
+        m <= MOST_AT_ONCE
+            && late + m <= self.steady.min(MOST_ASIDE)
+            && self.repeats_levels()
+            && alike_ahead(parcels, k, m, &self.heard) == m
+    }
+
+    /// What is decided in the half bits of a window from `k` on takes its place in the parcels, where they may be put
+    /// aside. What the port that is repeated hears in them is written.
+    pub fn send_on(&self, parcels: &mut [Parcel], k: usize, text: &mut [Sym])
+        requires many { length parcels.old ≡ length self.now.state.repeater.guards }
+        requires few { length text.old ≤ greatest_delay }
+        requires long { ReachFrom k (length text.old) parcels.old }
+        ensures source { IsSource self.now.state.repeater.mode text.new (rows_brought k (length text.old) parcels.old) }
+        ensures parcels { HavePieces k self.now.decided text.new parcels.old parcels.new }
+    {
+        text.copy_from_slice(repeated(self.repeater.mode(), parcels, k, text.len()));
+        put_pieces(parcels, k, &self.decided, text);
+    }
+
+    /// Makes half bits at once that were put aside, in which the port that is repeated heard this text.
+    pub fn catch_up(&mut self, text: &[Sym], sent: &mut [Sym])
+        requires few { length text.now ≤ most_calm }
+        requires sent { length sent.old ≡ length text.now }
+        requires within { length text.now ≤ self.old.steady }
+        requires aside { 0 < length text.now → IsPutAside self.old text.now }
+        requires sending { KnowsSending self.old }
+        requires time { self.old.state.t + length text.now < 2 ^ 64 }
+        ensures device { self.new.device ≡ self.old.device }
+        ensures state { self.new.state ≡ state_later self.old.heard text.now self.old.state }
+        ensures room { self.new.room ≡ self.old.room }
+        ensures sending { KnowsSending self.new }
+    {
+        if text.is_empty() {
+            return;
+        }
+        self.repeater.leap_classes(
+            &self.heard,
+            text,
+            &mut self.emitted,
+            &mut self.decided,
+            sent,
+        );
+        self.steady -= text.len();
+        self.t += text.len() as u64;
     }
 
     /// For how many half bits, at most 4,096, nothing happens where every port hears Idle.
@@ -286,6 +364,7 @@ impl RepeaterEngine {
         ensures device { self.new.device ≡ self.old.device }
         ensures state { self.new.state
             ≡ record { t = self.old.state.t + count; repeater = iterate silent_step count self.old.state.repeater; rows = self.old.state.rows } }
+        ensures steady { self.new.steady ≡ 0 }
     {
         self.repeater.leap(count);
         self.steady = 0;
@@ -311,31 +390,5 @@ impl RepeaterEngine {
         } = self;
         log.settle()?;
         Ok(log.into_outputs())
-    }
-}
-
-/// Makes the `n` half bits of window `window` of repeater number `repeater` of a plan, in which it stands.
-pub fn make_window(
-    engine: &mut RepeaterEngine,
-    parcels: &mut [Parcel],
-    plan: &Snapshot<Plan>,
-    repeater: u32,
-    window: u64,
-    n: usize,
-)
-    requires repeater { repeater < length plan.now.value.layout.repeaters }
-    requires device { engine.old.device ≡ length plan.now.value.layout.stations + repeater }
-    requires time { engine.old.state.t + n < 2 ^ 62 }
-    requires room { HasRowRoom (length engine.old.state.repeater.guards) n engine.old.room engine.old.state.repeater }
-    requires stands { engine.old.state ≡ repeater_at plan.now.value repeater engine.old.state.t }
-    requires parcels { parcels.old ≡ parcels_after plan.now.value repeater window engine.old.state.t n 0 }
-    ensures device { engine.new.device ≡ engine.old.device }
-    ensures stands { engine.new.state ≡ repeater_at plan.now.value repeater (engine.old.state.t + n) }
-    ensures parcels { parcels.new ≡ parcels_after plan.now.value repeater window engine.old.state.t n n }
-{
-    let _ = plan;
-    let mut k = 0;
-    while k < n {
-        k += engine.go_on(parcels, k, n);
     }
 }

@@ -2,6 +2,7 @@
 #![tactic(auto)]
 
 mod engine;
+mod late;
 mod leaps;
 mod parcels;
 mod part;

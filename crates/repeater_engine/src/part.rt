@@ -10,7 +10,7 @@ ghost use Rattle.repeater_engine.specs.CalmWindows.{PortsHearIdle, AreDecidedIdl
 ghost use Rattle.repeater_engine.specs.KeptRepeaters.{IsRepeatersPart, StandsAt};
 ghost use Rattle.repeater_engine.specs.RowWaits.{HasRowRoom};
 
-use crate::engine::{RepeaterEngine, make_window};
+use crate::late::{LateEngine, make_window};
 use crate::parcels::turn_all;
 use lists::{List, OutOfMemory};
 use load_plan::Plan;
@@ -30,7 +30,7 @@ pub struct RepeaterPart {
     lookahead: u32,
     half_bits: u64,
     edges: List<u32>,
-    engine: RepeaterEngine,
+    engine: LateEngine,
     ready: bool,
     ghost is_part: { IsRepeatersPart plan.value part repeater last lookahead half_bits edges },
     ghost begun: { window ≤ windows plan.value },
@@ -66,7 +66,7 @@ impl RepeaterPart {
         let part = layout.segments.len() as u32 + repeater;
         let device = layout.stations.len() as u32 + repeater;
         let line = &layout.repeaters.as_slice()[repeater as usize];
-        let engine = RepeaterEngine::new(alloc, device, line.ports.len() as u32, line.delay)?;
+        let engine = LateEngine::new(alloc, device, line.ports.len() as u32, line.delay)?;
         Ok(RepeaterPart {
             plan: Snapshot::of(plan),
             part,

@@ -1,11 +1,11 @@
-use Rattle.std.proofs.Common.{◌≡◌, ℕ, zero, suc, ◌+◌, ◌-◌, ◌≤◌, false, List, [], ◌∷◌, ◌++◌, map, length, length-take-le, take, drop, get_or, refl, sym, subst, ap, ap₂, ◌∙◌, arith, rules}
+use Rattle.std.proofs.Common.{◌≡◌, ℕ, ◌+◌, ◌-◌, ◌≤◌, List, ◌++◌, map, length, length-take-le, take, drop, get_or, refl, sym, subst, ap, ap₂, ◌∙◌, arith, rules}
 use Rattle.std.proofs.Math.Seq.{take-append_seam}
 use Rattle.std.proofs.lemmas.List.{length-map}
 use Rattle.manchester_line.specs.declared.Sym.{Sym}
 use Rattle.manchester_line.specs.declared.Sym.TheVariants.{Idle}
 use Rattle.manchester_line.specs.Line.{is_signal}
 use Rattle.repeater_core.specs.Counts.{Choice}
-use Rattle.repeater_core.specs.Step.{RepeaterDevice, chosen, emitted_by}
+use Rattle.repeater_core.specs.Step.{RepeaterDevice, chosen, emitted_by, decided_by}
 use Rattle.repeater_core.specs.Steady.{IsSteady}
 use Rattle.repeater_core.proofs.Lawful.{length_chosen}
 use Rattle.repeater_core.proofs.SteadinessLasts.{lasts}
@@ -15,18 +15,14 @@ use Rattle.repeater_engine.specs.KeptRepeaters.{KeptRepeater, piece_of, row_brou
 use Rattle.repeater_engine.specs.LeapedHalfBits.{made_of, rows_brought, AreOfClasses}
 use Rattle.repeater_engine.specs.RowWaits.{HasRowRoom}
 use Rattle.repeater_engine.proofs.ClassesOfRows.{rows_wide}
-use Rattle.repeater_engine.proofs.SteadyRuns.{HasPorts, steady_run, room_lasts, decided_run, piece_decided}
+use Rattle.repeater_engine.proofs.StandingBehind.{sends_on}
+use Rattle.repeater_engine.proofs.SteadyRuns.{HasPorts, steady_run, room_lasts, decided_run, piece_decided, signal_at}
 use Rattle.repeater_engine.proofs.engine.RepeaterEngine.leap.Goals.{After-leap_over}
 use Rattle.repeater_engine.proofs.engine.RepeaterEngine.leap.Goals as goal
 
 -- a list that is written over from its beginning
 overwritten : (n : ℕ) (new old : List Sym) → n ≡ length new → take n (new ++ drop (length new) old) ≡ new
 overwritten n new old e = ap (λ m. take m (new ++ drop (length new) old)) e ∙ take-append_seam new (drop (length new) old)
-
-signal_at : (xs : List Sym) (p : ℕ) → get_or (map is_signal xs) p false ≡ is_signal (get_or xs p Idle)
-signal_at [] p = refl
-signal_at (x ∷ xs) zero = refl
-signal_at (x ∷ xs) (suc p) = signal_at xs p
 
 -- the repeater before its half bits
 abbrev before : (c : After-leap_over) → RepeaterState
@@ -59,17 +55,18 @@ sent_long c = search rules
 time_fits : (c : After-leap_over) → length (rows_brought c.args.k c.args.m c.args.parcels.now) ≡ c.args.m
 time_fits c = length-span (λ j. row_brought j c.args.parcels.now) c.args.k c.args.m
 
+classes_heard : (c : After-leap_over) → AreOfClasses c.self.inside.heard.items (rows_brought c.args.k c.args.m c.args.parcels.now)
+classes_heard c = subst (λ xs. AreOfClasses xs (rows_brought c.args.k c.args.m c.args.parcels.now)) (sym (ap (λ (x : KeptRepeater). x.heard) c.self.view_is ∙ c.requires.heard)) c.requires.alike
+
 -- the repeater stays steady for what is left
 stays_steady : (c : After-leap_over) → IsSteady c.self.inside.heard.items c.leap_over.new.repeater (c.self.inside.steady - c.args.m)
 stays_steady c =
     let heard = c.self.inside.heard.items in
     let rows = rows_brought c.args.k c.args.m c.args.parcels.now in
-    let row : heard ≡ row_brought c.args.k c.args.parcels.now = ap (λ (x : KeptRepeater). x.heard) c.self.view_is ∙ c.requires.heard in
     let most : c.args.m ≤ c.self.inside.steady = subst (λ (x : KeptRepeater). c.args.m ≤ x.steady) (sym c.self.view_is) c.requires.steady in
-    let classes : AreOfClasses heard rows = subst (λ xs. AreOfClasses xs rows) (sym row) c.requires.alike in
     let count = time_fits c in
     subst (λ (x : RepeaterDevice). IsSteady heard x (c.self.inside.steady - c.args.m)) (sym c.leap_over.ensures.state)
-    (lasts heard heard rows c.self.inside.repeater (c.self.inside.steady - c.args.m) classes refl (λ j l. c.self.invariant.1.stays_steady j (omega (arith, count, most, l))))
+    (lasts heard heard rows c.self.inside.repeater (c.self.inside.steady - c.args.m) (classes_heard c) refl (λ j l. c.self.invariant.1.stays_steady j (omega (arith, count, most, l))))
 
 pub invariant_of-self : goal.invariant_of-self
 invariant_of-self c =
@@ -135,3 +132,11 @@ returns-clause-room c =
     (c.args.n - c.args.k) (c.args.n - (c.args.k + c.args.m)) room left among in
     let later = subst (λ (x : RepeaterDevice). HasRowRoom ports (c.args.n - (c.args.k + c.args.m)) room x) (sym c.leap_over.ensures.state) lasts in
     subst (λ n. HasRowRoom n (c.args.n - (c.args.k + c.args.m)) room c.leap_over.new.repeater) (sym (c.leap_over.ensures.ports ∙ c.self.invariant.0.guards)) later
+
+pub returns-clause-sending : goal.returns-clause-sending
+returns-clause-sending c = λ some.
+    let at = (goal.at.returns-clause-sending c).After-leap_over in
+    let q = c.self.inside in
+    let flags = overwritten q.decided.len c.leap_over.new.decided q.decided.items (search rules) ∙ c.leap_over.ensures.decided ∙ ap (λ hs. decided_by hs q.repeater) c.deref.ensures.value in
+    sends_on _ q.heard.items q.repeater (rows_brought c.args.k c.args.m c.args.parcels.now) q.steady c.leap_over.ensures.state refl c.leap_over.ensures.ports (ap (map is_signal) flags)
+    (ap length (sym c.leap_over.ensures.emitted) ∙ emitted_long at ∙ sym c.self.invariant.0.guards) (classes_heard at) (omega (arith, time_fits at, some)) c.self.invariant.1.stays_steady

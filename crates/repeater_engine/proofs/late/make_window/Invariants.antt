@@ -2,7 +2,7 @@ use Rattle.std.proofs.Common.{◌≡◌, ◌+◌, ◌-◌, ◌≤◌, length}
 use Rattle.net_parts.specs.Standing.{repeater_at}
 use Rattle.repeater_engine.specs.KeptRepeaters.{parcels_after}
 use Rattle.repeater_engine.specs.RowWaits.{HasRowRoom}
-use Rattle.repeater_engine.proofs.engine.make_window.Given as goal
+use Rattle.repeater_engine.proofs.late.make_window.Given as goal
 
 abbrev pub decreases-loop-k : goal.decreases-loop-k
 decreases-loop-k l = l.n - l.k

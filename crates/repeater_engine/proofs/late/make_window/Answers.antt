@@ -8,7 +8,7 @@ use Rattle.repeater_engine.specs.KeptRepeaters.{parcel_after}
 use Rattle.repeater_engine.specs.LeapedHalfBits.{made_of, rows_brought, HaveRows}
 use Rattle.repeater_engine.proofs.RepeaterWindows.{guards_of}
 use Rattle.repeater_engine.proofs.LeapedHalfBits.{made_is, rows_are, parcels_leap, all_reach}
-use Rattle.repeater_engine.proofs.engine.make_window.Goals as goal
+use Rattle.repeater_engine.proofs.late.make_window.Goals as goal
 
 pub go_on-k-requires-clause-many : goal.go_on-k-requires-clause-many
 go_on-k-requires-clause-many c =
