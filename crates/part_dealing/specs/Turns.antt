@@ -8,7 +8,8 @@ use Rattle.part_dealing.specs.declared.duties.Duty.{Duty}
 abbrev pub turn_place : ℕ → List Duty → ℕ
 turn_place last turns = position_or_len (λ (d : Duty). nat_lt last d.last) turns
 
--- A part with its last segment, and with so many outlets from place `first` on, of which one leads to another worker, or
--- none, as `border` says (profile).
+-- A part with its last segment, and with so many outlets from place `first` on. It is at the border where one of them
+-- leads to another worker (profile).
 abbrev pub duty_with : ℕ → ℕ → ℕ → ℕ → Bool → Duty
-duty_with part last first count border = record { part = part; last = last; first = first; end = first + count; border = border }
+duty_with part last first count border =
+    record { part = part; last = last; first = first; end = first + count; border = border }

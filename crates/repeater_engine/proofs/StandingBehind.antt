@@ -22,7 +22,7 @@ use Rattle.repeater_core.proofs.SteadyRows.{Like, like_self, step_like, after_li
 use Rattle.net_parts.specs.RepeaterParts.{RepeaterState}
 use Rattle.repeater_engine.specs.KeptRepeaters.{KeptRepeater}
 use Rattle.repeater_engine.specs.LeapedHalfBits.{made_of, AreOfClasses}
-use Rattle.repeater_engine.specs.PutAside.{row_with, state_later, IsPutAside, RepeatsLevels, SendsAlike}
+use Rattle.repeater_engine.specs.PutAside.{row_hearing, state_later, IsPutAside, RepeatsLevels, SendsAlike}
 use Rattle.repeater_engine.specs.RowWaits.{HasRowRoom}
 use Rattle.repeater_engine.proofs.ClassesOfRows.{of_source}
 use Rattle.repeater_engine.proofs.SteadyRuns.{HasPorts, ports_last, steady_run, room_lasts, decided_run}
@@ -42,7 +42,7 @@ set_source n [] heard l = refl
 set_source n (s ∷ text) heard l = ap₂ ◌∷◌ (get_or-set_same heard n s Idle l) (set_source n text heard l)
 
 -- the rows of half bits that are put aside are heard as they must be
-pub aside_as : (m : Mode) (heard text : List Sym) → RepeatsLevels heard m → IsOfSource m heard text → AreHeardAs heard m text (map (row_with m heard) text)
+pub aside_as : (m : Mode) (heard text : List Sym) → RepeatsLevels heard m → IsOfSource m heard text → AreHeardAs heard m text (map (row_hearing m heard) text)
 aside_as mode.Idle heard text r o = absurd r
 aside_as (mode.Repeat n i) heard text r o = record { count = length-map text _; classes = set_rows n text heard o; source = set_source n text heard r.1 }
 aside_as (mode.Extend n i j) heard text r o = absurd r
@@ -162,7 +162,7 @@ module _ (kept : KeptRepeater) (text piece : List Sym) (rows : List (List Sym)) 
   ports = length r.guards
 
   abbrev aside : List (List Sym)
-  aside = map (row_with r.mode kept.heard) text
+  aside = map (row_hearing r.mode kept.heard) text
 
   abbrev there : RepeaterDevice
   there = after_rows aside r
@@ -189,13 +189,13 @@ module _ (kept : KeptRepeater) (text piece : List Sym) (rows : List (List Sym)) 
   brought = as_there rows count classes source
 
   abbrev later : List (List Sym)
-  later = map (row_with r.mode kept.heard) piece
+  later = map (row_hearing r.mode kept.heard) piece
 
   -- rows that are put aside do the same as those that were brought
-  after_both : after_rows (map (row_with r.mode kept.heard) (text ++ piece)) r ≡ after_rows rows there
+  after_both : after_rows (map (row_hearing r.mode kept.heard) (text ++ piece)) r ≡ after_rows rows there
   after_both =
       let heard_so = aside_as r.mode kept.heard piece repeats (of_source r.mode kept.heard piece rows classes source) in
-      ap (λ xs. after_rows xs r) (map-append (row_with r.mode kept.heard) text piece) ∙ after_append aside later r
+      ap (λ xs. after_rows xs r) (map-append (row_hearing r.mode kept.heard) text piece) ∙ after_append aside later r
       ∙ sym (state_is later kept.heard piece there steady_there (as_there later heard_so.count heard_so.classes heard_so.source)) ∙ state_is rows kept.heard piece there steady_there brought
 
   steps : AreSteadyRows rows (map is_signal (emitted_by there)) (map is_signal (decided_by kept.heard there)) there

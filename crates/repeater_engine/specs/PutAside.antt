@@ -24,16 +24,16 @@ RepeatsLevels heard _ = ⊥
 
 -- What the ports hear in a half bit in which the port that the mode repeats hears s, and each other what it has in
 -- `heard` (profile).
-abbrev pub row_with : Mode → List Sym → Sym → List Sym
-row_with (Repeat n i) heard s = slice_set heard n s
-row_with _ heard s = heard
+abbrev pub row_hearing : Mode → List Sym → Sym → List Sym
+row_hearing (Repeat n i) heard s = slice_set heard n s
+row_hearing _ heard s = heard
 
 -- A repeater after as many such half bits as the text has symbols, which that port hears. None of them brings a row
 -- (profile).
 abbrev pub state_later : List Sym → List Sym → RepeaterState → RepeaterState
 state_later heard text s = record {
   t = s.t + length text;
-  repeater = after_rows (map (row_with s.repeater.mode heard) text) s.repeater;
+  repeater = after_rows (map (row_hearing s.repeater.mode heard) text) s.repeater;
   rows = s.rows;
 }
 
@@ -42,8 +42,8 @@ abbrev pub kept_later : List Sym → KeptRepeater → KeptRepeater
 kept_later text kept =
     record kept { state = state_later kept.heard text kept.state; steady = kept.steady - length text }
 
--- The ports that have a signal in `decided` are those that are sent one in the steady half bits that lie ahead, and each
--- port emits a symbol (profile).
+-- The ports that have a signal in `decided` are those that are sent one in the steady half bits that lie ahead, and
+-- each port emits a symbol (profile).
 pub record SendsAlike (kept : KeptRepeater) : Type 0 where
   pub decides : map is_signal kept.decided ≡ map is_signal (decided_by kept.heard kept.state.repeater)
   pub emits : length (emitted_by kept.state.repeater) ≡ length kept.state.repeater.guards
@@ -57,9 +57,9 @@ pub record IsPutAside (kept : KeptRepeater) (text : List Sym) : Type 0 where
   pub repeats : RepeatsLevels kept.heard kept.state.repeater.mode
   pub source : IsOfSource kept.state.repeater.mode kept.heard text
 
--- A repeater that stands behind by `late` half bits, all of them steady, with the text of those that are put aside, after
--- which it has its ports still; there are as many places for it, and for what is sent in them, as may be put aside
--- (profile).
+-- A repeater that stands behind by `late` half bits, all of them steady, with the text of those that are put aside,
+-- after which it has its ports still; there are as many places for it, and for what is sent in them, as may be put
+-- aside (profile).
 pub record HasPutAside (kept : KeptRepeater) (late : ℕ) (text sent : List Sym) : Type 0 where
   pub sending : KnowsSending kept
   pub within : late ≤ kept.steady
@@ -70,8 +70,8 @@ pub record HasPutAside (kept : KeptRepeater) (late : ℕ) (text sent : List Sym)
   pub hearing : length text ≡ most_calm
   pub sending_room : length sent ≡ most_calm
 
--- A repeater that stands behind by `late` half bits stays steady over the m half bits of a window from k on too, in which
--- each port hears on in its class, and it sends what the port that it repeats hears (profile).
+-- A repeater that stands behind by `late` half bits stays steady over the m half bits of a window from k on too, in
+-- which each port hears on in its class, and it sends what the port that it repeats hears (profile).
 pub record GoesOnSteadily (late k m : ℕ) (parcels : List Parcel) (kept : KeptRepeater) : Type 0 where
   pub within : late + m ≤ kept.steady
   pub steady : IsSteady kept.heard kept.state.repeater (late + m)

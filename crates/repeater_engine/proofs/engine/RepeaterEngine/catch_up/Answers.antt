@@ -9,7 +9,7 @@ use Rattle.repeater_core.specs.Steady.{IsSteady}
 use Rattle.repeater_core.proofs.SteadinessLasts.{lasts}
 use Rattle.net_parts.specs.RepeaterParts.{RepeaterState}
 use Rattle.repeater_engine.specs.KeptRepeaters.{KeptRepeater}
-use Rattle.repeater_engine.specs.PutAside.{row_with, state_later, IsPutAside}
+use Rattle.repeater_engine.specs.PutAside.{row_hearing, state_later, IsPutAside}
 use Rattle.repeater_engine.proofs.StandingBehind.{aside_as, sends_on}
 use Rattle.repeater_engine.proofs.engine.RepeaterEngine.catch_up.Goals.{After-leap_classes}
 use Rattle.repeater_engine.proofs.engine.RepeaterEngine.catch_up.Goals as goal
@@ -23,7 +23,7 @@ some_text c = grind (arith, common_steps)
 
 -- the rows that are made
 abbrev rows : (c : After-leap_classes) → List (List Sym)
-rows c = map (row_with c.self.inside.repeater.mode c.self.inside.heard.items) c.args.text.now
+rows c = map (row_hearing c.self.inside.repeater.mode c.self.inside.heard.items) c.args.text.now
 
 are_heard : (c : After-leap_classes) → AreHeardAs c.self.inside.heard.items c.self.inside.repeater.mode c.args.text.now (rows c)
 are_heard c =
